@@ -1,0 +1,4 @@
+pub mod Overwriting
+pub mod Reading
+pub mod Replay
+pub mod Running

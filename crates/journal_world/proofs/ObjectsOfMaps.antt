@@ -1,0 +1,80 @@
+-- The values of a map are of their kinds, where its pairs are objects; and those of a legal history's maps are.
+use Rattle.std.proofs.Common.{◌≡◌, ℕ, zero, suc, Bool, true, false, cond, ◌==◌, nat_lt, IsTrue, List, [], ◌∷◌, length, replicate, Option, Some, None, slice_get, refl, sym, subst, ◌∙◌}
+use Rattle.std.specs.Prelude.{unwrap_or}
+use Rattle.std.specs.List.{list_all}
+use Rattle.std.proofs.lemmas.Bool.{and_from, and_parts, eq-eqb, false≢true}
+use Rattle.std.proofs.lemmas.List.{length-replicate}
+use Rattle.std.proofs.lemmas.List.Folds.{list_all-append}
+use Rattle.journal_world.specs.declared.address.Addr.{Addr}
+use Rattle.journal_world.specs.declared.address.Kind.{Kind}
+use Rattle.journal_world.specs.declared.address.Kind.TheVariants.{Bit, Inode, Block}
+use Rattle.journal_world.specs.Addresses.{kind_of, is_valid, starts_object, bytes_of, limit_of, is_value_of, zeros_of, is_same}
+use Rattle.journal_world.specs.Maps.{Pair, Map, Transaction, value_among, zeros_at, value_at, is_value_at, is_object, are_objects, apply}
+use Rattle.journal_world.specs.Histories.{Entry, map_of, commits, opened, after, latest, IsLegal}
+use Rattle.journal_world.specs.Histories.Entry.{opening, commit, stable}
+use Rattle.journal_world.proofs.Lookups.{same_addr}
+
+list_all-replicate : (p : ℕ → Bool) (n x : ℕ) → p x ≡ true → list_all p (replicate n x) ≡ true
+list_all-replicate p zero x here = refl
+list_all-replicate p (suc n) x here = and_from (p x) (list_all p (replicate n x)) here (list_all-replicate p n x here)
+
+zero_fits : (kind : Kind) → nat_lt 0 (limit_of kind) ≡ true
+zero_fits Bit = refl
+zero_fits Inode = refl
+zero_fits Block = refl
+
+-- zeros are a value
+pub is_value_of-zeros : (kind : Kind) → IsTrue (is_value_of kind (zeros_of kind))
+unfolding zeros_of
+is_value_of-zeros kind =
+    and_from (length (replicate (bytes_of kind) 0) == bytes_of kind) (list_all (λ byte. nat_lt byte (limit_of kind)) (replicate (bytes_of kind) 0))
+    (eq-eqb (length (replicate (bytes_of kind) 0)) (bytes_of kind) (length-replicate (bytes_of kind) 0))
+    (list_all-replicate (λ byte. nat_lt byte (limit_of kind)) (bytes_of kind) 0 (zero_fits kind))
+
+zeros_fit : (kind : Option Kind) (off : ℕ) → IsTrue (starts_object kind off) → IsTrue (is_value_at kind (zeros_at kind))
+zeros_fit None off valid = absurd (false≢true valid)
+zeros_fit (Some kind) off valid = is_value_of-zeros kind
+
+found_fits : (blocks : ℕ) (ps : List Pair) (a : Addr) → IsTrue (is_valid blocks a) → IsTrue (are_objects blocks ps)
+    → IsTrue (is_value_at (kind_of blocks a.block) (unwrap_or (value_among ps a) (zeros_at (kind_of blocks a.block))))
+found_fits blocks [] a valid objects = zeros_fit (kind_of blocks a.block) a.off valid
+found_fits blocks (p ∷ ps) a valid objects = by_test (is_same a p.0) refl (found_fits blocks ps a valid parts.1)
+  where
+    parts : IsTrue (is_object blocks p) × IsTrue (are_objects blocks ps)
+    parts = and_parts (is_object blocks p) (are_objects blocks ps) objects
+
+    by_test : (b : Bool) → is_same a p.0 ≡ b
+        → IsTrue (is_value_at (kind_of blocks a.block) (unwrap_or (value_among ps a) (zeros_at (kind_of blocks a.block))))
+        → IsTrue (is_value_at (kind_of blocks a.block) (unwrap_or (cond b (Some p.1) (value_among ps a)) (zeros_at (kind_of blocks a.block))))
+    by_test true is rest =
+        subst (λ b. IsTrue (is_value_at (kind_of blocks b.block) p.1)) (sym (same_addr a p.0 is))
+        (and_parts (is_valid blocks p.0) (is_value_at (kind_of blocks p.0.block) p.1) parts.0).1
+    by_test false is rest = rest
+
+-- what a map of objects gives a valid address is an object
+pub value_at-object : (m : Map) (a : Addr) → IsTrue (is_valid m.blocks a) → IsTrue (are_objects m.blocks m.pairs) → IsTrue (is_object m.blocks (a, value_at m a))
+value_at-object m a valid objects = and_from (is_valid m.blocks a) (is_value_at (kind_of m.blocks a.block) (value_at m a)) valid (found_fits m.blocks m.pairs a valid objects)
+
+after_objects : (blocks : ℕ) (history : List Entry) (m : Map)
+    → ((k : ℕ) (t : Transaction) → slice_get history k ≡ Some (commit t) → IsTrue (are_objects blocks t.writes))
+    → IsTrue (are_objects blocks m.pairs) → IsTrue (are_objects blocks (after m (commits history)).pairs)
+after_objects blocks [] m each objects = objects
+after_objects blocks (opening o trusted ∷ es) m each objects = after_objects blocks es m (λ k t is. each (suc k) t is) objects
+after_objects blocks (commit t ∷ es) m each objects =
+    after_objects blocks es (apply t m) (λ k u is. each (suc k) u is)
+    (list_all-append (is_object blocks) t.writes m.pairs ∙ and_from (are_objects blocks t.writes) (are_objects blocks m.pairs) (each 0 t refl) objects)
+after_objects blocks (stable n ∷ es) m each objects = after_objects blocks es m (λ k t is. each (suc k) t is) objects
+
+opened_objects : (rule : Map → Type 0) (e : Entry) (es : List Entry) → IsLegal rule (e ∷ es) → IsTrue (are_objects (map_of e).blocks (map_of e).pairs)
+opened_objects rule (opening m trusted) es legal = (legal.agrees 0 (opening m trusted) refl).0
+opened_objects rule (commit t) es legal = absurd ((legal.follows 0 (commit t) refl).0 refl)
+opened_objects rule (stable n) es legal = absurd ((legal.follows 0 (stable n) refl).0 refl)
+
+-- the last map of a legal history has objects alone
+pub latest_objects : (rule : Map → Type 0) (history : List Entry) → IsLegal rule history → IsTrue (are_objects (opened history).blocks (latest history).pairs)
+latest_objects rule [] legal = refl
+latest_objects rule (e ∷ es) legal = after_objects (map_of e).blocks (e ∷ es) (map_of e) written (opened_objects rule e es legal)
+  where
+    written : (k : ℕ) (t : Transaction) → slice_get (e ∷ es) k ≡ Some (commit t) → IsTrue (are_objects (map_of e).blocks t.writes)
+    written zero t is = absurd ((legal.follows 0 (commit t) is).0 refl)
+    written (suc k) t is = (legal.follows (suc k) (commit t) is).2

@@ -1,0 +1,73 @@
+-- Maps from addresses to values, and the transactions on them.
+use Rattle.std.specs.Prelude.{ℕ, ◌≡◌, Bool, false, ◌&&◌, if◌then◌else◌, IsTrue, List, [], ◌∷◌, ◌++◌, Option, Some, None, unwrap_or, All}
+use Rattle.std.specs.List.{list_all}
+use Rattle.journal_world.specs.declared.address.Addr.{Addr}
+use Rattle.journal_world.specs.declared.address.Kind.{Kind}
+use Rattle.journal_world.specs.Addresses.{Value, kind_of, is_valid, is_value_of, is_same, zeros_of}
+
+-- an address and a value of it
+abbrev pub Pair : Type 0
+Pair = Addr × Value
+
+-- The objects of a disk of so many blocks: those that the pairs name have their values, all others are zeros
+pub record Map : Type 0 where
+  pub blocks : ℕ
+  pub pairs : List Pair
+
+-- the value that the first pair of an address gives it
+abbrev pub value_among : List Pair → Addr → Option Value
+value_among [] a = None
+value_among (p ∷ ps) a = if is_same a p.0 then Some p.1 else value_among ps a
+
+-- the pairs give each address the same value
+abbrev pub SamePairs : List Pair → List Pair → Type 0
+SamePairs ps qs = (a : Addr) → value_among ps a ≡ value_among qs a
+
+abbrev pub zeros_at : Option Kind → Value
+zeros_at None = []
+zeros_at (Some kind) = zeros_of kind
+
+-- what a map gives an address
+abbrev pub value_at : Map → Addr → Value
+value_at m a = unwrap_or (value_among m.pairs a) (zeros_at (kind_of m.blocks a.block))
+
+-- Two maps that give each valid address the same value are the same map
+pub record SameMap (m n : Map) : Type 0 where
+  pub blocks : m.blocks ≡ n.blocks
+  pub values : (a : Addr) → IsTrue (is_valid m.blocks a) → value_at m a ≡ value_at n a
+
+abbrev pub is_value_at : Option Kind → Value → Bool
+is_value_at None v = false
+is_value_at (Some kind) v = is_value_of kind v
+
+-- the address is valid, and the value is of its kind
+abbrev pub is_object : ℕ → Pair → Bool
+is_object blocks p = is_valid blocks p.0 && is_value_at (kind_of blocks p.0.block) p.1
+
+abbrev pub are_objects : ℕ → List Pair → Bool
+are_objects blocks ps = list_all (is_object blocks) ps
+
+-- What a transaction read and what it writes, with its session and the number of that session's earlier ones
+pub record Transaction : Type 0 where
+  pub session : ℕ
+  pub number : ℕ
+  pub reads : List Pair
+  pub writes : List Pair
+
+-- each pair is what the map gives
+abbrev pub Agrees : Map → List Pair → Type 0
+Agrees m reads = All (λ p. value_at m p.0 ≡ p.1) reads
+
+-- A transaction that may be committed where the map is m
+pub record IsLegalAt (m : Map) (t : Transaction) : Type 0 where
+  pub reads : IsTrue (are_objects m.blocks t.reads)
+  pub writes : IsTrue (are_objects m.blocks t.writes)
+  pub agrees : Agrees m t.reads
+
+-- a map overwritten by pairs, the first of an address before others
+abbrev pub overwritten : Map → List Pair → Map
+overwritten m pairs = record { blocks = m.blocks; pairs = pairs ++ m.pairs }
+
+-- the map after the transaction
+abbrev pub apply : Transaction → Map → Map
+apply t m = overwritten m t.writes

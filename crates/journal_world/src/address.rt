@@ -1,0 +1,80 @@
+// Where an object lies, and what it is.
+ghost use Rattle.std.specs.Prelude.{◌≡◌, IfOk};
+ghost use Rattle.journal_world.specs.Addresses.{bytes_of, bits_of, is_value_of, zeros_of};
+ghost use Rattle.journal_world.specs.Addresses.{slot_of as slot_number};
+
+use crate::Value;
+use crate::layout::{BLOCK_BITS, BLOCK_BYTES};
+use std::alloc::{AllocError, Global};
+
+/// How many slots there are.
+pub const SLOTS: u64 = 257;
+
+/// The place of an object: its block, and its first bit in that block.
+///
+/// Bit `off` of a block is bit `off % 8`, least significant first, of byte `off / 8`.
+#[derive(Clone, Copy, Debug, PartialEq, Eq, PartialOrd, Ord)]
+pub struct Addr {
+    pub block: u64,
+    pub off: u32,
+}
+
+/// What an object is. All objects of one block are of one kind.
+#[derive(Clone, Copy, Debug, PartialEq, Eq)]
+pub enum Kind {
+    /// One bit.
+    Bit,
+    /// 128 bytes.
+    Inode,
+    /// A whole block, 4096 bytes.
+    Block,
+}
+
+impl Kind {
+    /// How many bytes a value of the kind has.
+    pub fn bytes(self) -> usize
+        ensures { result ≡ bytes_of self }
+    {
+        match self {
+            Kind::Bit => 1,
+            Kind::Inode => 128,
+            Kind::Block => BLOCK_BYTES,
+        }
+    }
+
+    /// How many bits the objects of the kind are apart in their block.
+    pub fn bits(self) -> u32
+        ensures { result ≡ bits_of self }
+    {
+        match self {
+            Kind::Bit => 1,
+            Kind::Inode => 1024,
+            Kind::Block => BLOCK_BITS,
+        }
+    }
+
+    /// Whether the bytes are a value of the kind: as many as it has, and a bit's is 0 or 1.
+    pub fn admits(self, bytes: &[u8]) -> bool
+        ensures { result ≡ is_value_of self bytes.now }
+    {
+        match self {
+            Kind::Bit => matches!(bytes, [0 | 1]),
+            Kind::Inode | Kind::Block => bytes.len() == self.bytes(),
+        }
+    }
+
+    /// The value of all zeros.
+    pub fn zeros(self, alloc: Global) -> Result<Value, AllocError>
+        ensures { IfOk result (λ value. value ≡ zeros_of self) }
+    {
+        Ok(Value::new(vec![in alloc; 0u8; self.bytes()]?))
+    }
+}
+
+/// The slot of an address, below `SLOTS`. Transactions that use addresses of one slot exclude one another.
+pub fn slot_of(addr: Addr) -> u16
+    ensures { result ≡ slot_number addr }
+{
+    let block = addr.block % SLOTS * u64::from(BLOCK_BITS);
+    ((block + u64::from(addr.off)) % SLOTS) as u16
+}

@@ -1,0 +1,23 @@
+//! The words that every layer of the journal speaks: addresses and the kinds of object that they name,
+//! values, the layout of a disk, and the refusals. `specs/` has their meanings, and those of maps,
+//! transactions and histories.
+#![tactic(auto)]
+
+mod address;
+mod layout;
+mod moment;
+mod objects;
+mod refusal;
+mod step;
+mod value;
+
+pub use address::{Addr, Kind, SLOTS, slot_of};
+pub use layout::{
+    BITMAP, BLOCK_BITS, BLOCK_BYTES, FIRST_DATA, FIRST_INODES, Layout, MAX_BLOCKS, MIN_BLOCKS,
+    SUPERBLOCK,
+};
+pub use moment::{MAX_NANOS, Moment};
+pub use objects::Objects;
+pub use refusal::Refusal;
+pub use step::Step;
+pub use value::Value;

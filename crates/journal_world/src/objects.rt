@@ -1,0 +1,80 @@
+// Values by address.
+ghost use Rattle.std.specs.Prelude.{◌≡◌, ℕ, [], ◌∷◌, ◌++◌, IsTrue, OnOk, OnErr, IfSome, IfNone};
+ghost use Rattle.std.specs.Option.{option_copied};
+ghost use Rattle.journal_world.specs.Maps.{value_among, SamePairs, is_object, are_objects};
+
+use crate::{Addr, Value};
+use std::alloc::{AllocError, Global};
+use std::collections::BTreeMap;
+use std::collections::btree_map::Iter;
+use std::marker::Model;
+
+/// Values by address, at most one for each. Contracts see the pairs, addresses ascending.
+#[derive(Debug, Drop)]
+pub struct Objects {
+    values: BTreeMap<Addr, Value>,
+}
+
+impl Model for Objects {
+    ghost use Rattle.std.specs.Prelude.{List};
+    ghost use Rattle.journal_world.specs.Maps.{Pair};
+
+    ghost Value = { List Pair };
+
+    ghost view = { λ objects. objects.values.entries };
+}
+
+impl Objects {
+    /// No values. It takes no memory.
+    pub fn new(alloc: Global) -> Objects
+        ensures { result ≡ [] }
+    {
+        Objects {
+            values: BTreeMap::new(alloc),
+        }
+    }
+
+    /// The address's value, if it has one.
+    pub fn get(&self, addr: Addr) -> Option<&Value>
+        ensures { option_copied result ≡ value_among self.now addr }
+    {
+        self.values.get(&addr)
+    }
+
+    /// The pairs, addresses ascending.
+    pub fn iter(&self) -> Iter<'_, Addr, Value>
+        ensures { result ≡ self.now }
+    {
+        self.values.iter()
+    }
+
+    /// Gives the address this value, in place of the one that it had. After an `Err`, which comes only
+    /// where it had none, all is as before.
+    pub fn insert(&mut self, addr: Addr, value: Value) -> Result<(), AllocError>
+        ensures ok { OnOk result (SamePairs self.new ((addr, value) ∷ self.old)) }
+        ensures err { OnErr result (self.new ≡ self.old) }
+        ensures err_only_if_absent { OnErr result (value_among self.old addr ≡ None) }
+        ensures objects { (blocks : ℕ) → IsTrue (are_objects blocks self.old) → IsTrue (is_object blocks (addr, value)) → IsTrue (are_objects blocks self.new) }
+    {
+        self.values.insert(addr, value)?;
+        Ok(())
+    }
+
+    /// Takes the pair of the greatest address out.
+    pub fn pop_last(&mut self) -> Option<(Addr, Value)>
+        ensures some { IfSome result (λ pair. self.old ≡ self.new ++ pair ∷ []) }
+        ensures none { IfNone result ((self.old ≡ []) × (self.new ≡ [])) }
+    {
+        self.values.pop_last()
+    }
+}
+
+impl Clone for Objects {
+    ghost is_clone = { λ objects copy. copy ≡ objects };
+
+    fn clone(&self) -> Result<Objects, AllocError> {
+        Ok(Objects {
+            values: self.values.clone()?,
+        })
+    }
+}
