@@ -3,7 +3,7 @@ use Rattle.std.proofs.Common.{◌≡◌, ◌≢◌, ◌↔◌, ℕ, ◌-◌, IsT
 use Rattle.std.proofs.lemmas.List.{map-append, length-map}
 use Rattle.journal_world.specs.declared.address.Addr.{Addr}
 use Rattle.journal_world.specs.Addresses.{is_valid}
-use Rattle.journal_world.specs.Maps.{Map, SameMap, Agrees, value_at, is_object, are_objects, overwritten}
+use Rattle.journal_world.specs.Maps.{Pair, Map, SameMap, Agrees, value_at, is_object, are_objects, overwritten}
 use Rattle.journal_world.specs.Histories as histories
 use Rattle.journal_world.specs.Histories.{commits, commits_of, count, opened, latest}
 use Rattle.journal_world.specs.Histories.Entry.{commit}
@@ -39,13 +39,16 @@ module _ (m : Map) (h : List histories.Entry) (replay : IsReplay m h) where
   pub next_number : length h - 1 ≡ length (commits_of 0 h)
   next_number = let own = ap length replay.own in omega (arith, replay.length)
 
-  -- the map agrees with what the history leads to
-  pub agrees_latest : (t : Transaction) → IsTrue (are_objects (opened h).blocks t.reads) → Agrees m t.reads ↔ Agrees (latest h) t.reads
-  agrees_latest t reads =
-      let here = subst (λ n. IsTrue (are_objects n t.reads)) (sym same_blocks) reads in
-      let there = subst (λ n. IsTrue (are_objects n t.reads)) replay.same.blocks here in (
-        Agrees-same m (latest h) t.reads replay.same here,
-        Agrees-same (latest h) m t.reads (SameMap-sym m (latest h) replay.same) there,
+  pub same_objects : (pairs : List Pair) → IsTrue (are_objects (opened h).blocks pairs) → IsTrue (are_objects m.blocks pairs)
+  same_objects pairs objects = subst (λ n. IsTrue (are_objects n pairs)) (sym same_blocks) objects
+
+  -- the map agrees with what the history's last map agrees with
+  pub agrees_latest : (reads : List Pair) → IsTrue (are_objects (opened h).blocks reads) → Agrees m reads ↔ Agrees (latest h) reads
+  agrees_latest reads objects =
+      let here = same_objects reads objects in
+      let there = subst (λ n. IsTrue (are_objects n reads)) replay.same.blocks here in (
+        Agrees-same m (latest h) reads replay.same here,
+        Agrees-same (latest h) m reads (SameMap-sym m (latest h) replay.same) there,
       )
 
   -- after a commit the overwritten map is the replay again

@@ -7,8 +7,8 @@ ghost use Rattle.journal_world.specs.Histories.{opened, latest, count, IsLegal};
 use crate::Transaction;
 use crate::entry::Entry;
 use crate::map::ObjectMap;
-use journal_world::{Addr, Layout, Refusal, Value};
-use std::alloc::Global;
+use journal_world::{Addr, Layout, Objects, Refusal, Value};
+use std::alloc::{AllocError, Global};
 use std::marker::Model;
 
 /// The core of a journal with one session, whose number is 0. Contracts see it as its history.
@@ -81,12 +81,34 @@ impl Core {
         ensures legal { OnOk result (IsLegal any_map self.new) }
         ensures count { IfOk result (λ commits. commits ≡ count self.new) }
         ensures busy { IsErrOf result Refusal.Busy → Agrees (latest self.old) transaction.reads → ⊥ }
+        ensures no_memory { IsErrOf result Refusal.NoMemory → Agrees (latest self.old) transaction.reads }
         ensures refused { IfErr result (λ why. (why ≡ Refusal.NoMemory) ⊎ (why ≡ Refusal.Busy)) }
         ensures same { OnErr result (self.new ≡ self.old) }
     {
-        if !self.map.agrees(&transaction.reads) {
+        if !self.agrees(&transaction.reads) {
             return Err(Refusal::Busy);
         }
+        Ok(self.add(transaction)?)
+    }
+
+    // Whether each pair is what the map after the history gives.
+    fn agrees(&self, reads: &Objects) -> bool
+        requires { IsTrue (are_objects (opened self.now).blocks reads.now) }
+        ensures { IsTrue result ↔ Agrees (latest self.now) reads.now }
+    {
+        self.map.agrees(reads)
+    }
+
+    // Adds a transaction that may be committed, and answers how many commits there are.
+    fn add(&mut self, transaction: Transaction) -> Result<u64, AllocError>
+        requires reads { IsTrue (are_objects (opened self.old).blocks transaction.reads) }
+        requires writes { IsTrue (are_objects (opened self.old).blocks transaction.writes) }
+        requires agrees { Agrees (latest self.old) transaction.reads }
+        ensures committed { OnOk result (Commits self.old transaction self.new) }
+        ensures legal { OnOk result (IsLegal any_map self.new) }
+        ensures count { IfOk result (λ commits. commits ≡ count self.new) }
+        ensures same { OnErr result (self.new ≡ self.old) }
+    {
         let number = (self.entries.len() - 1) as u64;
         // All growth comes first, and nothing after it can fail.
         let writes = transaction.writes.clone()?;

@@ -1,6 +1,7 @@
 -- Histories: what they tell, and which are legal.
 use Rattle.std.specs.Prelude.{ℕ, ◌≡◌, ◌≢◌, ◌≤◌, max, Bool, false, ◌==◌, IsTrue, List, [], ◌∷◌, length, take, filter, Option, Some, None, slice_get}
-use Rattle.std.specs.List.{filter_map}
+use Rattle.std.specs.List.{filter_map, list_any}
+use Rattle.journal_world.specs.Addresses.{slot_of}
 use Rattle.journal_world.specs.Maps.{Map, Transaction, Agrees, are_objects, apply}
 
 -- What happened to a mount. The opening has the map that the disk stood for, and whether the disk was honest and settled then; a mark tells how many commits are stable
@@ -92,3 +93,11 @@ Each P history = (k : ℕ) (e : Entry) → slice_get history k ≡ Some e → P 
 pub record IsLegal (rule : Map → Type 0) (history : List Entry) : Type 0 where
   pub follows : Each Follows history
   pub agrees : Each (IsTrueTo rule) history
+
+-- the transaction writes an address of the slot
+abbrev pub writes_slot : ℕ → Transaction → Bool
+writes_slot slot t = list_any (λ p. slot_of p.0 == slot) t.writes
+
+-- how many commits write an address of the slot: where it stays, so do the values of the slot's addresses
+abbrev pub touched : List Entry → ℕ → ℕ
+touched history slot = length (filter (writes_slot slot) (commits history))

@@ -8,6 +8,7 @@ mod layout;
 mod moment;
 mod objects;
 mod refusal;
+mod rule;
 mod step;
 mod value;
 
@@ -19,5 +20,6 @@ pub use layout::{
 pub use moment::{MAX_NANOS, Moment};
 pub use objects::Objects;
 pub use refusal::Refusal;
+pub use rule::{AnyMap, MapRule, ObjectReader};
 pub use step::Step;
 pub use value::Value;

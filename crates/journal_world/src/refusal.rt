@@ -73,3 +73,6 @@ impl<T: Drop, C> From<AllocFailed<T>> for Refusal<C> {
         Refusal::NoMemory
     }
 }
+
+#[cfg(test)]
+mod tests;

@@ -1,5 +1,4 @@
-use Rattle.std.proofs.Common.{◌≡◌, ◌+◌, ◌-◌, List, [], ◌∷◌, ◌++◌, length, IsTrue, refl, sym, ap, subst, ◌∙◌, arith}
-use Rattle.std.proofs.lemmas.Bool.{false≢true}
+use Rattle.std.proofs.Common.{◌≡◌, ◌+◌, ◌-◌, List, [], ◌∷◌, ◌++◌, length, IsTrue, sym, ap, subst, ◌∙◌, arith}
 use Rattle.std.proofs.lemmas.List.{length-map}
 use Rattle.journal_world.specs.Maps.{Agrees, SameMap, are_objects, overwritten}
 use Rattle.journal_world.specs.Histories.{Entry, opened, latest, count, IsLegal}
@@ -8,34 +7,13 @@ use Rattle.journal_world.proofs.SameMaps.{SameMap-sym, SameMap-trans, overwritte
 use Rattle.journal_world.proofs.LongerHistories.{count-commit}
 use Rattle.journal_core.specs.declared.entry.Entry.TheVariants.{Commit}
 use Rattle.journal_core.specs.Commits.{any_map, numbered, Commits, entry_of, history_of, IsReplay}
-use Rattle.journal_core.proofs.Replay.{same_blocks, agrees_latest, replay-commit, history_of-commit}
-use Rattle.journal_core.proofs.steps.Core.commit_step.Goals as goal
-use Rattle.journal_core.proofs.steps.Core.commit_step.Goals.{After-push_reserved}
-
-pub agrees-requires : goal.agrees-requires
-agrees-requires c =
-    subst (λ n. IsTrue (are_objects n c.args.transaction.reads))
-    (sym (same_blocks c.self.inside.map (history_of c.self.inside.entries.items) c.self.invariant))
-    (subst (λ (h : List Entry). IsTrue (are_objects (opened h).blocks c.args.transaction.reads)) (sym c.self.view_is) c.requires.reads)
-
-pub returns-then-not-agrees-clause-busy : goal.returns-then-not-agrees-clause-busy
-returns-then-not-agrees-clause-busy c = λ busy agrees.
-    let t = c.args.transaction in
-    let reads = subst (λ (h : List Entry). IsTrue (are_objects (opened h).blocks t.reads)) (sym c.self.view_is) c.requires.reads in
-    let there = subst (λ (h : List Entry). Agrees (latest h) t.reads) (sym c.self.view_is) agrees in
-    false≢true (c.if-not-agrees.ensures.1 ((agrees_latest c.self.inside.map (history_of c.self.inside.entries.items) c.self.invariant t reads).1 there))
+use Rattle.journal_core.proofs.Replay.{replay-commit, history_of-commit}
+use Rattle.journal_core.proofs.steps.Core.add.Goals as goal
+use Rattle.journal_core.proofs.steps.Core.add.Goals.{After-push_reserved}
 
 -- the stored history, before
 stored : After-push_reserved → List Entry
 stored c = history_of c.self.inside.entries.items
-
--- the reads are its last map's values
-agreed : (c : After-push_reserved) → Agrees (latest (stored c)) c.args.transaction.reads
-unfolding stored
-agreed c =
-    let t = c.args.transaction in
-    let reads = subst (λ (h : List Entry). IsTrue (are_objects (opened h).blocks t.reads)) (sym c.self.view_is) c.requires.reads in
-    (agrees_latest c.self.inside.map (stored c) c.self.invariant t reads).0 (c.if-not-agrees.ensures.0 refl)
 
 -- the map is overwritten by the writes
 written : (c : After-push_reserved) → SameMap c.overwrite.new.self (overwritten c.self.inside.map c.args.transaction.writes)
@@ -54,7 +32,7 @@ replayed c =
     replay-commit c.self.inside.map (stored c) c.self.invariant t c.overwrite.new.self
     (subst (λ (h : List Entry). IsTrue (are_objects (opened h).blocks t.reads)) (sym c.self.view_is) c.requires.reads)
     (subst (λ (h : List Entry). IsTrue (are_objects (opened h).blocks t.writes)) (sym c.self.view_is) c.requires.writes)
-    (agreed c) (written c)
+    (subst (λ (h : List Entry). Agrees (latest h) t.reads) (sym c.self.view_is) c.requires.agrees) (written c)
 
 counted : (c : After-push_reserved) → c.len.result ≡ length c.self.inside.entries.items
 counted c = c.len.ensures ∙ c.self.inside.entries.ok.0
@@ -73,7 +51,7 @@ pub returns-clause-committed : goal.returns-clause-committed
 unfolding stored
 returns-clause-committed c =
     subst (λ (h : List Entry). Commits h c.args.transaction (history_of c.push_reserved.new.self.items)) c.self.view_is
-    (record { agrees = agreed c; added = longer c })
+    (record { agrees = subst (λ (h : List Entry). Agrees (latest h) c.args.transaction.reads) (sym c.self.view_is) c.requires.agrees; added = longer c })
 
 pub returns-clause-legal : goal.returns-clause-legal
 returns-clause-legal c = subst (λ (h : List Entry). IsLegal any_map h) (sym (longer c)) (replayed c).legal

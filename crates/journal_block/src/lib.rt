@@ -1,0 +1,10 @@
+//! A disk's unit: a block of 4096 bytes.
+//!
+//! Contracts see a block as the list of its bytes. It is moved as a pointer and lent without a copy,
+//! and only `Block::try_new` takes memory. Numbers lie in it little-endian, and bit `i` is bit
+//! `i % 8`, least significant first, of byte `i / 8`.
+#![tactic(auto)]
+
+mod block;
+
+pub use block::Block;

@@ -1,0 +1,69 @@
+// What a mount demands of every map that it ever has.
+ghost use Rattle.std.specs.Prelude.{◌≡◌, ◌↔◌, Bool, IsTrue, IfOk, IfErr};
+ghost use Rattle.journal_world.specs.Addresses.{is_valid};
+ghost use Rattle.journal_world.specs.Maps.{Map, SameMap, value_at, is_object};
+ghost use Rattle.journal_world.specs.Refusals.{IsOfReading};
+
+use crate::{Addr, Layout, Refusal, Value};
+
+/// Reads the objects of one map.
+///
+/// Where the reader is trusted, as over a disk that is honest and settled, a read gives the map's value.
+/// Where it is not, a read gives some value of the address's kind.
+pub trait ObjectReader {
+    /// What the refusals of a read hold.
+    type Cause;
+
+    ghost map: { Self → Map };
+
+    ghost trusted: { Self → Bool };
+
+    /// The layout of the map's disk.
+    fn layout(&self) -> Layout
+        ensures { result.blocks ≡ (map self.now).blocks };
+
+    /// The value of the address. The map stays.
+    ///
+    /// Refused for want of memory (J1) and where the device fails (J6).
+    fn read(&mut self, addr: Addr) -> Result<Value, Refusal<Self::Cause>>
+        requires valid { IsTrue (is_valid (map self.old).blocks addr) }
+        ensures value { IsTrue (trusted self.old) → IfOk result (λ value. value ≡ value_at (map self.old) addr) }
+        ensures object { IfOk result (λ value. IsTrue (is_object (map self.old).blocks (addr, value))) }
+        ensures refused { IfErr result IsOfReading }
+        ensures same_map { map self.new ≡ map self.old }
+        ensures same_trust { trusted self.new ≡ trusted self.old };
+}
+
+/// A rule of a mount: a statement over maps that holds of the map that is opened, and that each commit
+/// has to keep. It tells no two maps apart that give the same values.
+pub trait MapRule {
+    ghost statement: { Map → Type 0 };
+
+    /// Whether the statement holds of the map that is read. The map stays.
+    ///
+    /// Refused for want of memory (J1) and where the device fails (J6).
+    fn admit<O: ObjectReader>(&self, reader: &mut O) -> Result<bool, Refusal<O::Cause>>
+        ensures admitted { IsTrue (O.trusted reader.old) → IfOk result (λ admitted. IsTrue admitted ↔ statement (O.map reader.old)) }
+        ensures refused { IfErr result IsOfReading }
+        ensures same_map { O.map reader.new ≡ O.map reader.old }
+        ensures same_trust { O.trusted reader.new ≡ O.trusted reader.old };
+
+    ghost respects: { (m n : Map) → SameMap m n → statement m → statement n };
+}
+
+/// The rule that holds of every map. It reads nothing.
+#[derive(Clone, Copy, Debug, PartialEq, Eq)]
+pub struct AnyMap;
+
+impl MapRule for AnyMap {
+    ghost statement = { λ m. Unit {0} };
+
+    ghost respects = { λ m n same holds. holds };
+
+    fn admit<O: ObjectReader>(&self, _reader: &mut O) -> Result<bool, Refusal<O::Cause>> {
+        Ok(true)
+    }
+}
+
+#[cfg(test)]
+mod tests;
