@@ -1,0 +1,287 @@
+// The program from end to end: scripts, and what they are answered.
+mod side_by_side;
+mod streams;
+
+use crate::lines::LONGEST;
+use crate::run;
+use std::alloc::{AllocError, Global};
+use std::process::Abort;
+use std::test::Fail;
+use streams::{BrokenReader, BrokenWriter};
+
+const USAGE: &str = "usage: jtool script N | jtool format FILE N | jtool serve FILE PORT K\n";
+
+/// What a run printed, and its status.
+#[derive(Drop)]
+struct Run {
+    status: u8,
+    output: Vec<u8>,
+    faults: Vec<u8>,
+}
+
+fn words_of(alloc: Global, words: &[&str]) -> Result<Vec<String>, AllocError> {
+    let mut owned = Vec::new(alloc);
+    for word in words {
+        owned.push(String::from_str(alloc, word)?)?;
+    }
+    Ok(owned)
+}
+
+fn run_with(alloc: Global, words: &[&str], mut input: &[u8]) -> Result<Run, AllocError> {
+    let words = words_of(alloc, words)?;
+    let mut output = Vec::new(alloc);
+    let mut faults = Vec::new(alloc);
+    let status = run(alloc, &words, &mut input, &mut output, &mut faults);
+    Ok(Run {
+        status,
+        output,
+        faults,
+    })
+}
+
+/// Runs the script on a disk of 600 blocks, and wants this output and that status.
+fn check(
+    rt: &impl Abort,
+    alloc: Global,
+    script: &[u8],
+    output: &[u8],
+    status: u8,
+) -> Result<(), Fail> {
+    let run = run_with(alloc, &["script", "600"], script)?;
+    assert_eq!(rt; run.output.as_slice(), output, "at {script:?}");
+    assert_eq!(rt; run.faults.len(), 0, "at {script:?}");
+    assert_eq!(rt; run.status, status, "at {script:?}");
+    Ok(())
+}
+
+#[test]
+fn scripts_are_answered(rt: HostRuntime) -> Result<(), Fail> {
+    let table: &[(&[u8], &[u8])] = &[
+        (b"", b""),
+        (b"\n\n", b""),
+        (
+            b"put 515 0 01*128\nget 515 0\ncommit\n",
+            b"ok\n= 01*128\ncommitted 1\n",
+        ),
+        (
+            b"put 515 0 01*128\ncommit\nget 515 0\n",
+            b"ok\ncommitted 1\n= 01*128\n",
+        ),
+        (
+            b"put 515 0 07*128\nget 515 0\nabort\nget 515 0\n",
+            b"ok\n= 07*128\nok\n= 00*128\n",
+        ),
+        (
+            b"get 512 0\nget 600 0\nget 515 3\nput 515 0 01*127\nput 514 0 02\n",
+            b"refused J2 BadAddress\nrefused J2 BadAddress\nrefused J2 BadAddress\nrefused J3 BadSize\nrefused J3 BadSize\n",
+        ),
+        // A refused line too leaves a transaction open.
+        (
+            b"put 512 0 00\ncommit\ncommit\nabort\n",
+            b"refused J2 BadAddress\ncommitted 1\nno transaction\nno transaction\n",
+        ),
+        // The last overwrite stands, and what was read before it does not.
+        (
+            b"get 514 5\nput 514 5 01\nput 514 6 01\nput 514 6 00\nget 514 5\nget 514 6\ncommit\nget 514 5\n",
+            b"= 00\nok\nok\nok\n= 01\n= 00\ncommitted 1\n= 01\n",
+        ),
+        // A value is printed by its runs, however it was written.
+        (
+            b"put 515 0 00+01*2+0203+03*2+00*121\nget 515 0\n",
+            b"ok\n= 00+01*2+02+03*3+00*121\n",
+        ),
+        (
+            b"put 515 1024 09af+fa90+ff*1+10*123\nget 515 1024\n",
+            b"ok\n= 09+af+fa+90+ff+10*123\n",
+        ),
+        (b"put 531 0 ff*4096\nget 531 0\n", b"ok\n= ff*4096\n"),
+        // The last line needs no newline.
+        (b"get 515 0\nget 513 0", b"= 00*128\n= 00*4096\n"),
+        (b"get 4294967295 4294967295\n", b"refused J2 BadAddress\n"),
+    ];
+    for (script, output) in table {
+        check(&rt, rt.alloc(), script, output, 0)?;
+    }
+    Ok(())
+}
+
+/// Lines that say nothing.
+const BAD_LINES: &[&[u8]] = &[
+    // The verb.
+    b" ",
+    b"PUT 515 0 01*128",
+    b"puts 515 0 01*128",
+    b"wait",
+    b"\xff",
+    // Spaces and other bytes round the words.
+    b" put 515 0 01*128",
+    b"put  515 0 01*128",
+    b"put 515 0  01*128",
+    b"put 515 0 01*128 ",
+    b"put\t515 0 01*128",
+    b"put 515 0 01*128\r",
+    b"commit\r",
+    b"commit ",
+    b" abort",
+    // Too few words, or too many.
+    b"put",
+    b"put 515 0",
+    b"put 515 0 ",
+    b"put 515 0 01*128 00",
+    b"get 515",
+    b"get 515 ",
+    b"get 515 0 ",
+    b"get 515 0 0",
+    b"commit 1",
+    // Numbers.
+    b"get 0515 0",
+    b"get 515 00",
+    b"get +515 0",
+    b"get 515 -0",
+    b"get 51a 0",
+    b"get 4294967296 0",
+    b"get 515 4294967296",
+    b"get 18446744073709552131 0",
+    // Values.
+    b"put 514 0 1",
+    b"put 514 0 001",
+    b"put 515 0 0A*128",
+    b"put 515 0 0g*128",
+    b"put 515 0 01*0",
+    b"put 515 0 01*0128",
+    b"put 515 0 01*4097",
+    b"put 515 0 01*4294967424",
+    b"put 515 0 01*",
+    b"put 515 0 *128",
+    b"put 515 0 01**128",
+    b"put 515 0 01*64*2",
+    b"put 515 0 0101*64",
+    b"put 515 0 01*128+",
+    b"put 515 0 +01*128",
+    b"put 515 0 01*64++01*64",
+    b"put 515 0 01*+128",
+    b"put 515 0 01*127+\xff",
+    b"put 531 0 00*4096+00",
+    b"put 531 0 00*2048+00*2049",
+];
+
+#[test]
+fn bad_lines_are_answered_so(rt: HostRuntime) -> Result<(), Fail> {
+    for line in BAD_LINES {
+        let mut script = line.to_vec(rt.alloc())?;
+        // A bad line begins no transaction.
+        script.extend_from_slice(b"\ncommit\n")?;
+        check(&rt, rt.alloc(), &script, b"bad line\nno transaction\n", 2)?;
+    }
+    Ok(())
+}
+
+/// A line that puts 4096 zeros, written with as many bytes as a line may have.
+fn longest_line(alloc: Global) -> Result<Vec<u8>, AllocError> {
+    let mut line = b"put 531 0 00+00".to_vec(alloc)?;
+    for _ in 0..3932 {
+        line.extend_from_slice(b"+00*1")?;
+    }
+    line.push(b'+')?;
+    for _ in 0..162 {
+        line.extend_from_slice(b"00")?;
+    }
+    Ok(line)
+}
+
+#[test]
+fn longer_lines_are_bad(rt: HostRuntime) -> Result<(), Fail> {
+    let longest = longest_line(rt.alloc())?;
+    assert_eq!(&rt; longest.len(), LONGEST);
+    let mut script = longest.clone()?;
+    // One byte more, and then very many.
+    script.extend_from_slice(b"\ncommit\n")?;
+    script.extend_from_slice(&longest)?;
+    script.extend_from_slice(b"0\ncommit\n")?;
+    for _ in 0..3 {
+        script.extend_from_slice(&longest)?;
+    }
+    script.extend_from_slice(b"\nget 531 0\n")?;
+    script.extend_from_slice(&longest)?;
+    let answers = b"ok\ncommitted 1\nbad line\nno transaction\nbad line\n= 00*4096\nok\n";
+    check(&rt, rt.alloc(), &script, answers, 2)
+}
+
+#[test]
+fn words_are_checked(rt: HostRuntime) -> Result<(), Fail> {
+    let table: &[(&[&str], &str, u8)] = &[
+        (&[], USAGE, 2),
+        (&["script"], USAGE, 2),
+        (&["script", "600", "600"], USAGE, 2),
+        (&["Script", "600"], USAGE, 2),
+        (&["script", ""], USAGE, 2),
+        (&["script", "0600"], USAGE, 2),
+        (&["script", "six"], USAGE, 2),
+        (&["script", "4294967296"], USAGE, 2),
+        (&["format", "disk", "600"], USAGE, 2),
+        (&["serve", "disk", "2049", "1"], USAGE, 2),
+        (&["script", "0"], "bad size\n", 2),
+        (&["script", "531"], "bad size\n", 2),
+        (&["script", "33300"], "bad size\n", 2),
+        (&["script", "4294967295"], "bad size\n", 2),
+        (&["script", "532"], "", 0),
+        (&["script", "33299"], "", 0),
+    ];
+    for (words, faults, status) in table {
+        let run = run_with(rt.alloc(), words, b"")?;
+        assert_eq!(&rt; run.output.len(), 0, "at {words:?}");
+        assert_eq!(&rt; run.faults.as_slice(), faults.as_bytes(), "at {words:?}");
+        assert_eq!(&rt; run.status, *status, "at {words:?}");
+    }
+    Ok(())
+}
+
+const SCRIPT: &[u8] =
+    b"put 515 0 01*128\nget 515 0\ncommit\nnone\nget 515 0\nput 514 7 02\nabort\n";
+
+const ANSWERS: &[u8] = b"ok\n= 01*128\ncommitted 1\nbad line\n= 01*128\nrefused J3 BadSize\nok\n";
+
+#[test]
+fn a_failing_read_ends_the_run(rt: HostRuntime) -> Result<(), Fail> {
+    let words = words_of(rt.alloc(), &["script", "600"])?;
+    let mut some_whole = false;
+    for reads in 0..20 {
+        let mut input = BrokenReader::new(SCRIPT, reads);
+        let mut output = Vec::new(rt.alloc());
+        let mut faults = Vec::new(rt.alloc());
+        let status = run(rt.alloc(), &words, &mut input, &mut output, &mut faults);
+        if input.has_failed() {
+            assert_eq!(&rt; status, 1, "at {reads}");
+            assert!(&rt; ANSWERS.starts_with(&output), "at {reads}");
+            assert!(&rt; output.is_empty() || output.ends_with(b"\n"), "at {reads}");
+        } else {
+            assert_eq!(&rt; status, 2, "at {reads}");
+            assert_eq!(&rt; output.as_slice(), ANSWERS, "at {reads}");
+            some_whole = true;
+        }
+    }
+    assert!(&rt; some_whole);
+    Ok(())
+}
+
+#[test]
+fn a_failing_write_ends_the_run(rt: HostRuntime) -> Result<(), Fail> {
+    let words = words_of(rt.alloc(), &["script", "600"])?;
+    let mut some_whole = false;
+    for writes in 0..40 {
+        let mut input = SCRIPT;
+        let mut output = BrokenWriter::new(rt.alloc(), writes);
+        let mut faults = Vec::new(rt.alloc());
+        let status = run(rt.alloc(), &words, &mut input, &mut output, &mut faults);
+        if output.has_failed() {
+            assert_eq!(&rt; status, 1, "at {writes}");
+            assert!(&rt; ANSWERS.starts_with(output.written()), "at {writes}");
+        } else {
+            assert_eq!(&rt; status, 2, "at {writes}");
+            assert_eq!(&rt; output.written(), ANSWERS, "at {writes}");
+            some_whole = true;
+        }
+    }
+    assert!(&rt; some_whole);
+    Ok(())
+}
