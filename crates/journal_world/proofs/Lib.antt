@@ -3,4 +3,8 @@ pub mod Lookups
 pub mod SameMaps
 pub mod LongerHistories
 pub mod ObjectsOfMaps
+pub mod Prefixes
+pub mod Marks
+pub mod SessionCommits
+pub mod MapsOfHistories
 mod Examples

@@ -1,0 +1,80 @@
+-- What a disk is: its blocks at first, what happened to them since, and what that makes of each block now.
+use Rattle.std.specs.Prelude.{ℕ, ◌≡◌, ◌⊎◌, ◌<◌, ◌≤◌, ◌-◌, ◌^◌, ◌==◌, Bool, List, [], ◌∷◌, slice_index_or, if◌then◌else◌}
+use Rattle.journal_block.specs.Block.{Bytes}
+
+-- what happens to a disk: a write, or a barrier that succeeded
+pub data Event : Type 0 where
+  write : (block : ℕ) (bytes : Bytes) → Event
+  barrier : Event
+
+-- A disk's past: how many blocks it has, what they held at first, and what happened since, the newest first
+pub record Past : Type 0 where
+  pub size : ℕ
+  pub first : List Bytes
+  pub events : List Event
+
+-- What contracts know of a disk. Where it is not honest, its past says nothing but the size
+pub record DiskState : Type 0 where
+  pub past : Past
+  pub honest : Bool
+  pub failures : ℕ
+
+abbrev pub block_at : List Bytes → ℕ → Bytes
+block_at blocks b = slice_index_or blocks b []
+
+-- the newest of some writes, the first of the list, or where there is none the block that they overwrite
+abbrev pub newest : List Bytes → Bytes → Bytes
+newest [] block = block
+newest (bytes ∷ older) block = bytes
+
+-- the writes of block b since the last barrier, the newest first
+abbrev pub pending_in : List Event → ℕ → List Bytes
+pending_in [] b = []
+pending_in (write c bytes ∷ older) b = if b == c then bytes ∷ pending_in older b else pending_in older b
+pending_in (barrier ∷ older) b = []
+
+-- what block b held at the last barrier, or where there was none at first, which is given
+abbrev pub stable_in : Bytes → List Event → ℕ → Bytes
+stable_in block [] b = block
+stable_in block (write c bytes ∷ older) b = stable_in block older b
+stable_in block (barrier ∷ older) b = newest (pending_in older b) (stable_in block older b)
+
+-- what a read of block b gives: the last of its pending writes, else its stable content
+abbrev pub read_in : Bytes → List Event → ℕ → Bytes
+read_in block events b = newest (pending_in events b) (stable_in block events b)
+
+-- the same of a disk: the pending writes of its block, the stable block, and what a read gives
+abbrev pub pending_of : Past → ℕ → List Bytes
+pending_of p b = pending_in p.events b
+
+abbrev pub stable_of : Past → ℕ → Bytes
+stable_of p b = stable_in (block_at p.first b) p.events b
+
+abbrev pub read_of : Past → ℕ → Bytes
+read_of p b = read_in (block_at p.first b) p.events b
+
+-- no write is pending
+abbrev pub IsSettled : Past → Type 0
+IsSettled p = (b : ℕ) → b < p.size → pending_of p b ≡ []
+
+-- the past of a disk that begins with these blocks
+abbrev pub past_from : ℕ → List Bytes → Past
+past_from size blocks = record { size = size; first = blocks; events = [] }
+
+-- the past once this happened too
+abbrev pub past_after : Event → Past → Past
+past_after e p = record p { events = e ∷ p.events }
+
+-- this happened, or nothing did
+abbrev pub MayHaveHappened : Event → Past → Past → Type 0
+MayHaveHappened e old new = (new ≡ old) ⊎ (new ≡ past_after e old)
+
+-- What each call keeps, failed or not, whether the disk is honest or not
+pub record Keeps (old new : DiskState) : Type 0 where
+  pub size : new.past.size ≡ old.past.size
+  pub honest : new.honest ≡ old.honest
+  pub failures : old.failures ≤ new.failures
+
+-- the number of failures rose, or is at its greatest
+abbrev pub HasFailed : DiskState → DiskState → Type 0
+HasFailed old new = (old.failures < new.failures) ⊎ (new.failures ≡ 2 ^ 64 - 1)

@@ -1,0 +1,30 @@
+-- What a crash may leave of a disk.
+use Rattle.std.specs.Prelude.{ℕ, ◌≡◌, ◌≢◌, ◌⊎◌, ◌<◌, List, length, map, Contains}
+use Rattle.std.specs.List.{range_with_len}
+use Rattle.journal_block.specs.Block.{Bytes}
+use Rattle.journal_disk.specs.Disks.{Past, block_at, pending_of, stable_of, read_of}
+
+-- a crash may leave this of the block: the stable block, or any of its pending writes
+abbrev pub MayLeave : Past → ℕ → Bytes → Type 0
+MayLeave p b bytes = (bytes ≡ stable_of p b) ⊎ Contains (pending_of p b) bytes
+
+-- An image is what a crash leaves: of each block, whatever it leaves of others, what it may leave of that one
+pub record IsImage (p : Past) (image : List Bytes) : Type 0 where
+  pub size : length image ≡ p.size
+  pub each : (b : ℕ) → b < p.size → MayLeave p b (block_at image b)
+
+-- each image has Q
+abbrev pub EveryImage : Past → (List Bytes → Type 0) → Type 0
+EveryImage p Q = (image : List Bytes) → IsImage p image → Q image
+
+-- the disk as it reads
+abbrev pub reading : Past → List Bytes
+reading p = map (read_of p) (range_with_len 0 p.size)
+
+-- An image from before a write of these bytes to block c, with that block as it was there or as written
+pub record IsOldOrWritten (p : Past) (c : ℕ) (bytes : Bytes) (image : List Bytes) : Type 0 where
+  pub old : List Bytes
+  pub was : IsImage p old
+  pub size : length image ≡ length old
+  pub here : (block_at image c ≡ block_at old c) ⊎ (block_at image c ≡ bytes)
+  pub others : (b : ℕ) → b ≢ c → block_at image b ≡ block_at old b

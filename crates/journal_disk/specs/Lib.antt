@@ -1,0 +1,6 @@
+pub mod Disks
+pub mod Images
+pub mod Moments
+pub mod Laws
+pub mod MemDisks
+pub mod Records

@@ -1,0 +1,61 @@
+-- A disk in memory: what is pending, and which image a choice names.
+use Rattle.std.specs.Prelude.{ℕ, ◌-◌, ◌+◌, ◌^◌, min, true, List, length, map, filter, drop, nat_lt, slice_index_or}
+use Rattle.std.specs.List.{range_with_len}
+use Rattle.journal_block.specs.Block.{Bytes}
+use Rattle.journal_disk.specs.Disks.{Event, Past, DiskState, block_at, newest, pending_in, stable_in, pending_of, past_from, past_after}
+
+-- What contracts see of a disk in memory
+pub record MemState : Type 0 where
+  pub past : Past
+  pub failures : ℕ
+  -- which device call from now on is to fail, or 0
+  pub fails_in : ℕ
+
+-- what is known of it as of any disk: it is honest
+abbrev pub state_of : MemState → DiskState
+state_of m = record { past = m.past; honest = true; failures = m.failures }
+
+-- a disk that begins with these blocks: nothing is pending, and no call failed or is to fail
+abbrev pub begun : ℕ → List Bytes → MemState
+begun size blocks = record { past = past_from size blocks; failures = 0; fails_in = 0 }
+
+-- once this happened to it
+abbrev pub with_event : Event → MemState → MemState
+with_event e m = record m { past = past_after e m.past }
+
+-- after a device call
+abbrev pub called : MemState → MemState
+called m = record m { fails_in = m.fails_in - 1 }
+
+-- after a device call that failed
+abbrev pub failed : MemState → MemState
+failed m = record (called m) { failures = min (m.failures + 1) (2 ^ 64 - 1) }
+
+-- a block and the number of its pending writes
+abbrev pub count_at : Past → ℕ → ℕ × ℕ
+count_at p b = (b, length (pending_of p b))
+
+-- each block below n that has pending writes, and their number, ascending
+abbrev pub pending_below : Past → ℕ → List (ℕ × ℕ)
+pending_below p n = filter (λ e. nat_lt 0 e.1) (map (count_at p) (range_with_len 0 n))
+
+-- each block that has pending writes, and their number, ascending
+abbrev pub pending_blocks : Past → List (ℕ × ℕ)
+pending_blocks p = pending_below p p.size
+
+-- block b where only the first k of its pending writes stand: its stable content where k is 0, the last write where k is too great
+abbrev pub chosen_in : Bytes → List Event → ℕ → ℕ → Bytes
+chosen_in block events b k =
+    let writes = pending_in events b in newest (drop (length writes - k) writes) (stable_in block events b)
+
+-- the number for a block: the j-th of the choice for the j-th pending block, and 0 where that is missing
+abbrev pub number_for : Past → List ℕ → ℕ → ℕ
+number_for p choice b = slice_index_or choice (length (pending_below p b)) 0
+
+-- a block of the image that a choice names
+abbrev pub chosen : Past → List ℕ → ℕ → Bytes
+chosen p choice b = chosen_in (block_at p.first b) p.events b (number_for p choice b)
+
+-- the image that a choice names
+abbrev pub image_of : Past → List ℕ → List Bytes
+image_of p choice = map (chosen p choice) (range_with_len 0 p.size)

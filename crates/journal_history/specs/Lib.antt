@@ -1,0 +1,3 @@
+pub mod Soundness
+pub mod Steps
+pub mod Tokens

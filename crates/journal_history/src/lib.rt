@@ -1,0 +1,36 @@
+//! The history of a mount, which only grows, and its beginnings, which any thread may hold.
+//!
+//! The history is a list of entries: the opening of a map, commits, and marks that tell how many commits are
+//! stable. It stands in proofs alone. What threads share is a `Book` of two words: HEAD, the history's
+//! length, and FLOOR, the greatest stable count that was told. They change by four kinds of step and no
+//! other, and each step keeps the law: HEAD is the length, the history is legal where the disk was honest and
+//! settled when it was opened, and FLOOR is at most its greatest mark.
+//!
+//! - load HEAD: `Session::observe`
+//! - exchange HEAD from n to n + 1, with one entry added: `Writer::begin`, `Writer::commit`, `Writer::mark`.
+//!   That it succeeds shows that the writer's n entries were the whole history
+//! - load FLOOR, and then HEAD: `Session::is_stable`
+//! - exchange FLOOR: `Writer::tell`
+//!
+//! A `Front` is a beginning of the history that someone has seen. Since the history only grows, what a front
+//! tells stays true, through locks and between threads. `Session`, `Receipt` and `StableNote` are fronts with
+//! what they know of them; two sessions share what they know by `Session::meet`, without waiting. Only the
+//! one `Writer` of a book adds entries, and a commit needs the session that it counts for.
+#![tactic(auto)]
+
+mod book;
+mod front;
+mod law;
+mod receipt;
+mod session;
+mod writer;
+
+pub use book::{Book, Naming};
+pub use front::Front;
+pub use law::Recorded;
+pub use receipt::{Receipt, StableNote};
+pub use session::Session;
+pub use writer::Writer;
+
+#[cfg(test)]
+mod tests;

@@ -1,0 +1,265 @@
+ghost use Rattle.std.specs.Prelude.{◌≡◌, length, IfSome};
+ghost use Rattle.journal_world.specs.Histories.{commits_of};
+ghost use Rattle.journal_history.specs.Tokens.{made};
+
+use super::*;
+use crate::law::{AskMark, Law, LogEntry, NoGain};
+use journal_world::{Addr, AnyMap, Layout, ObjectReader, Refusal, Value};
+use logbook::Seen;
+use std::marker::Brand;
+use std::mem::size_of;
+use std::process::Abort;
+use std::sync::Wait;
+use std::test::*;
+use std::thread::{Threads, join};
+
+// A disk of zeros. Nobody reads it.
+#[derive(Drop)]
+struct Zeros {
+    layout: Layout,
+}
+
+impl ObjectReader for Zeros {
+    ghost use Rattle.std.specs.Prelude.{[], true};
+
+    type Cause = ();
+
+    ghost map = { λ zeros. record { blocks = zeros.layout.blocks; pairs = [] } };
+
+    ghost trusted = { λ zeros. true };
+
+    fn layout(&self) -> Layout {
+        self.layout
+    }
+
+    fn read(&mut self, _addr: Addr) -> Result<Value, Refusal<()>> {
+        Err(Refusal::NoMemory)
+    }
+}
+
+// A transaction that reads and writes nothing.
+struct Blank;
+
+impl Recorded for Blank {
+    ghost use Rattle.std.specs.Prelude.{[]};
+
+    ghost reads = { λ blank. [] };
+
+    ghost writes = { λ blank. [] };
+}
+
+// A writer with a session whose commits are all that the history has under its number.
+#[derive(Drop)]
+struct Author<'b, J: Naming> {
+    writer: Writer<'b, J, AnyMap>,
+    session: Session<'b, J, AnyMap>,
+    ghost own: { length (commits_of session.number writer) ≡ made session },
+}
+
+impl<'b, J: Naming> Author<'b, J> {
+    // The history of a new book, with a second session that has committed nothing.
+    fn begin(
+        book: &'b Book<AnyMap>,
+        layout: Layout,
+    ) -> Option<(Author<'b, J>, Session<'b, J, AnyMap>)>
+        requires book { book.now ≡ J.book }
+        requires blocks { layout.blocks ≡ J.blocks }
+        ensures { IfSome result (λ r. length (commits_of r.1.number r.0.writer) ≡ made r.1) }
+    {
+        let writer = Writer::begin(book, &Zeros { layout }).ok()?;
+        let session = writer.session(3);
+        let other = writer.session(5);
+        Some((Author { writer, session }, other))
+    }
+
+    fn commit(&mut self) -> Option<Receipt<'b, J, AnyMap>> {
+        if self.writer.len() >= 100 {
+            return None;
+        }
+        self.writer.commit(&mut self.session, &Blank).ok()
+    }
+}
+
+// Marks all commits as stable, and tells it.
+fn mark_all<J: Naming>(writer: &mut Writer<J, AnyMap>) -> Option<()> {
+    if writer.len() >= 100 || writer.count() < writer.floor() {
+        return None;
+    }
+    writer.mark(writer.count()).ok()?;
+    writer.tell();
+    Some(())
+}
+
+// Nothing that a thread keeps grows with the history: the tokens have no bytes.
+#[test]
+fn tokens_have_no_bytes(rt: HostRuntime) {
+    assert_eq!(rt; size_of::<Seen<LogEntry, u64, Law<AnyMap>>>(), 0);
+    assert_eq!(rt;
+        size_of::<LogEntry>() + size_of::<NoGain>() + size_of::<AskMark>(),
+        0
+    );
+    assert_eq!(rt; size_of::<Front<Brand, AnyMap>>(), 16);
+    assert_eq!(rt; size_of::<Session<Brand, AnyMap>>(), 48);
+    assert_eq!(rt; size_of::<Receipt<Brand, AnyMap>>(), 32);
+    assert_eq!(rt; size_of::<StableNote<Brand, AnyMap>>(), 24);
+}
+
+// Two commits, and what is told of them.
+fn commits<J: Naming>(rt: &impl Abort, author: &mut Author<J>) -> Result<(), Fail> {
+    let first = author.commit().ok_or("first")?;
+    let second = author.commit().ok_or("second")?;
+    assert_eq!(rt; first.place(), 1);
+    assert_eq!(rt; first.count(), 1);
+    assert_eq!(rt; first.front().len(), 2);
+    assert_eq!(rt; second.place(), 2);
+    assert_eq!(rt; second.count(), 2);
+    assert_eq!(rt; second.front().len(), 3);
+    Ok(())
+}
+
+// What a session answers that has the number, made so many commits and has seen so many entries.
+fn knows<J: Naming>(rt: &impl Abort, session: &Session<J, AnyMap>, is: (u64, u64, u64)) {
+    assert_eq!(rt; session.number(), is.0);
+    assert_eq!(rt; session.made(), is.1);
+    assert_eq!(rt; session.seen(), is.2);
+    assert_eq!(rt; session.front().len(), is.2);
+}
+
+// A mark is known once it is told, and no more than it.
+fn marks<J: Naming>(
+    rt: &impl Abort,
+    writer: &mut Writer<J, AnyMap>,
+    other: &mut Session<J, AnyMap>,
+) -> Result<(), Fail> {
+    assert!(rt; !other.is_stable(1));
+    mark_all(writer).ok_or("marked")?;
+    assert_eq!(rt; writer.len(), 4);
+    assert_eq!(rt; writer.count(), 2);
+    assert_eq!(rt; writer.floor(), 2);
+    assert!(rt; other.is_stable(2));
+    assert!(rt; !other.is_stable(3));
+    let note = StableNote::new(&writer.front(), writer.floor());
+    assert_eq!(rt; note.count(), 2);
+    assert_eq!(rt; note.front().len(), 4);
+    Ok(())
+}
+
+// What is shown is seen, and nothing is forgotten.
+fn shows<'b, J: Naming>(
+    rt: &impl Abort,
+    start: &Front<'b, J, AnyMap>,
+    writer: &Writer<'b, J, AnyMap>,
+    session: &mut Session<'b, J, AnyMap>,
+) {
+    assert!(rt; !start.is_empty());
+    assert_eq!(rt; start.len(), 1);
+    session.see(start);
+    assert_eq!(rt; session.seen(), 3);
+    assert!(rt; writer.show(session).is_ok());
+    assert_eq!(rt; session.seen(), 4);
+}
+
+fn answers<J: Naming>(rt: &impl Abort, book: &Book<AnyMap>, layout: Layout) -> Result<(), Fail>
+    requires book { book.now ≡ J.book }
+    requires blocks { layout.blocks ≡ J.blocks }
+{
+    let (mut author, mut other) = Author::<J>::begin(book, layout).ok_or("begun")?;
+    assert!(rt; Author::<J>::begin(book, layout).is_none());
+    let start = author.writer.front();
+    commits(rt, &mut author)?;
+    let Author {
+        mut writer,
+        mut session,
+    } = author;
+    knows(rt, &session, (3, 2, 3));
+    knows(rt, &other, (5, 0, 1));
+    marks(rt, &mut writer, &mut other)?;
+    shows(rt, &start, &writer, &mut session);
+    Ok(())
+}
+
+// A stranger adds to the history, as another writer would.
+fn refusals<J: Naming>(rt: &impl Abort, book: &Book<AnyMap>, layout: Layout) -> Result<(), Fail>
+    requires book { book.now ≡ J.book }
+    requires blocks { layout.blocks ≡ J.blocks }
+{
+    let (mut author, mut stranger) = Author::<J>::begin(book, layout).ok_or("begun")?;
+    if author.writer.len() < 100 {
+        assert!(rt; stranger.commit(&author.writer.front(), &Blank).is_ok());
+    }
+    assert!(rt; author.commit().is_none());
+    knows(rt, &author.session, (3, 0, 1));
+    assert!(rt; author.writer.show(&mut stranger).is_err());
+    Ok(())
+}
+
+fn works<'b, J: Naming>(author: Author<'b, J>) -> Session<'b, J, AnyMap> {
+    let mut author = author;
+    author.commit();
+    author.commit();
+    let Author {
+        mut writer,
+        session,
+    } = author;
+    mark_all(&mut writer);
+    session
+}
+
+fn waits<'b, J: Naming>(
+    rt: &impl Wait,
+    session: Session<'b, J, AnyMap>,
+    entries: u64,
+) -> Session<'b, J, AnyMap> {
+    let mut session = session;
+    for _ in rt.forever() {
+        session.observe();
+        if session.seen() >= entries {
+            break;
+        }
+    }
+    session
+}
+
+// One thread commits and marks, the other one observes until it has seen all of it; then they meet.
+fn meets<J: Naming + Send + Sync, H: Abort + Threads + Wait + Sync>(
+    rt: &H,
+    book: &Book<AnyMap>,
+    layout: Layout,
+) -> Result<(), Fail>
+    requires book { book.now ≡ J.book }
+    requires blocks { layout.blocks ≡ J.blocks }
+{
+    let (author, reader) = Author::<J>::begin(book, layout).ok_or("begun")?;
+    let (mut author, mut reader) = join(
+        rt,
+        || -> Session<J, AnyMap> { works(author) },
+        || -> Session<J, AnyMap> { waits(rt, reader, 4) },
+    );
+    knows(rt, &author, (3, 2, 3));
+    author.meet(&mut reader);
+    knows(rt, &author, (3, 2, 4));
+    knows(rt, &reader, (5, 0, 4));
+    assert!(rt; reader.is_stable(2));
+    Ok(())
+}
+
+#[test]
+fn each_call_answers_by_the_history(rt: HostRuntime) -> Result<(), Fail> {
+    let book: Book<AnyMap> = Book::open::<()>()?;
+    let layout = Layout::new(600).ok_or("600 blocks")?;
+    answers::<Brand>(&rt, &book, layout)
+}
+
+#[test]
+fn a_longer_history_is_refused(rt: HostRuntime) -> Result<(), Fail> {
+    let book: Book<AnyMap> = Book::open::<()>()?;
+    let layout = Layout::new(600).ok_or("600 blocks")?;
+    refusals::<Brand>(&rt, &book, layout)
+}
+
+#[test]
+fn two_threads_meet(rt: HostRuntime) -> Result<(), Fail> {
+    let book: Book<AnyMap> = Book::open::<()>()?;
+    let layout = Layout::new(600).ok_or("600 blocks")?;
+    meets::<Brand, _>(&rt, &book, layout)
+}

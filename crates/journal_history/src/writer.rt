@@ -1,0 +1,191 @@
+// The one that adds to the history.
+ghost use Rattle.std.specs.Prelude.{◌≡◌, ◌≢◌, ◌<◌, ◌≤◌, ◌^◌, ◌++◌, ◌∷◌, [], length, IsTrue, IfOk, IfErr, OnOk, OnErr};
+ghost use mathlib.Core.List.{IsPrefix};
+ghost use Rattle.journal_world.specs.Maps.{Agrees, are_objects, overwritten};
+ghost use Rattle.journal_world.specs.Histories.{floor, count, commits_of, opened, is_trusted, latest, IsLegal};
+ghost use Rattle.journal_world.specs.Histories.Entry.{opening, stable};
+ghost use Rattle.journal_history.specs.Soundness.{IsSound, IsLonger};
+ghost use Rattle.journal_history.specs.Tokens.{made, IsExact, OnlyExtends, next_of, Commits, IsReceiptFor};
+
+use crate::book::{Book, Naming};
+use crate::front::Front;
+use crate::law::{AskMark, AskOpening, Recorded};
+use crate::receipt::Receipt;
+use crate::session::Session;
+use journal_world::{MapRule, ObjectReader};
+use std::fmt;
+use std::fmt::Debug;
+use std::marker::Model;
+
+/// The right to add entries to the history, with all of it that was added. Contracts see the history.
+///
+/// Only who begins a book's history has a writer, and there is no copy of it. So whoever keeps it decides
+/// which sessions there are, and no one else adds a commit, a mark or an opening. Each call is safe all the
+/// same where the book has more entries: it is refused, and gives the longer history as a front.
+#[derive(Drop)]
+pub struct Writer<'b, J: Naming, R: MapRule> {
+    front: Front<'b, J, R>,
+    commits: u64,
+    mark: u64,
+    told: u64,
+}
+
+impl<'b, J: Naming, R: MapRule> Model for Writer<'b, J, R> {
+    ghost use Rattle.std.specs.Prelude.{List};
+    ghost use Rattle.journal_world.specs.Histories.{Entry};
+    ghost use Rattle.journal_history.specs.Tokens.{IsWhole};
+
+    ghost Value = { List Entry };
+
+    ghost view = { λ w. w.front };
+
+    ghost invariant = { λ w. IsWhole J.blocks w.front w.commits w.mark w.told };
+}
+
+impl<'b, J: Naming, R: MapRule> Writer<'b, J, R> {
+    /// Begins the history of a book with the map that is read.
+    ///
+    /// At `Err` the book has a history already, and the front has seen it.
+    pub fn begin<O: ObjectReader>(
+        book: &'b Book<R>,
+        objects: &O,
+    ) -> Result<Writer<'b, J, R>, Front<'b, J, R>>
+        requires book { book.now ≡ J.book }
+        requires blocks { (O.map objects.now).blocks ≡ J.blocks }
+        requires objects { IsTrue (O.trusted objects.now) → IsTrue (are_objects (O.map objects.now).blocks (O.map objects.now).pairs) }
+        requires rule { IsTrue (O.trusted objects.now) → R.statement (O.map objects.now) }
+        ensures begun { IfOk result (λ writer. writer ≡ opening (O.map objects.now) (O.trusted objects.now) ∷ []) }
+        ensures stale { IfErr result (λ front. front ≢ []) }
+    {
+        let start = Front::at_start(book);
+        Ok(Writer {
+            front: start.add_after::<O, AskOpening>(&start, objects)?,
+            commits: 0,
+            mark: 0,
+            told: 0,
+        })
+    }
+
+    /// How many entries the history has. They are sound, and legal where the disk was honest and settled.
+    pub fn len(&self) -> u64
+        ensures length { result ≡ length self.now }
+        ensures begun { self.now ≢ [] }
+        ensures on_disk { (opened self.now).blocks ≡ J.blocks }
+        ensures sound { IsSound R.statement self.now }
+        ensures legal { IsTrue (is_trusted self.now) → IsLegal R.statement self.now }
+    {
+        self.front.len()
+    }
+
+    /// How many commits the history has.
+    pub fn count(&self) -> u64
+        ensures { result ≡ count self.now }
+    {
+        self.commits
+    }
+
+    /// The greatest mark of the history: so many commits are stable.
+    pub fn floor(&self) -> u64
+        ensures { result ≡ floor self.now }
+    {
+        self.mark
+    }
+
+    /// The history, as a front.
+    pub fn front(&self) -> Front<'b, J, R>
+        ensures { result ≡ self.now }
+    {
+        self.front.again()
+    }
+
+    /// A session of a number that the history has no commit of. It has seen the whole history.
+    pub fn session(&self, number: u64) -> Session<'b, J, R>
+        requires fresh { commits_of number self.now ≡ [] }
+        ensures { result ≡ record { number = number; mine = self.now; seen = self.now } }
+    {
+        Session::new(number, &self.front)
+    }
+
+    /// Shows the session the whole history.
+    ///
+    /// At `Err` the session had seen more than the writer, as the front has.
+    pub fn show(&self, session: &mut Session<'b, J, R>) -> Result<(), Front<'b, J, R>>
+        ensures extends { OnlyExtends session.old session.new }
+        ensures shown { OnOk result (session.new.seen ≡ self.now) }
+        ensures exact { OnOk result (length (commits_of session.old.number self.now) ≡ made session.old → IsExact session.new) }
+        ensures stale { IfErr result (λ front. IsLonger self.now front) }
+    {
+        session.see(&self.front);
+        if session.seen() > self.front.len() {
+            return Err(session.front());
+        }
+        Ok(())
+    }
+
+    /// Commits the session's next transaction: adds it to the history, which the session has then seen. The
+    /// receipt says where it stands.
+    ///
+    /// At `Err` the history is longer than the writer's, and the front has seen it. The writer and the
+    /// session stay as they were.
+    pub fn commit<T: Recorded>(
+        &mut self,
+        session: &mut Session<'b, J, R>,
+        transaction: &T,
+    ) -> Result<Receipt<'b, J, R>, Front<'b, J, R>>
+        requires room { length self.old < 2 ^ 62 }
+        requires own { length (commits_of session.old.number self.old) ≡ made session.old }
+        requires read { IsTrue (are_objects J.blocks (T.reads transaction.now)) }
+        requires written { IsTrue (are_objects J.blocks (T.writes transaction.now)) }
+        requires agrees { IsTrue (is_trusted self.old) → Agrees (latest self.old) (T.reads transaction.now) }
+        requires rule { IsTrue (is_trusted self.old) → R.statement (overwritten (latest self.old) (T.writes transaction.now)) }
+        ensures committed { OnOk result (Commits (next_of session.old (T.reads transaction.now) (T.writes transaction.now)) session.old session.new self.old self.new) }
+        ensures receipt { IfOk result (IsReceiptFor (next_of session.old (T.reads transaction.now) (T.writes transaction.now)) self.new (length self.old)) }
+        ensures stale { IfErr result (λ front. IsLonger self.old front) }
+        ensures unchanged { OnErr result ((self.new ≡ self.old) × (session.new ≡ session.old)) }
+    {
+        let place = self.front.len();
+        self.front = session.commit(&self.front, transaction)?;
+        self.commits += 1;
+        Ok(Receipt::new(&self.front, place, self.commits))
+    }
+
+    /// Marks that so many commits are stable, by an entry of the history.
+    ///
+    /// At `Err` the history is longer than the writer's, and the front has seen it. The writer stays as it
+    /// was.
+    pub fn mark(&mut self, n: u64) -> Result<(), Front<'b, J, R>>
+        requires room { length self.old < 2 ^ 62 }
+        requires rises { floor self.old ≤ n }
+        requires made { n ≤ count self.old }
+        ensures added { OnOk result (self.new ≡ self.old ++ stable n ∷ []) }
+        ensures marked { OnOk result (floor self.new ≡ n) }
+        ensures stale { IfErr result (λ front. IsLonger self.old front) }
+        ensures unchanged { OnErr result (self.new ≡ self.old) }
+    {
+        // It tells the proof that the history is sound.
+        let _len = self.front.len();
+        self.front = self.front.add_after::<u64, AskMark>(&self.front, &n)?;
+        self.mark = n;
+        Ok(())
+    }
+
+    /// Tells everyone the greatest mark, by FLOOR, so that `Session::is_stable` finds it. The history stays.
+    /// Nothing is promised of the word, which other threads read at any time.
+    pub fn tell(&mut self)
+        ensures { self.new ≡ self.old }
+    {
+        if self.front.tell(self.told, self.mark) {
+            self.told = self.mark;
+        }
+    }
+}
+
+impl<'b, J: Naming, R: MapRule> Debug for Writer<'b, J, R> {
+    fn fmt<W: fmt::Write>(&self, f: &mut fmt::Formatter<W>) -> fmt::Result {
+        f.debug_struct("Writer")
+            .field("front", &self.front)
+            .field("count", &self.commits)
+            .field("floor", &self.mark)
+            .finish_non_exhaustive()
+    }
+}
