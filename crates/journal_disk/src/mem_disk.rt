@@ -16,9 +16,9 @@ use std::marker::Model;
 /// An honest disk in memory, which can be made to fail, and to crash to any of its images.
 ///
 /// A call that needs memory takes it from the allocator that the disk was made with. A device call for
-/// which memory is refused fails. None takes longer because the record is long. `pending`, `image` and
-/// `crash` look at each block, and at each write since the last barrier, at most once; `crash` also drops
-/// the record.
+/// which memory is refused fails. No device call takes longer where the record is longer. `pending`, `image`
+/// and `crash` take time linear in the blocks and in the writes since the last barrier, and `crash` also
+/// drops the record.
 #[derive(Drop)]
 pub struct MemDisk {
     alloc: Global,
