@@ -1,2 +1,4 @@
 pub mod Block
 pub mod Lending
+pub mod Updates
+pub mod UpdateLaws

@@ -19,7 +19,7 @@ pub use layout::{
 };
 pub use moment::{MAX_NANOS, Moment};
 pub use objects::Objects;
-pub use refusal::Refusal;
+pub use refusal::{Refusal, Refused};
 pub use rule::{AnyMap, MapRule, ObjectReader};
 pub use step::Step;
 pub use value::Value;

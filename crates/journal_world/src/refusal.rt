@@ -74,5 +74,15 @@ impl<T: Drop, C> From<AllocFailed<T>> for Refusal<C> {
     }
 }
 
+/// A refusal, with the disk that was handed in: a refused open or close gives it back.
+#[derive(Debug, Drop, Error)]
+#[error("{refusal}")]
+pub struct Refused<D, C> {
+    /// Why the call was refused.
+    pub refusal: Refusal<C>,
+    /// The disk.
+    pub disk: D,
+}
+
 #[cfg(test)]
 mod tests;
