@@ -78,16 +78,16 @@ impl<'b, J: Naming> Author<'b, J> {
         }
         self.writer.commit(&mut self.session, &Blank).ok()
     }
-}
 
-// Marks all commits as stable, and tells it.
-fn mark_all<J: Naming>(writer: &mut Writer<J, AnyMap>) -> Option<()> {
-    if writer.len() >= 100 || writer.count() < writer.floor() {
-        return None;
+    // Marks all commits as stable, and tells it.
+    fn mark_all(&mut self) -> Option<()> {
+        if self.writer.len() >= 100 || self.writer.count() < self.writer.floor() {
+            return None;
+        }
+        self.writer.mark(self.writer.count()).ok()?;
+        self.writer.tell();
+        Some(())
     }
-    writer.mark(writer.count()).ok()?;
-    writer.tell();
-    Some(())
 }
 
 // Nothing that a thread keeps grows with the history: the tokens have no bytes.
@@ -128,19 +128,32 @@ fn knows<J: Naming>(rt: &impl Abort, session: &Session<J, AnyMap>, is: (u64, u64
 // A mark is known once it is told, and no more than it.
 fn marks<J: Naming>(
     rt: &impl Abort,
-    writer: &mut Writer<J, AnyMap>,
+    author: &mut Author<J>,
     other: &mut Session<J, AnyMap>,
 ) -> Result<(), Fail> {
     assert!(rt; !other.is_stable(1));
-    mark_all(writer).ok_or("marked")?;
-    assert_eq!(rt; writer.len(), 4);
-    assert_eq!(rt; writer.count(), 2);
-    assert_eq!(rt; writer.floor(), 2);
+    author.mark_all().ok_or("marked")?;
+    assert_eq!(rt; author.writer.len(), 4);
+    assert_eq!(rt; author.writer.count(), 2);
+    assert_eq!(rt; author.writer.floor(), 2);
     assert!(rt; other.is_stable(2));
     assert!(rt; !other.is_stable(3));
-    let note = StableNote::new(&writer.front(), writer.floor());
+    let note = StableNote::new(&author.writer.front(), author.writer.floor());
     assert_eq!(rt; note.count(), 2);
     assert_eq!(rt; note.front().len(), 4);
+    Ok(())
+}
+
+// A commit and a later mark are told too.
+fn marks_again<J: Naming>(
+    rt: &impl Abort,
+    author: &mut Author<J>,
+    other: &mut Session<J, AnyMap>,
+) -> Result<(), Fail> {
+    author.commit().ok_or("third")?;
+    assert!(rt; !other.is_stable(3));
+    author.mark_all().ok_or("marked again")?;
+    assert!(rt; other.is_stable(3));
     Ok(())
 }
 
@@ -154,9 +167,9 @@ fn shows<'b, J: Naming>(
     assert!(rt; !start.is_empty());
     assert_eq!(rt; start.len(), 1);
     session.see(start);
-    assert_eq!(rt; session.seen(), 3);
+    assert_eq!(rt; session.seen(), 5);
     assert!(rt; writer.show(session).is_ok());
-    assert_eq!(rt; session.seen(), 4);
+    assert_eq!(rt; session.seen(), 6);
 }
 
 fn answers<J: Naming>(rt: &impl Abort, book: &Book<AnyMap>, layout: Layout) -> Result<(), Fail>
@@ -167,13 +180,14 @@ fn answers<J: Naming>(rt: &impl Abort, book: &Book<AnyMap>, layout: Layout) -> R
     assert!(rt; Author::<J>::begin(book, layout).is_none());
     let start = author.writer.front();
     commits(rt, &mut author)?;
+    knows(rt, &author.session, (3, 2, 3));
+    knows(rt, &other, (5, 0, 1));
+    marks(rt, &mut author, &mut other)?;
+    marks_again(rt, &mut author, &mut other)?;
     let Author {
-        mut writer,
+        writer,
         mut session,
     } = author;
-    knows(rt, &session, (3, 2, 3));
-    knows(rt, &other, (5, 0, 1));
-    marks(rt, &mut writer, &mut other)?;
     shows(rt, &start, &writer, &mut session);
     Ok(())
 }
@@ -197,12 +211,8 @@ fn works<'b, J: Naming>(author: Author<'b, J>) -> Session<'b, J, AnyMap> {
     let mut author = author;
     author.commit();
     author.commit();
-    let Author {
-        mut writer,
-        session,
-    } = author;
-    mark_all(&mut writer);
-    session
+    author.mark_all();
+    author.session
 }
 
 fn waits<'b, J: Naming>(

@@ -7,10 +7,11 @@ use Rattle.journal_world.specs.declared.address.Addr.{Addr}
 use Rattle.journal_world.specs.declared.address.Kind.TheVariants.{Bit, Inode, Block}
 use Rattle.journal_world.specs.Addresses.{kind_of, is_valid, is_value_of, zeros_of, slot_of, is_same}
 use Rattle.journal_world.specs.Maps.{Pair, Map, SameMap, Transaction, zeros_at, value_at, Agrees, apply}
-use Rattle.journal_world.specs.Histories.{Entry, count, floor, at, latest, opened, is_trusted, commits_of, Follows, IsTrueTo, IsLegal}
+use Rattle.journal_world.specs.Histories.{Entry, count, floor, at, latest, opened, is_trusted, commits_of, touched, Follows, IsTrueTo, IsLegal}
 use Rattle.journal_world.specs.Histories.Entry.{opening, commit, stable}
 use Rattle.journal_world.proofs.Lookups.{same_addr}
 use Rattle.journal_world.proofs.LongerHistories.{Each-nil, Each-snoc}
+use Rattle.journal_world.proofs.Slots.{latest-untouched}
 
 abbrev addr : ℕ → ℕ → Addr
 addr block off = record { block = block; off = off }
@@ -107,6 +108,26 @@ legal = record {
       tt)
       agrees;
 }
+
+-- two bits of slot 0, which count once where one commit writes both, and a bit of slot 43
+abbrev sets_both : Transaction
+sets_both = record { session = 0; number = 0; reads = []; writes = set ∷ (addr 514 257, 1 ∷ []) ∷ [] }
+
+abbrev sets_another : Transaction
+sets_another = record { session = 0; number = 1; reads = []; writes = (addr 514 300, 1 ∷ []) ∷ [] }
+
+abbrev touching : List Entry
+touching = first ∷ commit sets_both ∷ commit sets_another ∷ []
+
+abbrev more : List Entry
+more = stable 1 ∷ commit clears_it ∷ []
+
+touches : (touched touching 0 ≡ 1) × (touched touching 43 ≡ 1) × (touched touching 1 ≡ 0) × (touched (touching ++ more) 0 ≡ 2) × (touched (touching ++ more) 43 ≡ 1)
+touches = (refl, refl, refl, refl, refl)
+
+-- the slot of bit 300 was touched no more, so the bit stays
+stays : value_at (latest (touching ++ more)) (addr 514 300) ≡ 1 ∷ []
+stays = latest-untouched touching more (addr 514 300) (some first (commit sets_both ∷ commit sets_another ∷ [])) refl
 
 -- what is not legal
 falling_mark : IsLegal any (history ++ stable 0 ∷ []) → ⊥

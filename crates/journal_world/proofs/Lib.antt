@@ -7,4 +7,5 @@ pub mod Prefixes
 pub mod Marks
 pub mod SessionCommits
 pub mod MapsOfHistories
+pub mod Slots
 mod Examples
