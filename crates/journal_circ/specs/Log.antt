@@ -1,0 +1,48 @@
+-- Where the log lies on a disk, and what it says.
+use Rattle.std.specs.Prelude.{ℕ, ◌<◌, ◌≤◌, ◌+◌, ◌-◌, ◌*◌, ◌%◌, ◌^◌, List, length, map}
+use Rattle.std.specs.List.{range_with_len}
+use Rattle.journal_block.specs.declared.update.Update.{Update}
+use Rattle.journal_block.specs.Block.{Bytes, u64_at}
+use Rattle.journal_block.specs.Updates.{Content}
+use Rattle.journal_disk.specs.Disks.{block_at}
+
+-- the block that a position's content lies in
+abbrev pub log_block : ℕ → ℕ
+log_block p = 2 + p % 511
+
+-- where in block 0 the address of a position lies
+abbrev pub address_at : ℕ → ℕ
+address_at p = 8 + 8 * (p % 511)
+
+-- the address that block 0 has for a position
+abbrev pub address : Bytes → ℕ → ℕ
+address header p = u64_at header (address_at p)
+
+-- the update of a position, where block 0 and the log blocks are these
+abbrev pub update_at : Bytes → Content → ℕ → Update
+update_at header blocks p = record { block = address header p; bytes = blocks (log_block p) }
+
+-- the updates of n positions from p on
+abbrev pub updates_from : Bytes → Content → ℕ → ℕ → List Update
+updates_from header blocks p n = map (update_at header blocks) (range_with_len p n)
+
+-- where the log of an image ends, and where it begins
+abbrev pub end_of : List Bytes → ℕ
+end_of image = u64_at (block_at image 0) 0
+
+abbrev pub start_of : List Bytes → ℕ
+start_of image = u64_at (block_at image 1) 0
+
+-- the log of an image: the updates of its positions from start to end
+abbrev pub log_in : List Bytes → List Update
+log_in image = updates_from (block_at image 0) (block_at image) (start_of image) (end_of image - start_of image)
+
+-- Blocks 0 and 1 describe a log on a disk of n blocks
+pub record IsLog (header front : Bytes) (n : ℕ) : Type 0 where
+  pub ordered : u64_at front 0 ≤ u64_at header 0
+  pub fits : u64_at header 0 ≤ u64_at front 0 + 511
+  pub small : u64_at header 0 < 2 ^ 62
+  pub addresses : (p : ℕ) → u64_at front 0 ≤ p → p < u64_at header 0 → (513 ≤ address header p) × (address header p < n)
+
+abbrev pub IsWellFormed : List Bytes → Type 0
+IsWellFormed image = IsLog (block_at image 0) (block_at image 1) (length image)

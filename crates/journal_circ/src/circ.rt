@@ -1,0 +1,163 @@
+// A circular log on its disk.
+ghost use Rattle.std.specs.Prelude.{ℕ, ◌≡◌, ◌<◌, ◌≤◌, ◌+◌, ◌-◌, ◌^◌, slice_get, Some, true, IsTrue, OnOk, OnErr, IfOk, IfErr, IsErr};
+ghost use Rattle.journal_circ.specs.declared.layout.TheConstants.{FIRST_HOME};
+ghost use Rattle.journal_disk.specs.Disks.{Keeps};
+ghost use Rattle.journal_circ.specs.Ring.{log_of, home_of, IsFault};
+
+use crate::fail_stop::FailStop;
+use crate::layout::{address_at, log_block};
+use crate::marks::Marks;
+use journal_block::Block;
+use journal_disk::{BlockDisk, MemDisk};
+use journal_world::Refusal;
+use std::marker::Model;
+
+pub mod installer;
+pub mod logger;
+mod opening;
+
+/// A disk with its circular log.
+///
+/// A step or a read answers J6 `DeviceFailed` where the device fails in it, and no other refusal. From then
+/// on each answers J6 without a device call, and the state that was handed in is spent. After a failed step
+/// each image still stands for what it might have stood for during the step. The disk stays here until
+/// `into_disk`.
+#[derive(Drop)]
+pub struct Circ<D: BlockDisk> {
+    device: FailStop<D>,
+    // Block 0 as the next group has it.
+    header: Block,
+    // Block 1 as it is put next, but for its start.
+    front: Block,
+    marks: Marks,
+    // The position that is put next.
+    next: u64,
+}
+
+impl<D: BlockDisk> Model for Circ<D> {
+    ghost use Rattle.journal_circ.specs.Ring.{Ring};
+    ghost use Rattle.journal_circ.specs.Soundness.{IsInOrder};
+
+    ghost Value = { Ring };
+
+    ghost view = { λ c. record {
+      disk = D.state c.device.disk;
+      header = c.header;
+      marks = c.marks;
+      next = c.next;
+      faulted = c.device.faulted;
+    } };
+
+    ghost invariant = { λ c. IsInOrder (record {
+      disk = D.state c.device.disk;
+      header = c.header;
+      marks = c.marks;
+      next = c.next;
+      faulted = c.device.faulted;
+    }) };
+}
+
+impl<D: BlockDisk> Circ<D> {
+    /// Reads a block of the disk, as its last write left it, whatever the log has for it.
+    ///
+    /// Answers J6, and nothing else, where the device failed in this call or before. What `into` then holds is
+    /// not said.
+    pub fn read(&mut self, block: u64, into: &mut Block) -> Result<(), Refusal<()>>
+        requires { block < self.old.disk.past.size }
+        ensures cause { IfErr result (IsFault self.old.faulted self.old.disk self.new.disk) }
+        ensures faulted { IsTrue self.old.faulted → IsErr result × (self.new ≡ self.old) }
+        ensures keeps { Keeps self.old.disk self.new.disk }
+        ensures same { IsTrue self.old.disk.honest → self.new.disk.past ≡ self.old.disk.past }
+        ensures value { IsTrue self.old.disk.honest → OnOk result (into.new ≡ home_of self.old block) }
+        ensures ok { OnOk result (self.new ≡ record self.old { disk = self.new.disk }) }
+        ensures err { OnErr result (self.new ≡ record self.old { disk = self.new.disk; faulted = true }) }
+    {
+        self.device.read(block, into)
+    }
+
+    /// Reads the log block of a position from the start to the one that is put next, and gives the number of
+    /// its home block.
+    ///
+    /// Answers J6, and nothing else, where the device failed in this call or before. What `into` then holds is
+    /// not said.
+    pub fn read_logged(&mut self, position: u64, into: &mut Block) -> Result<u64, Refusal<()>>
+        requires from_start { self.old.marks.start ≤ position }
+        requires put { position < self.old.next }
+        ensures cause { IfErr result (IsFault self.old.faulted self.old.disk self.new.disk) }
+        ensures faulted { IsTrue self.old.faulted → IsErr result × (self.new ≡ self.old) }
+        ensures keeps { Keeps self.old.disk self.new.disk }
+        ensures same { IsTrue self.old.disk.honest → self.new.disk.past ≡ self.old.disk.past }
+        ensures update { IsTrue self.old.disk.honest → IfOk result (λ block.
+            slice_get (log_of self.old) (position - self.old.marks.start) ≡ Some (record { block = block; bytes = into.new })) }
+        ensures home { IfOk result (λ block. (513 ≤ block) × (block < self.old.disk.past.size)) }
+        ensures ok { OnOk result (self.new ≡ record self.old { disk = self.new.disk }) }
+        ensures err { OnErr result (self.new ≡ record self.old { disk = self.new.disk; faulted = true }) }
+    {
+        self.device.read(log_block(position), into)?;
+        Ok(self.header.get_u64(address_at(position)))
+    }
+
+    /// The number of blocks of the disk.
+    pub fn size(&self) -> u64
+        ensures { result ≡ self.now.disk.past.size }
+    {
+        self.device.disk.size()
+    }
+
+    /// The position where the log begins on the disk, as last synced.
+    pub fn start(&self) -> u64
+        ensures start { result ≡ self.now.marks.start }
+        ensures order { result ≤ self.now.marks.end }
+    {
+        self.marks.start
+    }
+
+    /// The position where the log ends on the disk, as last synced.
+    pub fn end(&self) -> u64
+        ensures end { result ≡ self.now.marks.end }
+        ensures small { result < 2 ^ 62 }
+        ensures fits { result ≤ self.now.marks.start + 511 }
+    {
+        self.marks.end
+    }
+
+    /// The position that is put next.
+    pub fn next(&self) -> u64
+        ensures { result ≡ self.now.next }
+    {
+        self.next
+    }
+
+    /// Whether a device call failed, so that every step and read answers J6.
+    pub fn is_faulted(&self) -> bool
+        ensures { result ≡ self.now.faulted }
+    {
+        self.device.faulted
+    }
+
+    /// The disk, lent.
+    pub fn disk(&self) -> &D
+        ensures { D.state result.now ≡ self.now.disk }
+    {
+        &self.device.disk
+    }
+
+    /// Gives the disk up, with all that is pending on it.
+    pub fn into_disk(self) -> D
+        ensures { D.state result ≡ self.disk }
+    {
+        let Circ { device, .. } = self;
+        let FailStop { disk, .. } = device;
+        disk
+    }
+}
+
+impl Circ<MemDisk> {
+    /// Makes the `call`-th device call from now on fail, be it a read, a write or a barrier, and no other,
+    /// whatever an earlier `fail_in` said. At 0 none fails.
+    pub fn fail_in(&mut self, call: u64)
+        ensures { self.new ≡ self.old }
+    {
+        self.device.disk.fail_in(call);
+    }
+}

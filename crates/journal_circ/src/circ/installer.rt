@@ -1,0 +1,145 @@
+// The installer's cycle: blocks are written home, and then the positions that had them become free.
+ghost use Rattle.std.specs.Prelude.{ℕ, ◌≡◌, ◌⊎◌, ◌<◌, ◌≤◌, ◌-◌, true, false, drop, IsTrue, OnOk, OnErr, IfErr, IsErr, MatchResult};
+ghost use Rattle.journal_circ.specs.Ring.{log_of, home_of, Steps, SameHome, SameHomeBut, SameBlocks, IsFault, IsLogged, IsInstalled};
+
+use crate::Circ;
+use crate::layout::{BOUND_AT, FRONT};
+use journal_block::Block;
+use journal_disk::BlockDisk;
+use journal_world::Refusal;
+
+/// Home blocks were put, or none.
+#[derive(Drop)]
+pub struct HomesPut(());
+
+/// All home blocks that were put are on the disk.
+#[derive(Drop)]
+pub struct HomesSynced(());
+
+/// Block 1 was put with a later start. No position is free by it.
+#[derive(Drop)]
+pub struct StartPut(());
+
+/// The positions before the start are free.
+#[derive(Drop)]
+pub struct Freed(());
+
+impl<D: BlockDisk> Circ<D> {
+    /// The installer's state before a run.
+    pub fn installer(&self) -> HomesPut {
+        HomesPut(())
+    }
+
+    /// Puts a home block that a position up to the end has an update of. An image stands for the same as
+    /// before, whatever is put.
+    ///
+    /// Answers J6, and nothing else, where the device failed in this call or before. After a device call that
+    /// failed the block may be as it was or as `from`.
+    pub fn put_home(
+        &mut self,
+        state: HomesPut,
+        block: u64,
+        from: &Block,
+    ) -> Result<HomesPut, Refusal<()>>
+        requires idle { self.old.marks.freed ≡ self.old.marks.start }
+        requires home { 513 ≤ block }
+        requires on_disk { block < self.old.disk.past.size }
+        requires logged { IsTrue self.old.disk.honest → IsLogged self.old block }
+        ensures cause { IfErr result (IsFault self.old.faulted self.old.disk self.new.disk) }
+        ensures faulted { IsTrue self.old.faulted → IsErr result × (self.new ≡ self.old) }
+        ensures step { Steps self.old.marks.coming self.old self.new }
+        ensures log { IsTrue self.old.disk.honest → log_of self.new ≡ log_of self.old }
+        ensures home { IsTrue self.old.disk.honest → OnOk result (home_of self.new block ≡ from.now) }
+        ensures others { IsTrue self.old.disk.honest → SameHomeBut block self.old self.new }
+        ensures ok { OnOk result (self.new ≡ record self.old {
+          disk = self.new.disk;
+          marks = record self.old.marks { homes = false };
+        }) }
+        ensures err { OnErr result (IsTrue self.old.faulted ⊎ (self.new ≡ record self.old {
+          disk = self.new.disk;
+          marks = record self.old.marks { homes = false };
+          faulted = true;
+        })) }
+    {
+        self.device.check()?;
+        self.marks.homes = false;
+        self.device.write(block, from)?;
+        Ok(state)
+    }
+
+    /// Makes the home blocks stable.
+    ///
+    /// Answers J6, and nothing else, where the device failed in this call or before.
+    pub fn sync_homes(&mut self, _state: HomesPut) -> Result<HomesSynced, Refusal<()>>
+        ensures cause { IfErr result (IsFault self.old.faulted self.old.disk self.new.disk) }
+        ensures faulted { IsTrue self.old.faulted → IsErr result × (self.new ≡ self.old) }
+        ensures step { Steps self.old.marks.coming self.old self.new }
+        ensures log { IsTrue self.old.disk.honest → log_of self.new ≡ log_of self.old }
+        ensures home { IsTrue self.old.disk.honest → SameHome self.old self.new }
+        ensures ok { OnOk result (self.new ≡ record self.old {
+          disk = self.new.disk;
+          marks = record self.old.marks { homes = true };
+        }) }
+        ensures err { OnErr result (self.new ≡ record self.old { disk = self.new.disk; faulted = true }) }
+    {
+        self.device.barrier()?; // the home blocks
+        self.marks.homes = true;
+        Ok(HomesSynced(()))
+    }
+
+    /// Puts a later start, up to which each home block is as the log has it.
+    ///
+    /// Answers J6, and nothing else, where the device failed in this call or before. After a device call that
+    /// failed the log may begin at the old or at the new start.
+    pub fn put_start(&mut self, _state: HomesSynced, upto: u64) -> Result<StartPut, Refusal<()>>
+        requires synced { IsTrue self.old.marks.homes }
+        requires idle { self.old.marks.freed ≡ self.old.marks.start }
+        requires above { self.old.marks.start ≤ upto }
+        requires below { upto ≤ self.old.marks.end }
+        requires installed { IsTrue self.old.disk.honest → IsInstalled self.old upto }
+        ensures cause { IfErr result (IsFault self.old.faulted self.old.disk self.new.disk) }
+        ensures faulted { IsTrue self.old.faulted → IsErr result × (self.new ≡ self.old) }
+        ensures step { Steps self.old.marks.coming self.old self.new }
+        ensures log { IsTrue self.old.disk.honest → log_of self.new ≡ log_of self.old }
+        ensures home { IsTrue self.old.disk.honest → SameHome self.old self.new }
+        ensures ok { OnOk result (self.new ≡ record self.old {
+          disk = self.new.disk;
+          marks = record self.old.marks { freed = upto };
+        }) }
+        ensures err { OnErr result (IsTrue self.old.faulted ⊎ (self.new ≡ record self.old {
+          disk = self.new.disk;
+          marks = record self.old.marks { freed = upto };
+          faulted = true;
+        })) }
+    {
+        self.device.check()?;
+        self.front.put_u64(BOUND_AT, upto);
+        self.marks.freed = upto;
+        self.device.write(FRONT, &self.front)?;
+        Ok(StartPut(()))
+    }
+
+    /// Makes the start stable: the positions before it are free, and the rest of the log stands for what the
+    /// whole stood for.
+    ///
+    /// Answers J6, and nothing else, where the device failed in this call or before.
+    pub fn sync_start(&mut self, _state: StartPut) -> Result<Freed, Refusal<()>>
+        ensures cause { IfErr result (IsFault self.old.faulted self.old.disk self.new.disk) }
+        ensures faulted { IsTrue self.old.faulted → IsErr result × (self.new ≡ self.old) }
+        ensures step { Steps self.old.marks.coming self.old self.new }
+        ensures log { IsTrue self.old.disk.honest → MatchResult result
+            (λ _. log_of self.new ≡ drop (self.old.marks.freed - self.old.marks.start) (log_of self.old))
+            (λ _. log_of self.new ≡ log_of self.old) }
+        ensures home { IsTrue self.old.disk.honest → SameHome self.old self.new }
+        ensures blocks { IsTrue self.old.disk.honest → SameBlocks self.old self.new }
+        ensures ok { OnOk result (self.new ≡ record self.old {
+          disk = self.new.disk;
+          marks = record self.old.marks { start = self.old.marks.freed };
+        }) }
+        ensures err { OnErr result (self.new ≡ record self.old { disk = self.new.disk; faulted = true }) }
+    {
+        self.device.barrier()?; // the start
+        self.marks.start = self.marks.freed;
+        Ok(Freed(()))
+    }
+}

@@ -1,0 +1,133 @@
+// The logger's cycle: a group of updates is put, and then becomes part of the log at once.
+ghost use Rattle.std.specs.Prelude.{ℕ, ◌≡◌, ◌⊎◌, ◌<◌, ◌≤◌, ◌+◌, ◌^◌, [], ◌∷◌, ◌++◌, true, IsTrue, OnOk, OnErr, IfErr, IsErr, MatchResult};
+ghost use Rattle.journal_circ.specs.Ring.{log_of, Steps, SameHome, IsFault};
+
+use crate::Circ;
+use crate::layout::{BOUND_AT, HEADER, address_at, log_block};
+use journal_block::Block;
+use journal_disk::BlockDisk;
+use journal_world::Refusal;
+
+/// Updates of a group were put, or none.
+#[derive(Drop)]
+pub struct SlotsPut(());
+
+/// The log blocks of all updates that were put are on the disk.
+#[derive(Drop)]
+pub struct SlotsSynced(());
+
+/// Block 0 was put with the end of the group.
+#[derive(Drop)]
+pub struct EndPut(());
+
+impl<D: BlockDisk> Circ<D> {
+    /// The logger's state before a group.
+    pub fn logger(&self) -> SlotsPut {
+        SlotsPut(())
+    }
+
+    /// Puts an update into the log block of the next position: `from` becomes the content of block `address`
+    /// with the group.
+    ///
+    /// Answers J6, and nothing else, where the device failed in this call or before.
+    pub fn put_slot(
+        &mut self,
+        state: SlotsPut,
+        address: u64,
+        from: &Block,
+    ) -> Result<SlotsPut, Refusal<()>>
+        requires room { self.old.next < self.old.marks.start + 511 }
+        requires small { self.old.next + 1 < 2 ^ 62 }
+        requires home { 513 ≤ address }
+        requires on_disk { address < self.old.disk.past.size }
+        ensures cause { IfErr result (IsFault self.old.faulted self.old.disk self.new.disk) }
+        ensures faulted { IsTrue self.old.faulted → IsErr result × (self.new ≡ self.old) }
+        ensures step { Steps self.old.marks.coming self.old self.new }
+        ensures log { IsTrue self.old.disk.honest → MatchResult result
+            (λ _. log_of self.new ≡ log_of self.old ++ record { block = address; bytes = from.now } ∷ [])
+            (λ _. log_of self.new ≡ log_of self.old) }
+        ensures home { IsTrue self.old.disk.honest → SameHome self.old self.new }
+        ensures ok { OnOk result (self.new ≡ record self.old {
+          disk = self.new.disk;
+          header = self.new.header;
+          next = self.old.next + 1;
+        }) }
+        ensures err { OnErr result (self.new ≡ record self.old { disk = self.new.disk; faulted = true }) }
+    {
+        self.device.write(log_block(self.next), from)?;
+        self.header.put_u64(address_at(self.next), address);
+        self.next += 1;
+        Ok(state)
+    }
+
+    /// Makes the log blocks stable of all updates that were put.
+    ///
+    /// Answers J6, and nothing else, where the device failed in this call or before.
+    pub fn sync_slots(&mut self, _state: SlotsPut) -> Result<SlotsSynced, Refusal<()>>
+        ensures cause { IfErr result (IsFault self.old.faulted self.old.disk self.new.disk) }
+        ensures faulted { IsTrue self.old.faulted → IsErr result × (self.new ≡ self.old) }
+        ensures step { Steps self.old.marks.coming self.old self.new }
+        ensures log { IsTrue self.old.disk.honest → log_of self.new ≡ log_of self.old }
+        ensures home { IsTrue self.old.disk.honest → SameHome self.old self.new }
+        ensures ok { OnOk result (self.new ≡ record self.old {
+          disk = self.new.disk;
+          marks = record self.old.marks { stable = self.old.next };
+        }) }
+        ensures err { OnErr result (self.new ≡ record self.old { disk = self.new.disk; faulted = true }) }
+    {
+        self.device.barrier()?; // the log blocks
+        self.marks.stable = self.next;
+        Ok(SlotsSynced(()))
+    }
+
+    /// Puts the end of the log behind the group. From here on an image may stand for the blocks with it.
+    ///
+    /// Answers J6, and nothing else, where the device failed in this call or before. After a device call that
+    /// failed an image may stand for the blocks with the group or without it.
+    pub fn put_end(&mut self, _state: SlotsSynced) -> Result<EndPut, Refusal<()>>
+        requires synced { self.old.marks.stable ≡ self.old.next }
+        requires one { self.old.marks.coming ≡ self.old.marks.end }
+        ensures cause { IfErr result (IsFault self.old.faulted self.old.disk self.new.disk) }
+        ensures faulted { IsTrue self.old.faulted → IsErr result × (self.new ≡ self.old) }
+        ensures step { Steps self.old.next self.old self.new }
+        ensures log { IsTrue self.old.disk.honest → log_of self.new ≡ log_of self.old }
+        ensures home { IsTrue self.old.disk.honest → SameHome self.old self.new }
+        ensures ok { OnOk result (self.new ≡ record self.old {
+          disk = self.new.disk;
+          header = self.new.header;
+          marks = record self.old.marks { coming = self.old.next };
+        }) }
+        ensures err { OnErr result (IsTrue self.old.faulted ⊎ (self.new ≡ record self.old {
+          disk = self.new.disk;
+          header = self.new.header;
+          marks = record self.old.marks { coming = self.old.next };
+          faulted = true;
+        })) }
+    {
+        self.device.check()?;
+        self.header.put_u64(BOUND_AT, self.next);
+        self.marks.coming = self.next;
+        self.device.write(HEADER, &self.header)?;
+        Ok(EndPut(()))
+    }
+
+    /// Makes the end stable: from here on each image stands for the blocks with the group.
+    ///
+    /// Answers J6, and nothing else, where the device failed in this call or before.
+    pub fn sync_end(&mut self, _state: EndPut) -> Result<SlotsPut, Refusal<()>>
+        ensures cause { IfErr result (IsFault self.old.faulted self.old.disk self.new.disk) }
+        ensures faulted { IsTrue self.old.faulted → IsErr result × (self.new ≡ self.old) }
+        ensures step { Steps self.old.marks.coming self.old self.new }
+        ensures log { IsTrue self.old.disk.honest → log_of self.new ≡ log_of self.old }
+        ensures home { IsTrue self.old.disk.honest → SameHome self.old self.new }
+        ensures ok { OnOk result (self.new ≡ record self.old {
+          disk = self.new.disk;
+          marks = record self.old.marks { end = self.old.marks.coming };
+        }) }
+        ensures err { OnErr result (self.new ≡ record self.old { disk = self.new.disk; faulted = true }) }
+    {
+        self.device.barrier()?; // the end
+        self.marks.end = self.marks.coming;
+        Ok(SlotsPut(()))
+    }
+}

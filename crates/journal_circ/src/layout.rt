@@ -1,0 +1,28 @@
+// Where the log lies on a disk.
+ghost use Rattle.std.specs.Prelude.{◌≡◌};
+ghost use Rattle.journal_circ.specs.Log.{log_block, address_at};
+
+/// How many positions the log has at once.
+pub const LOG_POSITIONS: u64 = 511;
+/// The first block that is no part of the log.
+pub const FIRST_HOME: u64 = 513;
+/// The block with the log's end and the addresses of its positions.
+pub(crate) const HEADER: u64 = 0;
+/// The block with the log's start.
+pub(crate) const FRONT: u64 = 1;
+/// Where the end lies in block 0, and the start in block 1.
+pub(crate) const BOUND_AT: usize = 0;
+
+/// The block that a position's content lies in.
+pub(crate) fn log_block(position: u64) -> u64
+    ensures { result ≡ log_block position }
+{
+    2 + position % LOG_POSITIONS
+}
+
+/// Where in block 0 the address of a position lies.
+pub(crate) fn address_at(position: u64) -> usize
+    ensures { result ≡ address_at position }
+{
+    (8 + 8 * (position % LOG_POSITIONS)) as usize
+}

@@ -1,0 +1,11 @@
+use Rattle.std.proofs.Common.{refl}
+use Rattle.journal_memlog.proofs.Indexed.{is_log, indexed_roomy}
+use Rattle.journal_memlog.proofs.mem_log.MemLog.reserve.Goals as goal
+
+pub returns-in_err-reserve-clause-sound : goal.returns-in_err-reserve-clause-sound
+returns-in_err-reserve-clause-sound g c =
+    is_log _ c.self.inside.newest.items (indexed_roomy _ c.self.inside.newest.items c.self.invariant _ c.reserve.ensures.items _) refl
+
+pub returns-clause-sound : goal.returns-clause-sound
+returns-clause-sound g c =
+    is_log _ c.self.inside.newest.items (indexed_roomy _ c.self.inside.newest.items c.self.invariant _ c.reserve.ensures.items _) refl

@@ -1,0 +1,252 @@
+// The log in memory.
+ghost use Rattle.std.specs.Prelude.{ℕ, ◌≡◌, ◌+◌, ◌-◌, ◌<◌, ◌≤◌, ◌^◌, ◌++◌, [], ◌∷◌, length, slice_get, slice_index, is_some, Some, IfSome, IfOk, OnOk, OnErr, IsOkUnless};
+ghost use Rattle.journal_block.specs.Block.{Bytes};
+ghost use Rattle.journal_block.specs.Updates.{updated, updates_block};
+ghost use Rattle.journal_memlog.specs.Logs.{LogState, IsLog, HasDistinctBlocks, bounds_of, next_of, head_of, tail_of, begun, with_logged, appended, trimmed, CanTake};
+
+use crate::{Bounds, Group};
+use journal_block::{Block, Update};
+use journal_world::Refusal;
+use std::alloc::Global;
+use std::collections::VecDeque;
+use std::marker::Model;
+
+/// The log in memory: an update at each position from `start` on.
+///
+/// Positions count updates, from the first log of the disk on, and stay below 2^62.
+#[derive(Drop)]
+pub struct MemLog {
+    start: u64,
+    logged: u64,
+    cut: u64,
+    updates: VecDeque<Update>,
+    // Of each block of the disk one more than the position of its last update, or 0.
+    newest: Vec<u64>,
+}
+
+impl Model for MemLog {
+    ghost use Rattle.std.specs.Prelude.{◌-◌, length};
+    ghost use Rattle.std.specs.VecDeque.{deque_len, deque_capacity};
+    ghost use Rattle.journal_memlog.specs.Logs.{LogState};
+    ghost use Rattle.journal_memlog.specs.Index.{IsIndexed, state_of};
+
+    ghost Value = { LogState };
+
+    ghost view = { λ log. state_of log.start log.logged log.cut log.updates.items
+        (deque_capacity log.updates - deque_len log.updates) log.newest.items };
+
+    ghost invariant = { λ log. IsIndexed (state_of log.start log.logged log.cut log.updates.items
+        (deque_capacity log.updates - deque_len log.updates) log.newest.items) log.newest.items };
+}
+
+impl MemLog {
+    /// An empty log of a disk of so many blocks, which begins at position `start`.
+    ///
+    /// Answers J1 `NoMemory`, and nothing else, where memory for the index is refused.
+    pub fn new<C>(alloc: Global, blocks: u64, start: u64) -> Result<MemLog, Refusal<C>>
+        requires { start < 2 ^ 62 }
+        ensures log { IfOk result (λ log. log ≡ begun blocks start log.room) }
+        ensures sound { IfOk result IsLog }
+        ensures refusal { IsOkUnless result Refusal.NoMemory }
+    {
+        let newest = vec![in alloc; 0u64; blocks as usize]?;
+        Ok(MemLog {
+            start,
+            logged: start,
+            cut: start,
+            updates: VecDeque::new(alloc),
+            newest,
+        })
+    }
+
+    /// The positions that bound the parts of the log.
+    pub fn bounds(&self) -> Bounds
+        ensures bounds { result ≡ bounds_of self.now }
+        ensures sound { IsLog self.now }
+    {
+        Bounds {
+            start: self.start,
+            logged: self.logged,
+            cut: self.cut,
+            next: self.next(),
+        }
+    }
+
+    // The position that the next fresh block gets.
+    fn next(&self) -> u64
+        ensures next { result ≡ next_of self.now }
+        ensures sound { IsLog self.now }
+    {
+        self.start + self.updates.len() as u64
+    }
+
+    /// The number of blocks in the tail.
+    pub fn tail_len(&self) -> u64
+        ensures { result ≡ length (tail_of self.now) }
+    {
+        self.next() - self.cut
+    }
+
+    /// Whether the block stands in the tail.
+    pub fn stands(&self, block: u64) -> bool
+        ensures { result ≡ updates_block (tail_of self.now) block }
+    {
+        entry_of(&self.newest, block) > self.cut
+    }
+
+    /// The update at a position.
+    pub fn at(&self, position: u64) -> &Update
+        requires from_start { self.now.start ≤ position }
+        requires to_next { position < next_of self.now }
+        ensures { slice_get self.now.updates (position - self.now.start) ≡ Some result.now }
+    {
+        &self.updates[(position - self.start) as usize]
+    }
+
+    /// The content of the block's last update in the whole log, or `None` where it has none.
+    pub fn latest(&self, block: u64) -> Option<&Block>
+        ensures found { is_some result ≡ updates_block self.now.updates block }
+        ensures content { IfSome result (λ found.
+            (before : Bytes) → updated self.now.updates block before ≡ found.now) }
+    {
+        let entry = entry_of(&self.newest, block);
+        if entry == 0 {
+            return None;
+        }
+        Some(&self.at(entry - 1).bytes)
+    }
+
+    /// Adds a position that the disk's log has already, for a recovery: the log has neither tail nor group.
+    /// A block that comes again gets a position of its own.
+    ///
+    /// Answers J1 `NoMemory`, and nothing else, where memory for it is refused; the log is then as it was,
+    /// but may have more room.
+    pub fn push_logged<C>(&mut self, update: Update) -> Result<(), Refusal<C>>
+        requires no_group { self.old.logged ≡ self.old.cut }
+        requires no_tail { self.old.cut ≡ next_of self.old }
+        requires on_disk { update.block < self.old.blocks }
+        requires below { next_of self.old + 1 < 2 ^ 62 }
+        ensures ok { OnOk result (self.new ≡ with_logged self.old update self.new.room) }
+        ensures err { OnErr result (self.new ≡ record self.old { room = self.new.room }) }
+        ensures room { self.old.room ≤ self.new.room + 1 }
+        ensures sound { IsLog self.new }
+        ensures refusal { IsOkUnless result Refusal.NoMemory }
+    {
+        let block = update.block as usize;
+        self.updates.push_back(update)?;
+        self.cut += 1;
+        self.logged = self.cut;
+        self.newest[block] = self.cut;
+        Ok(())
+    }
+
+    /// Makes room for `n` fresh blocks, those that do not stand in the tail.
+    ///
+    /// Answers J1 `NoMemory`, and nothing else, where memory for them is refused. Refused or not, the log is
+    /// as it was, but may have more room.
+    pub fn reserve<C>(&mut self, n: usize) -> Result<(), Refusal<C>>
+        ensures room { OnOk result (n ≤ self.new.room) }
+        ensures same { self.new ≡ record self.old { room = self.new.room } }
+        ensures kept { self.old.room ≤ self.new.room }
+        ensures sound { IsLog self.new }
+        ensures refusal { IsOkUnless result Refusal.NoMemory }
+    {
+        self.updates.reserve(n)?;
+        Ok(())
+    }
+
+    /// Puts updates into the tail, one after the other: each in the place of the update of its block, or at the end.
+    /// It takes no memory, moves the blocks, and takes time by these updates alone.
+    pub fn append(&mut self, updates: Vec<Update>)
+        requires { CanTake self.old updates.items }
+        ensures log { self.new ≡ appended self.old updates.items }
+
+        // Nothing is lost, what was cut is as it was, and no more positions came than there was room for.
+        ensures content { (b : ℕ) (before : Bytes) →
+            updated self.new.updates b before ≡ updated (self.old.updates ++ updates.items) b before }
+        ensures head { head_of self.new ≡ head_of self.old }
+        ensures room { next_of self.new ≤ next_of self.old + self.old.room }
+        ensures sound { IsLog self.new }
+    {
+        prove!(self.cut <= self.next());
+        for update in updates {
+            self.absorb(update);
+        }
+    }
+
+    // Puts an update into the tail.
+    fn absorb(&mut self, update: Update)
+        requires { CanTake self.old (update ∷ []) }
+        ensures log { self.new ≡ appended self.old (update ∷ []) }
+        ensures sound { IsLog self.new }
+    {
+        let block = update.block as usize;
+        let entry = self.newest[block];
+        if entry > self.cut {
+            self.updates[(entry - 1 - self.start) as usize] = update;
+        } else {
+            self.updates.push_back_reserved(update);
+            self.newest[block] = self.start + self.updates.len() as u64;
+        }
+    }
+
+    /// Makes the whole tail a group, and answers its positions. The group has no block twice, and may be empty.
+    pub fn cut(&mut self) -> Group
+        ensures first { result.first ≡ self.old.cut }
+        ensures end { result.end ≡ next_of self.old }
+        ensures log { self.new ≡ record self.old { cut = next_of self.old } }
+        ensures distinct { HasDistinctBlocks (tail_of self.old) }
+        ensures sound { IsLog self.new }
+    {
+        let group = Group {
+            first: self.cut,
+            end: self.next(),
+        };
+        self.cut = group.end;
+        group
+    }
+
+    /// Says that the disk's log has the positions before `upto`.
+    pub fn logged(&mut self, upto: u64)
+        requires from_logged { self.old.logged ≤ upto }
+        requires to_cut { upto ≤ self.old.cut }
+        ensures log { self.new ≡ record self.old { logged = upto } }
+        ensures sound { IsLog self.new }
+    {
+        self.logged = upto;
+    }
+
+    /// Drops the positions before `upto`, and takes time by their number.
+    pub fn trim(&mut self, upto: u64)
+        requires from_start { self.old.start ≤ upto }
+        requires to_logged { upto ≤ self.old.logged }
+        ensures log { self.new ≡ trimmed self.old upto }
+        ensures sound { IsLog self.new }
+    {
+        prove!(upto <= self.next());
+        while self.start < upto {
+            self.drop_first();
+        }
+    }
+
+    // Drops the first position.
+    fn drop_first(&mut self)
+        requires { self.old.start < self.old.logged }
+        ensures log { self.new ≡ trimmed self.old (self.old.start + 1) }
+        ensures sound { IsLog self.new }
+    {
+        let block = self.updates.pop_front().unwrap().block as usize;
+        self.start += 1;
+        // A later update of the block keeps its entry.
+        if self.newest[block] == self.start {
+            self.newest[block] = 0;
+        }
+    }
+}
+
+// One more than the position of the block's last update, or 0, also where the disk has no such block.
+fn entry_of(newest: &[u64], block: u64) -> u64
+    ensures { result ≡ slice_index newest.now block }
+{
+    newest.get(block as usize).copied().unwrap_or(0)
+}

@@ -1,0 +1,63 @@
+-- What the log on the disk says of images, in the words of the log in memory.
+use Rattle.std.proofs.Common.{◌≡◌, ◌⊎◌, inl, inr, ⊎_elim, ◌<◌, ◌≤◌, ◌-◌, ℕ, List, take, IsTrue, refl, sym, ap, subst, ◌∙◌, arith}
+use Rattle.journal_block.specs.declared.update.Update.{Update}
+use Rattle.journal_block.specs.Block.{Bytes}
+use Rattle.journal_block.specs.Updates.{Content, updated, with_updates}
+use Rattle.journal_disk.specs.Disks.{Past}
+use Rattle.journal_disk.specs.Images.{EveryImage}
+use Rattle.journal_disk.specs.Moments.{LeavesOnly}
+use Rattle.journal_disk.specs.Laws.{leaves_also}
+use Rattle.journal_circ.specs.StandsFor.{StandsFor}
+use Rattle.journal_circ.specs.Ring.{Ring, log_of, home_of, blocks_to, StandsForEither}
+use Rattle.journal_memlog.specs.Logs.{LogState}
+use Rattle.journal_wal.specs.Wal.{WalState, SameBlocks, IsCrash, size_of, blocks_at, blocks_cut, blocks_logged}
+use Rattle.journal_wal.specs.States.{AreTied, updates_to}
+use Rattle.journal_wal.proofs.Lists.{take-take}
+
+-- the image stands for the same objects
+pub stands_same : (n : ℕ) (f g : Content) (image : List Bytes) → SameBlocks n f g → StandsFor n f image → StandsFor n g image
+stands_same n f g image same stands = record {
+  size = stands.size;
+  well_formed = stands.well_formed;
+  each = λ b home lt. stands.each b home lt ∙ same b home lt;
+}
+
+-- the log on the disk, up to a position that was put
+pub ring_updates : (ring : Ring) (log : LogState) → ring.marks.start ≡ log.start
+    → log_of ring ≡ take (ring.next - log.start) log.updates → (to : ℕ) → to ≤ ring.next
+    → take (to - ring.marks.start) (log_of ring) ≡ updates_to log to
+ring_updates ring log start same to le =
+    (λ i. take (to - start i) (same i)) ∙ take-take (to - log.start) (ring.next - log.start) log.updates (omega (arith, le))
+
+module _ (w : WalState) (tied : AreTied w.ring w.log) (same : log_of w.ring ≡ take (w.ring.next - w.log.start) w.log.updates) where
+  pub ring_blocks : (to b : ℕ) → to ≤ w.ring.next → blocks_to w.ring to b ≡ blocks_at w to b
+  ring_blocks to b le = ap (λ (us : List Update). updated us b (home_of w.ring b)) (ring_updates w.ring w.log tied.start same to le)
+
+  stands_at : (to at : ℕ) (image : List Bytes) → to ≡ at → to ≤ w.ring.next
+      → StandsFor w.ring.disk.past.size (blocks_to w.ring to) image → StandsFor (size_of w) (blocks_at w at) image
+  stands_at to at image is le stands =
+      subst (λ (n : ℕ). StandsFor (size_of w) (blocks_at w n) image) is
+      (stands_same (size_of w) (blocks_to w.ring to) (blocks_at w to) image (λ b home lt. ring_blocks to b le) stands)
+
+  pub is_crash : (end coming : ℕ) → end ≡ w.log.logged
+      → (coming ≡ w.log.logged) ⊎ ((coming ≡ w.log.cut) × (w.ring.next ≡ w.log.cut))
+      → (image : List Bytes) → StandsForEither w.ring end coming image → IsCrash w image
+  is_crash end coming end_is coming_is image either = ⊎_elim
+      (λ old. inl (stands_at end w.log.logged image end_is (omega (arith, end_is, tied.end_to_next)) old))
+      (λ new. ⊎_elim
+      (λ (last : coming ≡ w.log.logged). inl (stands_at coming w.log.logged image last (omega (arith, last, tied.end_to_next)) new))
+      (λ cut. inr (stands_at coming w.log.cut image cut.0 (omega (arith, cut.0, cut.1)) new))
+      coming_is)
+      either
+
+  pub images_of : EveryImage w.ring.disk.past (StandsForEither w.ring w.ring.marks.end w.ring.marks.coming)
+      → EveryImage w.ring.disk.past (IsCrash w)
+  images_of every image is = is_crash w.ring.marks.end w.ring.marks.coming tied.end tied.coming image (every image is)
+
+  pub moments_of : (later : Past) (coming : ℕ)
+      → (coming ≡ w.log.logged) ⊎ ((coming ≡ w.log.cut) × (w.ring.next ≡ w.log.cut))
+      → LeavesOnly w.ring.disk.past later (StandsForEither w.ring w.ring.marks.end coming)
+      → LeavesOnly w.ring.disk.past later (IsCrash w)
+  moments_of later coming coming_is leaves =
+      leaves_also w.ring.disk.past later (StandsForEither w.ring w.ring.marks.end coming) (IsCrash w) leaves
+      (λ image. is_crash w.ring.marks.end coming tied.end coming_is image)

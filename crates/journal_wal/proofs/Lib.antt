@@ -1,0 +1,12 @@
+pub mod Lists
+pub mod Plans
+pub mod Crashes
+pub mod Frames
+pub mod Logger
+pub mod Installer
+pub mod Appending
+pub mod Phases
+pub mod Homes
+pub mod Planned
+pub mod Opening
+pub mod Reading

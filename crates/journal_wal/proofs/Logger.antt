@@ -1,0 +1,439 @@
+-- The steps of the logger's cycle.
+use Rattle.std.proofs.Common.{◌≡◌, ◌⊎◌, inl, inr, ⊎_elim, ◌<◌, ◌≤◌, ◌+◌, ◌-◌, ◌^◌, ℕ, zero, suc, Bool, true, List, [], ◌∷◌, ◌++◌, take, length, length-drop, get_or, Option, Some, IsTrue, refl, sym, ap, subst, ◌∙◌, arith}
+use Rattle.std.specs.List.{slice_get, All}
+use Rattle.std.proofs.Math.Seq.{take-suc}
+use Rattle.std.proofs.lemmas.List.{take_all}
+use Rattle.journal_block.specs.Block.{Bytes}
+use Rattle.journal_block.specs.Updates.{updated}
+use Rattle.journal_disk.specs.Laws.{leaves_none}
+use Rattle.journal_circ.specs.StandsFor.{StandsFor}
+use Rattle.std.proofs.lemmas.Option.{get_or_from_slice_get, slice_get_within}
+use Rattle.journal_block.specs.declared.update.Update.{Update}
+use Rattle.journal_disk.specs.Images.{EveryImage}
+use Rattle.journal_circ.specs.Ring.{Ring, log_of, home_of, Steps, SameHome}
+use Rattle.journal_memlog.specs.Logs.{LogState, next_of, tail_of}
+use Rattle.journal_wal.specs.Wal.{WalState, Logging, log_blocks, log_end, log_sync, log_spent, Installing, Crashes, Fails, LogsOn, EndsGroup, LogMoves, log_steps, log_steps_by, IsCrash, size_of, blocks_at, blocks_cut, blocks_logged, AreHomes, tail_length, free_positions}
+use Rattle.journal_wal.specs.States.{updates_to, AreTied, IsInStep, IsLogging, IsInstalling}
+use Rattle.journal_wal.proofs.Crashes.{images_of, moments_of}
+use Rattle.journal_wal.proofs.Frames.{keeps_homes, KeepsInstalling, installing_stays, tied_by, keeps_installing}
+
+-- What a device call leaves of a log that is in step: one that is in step, and nothing else of its images
+pub record Leaves (old new : WalState) : Type 0 where
+  pub sound : IsInStep new
+  pub crash : Crashes old new
+
+-- no device call
+pub unchanged : (w : WalState) → IsInStep w → Crashes w w
+unchanged w is = record {
+  keeps = record { size = refl; honest = refl; failures = omega arith };
+  moments = λ honest. leaves_none w.ring.disk.past w.ring.disk.past (IsCrash w) refl (is.images honest);
+  images = is.images;
+}
+
+-- a device call that leaves the memory
+pub stepped : (w : WalState) (ring : Ring) (logging : Logging) (installing : Installing) (coming : ℕ) → IsInStep w
+    → Steps coming w.ring ring
+    → (coming ≡ w.log.logged) ⊎ ((coming ≡ w.log.cut) × (w.ring.next ≡ w.log.cut))
+    → AreTied ring w.log
+    → (IsTrue w.ring.disk.honest → log_of ring ≡ take (ring.next - w.log.start) w.log.updates)
+    → IsLogging ring w.log logging → IsInstalling ring w.log installing
+    → Leaves w (record { ring = ring; log = w.log; logging = logging; installing = installing })
+stepped w ring logging installing coming is steps coming_is tied log logging_is installing_is = record {
+  sound = record {
+    tied = tied;
+    log = λ honest. log (subst IsTrue steps.keeps.honest honest);
+    images = images;
+    logging = logging_is;
+    installing = installing_is;
+  };
+  crash = record {
+    keeps = steps.keeps;
+    moments = λ honest. moments_of w is.tied (is.log honest) ring.disk.past coming coming_is (steps.moments honest);
+    images = images;
+  };
+}
+  where
+    images : IsTrue ring.disk.honest
+        → EveryImage ring.disk.past (IsCrash (record { ring = ring; log = w.log; logging = logging; installing = installing }))
+    images honest = images_of (record { ring = ring; log = w.log; logging = logging; installing = installing }) tied
+        (log (subst IsTrue steps.keeps.honest honest)) (steps.images honest)
+
+-- a group in flight has blocks left, or it has the barrier before block 0
+steps_in_group : (group left : ℕ) → 0 < group → log_steps_by log_blocks group left ≡ left + 3
+steps_in_group zero left some = absurd (omega (arith, some))
+steps_in_group (suc group) left some = refl
+
+module _ (ring now : Ring) (log : LogState) (installing : Installing) where
+  abbrev pub at : Ring → Logging → WalState
+  at r phase = record { ring = r; log = log; logging = phase; installing = installing }
+
+  -- a log block of the group
+  pub block_logged : (u : Update) → IsInStep (at ring log_blocks) → log.logged < log.cut → ring.next < log.cut
+      → slice_get log.updates (ring.next - log.start) ≡ Some u → Steps ring.marks.coming ring now
+      → (IsTrue ring.disk.honest → log_of now ≡ log_of ring ++ u ∷ []) → (IsTrue ring.disk.honest → SameHome ring now)
+      → now ≡ record ring { disk = now.disk; header = now.header; next = ring.next + 1 }
+      → Leaves (at ring log_blocks) (at now log_blocks) × LogMoves (log_steps (at ring log_blocks)) (at ring log_blocks) (at now log_blocks)
+  block_logged u is group left found steps log_is home is_now = (
+    stepped (at ring log_blocks) now log_blocks installing ring.marks.coming is steps is.tied.coming tied same
+        (coming ∙ is.logging ∙ sym end)
+        (installing_stays ring now log log keeps installing is.installing),
+    subst (λ (n : ℕ). LogMoves n (at ring log_blocks) (at now log_blocks)) (sym before) (record {
+      steps = omega (arith, before, after, next);
+      log = refl;
+      blocks = λ honest. keeps_homes (at ring log_blocks) (at now log_blocks) refl (home honest);
+      installing = refl;
+    }),
+  )
+    where
+      next : now.next ≡ ring.next + 1
+      next = ap (λ (r : Ring). r.next) is_now
+
+      start : now.marks.start ≡ ring.marks.start
+      start = ap (λ (r : Ring). r.marks.start) is_now
+
+      end : now.marks.end ≡ ring.marks.end
+      end = ap (λ (r : Ring). r.marks.end) is_now
+
+      coming : now.marks.coming ≡ ring.marks.coming
+      coming = ap (λ (r : Ring). r.marks.coming) is_now
+
+      tied : AreTied now log
+      tied = tied_by ring now log is.tied steps.keeps.size start end (omega (arith, next)) (omega (arith, next))
+          (inl (coming ∙ is.logging ∙ is.tied.end))
+
+      same : IsTrue ring.disk.honest → log_of now ≡ take (now.next - log.start) log.updates
+      same honest =
+          log_is honest
+          ∙ (λ i. is.log honest i ++ sym (get_or_from_slice_get log.updates (ring.next - log.start) u u found) i ∷ [])
+          ∙ sym (take-suc log.updates (ring.next - log.start) u (slice_get_within log.updates (ring.next - log.start) u found))
+          ∙ (λ i. take (place i) log.updates)
+        where
+          place : suc (ring.next - log.start) ≡ now.next - log.start
+          place = omega (arith, next, is.tied.start_to_end, is.tied.end_to_next)
+
+      keeps : KeepsInstalling ring now log log
+      keeps = keeps_installing ring now log steps.keeps start (ap (λ (r : Ring). r.marks.freed) is_now)
+          (ap (λ (r : Ring). r.marks.homes) is_now) (subst IsTrue (sym (ap (λ (r : Ring). r.faulted) is_now))) home
+
+      before : log_steps (at ring log_blocks) ≡ suc (suc ((log.cut - ring.next) + 1))
+      before = steps_in_group (log.cut - log.logged) (log.cut - ring.next) (omega (arith, group)) ∙ omega arith
+
+      after : log_steps (at now log_blocks) ≡ (log.cut - now.next) + 3
+      after = steps_in_group (log.cut - log.logged) (log.cut - now.next) (omega (arith, group))
+
+  -- a device call of the logger that failed
+  failed : (phase : Logging) (coming : ℕ) → IsInStep (at ring phase) → Steps coming ring now
+      → (coming ≡ log.logged) ⊎ ((coming ≡ log.cut) × (ring.next ≡ log.cut)) → now.next ≡ ring.next
+      → now.marks.start ≡ ring.marks.start → now.marks.end ≡ ring.marks.end → now.marks.freed ≡ ring.marks.freed
+      → now.marks.homes ≡ ring.marks.homes → now.faulted ≡ true
+      → (now.marks.coming ≡ log.logged) ⊎ ((now.marks.coming ≡ log.cut) × (now.next ≡ log.cut))
+      → (IsTrue ring.disk.honest → log_of now ≡ log_of ring) → (IsTrue ring.disk.honest → SameHome ring now)
+      → Leaves (at ring phase) (at now log_spent) × Fails (at ring phase) (at now log_spent)
+  failed phase coming is steps coming_is next start end freed homes faulted coming_now log_is home = (
+    stepped (at ring phase) now log_spent installing coming is steps coming_is
+        (tied_by ring now log is.tied steps.keeps.size start end (omega (arith, next)) (omega (arith, next, is.tied.next_to_cut)) coming_now)
+        (λ honest. log_is honest ∙ is.log honest ∙ (λ i. take (sym next i - log.start) log.updates))
+        faulted
+        (installing_stays ring now log log (keeps_installing ring now log steps.keeps start freed homes (λ was. faulted) home) installing is.installing),
+    record { faulted = faulted; blocks = λ honest. keeps_homes (at ring phase) (at now log_spent) refl (home honest) },
+  )
+
+  -- a call that changes no mark
+  pub call_failed : (phase : Logging) → IsInStep (at ring phase) → Steps ring.marks.coming ring now
+      → (IsTrue ring.disk.honest → log_of now ≡ log_of ring) → (IsTrue ring.disk.honest → SameHome ring now)
+      → now ≡ record ring { disk = now.disk; faulted = true }
+      → Leaves (at ring phase) (at now log_spent) × Fails (at ring phase) (at now log_spent)
+  call_failed phase is steps log_is home is_now =
+      failed phase ring.marks.coming is steps is.tied.coming (ap (λ (r : Ring). r.next) is_now)
+      (ap (λ (r : Ring). r.marks.start) is_now) (ap (λ (r : Ring). r.marks.end) is_now)
+      (ap (λ (r : Ring). r.marks.freed) is_now) (ap (λ (r : Ring). r.marks.homes) is_now)
+      (ap (λ (r : Ring). r.faulted) is_now)
+      (subst (λ (r : Ring). (r.marks.coming ≡ log.logged) ⊎ ((r.marks.coming ≡ log.cut) × (r.next ≡ log.cut))) (sym is_now) is.tied.coming)
+      log_is home
+
+  -- the write of block 0
+  pub end_failed : IsInStep (at ring log_end) → Steps ring.next ring now
+      → (IsTrue ring.disk.honest → log_of now ≡ log_of ring) → (IsTrue ring.disk.honest → SameHome ring now)
+      → now ≡ record ring { disk = now.disk; header = now.header; marks = record ring.marks { coming = ring.next }; faulted = true }
+      → Leaves (at ring log_end) (at now log_spent) × Fails (at ring log_end) (at now log_spent)
+  end_failed is steps log_is home is_now =
+      failed log_end ring.next is steps (inr (is.logging.2, is.logging.2)) (ap (λ (r : Ring). r.next) is_now)
+      (ap (λ (r : Ring). r.marks.start) is_now) (ap (λ (r : Ring). r.marks.end) is_now)
+      (ap (λ (r : Ring). r.marks.freed) is_now) (ap (λ (r : Ring). r.marks.homes) is_now)
+      (ap (λ (r : Ring). r.faulted) is_now)
+      (inr (ap (λ (r : Ring). r.marks.coming) is_now ∙ is.logging.2, ap (λ (r : Ring). r.next) is_now ∙ is.logging.2))
+      log_is home
+
+  -- the barrier after the log blocks
+  pub blocks_synced : IsInStep (at ring log_blocks) → log.logged < log.cut → ring.next ≡ log.cut
+      → Steps ring.marks.coming ring now
+      → (IsTrue ring.disk.honest → log_of now ≡ log_of ring) → (IsTrue ring.disk.honest → SameHome ring now)
+      → now ≡ record ring { disk = now.disk; marks = record ring.marks { stable = ring.next } }
+      → Leaves (at ring log_blocks) (at now log_end) × LogMoves (log_steps (at ring log_blocks)) (at ring log_blocks) (at now log_end)
+  blocks_synced is group all steps log_is home is_now = (
+    stepped (at ring log_blocks) now log_end installing ring.marks.coming is steps is.tied.coming
+        (tied_by ring now log is.tied steps.keeps.size start end (omega (arith, next)) (omega (arith, next, all))
+        (inl (coming ∙ is.logging ∙ is.tied.end)))
+        (λ honest. log_is honest ∙ is.log honest ∙ (λ i. take (sym next i - log.start) log.updates))
+        (coming ∙ is.logging ∙ sym end, ap (λ (r : Ring). r.marks.stable) is_now ∙ sym next, next ∙ all, group)
+        (installing_stays ring now log log keeps installing is.installing),
+    subst (λ (n : ℕ). LogMoves n (at ring log_blocks) (at now log_end)) (sym before) (record {
+      steps = omega (arith, before);
+      log = refl;
+      blocks = λ honest. keeps_homes (at ring log_blocks) (at now log_end) refl (home honest);
+      installing = refl;
+    }),
+  )
+    where
+      next : now.next ≡ ring.next
+      next = ap (λ (r : Ring). r.next) is_now
+
+      start : now.marks.start ≡ ring.marks.start
+      start = ap (λ (r : Ring). r.marks.start) is_now
+
+      end : now.marks.end ≡ ring.marks.end
+      end = ap (λ (r : Ring). r.marks.end) is_now
+
+      coming : now.marks.coming ≡ ring.marks.coming
+      coming = ap (λ (r : Ring). r.marks.coming) is_now
+
+      keeps : KeepsInstalling ring now log log
+      keeps = keeps_installing ring now log steps.keeps start (ap (λ (r : Ring). r.marks.freed) is_now)
+          (ap (λ (r : Ring). r.marks.homes) is_now) (subst IsTrue (sym (ap (λ (r : Ring). r.faulted) is_now))) home
+
+      before : log_steps (at ring log_blocks) ≡ 3
+      before = steps_in_group (log.cut - log.logged) (log.cut - ring.next) (omega (arith, group)) ∙ omega (arith, all)
+
+  -- the write of block 0
+  pub end_written : IsInStep (at ring log_end) → Steps ring.next ring now
+      → (IsTrue ring.disk.honest → log_of now ≡ log_of ring) → (IsTrue ring.disk.honest → SameHome ring now)
+      → now ≡ record ring { disk = now.disk; header = now.header; marks = record ring.marks { coming = ring.next } }
+      → Leaves (at ring log_end) (at now log_sync) × LogMoves (log_steps (at ring log_end)) (at ring log_end) (at now log_sync)
+  end_written is steps log_is home is_now = (
+    stepped (at ring log_end) now log_sync installing ring.next is steps (inr (is.logging.2, is.logging.2))
+        (tied_by ring now log is.tied steps.keeps.size start end (omega (arith, next)) (omega (arith, next, is.tied.next_to_cut))
+        (inr (coming ∙ is.logging.2, next ∙ is.logging.2)))
+        (λ honest. log_is honest ∙ is.log honest ∙ (λ i. take (sym next i - log.start) log.updates))
+        (coming ∙ is.logging.2, next ∙ is.logging.2, is.logging.3)
+        (installing_stays ring now log log keeps installing is.installing),
+    record {
+      steps = refl;
+      log = refl;
+      blocks = λ honest. keeps_homes (at ring log_end) (at now log_sync) refl (home honest);
+      installing = refl;
+    },
+  )
+    where
+      next : now.next ≡ ring.next
+      next = ap (λ (r : Ring). r.next) is_now
+
+      start : now.marks.start ≡ ring.marks.start
+      start = ap (λ (r : Ring). r.marks.start) is_now
+
+      end : now.marks.end ≡ ring.marks.end
+      end = ap (λ (r : Ring). r.marks.end) is_now
+
+      coming : now.marks.coming ≡ ring.next
+      coming = ap (λ (r : Ring). r.marks.coming) is_now
+
+      keeps : KeepsInstalling ring now log log
+      keeps = keeps_installing ring now log steps.keeps start (ap (λ (r : Ring). r.marks.freed) is_now)
+          (ap (λ (r : Ring). r.marks.homes) is_now) (subst IsTrue (sym (ap (λ (r : Ring). r.faulted) is_now))) home
+
+  -- the barrier after block 0
+  pub group_ended : (later : LogState) → IsInStep (at ring log_sync) → Steps ring.marks.coming ring now
+      → (IsTrue ring.disk.honest → log_of now ≡ log_of ring) → (IsTrue ring.disk.honest → SameHome ring now)
+      → now ≡ record ring { disk = now.disk; marks = record ring.marks { end = ring.marks.coming } }
+      → later ≡ record log { logged = now.marks.end }
+      → Leaves (at ring log_sync) (record { ring = now; log = later; logging = log_blocks; installing = installing })
+      × LogMoves (log_steps (at ring log_sync)) (at ring log_sync) (record { ring = now; log = later; logging = log_blocks; installing = installing })
+  group_ended later is steps log_is home is_now later_is = (
+    record {
+      sound = record {
+        tied = tied;
+        log = λ honest. same (subst IsTrue steps.keeps.honest honest);
+        images = images;
+        logging = ap (λ (r : Ring). r.marks.coming) is_now ∙ sym end;
+        installing = installing_stays ring now log later keeps installing is.installing;
+      };
+      crash = record {
+        keeps = steps.keeps;
+        moments = λ honest. moments_of (at ring log_sync) is.tied (is.log honest) now.disk.past ring.marks.coming is.tied.coming (steps.moments honest);
+        images = images;
+      };
+    },
+    record {
+      steps = λ i. log_steps_by log_blocks (none i) (later.cut - now.next);
+      end = later_is ∙ (λ i. record log { logged = end_is i });
+      now = λ honest b home_b lt. λ i. updated (later_is i).updates b (home honest b home_b lt i);
+      cut = λ honest b home_b lt. λ i. updated (updates_to (later_is i) (later_is i).cut) b (home honest b home_b lt i);
+      logged = λ honest b home_b lt. (λ i. updated (updates_to (later_is i) (later_is i).logged) b (home honest b home_b lt i))
+          ∙ (λ i. updated (updates_to log (end_is i)) b (home_of ring b));
+      installing = refl;
+    },
+  )
+    where
+      new : WalState
+      new = record { ring = now; log = later; logging = log_blocks; installing = installing }
+
+      next : now.next ≡ ring.next
+      next = ap (λ (r : Ring). r.next) is_now
+
+      start : now.marks.start ≡ ring.marks.start
+      start = ap (λ (r : Ring). r.marks.start) is_now
+
+      end : now.marks.end ≡ ring.marks.coming
+      end = ap (λ (r : Ring). r.marks.end) is_now
+
+      end_is : now.marks.end ≡ log.cut
+      end_is = end ∙ is.logging.0
+
+      logged_is : later.logged ≡ log.cut
+      logged_is = ap (λ (l : LogState). l.logged) later_is ∙ end_is
+
+      none : later.cut - later.logged ≡ 0
+      none = omega (arith, logged_is, ap (λ (l : LogState). l.cut) later_is)
+
+      tied : AreTied now later
+      tied = record {
+        size = steps.keeps.size ∙ is.tied.size ∙ sym (ap (λ (l : LogState). l.blocks) later_is);
+        start = start ∙ is.tied.start ∙ sym (ap (λ (l : LogState). l.start) later_is);
+        end = end_is ∙ sym logged_is;
+        start_to_end = omega (arith, is.tied.start_to_end, is.logging.2, logged_is, ap (λ (l : LogState). l.start) later_is);
+        end_to_next = omega (arith, logged_is, next, is.logging.1);
+        next_to_cut = omega (arith, next, is.logging.1, ap (λ (l : LogState). l.cut) later_is);
+        cut_to_last = subst (λ (l : LogState). l.cut ≤ next_of l) (sym later_is) is.tied.cut_to_last;
+        fits = subst (λ (l : LogState). l.cut ≤ l.start + 511) (sym later_is) is.tied.fits;
+        small = subst (λ (l : LogState). next_of l < 2 ^ 62) (sym later_is) is.tied.small;
+        tail = subst (λ (l : LogState). length (tail_of l) ≤ 255) (sym later_is) is.tied.tail;
+        blocks = subst (λ (l : LogState). AreHomes l.blocks l.updates) (sym later_is) is.tied.blocks;
+        coming = inl (ap (λ (r : Ring). r.marks.coming) is_now ∙ is.logging.0 ∙ sym logged_is);
+      }
+
+      same : IsTrue ring.disk.honest → log_of now ≡ take (now.next - later.start) later.updates
+      same honest = log_is honest ∙ is.log honest
+          ∙ (λ i. take (sym next i - (sym later_is i).start) (sym later_is i).updates)
+
+      images : IsTrue now.disk.honest → EveryImage now.disk.past (IsCrash new)
+      images honest = images_of new tied (same (subst IsTrue steps.keeps.honest honest)) (steps.images honest)
+
+      keeps : KeepsInstalling ring now log later
+      keeps = record {
+        size = steps.keeps.size;
+        honest = steps.keeps.honest;
+        start = start;
+        freed = ap (λ (r : Ring). r.marks.freed) is_now;
+        homes = ap (λ (r : Ring). r.marks.homes) is_now;
+        faulted = subst IsTrue (sym (ap (λ (r : Ring). r.faulted) is_now));
+        home = home;
+        first = ap (λ (l : LogState). l.start) later_is;
+        logged = omega (arith, logged_is, is.logging.2);
+        updates = λ upto le. λ i. take (upto - (later_is i).start) (later_is i).updates;
+      }
+
+-- a cut: no device call
+pub group_cut : (w : WalState) (later : LogState) → IsInStep w → w.logging ≡ log_blocks → w.log.logged ≡ w.log.cut
+    → later ≡ record w.log { cut = next_of w.log } → 0 < tail_length w → tail_length w ≤ free_positions w
+    → Leaves w (record w { log = later }) × LogMoves (log_steps w) w (record w { log = later })
+group_cut w later is phase rest later_is some fits = (
+  record {
+    sound = record {
+      tied = tied;
+      log = λ honest. is.log honest ∙ (λ i. take (w.ring.next - (sym later_is i).start) (sym later_is i).updates);
+      images = images;
+      logging = subst (λ (l : Logging). IsLogging w.ring later l) (sym phase) (subst (IsLogging w.ring w.log) phase is.logging);
+      installing = installing_stays w.ring w.ring w.log later keeps w.installing is.installing;
+    };
+    crash = record {
+      keeps = record { size = refl; honest = refl; failures = omega arith };
+      moments = λ honest. leaves_none w.ring.disk.past w.ring.disk.past (IsCrash w) refl (is.images honest);
+      images = images;
+    };
+  },
+  subst (λ (n : ℕ). LogMoves n w new) (sym before) (record {
+    disk = refl;
+    fits = (some, fits);
+    steps = (λ i. log_steps_by (phase i) (later.cut - later.logged) (later.cut - w.ring.next))
+        ∙ steps_in_group (later.cut - later.logged) (later.cut - w.ring.next) (omega (arith, cut_is, logged_is, tail, some, rest))
+        ∙ omega (arith, cut_is, tail, rest, is.tied.end_to_next, is.tied.next_to_cut, is.tied.start_to_end);
+    tail = length-drop (later.cut - later.start) later.updates ∙ omega (arith, cut_is, updates_is, first_is);
+    now = λ b home lt. λ i. updated (later_is i).updates b (home_of w.ring b);
+    cut = λ b home lt. λ i. updated (whole i) b (home_of w.ring b);
+    logged = λ b home lt. λ i. updated (updates_to (later_is i) (later_is i).logged) b (home_of w.ring b);
+    installing = refl;
+  }),
+)
+  where
+    new : WalState
+    new = record w { log = later }
+
+    cut_is : later.cut ≡ next_of w.log
+    cut_is = ap (λ (l : LogState). l.cut) later_is
+
+    logged_is : later.logged ≡ w.log.logged
+    logged_is = ap (λ (l : LogState). l.logged) later_is
+
+    first_is : later.start ≡ w.log.start
+    first_is = ap (λ (l : LogState). l.start) later_is
+
+    updates_is : length later.updates ≡ length w.log.updates
+    updates_is = ap (λ (l : LogState). length l.updates) later_is
+
+    tail : tail_length w ≡ length w.log.updates - (w.log.cut - w.log.start)
+    tail = length-drop (w.log.cut - w.log.start) w.log.updates
+
+    before : log_steps w ≡ 0
+    before = (λ i. log_steps_by (phase i) (none i) (w.log.cut - w.ring.next))
+      where
+        none : w.log.cut - w.log.logged ≡ 0
+        none = omega (arith, rest)
+
+    whole : updates_to later later.cut ≡ w.log.updates
+    whole = take_all (later.cut - later.start) later.updates (omega (arith, cut_is, updates_is, first_is))
+        ∙ ap (λ (l : LogState). l.updates) later_is
+
+    tied : AreTied w.ring later
+    tied = record {
+      size = is.tied.size ∙ sym (ap (λ (l : LogState). l.blocks) later_is);
+      start = is.tied.start ∙ sym first_is;
+      end = is.tied.end ∙ sym logged_is;
+      start_to_end = omega (arith, is.tied.start_to_end, first_is, logged_is);
+      end_to_next = omega (arith, is.tied.end_to_next, logged_is);
+      next_to_cut = omega (arith, is.tied.next_to_cut, is.tied.cut_to_last, cut_is);
+      cut_to_last = omega (arith, cut_is, first_is, updates_is);
+      fits = omega (arith, cut_is, first_is, tail, fits, rest, is.tied.start_to_end, is.tied.fits);
+      small = omega (arith, is.tied.small, first_is, updates_is);
+      tail = omega (arith, length-drop (later.cut - later.start) later.updates, cut_is, updates_is, first_is);
+      blocks = subst (λ (l : LogState). AreHomes l.blocks l.updates) (sym (ap same_parts later_is)) is.tied.blocks;
+      coming = inl (subst (IsLogging w.ring w.log) phase is.logging ∙ is.tied.end ∙ sym logged_is);
+    }
+      where
+        same_parts : LogState → LogState
+        same_parts l = record l { cut = w.log.cut }
+
+    at_cut : (image : List Bytes) → IsCrash w image → IsCrash new image
+    at_cut image crash = ⊎_elim
+        (λ (old : StandsFor (size_of w) (blocks_logged w) image). inl (subst (λ (l : LogState). StandsFor (size_of w) (blocks_at (record w { log = l }) l.logged) image) (sym (ap same_parts later_is)) old))
+        (λ (cut : StandsFor (size_of w) (blocks_cut w) image). inl (subst (λ (l : LogState). StandsFor (size_of w) (blocks_at (record w { log = l }) l.logged) image) (sym (ap same_parts later_is))
+        (subst (λ (n : ℕ). StandsFor (size_of w) (blocks_at w n) image) (sym rest) cut)))
+        crash
+      where
+        same_parts : LogState → LogState
+        same_parts l = record l { cut = w.log.cut }
+
+    images : IsTrue w.ring.disk.honest → EveryImage w.ring.disk.past (IsCrash new)
+    images honest image one = at_cut image (is.images honest image one)
+
+    keeps : KeepsInstalling w.ring w.ring w.log later
+    keeps = record {
+      size = refl;
+      honest = refl;
+      start = refl;
+      freed = refl;
+      homes = refl;
+      faulted = λ was. was;
+      home = λ honest b home lt. refl;
+      first = first_is;
+      logged = omega (arith, logged_is);
+      updates = λ upto le. λ i. take (upto - (later_is i).start) (later_is i).updates;
+    }

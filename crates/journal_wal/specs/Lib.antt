@@ -1,0 +1,3 @@
+pub mod Wal
+pub mod States
+pub mod Recovery

@@ -1,0 +1,112 @@
+-- What holds of every write-ahead log: of its numbers, of its two cycles, and of each image of an honest disk.
+use Rattle.std.specs.Prelude.{ℕ, ◌≡◌, ◌⊎◌, ◌<◌, ◌≤◌, ◌+◌, ◌-◌, ◌^◌, Bool, true, false, IsTrue, List, length, take, Option, Some, None}
+use Rattle.std.specs.List.{All, slice_get}
+use Rattle.std.specs.Map.{lookup}
+use Rattle.std.specs.BTreeMap.{is_at}
+use Rattle.std.specs.Ordering.{nat_cmp}
+use Rattle.journal_block.specs.declared.update.Update.{Update}
+use Rattle.journal_block.specs.Block.{Bytes}
+use Rattle.journal_block.specs.Updates.{updated, updates_block, with_updates}
+use Rattle.journal_disk.specs.Images.{EveryImage}
+use Rattle.journal_circ.specs.Ring.{Ring, log_of, home_of}
+use Rattle.journal_memlog.specs.Logs.{LogState, next_of, tail_of}
+use Rattle.journal_wal.specs.declared.disk_log.Logger.{Logger}
+use Rattle.journal_wal.specs.declared.disk_log.Logger.TheVariants.{Blocks, Synced, EndPut, Spent as LoggerSpent}
+use Rattle.journal_wal.specs.declared.disk_log.Installer.{Installer}
+use Rattle.journal_wal.specs.declared.disk_log.Installer.TheVariants.{Resting, Homes, Synced as HomesSynced, StartPut, Spent as InstallerSpent}
+use Rattle.journal_wal.specs.Wal.{Logging, log_blocks, log_end, log_sync, log_spent, Installing, install_none, install_homes, install_start, install_sync, install_spent, WalState, IsCrash, AreHomes}
+
+-- what the logger's state says, and the installer's
+abbrev pub logging_of : Logger → Logging
+logging_of (Blocks state) = log_blocks
+logging_of (Synced state) = log_end
+logging_of (EndPut state) = log_sync
+logging_of LoggerSpent = log_spent
+
+abbrev pub installing_of : Installer → Installing
+installing_of Resting = install_none
+installing_of (Homes state plan) = install_homes plan.upto plan.homes.entries
+installing_of (HomesSynced state upto) = install_start upto
+installing_of (StartPut state upto) = install_sync upto
+installing_of InstallerSpent = install_spent
+
+-- the position that a plan has for a block
+abbrev pub planned : List (ℕ × ℕ) → ℕ → Option ℕ
+planned plan b = lookup (is_at (nat_cmp b)) plan
+
+-- Of the updates, the first of which is at position `start`, that at position q is the last of block b
+pub record IsLast (updates : List Update) (start b q : ℕ) : Type 0 where
+  pub above : start ≤ q
+  pub below : q < start + length updates
+  pub named : updates_block updates b ≡ true
+  pub here : (u : Update) → slice_get updates (q - start) ≡ Some u → (u.block ≡ b) × ((x : Bytes) → updated updates b x ≡ u.bytes)
+
+-- The plan has each block of the updates, with the position of its last one
+pub record IsPlanOf (updates : List Update) (start : ℕ) (plan : List (ℕ × ℕ)) : Type 0 where
+  pub last : (b q : ℕ) → planned plan b ≡ Some q → IsLast updates start b q
+  pub none : (b : ℕ) → planned plan b ≡ None → updates_block updates b ≡ false
+
+-- the updates that are installed, those before a position
+abbrev pub updates_to : LogState → ℕ → List Update
+updates_to log to = take (to - log.start) log.updates
+
+-- The position is one that the disk's log has
+pub record IsInLog (log : LogState) (upto : ℕ) : Type 0 where
+  pub above : log.start ≤ upto
+  pub below : upto ≤ log.logged
+
+-- every block of the disk is at home as the updates before the position have it
+abbrev pub IsHomeOf : Ring → LogState → ℕ → ℕ → Type 0
+IsHomeOf ring log upto b = with_updates (home_of ring) (updates_to log upto) b ≡ home_of ring b
+
+-- What holds while home blocks are put: those that are not left are at home
+pub record PutsHomes (ring : Ring) (log : LogState) (upto : ℕ) (plan : List (ℕ × ℕ)) : Type 0 where
+  pub idle : ring.marks.freed ≡ ring.marks.start
+  pub position : IsInLog log upto
+  pub last : (b q : ℕ) → planned plan b ≡ Some q → IsLast (updates_to log upto) log.start b q
+  pub done : IsTrue ring.disk.honest → (b : ℕ) → 513 ≤ b → b < ring.disk.past.size → planned plan b ≡ None → IsHomeOf ring log upto b
+
+-- What holds once all are at home, where block 1 has this start or may have it
+pub record HasHomes (ring : Ring) (log : LogState) (upto freed : ℕ) : Type 0 where
+  pub idle : ring.marks.freed ≡ freed
+  pub position : IsInLog log upto
+  pub done : IsTrue ring.disk.honest → (b : ℕ) → 513 ≤ b → b < ring.disk.past.size → IsHomeOf ring log upto b
+
+-- What the installer's cycle keeps
+abbrev pub IsInstalling : Ring → LogState → Installing → Type 0
+IsInstalling ring log install_none = ring.marks.freed ≡ ring.marks.start
+IsInstalling ring log (install_homes upto plan) = PutsHomes ring log upto plan
+IsInstalling ring log (install_start upto) = HasHomes ring log upto ring.marks.start × IsTrue ring.marks.homes
+IsInstalling ring log (install_sync upto) = HasHomes ring log upto upto
+IsInstalling ring log install_spent = IsTrue ring.faulted
+
+-- What the logger's cycle keeps
+abbrev pub IsLogging : Ring → LogState → Logging → Type 0
+IsLogging ring log log_blocks = ring.marks.coming ≡ ring.marks.end
+IsLogging ring log log_end = (ring.marks.coming ≡ ring.marks.end) × (ring.marks.stable ≡ ring.next) × (ring.next ≡ log.cut) × (log.logged < log.cut)
+IsLogging ring log log_sync = (ring.marks.coming ≡ log.cut) × (ring.next ≡ log.cut) × (log.logged < log.cut)
+IsLogging ring log log_spent = IsTrue ring.faulted
+
+-- The numbers of the log on the disk and of the log in memory go together
+pub record AreTied (ring : Ring) (log : LogState) : Type 0 where
+  pub size : ring.disk.past.size ≡ log.blocks
+  pub start : ring.marks.start ≡ log.start
+  pub end : ring.marks.end ≡ log.logged
+  pub start_to_end : log.start ≤ log.logged
+  pub end_to_next : log.logged ≤ ring.next
+  pub next_to_cut : ring.next ≤ log.cut
+  pub cut_to_last : log.cut ≤ next_of log
+  pub fits : log.cut ≤ log.start + 511
+  pub small : next_of log < 2 ^ 62
+  pub tail : length (tail_of log) ≤ 255
+  pub blocks : AreHomes log.blocks log.updates
+  -- block 0 has the last end or that of the last cut, the latter only once the whole group was put
+  pub coming : (ring.marks.coming ≡ log.logged) ⊎ ((ring.marks.coming ≡ log.cut) × (ring.next ≡ log.cut))
+
+pub record IsInStep (w : WalState) : Type 0 where
+  pub tied : AreTied w.ring w.log
+  -- what was put is what memory has
+  pub log : IsTrue w.ring.disk.honest → log_of w.ring ≡ take (w.ring.next - w.log.start) w.log.updates
+  pub images : IsTrue w.ring.disk.honest → EveryImage w.ring.disk.past (IsCrash w)
+  pub logging : IsLogging w.ring w.log w.logging
+  pub installing : IsInstalling w.ring w.log w.installing

@@ -1,0 +1,276 @@
+-- What contracts see of a write-ahead log: the blocks now, those that a crash may leave, and what the next steps are.
+use Rattle.std.specs.Prelude.{ℕ, zero, suc, ◌≡◌, ◌≢◌, ◌⊎◌, ◌<◌, ◌≤◌, ◌+◌, ◌-◌, ◌^◌, ◌==◌, nat_lt, Bool, true, false, IsTrue, if◌then◌else◌, List, [], ◌∷◌, length, take, drop}
+use Rattle.std.specs.List.{All}
+use Rattle.journal_world.specs.declared.refusal.Refusal.{Refusal}
+use Rattle.journal_world.specs.declared.refusal.Refusal.TheVariants.{NoMemory, TooLarge, DeviceFailed, Worn, Full}
+use Rattle.journal_world.specs.declared.step.Step.{Step}
+use Rattle.journal_world.specs.declared.step.Step.TheVariants.{Idle, Moved}
+use Rattle.journal_block.specs.declared.update.Update.{Update}
+use Rattle.journal_block.specs.Block.{Bytes}
+use Rattle.journal_block.specs.Updates.{Content, with_updates, updates_block}
+use Rattle.journal_disk.specs.Disks.{Keeps, HasFailed}
+use Rattle.journal_disk.specs.Images.{EveryImage}
+use Rattle.journal_disk.specs.Moments.{LeavesOnly}
+use Rattle.journal_circ.specs.StandsFor.{StandsFor}
+use Rattle.journal_circ.specs.Ring.{Ring, home_of}
+use Rattle.journal_memlog.specs.Logs.{LogState, next_of, tail_of, fresh_count, absorbed, appended, trimmed, CanTake}
+
+-- What the logger does next
+pub data Logging : Type 0 where
+  -- the next log block of the group, if one is left, else a barrier; nothing where no group is in flight
+  log_blocks : Logging
+  -- all log blocks are stable: block 0
+  log_end : Logging
+  -- block 0 was written: a barrier
+  log_sync : Logging
+  -- a device call failed: nothing more
+  log_spent : Logging
+
+-- What the installer does next
+pub data Installing : Type 0 where
+  -- nothing is being installed
+  install_none : Installing
+  -- the next of the home blocks, each with the position of its last log block below `upto`; where none is left, a barrier
+  install_homes : (upto : ℕ) (plan : List (ℕ × ℕ)) → Installing
+  -- all home blocks are stable: block 1
+  install_start : (upto : ℕ) → Installing
+  -- block 1 was written: a barrier
+  install_sync : (upto : ℕ) → Installing
+  -- a device call failed: nothing more
+  install_spent : Installing
+
+pub record WalState : Type 0 where
+  -- the log on the disk
+  pub ring : Ring
+  -- the log in memory
+  pub log : LogState
+  pub logging : Logging
+  pub installing : Installing
+
+-- the number of blocks
+abbrev pub size_of : WalState → ℕ
+size_of w = w.ring.disk.past.size
+
+-- the blocks with the updates up to a position
+abbrev pub blocks_at : WalState → ℕ → Content
+blocks_at w to = with_updates (home_of w.ring) (take (to - w.log.start) w.log.updates)
+
+-- the blocks with all updates
+abbrev pub blocks_now : WalState → Content
+blocks_now w = with_updates (home_of w.ring) w.log.updates
+
+-- the blocks at the last cut
+abbrev pub blocks_cut : WalState → Content
+blocks_cut w = blocks_at w w.log.cut
+
+-- the blocks at the cut of the last group whose cycle ended
+abbrev pub blocks_logged : WalState → Content
+blocks_logged w = blocks_at w w.log.logged
+
+-- On a disk of n blocks these hold the same objects: from block 513 on they are equal
+abbrev pub SameBlocks : ℕ → Content → Content → Type 0
+SameBlocks n f g = (b : ℕ) → 513 ≤ b → b < n → f b ≡ g b
+
+-- The image stands for the blocks of the last group whose cycle ended, or for those of the last cut
+abbrev pub IsCrash : WalState → List Bytes → Type 0
+IsCrash w image = StandsFor (size_of w) (blocks_logged w) image ⊎ StandsFor (size_of w) (blocks_cut w) image
+
+-- Blocks now, at the last cut, and at that of the last group whose cycle ended, are as before
+pub record KeepsBlocks (old new : WalState) : Type 0 where
+  pub now : SameBlocks (size_of old) (blocks_now new) (blocks_now old)
+  pub cut : SameBlocks (size_of old) (blocks_cut new) (blocks_cut old)
+  pub logged : SameBlocks (size_of old) (blocks_logged new) (blocks_logged old)
+
+-- how many blocks the tail has
+abbrev pub tail_length : WalState → ℕ
+tail_length w = length (tail_of w.log)
+
+-- how many positions of the log on the disk are free
+abbrev pub free_positions : WalState → ℕ
+free_positions w = 511 - (w.log.logged - w.log.start)
+
+-- How many steps the group in flight still takes: one a log block, a barrier, block 0, a barrier
+abbrev pub log_steps_by : Logging → ℕ → ℕ → ℕ
+log_steps_by log_blocks zero left = 0
+log_steps_by log_blocks (suc group) left = left + 3
+log_steps_by log_end group left = 2
+log_steps_by log_sync group left = 1
+log_steps_by log_spent group left = 0
+
+abbrev pub log_steps : WalState → ℕ
+log_steps w = log_steps_by w.logging (w.log.cut - w.log.logged) (w.log.cut - w.ring.next)
+
+-- How many steps the installing still takes: one a home block, a barrier, block 1, a barrier
+abbrev pub install_steps_by : Installing → ℕ
+install_steps_by install_none = 0
+install_steps_by (install_homes upto plan) = length plan + 3
+install_steps_by (install_start upto) = 2
+install_steps_by (install_sync upto) = 1
+install_steps_by install_spent = 0
+
+abbrev pub install_steps : WalState → ℕ
+install_steps w = install_steps_by w.installing
+
+-- each of the updates is of a block that holds objects
+abbrev pub AreHomes : ℕ → List Update → Type 0
+AreHomes n updates = All (λ u. (513 ≤ u.block) × (u.block < n)) updates
+
+-- The updates can be appended without memory and without a refusal
+pub record HasRoom (w : WalState) (updates : List Update) : Type 0 where
+  pub faulted : w.ring.faulted ≡ false
+  pub few : length updates ≤ 128
+  pub room : CanTake w.log updates
+  pub tail : length (absorbed (tail_of w.log) updates) ≤ 255
+
+-- Why updates are not appended: the first of these that holds, or J1
+abbrev pub IsRefusal : WalState → List Update → Refusal Unit → Type 0
+IsRefusal w updates (DeviceFailed cause) = w.ring.faulted ≡ true
+IsRefusal w updates TooLarge = 128 < length updates
+IsRefusal w updates (Worn cause) = (length updates ≤ 128) × (2 ^ 62 ≤ next_of w.log + fresh_count (tail_of w.log) updates)
+IsRefusal w updates (Full cause) = (length updates ≤ 128) × (next_of w.log + fresh_count (tail_of w.log) updates < 2 ^ 62)
+    × (255 < tail_length w + fresh_count (tail_of w.log) updates)
+IsRefusal w updates NoMemory = Unit {0}
+IsRefusal w updates other = ⊥
+
+-- the log with other room in memory
+abbrev pub with_room : WalState → ℕ → WalState
+with_room w room = record w { log = record w.log { room = room } }
+
+-- The updates were appended, without a device call
+pub record Appends (old : WalState) (updates : List Update) (new : WalState) : Type 0 where
+  pub log : new ≡ record old { log = record (appended old.log updates) { room = new.log.room } }
+  pub now : SameBlocks (size_of old) (blocks_now new) (with_updates (blocks_now old) updates)
+  pub cut : SameBlocks (size_of old) (blocks_cut new) (blocks_cut old)
+  pub logged : SameBlocks (size_of old) (blocks_logged new) (blocks_logged old)
+
+-- What each call says of the disk: at every moment of it each image is one that a crash might have left before, and at
+-- its end one that a crash may leave now
+pub record Crashes (old new : WalState) : Type 0 where
+  pub keeps : Keeps old.ring.disk new.ring.disk
+  pub moments : IsTrue old.ring.disk.honest → LeavesOnly old.ring.disk.past new.ring.disk.past (IsCrash old)
+  pub images : IsTrue new.ring.disk.honest → EveryImage new.ring.disk.past (IsCrash new)
+
+-- A read changed nothing that lies on the disk
+pub record Reads (old new : WalState) : Type 0 where
+  pub same : new ≡ record old { ring = record old.ring { disk = new.ring.disk } }
+  pub keeps : Keeps old.ring.disk new.ring.disk
+  pub past : IsTrue old.ring.disk.honest → new.ring.disk.past ≡ old.ring.disk.past
+
+-- A device call failed
+pub record Fails (old new : WalState) : Type 0 where
+  pub faulted : new.ring.faulted ≡ true
+  pub blocks : IsTrue old.ring.disk.honest → KeepsBlocks old new
+
+-- The tail was cut into a group, without a device call
+pub record Cuts (old new : WalState) : Type 0 where
+  pub disk : new.ring ≡ old.ring
+  pub fits : (0 < tail_length old) × (tail_length old ≤ free_positions old)
+  pub steps : log_steps new ≡ tail_length old + 3
+  pub tail : tail_length new ≡ 0
+  pub now : SameBlocks (size_of old) (blocks_now new) (blocks_now old)
+  pub cut : SameBlocks (size_of old) (blocks_cut new) (blocks_now old)
+  pub logged : SameBlocks (size_of old) (blocks_logged new) (blocks_logged old)
+  pub installing : new.installing ≡ old.installing
+
+-- A step of the group in flight was made
+pub record LogsOn (old new : WalState) : Type 0 where
+  pub steps : log_steps new + 1 ≡ log_steps old
+  pub log : new.log ≡ old.log
+  pub blocks : IsTrue old.ring.disk.honest → KeepsBlocks old new
+  pub installing : new.installing ≡ old.installing
+
+-- The cycle of the group in flight ended
+pub record EndsGroup (old new : WalState) : Type 0 where
+  pub steps : log_steps new ≡ 0
+  pub end : new.log ≡ record old.log { logged = old.log.cut }
+  pub now : IsTrue old.ring.disk.honest → SameBlocks (size_of old) (blocks_now new) (blocks_now old)
+  pub cut : IsTrue old.ring.disk.honest → SameBlocks (size_of old) (blocks_cut new) (blocks_cut old)
+  pub logged : IsTrue old.ring.disk.honest → SameBlocks (size_of old) (blocks_logged new) (blocks_cut old)
+  pub installing : new.installing ≡ old.installing
+
+-- What a step of the logger that moves does, where so many steps are left of the group in flight
+abbrev pub LogMoves : ℕ → WalState → WalState → Type 0
+LogMoves zero old new = Cuts old new
+LogMoves (suc zero) old new = EndsGroup old new
+LogMoves (suc (suc left)) old new = LogsOn old new
+
+-- The logger has nothing to do: no group is in flight, and the tail is empty or has no place in the log
+pub record IsLogIdle (w : WalState) : Type 0 where
+  pub steps : log_steps w ≡ 0
+  pub tail : (tail_length w ≡ 0) ⊎ (free_positions w < tail_length w)
+
+-- what a step of the logger answers, and does
+abbrev pub LogAnswers : WalState → Step → WalState → Type 0
+LogAnswers old Idle new = IsLogIdle old × (new ≡ old)
+LogAnswers old Moved new = LogMoves (log_steps old) old new
+
+-- how many distinct blocks the updates are of
+abbrev pub distinct_blocks : List Update → ℕ
+distinct_blocks [] = 0
+distinct_blocks (u ∷ later) = (if updates_block later u.block then 0 else 1) + distinct_blocks later
+
+-- the log positions that the installer may free: those that are logged
+abbrev pub logged_updates : WalState → List Update
+logged_updates w = take (w.log.logged - w.log.start) w.log.updates
+
+-- Installing begins: the first home block of those that are logged
+pub record BeginsInstall (old new : WalState) : Type 0 where
+  pub some : old.log.start < old.log.logged
+  pub steps : install_steps new + 1 ≡ distinct_blocks (logged_updates old) + 3
+  pub log : new.log ≡ old.log
+
+-- A further step of the installer was made
+pub record InstallsOn (old new : WalState) : Type 0 where
+  pub steps : install_steps new + 1 ≡ install_steps old
+  pub log : new.log ≡ old.log
+
+-- The positions up to one that was logged are free
+pub record Frees (old new : WalState) : Type 0 where
+  pub steps : install_steps new ≡ 0
+  pub upto : ℕ
+  pub above : old.log.start ≤ upto
+  pub below : upto ≤ old.log.logged
+  pub log : new.log ≡ trimmed old.log upto
+
+-- What a step of the installer that moves does, where so many steps are left
+abbrev pub InstallMoves : ℕ → WalState → WalState → Type 0
+InstallMoves zero old new = BeginsInstall old new
+InstallMoves (suc zero) old new = Frees old new
+InstallMoves (suc (suc left)) old new = InstallsOn old new
+
+-- The installer has nothing to do: nothing is logged that is not at home
+pub record IsInstallIdle (w : WalState) : Type 0 where
+  pub steps : install_steps w ≡ 0
+  pub empty : w.log.start ≡ w.log.logged
+
+-- A step of the installer that moved changes no block, and leaves the group in flight
+pub record Installs (old new : WalState) : Type 0 where
+  pub blocks : IsTrue old.ring.disk.honest → KeepsBlocks old new
+  pub logging : log_steps new ≡ log_steps old
+  pub moves : InstallMoves (install_steps old) old new
+
+-- The blocks to be installed are planned, where nothing is being installed
+pub record Plans (old new : WalState) : Type 0 where
+  pub same : new ≡ record old { installing = new.installing }
+  pub some : 0 < install_steps new
+  pub begun : install_steps old ≡ 0 → (old.log.start < old.log.logged) × (install_steps new ≡ distinct_blocks (logged_updates old) + 3)
+  pub stays : 0 < install_steps old → new ≡ old
+
+-- why a step of the installer is refused, and what is left
+abbrev pub IsInstallFault : WalState → WalState → Refusal Unit → Type 0
+IsInstallFault old new NoMemory = (install_steps old ≡ 0) × (new ≡ old)
+IsInstallFault old new (DeviceFailed cause) = (IsTrue old.ring.faulted ⊎ HasFailed old.ring.disk new.ring.disk) × Fails old new
+IsInstallFault old new other = ⊥
+
+-- what a step of the installer answers, and does
+abbrev pub InstallAnswers : WalState → Step → WalState → Type 0
+InstallAnswers old Idle new = IsInstallIdle old × (new ≡ old)
+InstallAnswers old Moved new = Installs old new
+
+-- Nothing is in flight, and the tail is empty
+pub record IsOpened (w : WalState) : Type 0 where
+  pub fine : w.ring.faulted ≡ false
+  pub logging : log_steps w ≡ 0
+  pub installing : install_steps w ≡ 0
+  pub tail : tail_length w ≡ 0
+  pub cut : w.log.logged ≡ w.log.cut

@@ -1,0 +1,40 @@
+// The part of the log that lies on the disk, and how far its two cycles are.
+use crate::plan::Plan;
+use journal_circ::{Circ, EndPut, HomesPut, HomesSynced, SlotsPut, SlotsSynced, StartPut};
+use journal_disk::BlockDisk;
+
+/// The circular log with the states of its two cycles, which stand side by side.
+#[derive(Drop)]
+pub(crate) struct DiskLog<D: BlockDisk> {
+    pub(crate) circ: Circ<D>,
+    pub(crate) logger: Logger,
+    pub(crate) installer: Installer,
+}
+
+/// How far the group in flight is.
+#[derive(Drop)]
+pub(crate) enum Logger {
+    /// Its log blocks are put, one a step; where no group is in flight there are none.
+    Blocks(SlotsPut),
+    /// All its log blocks are stable.
+    Synced(SlotsSynced),
+    /// Block 0 was written with its end.
+    EndPut(EndPut),
+    /// A device call failed.
+    Spent,
+}
+
+/// How far the installing is.
+#[derive(Drop)]
+pub(crate) enum Installer {
+    /// Nothing is being installed.
+    Resting,
+    /// Home blocks are put, one a step.
+    Homes(HomesPut, Plan),
+    /// All of them are stable, up to this position.
+    Synced(HomesSynced, u64),
+    /// Block 1 was written with this position as the start.
+    StartPut(StartPut, u64),
+    /// A device call failed.
+    Spent,
+}

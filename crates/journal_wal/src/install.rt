@@ -1,0 +1,109 @@
+// The installer's cycle: logged blocks come home, and their positions become free.
+ghost use Rattle.std.specs.Prelude.{ℕ, ◌≡◌, ◌≤◌, ◌<◌, ◌↔◌, false, IsTrue, IsErr, OnOk, OnErr, IfOk, IfErr};
+ghost use Rattle.journal_circ.specs.Ring.{IsFault};
+ghost use Rattle.journal_memlog.specs.Logs.{trimmed};
+ghost use Rattle.journal_wal.specs.Wal.{Crashes, Fails, InstallAnswers, Installs, install_steps, IsInstallIdle, IsInstallFault, Plans};
+
+use crate::disk_log::Installer;
+use crate::plan::Plan;
+use crate::wal::Wal;
+use journal_circ::Freed;
+use journal_disk::BlockDisk;
+use journal_memlog::MemLog;
+use journal_world::{Refusal, Step};
+use std::mem;
+
+impl<D: BlockDisk> Wal<D> {
+    /// Does the next thing of the installer: writes one home block, the last logged one of its address, the
+    /// addresses ascending; makes a barrier; writes block 1; makes a barrier, after which the positions are
+    /// free. For h distinct addresses these are h + 3 steps. It is idle where nothing is logged that is not at
+    /// home.
+    ///
+    /// Answers J6 `DeviceFailed` where the device failed in this call or before, and J1 `NoMemory` where memory
+    /// for the list of addresses is refused, at the first of these steps; the log is then as it was.
+    pub fn install_step(&mut self) -> Result<Step, Refusal<()>>
+        ensures cause { IfErr result (IsInstallFault self.old self.new) }
+        ensures faulted { IsTrue self.old.ring.faulted → IsErr result × (self.new ≡ self.old) }
+        ensures ok { IfOk result (λ step. InstallAnswers self.old step self.new) }
+        ensures crash { Crashes self.old self.new }
+    {
+        if self.on_disk.circ.is_faulted() {
+            return Err(Refusal::DeviceFailed(()));
+        }
+        if self.is_install_idle() {
+            return Ok(Step::Idle);
+        }
+        self.plan()?;
+        self.install_on()?;
+        Ok(Step::Moved)
+    }
+
+    // Whether nothing is being installed, and nothing is to be.
+    fn is_install_idle(&self) -> bool
+        requires { self.now.ring.faulted ≡ false }
+        ensures { IsTrue result ↔ IsInstallIdle self.now }
+    {
+        let bounds = self.memory.bounds();
+        match self.on_disk.installer {
+            Installer::Resting => bounds.start == bounds.logged,
+            _ => false,
+        }
+    }
+
+    // Plans which blocks are to be put, where nothing is being installed.
+    fn plan(&mut self) -> Result<(), Refusal<()>>
+        requires fine { self.old.ring.faulted ≡ false }
+        requires some { IsInstallIdle self.old → ⊥ }
+        ensures ok { OnOk result (Plans self.old self.new) }
+        ensures err { IfErr result (λ refusal. (refusal ≡ Refusal.NoMemory) × (install_steps self.old ≡ 0) × (self.new ≡ self.old)) }
+    {
+        let Installer::Resting = self.on_disk.installer else {
+            return Ok(());
+        };
+        let upto = self.memory.bounds().logged;
+        let plan = Plan::up_to(self.alloc, &self.memory, upto)?;
+        self.on_disk.installer = Installer::Homes(self.on_disk.circ.installer(), plan);
+        Ok(())
+    }
+
+    // The next step of an installing that began.
+    fn install_on(&mut self) -> Result<(), Refusal<()>>
+        requires fine { self.old.ring.faulted ≡ false }
+        requires some { 0 < install_steps self.old }
+        ensures cause { IfErr result (IsFault self.old.ring.faulted self.old.ring.disk self.new.ring.disk) }
+        ensures ok { OnOk result (Installs self.old self.new) }
+        ensures err { OnErr result (Fails self.old self.new) }
+        ensures crash { Crashes self.old self.new }
+    {
+        let circ = &mut self.on_disk.circ;
+        let next = match mem::replace(&mut self.on_disk.installer, Installer::Spent) {
+            Installer::Homes(state, mut plan) => match plan.next() {
+                Some((block, position)) => {
+                    let update = self.memory.at(position);
+                    Installer::Homes(circ.put_home(state, block, &update.bytes)?, plan)
+                }
+                None => Installer::Synced(circ.sync_homes(state)?, plan.upto),
+            },
+            Installer::Synced(state, upto) => {
+                Installer::StartPut(circ.put_start(state, upto)?, upto)
+            }
+            Installer::StartPut(state, upto) => {
+                let freed = circ.sync_start(state)?;
+                free(&mut self.memory, freed, upto);
+                Installer::Resting
+            }
+            Installer::Resting | Installer::Spent => return Err(Refusal::DeviceFailed(())),
+        };
+        self.on_disk.installer = next;
+        Ok(())
+    }
+}
+
+// Drops from memory what the disk has freed, and nothing else.
+fn free(memory: &mut MemLog, _freed: Freed, upto: u64)
+    requires from_start { memory.old.start ≤ upto }
+    requires to_logged { upto ≤ memory.old.logged }
+    ensures { memory.new ≡ trimmed memory.old upto }
+{
+    memory.trim(upto);
+}

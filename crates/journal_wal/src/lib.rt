@@ -1,0 +1,17 @@
+//! The write-ahead log: updates of blocks are appended in memory, absorbed there, cut into groups that the
+//! logger makes durable whole, and carried home by the installer.
+//!
+//! Contracts speak of the blocks now and of those that a crash may leave. Of these there are two: the blocks
+//! at the last cut, and those at the cut of the last group whose cycle ended.
+#![tactic(auto)]
+
+mod append;
+mod disk_log;
+mod install;
+mod log;
+mod open;
+mod plan;
+mod wal;
+
+pub use append::{MAX_TAIL, MAX_UPDATES};
+pub use wal::Wal;

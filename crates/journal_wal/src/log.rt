@@ -1,0 +1,70 @@
+// The logger's cycle: a group becomes durable, whole.
+ghost use Rattle.std.specs.Prelude.{ℕ, ◌≡◌, ◌≤◌, ◌<◌, true, false, IsTrue, IsErr, OnErr, IfOk, IfErr};
+ghost use Rattle.journal_circ.specs.Ring.{IsFault};
+ghost use Rattle.journal_wal.specs.Wal.{Crashes, Fails, LogAnswers, log_blocks};
+
+use crate::disk_log::Logger;
+use crate::wal::Wal;
+use journal_circ::LOG_POSITIONS;
+use journal_disk::BlockDisk;
+use journal_world::{Refusal, Step};
+use std::mem;
+
+impl<D: BlockDisk> Wal<D> {
+    /// Does the next thing of the logger: cuts the whole tail into a group, writes one of its log blocks,
+    /// makes a barrier, writes block 0, makes a barrier. For a group of k blocks these are k + 4 steps. It is
+    /// idle where no group is in flight and the tail is empty or has no place in the log.
+    ///
+    /// Answers J6 `DeviceFailed`, and nothing else, where the device failed in this call or before.
+    pub fn log_step(&mut self) -> Result<Step, Refusal<()>>
+        ensures cause { IfErr result (IsFault self.old.ring.faulted self.old.ring.disk self.new.ring.disk) }
+        ensures faulted { IsTrue self.old.ring.faulted → IsErr result × (self.new ≡ self.old) }
+        ensures ok { IfOk result (λ step. LogAnswers self.old step self.new) }
+        ensures err { OnErr result (Fails self.old self.new) }
+        ensures crash { Crashes self.old self.new }
+    {
+        if self.on_disk.circ.is_faulted() {
+            return Err(Refusal::DeviceFailed(()));
+        }
+        let bounds = self.memory.bounds();
+        let circ = &mut self.on_disk.circ;
+        self.on_disk.logger = match mem::replace(&mut self.on_disk.logger, Logger::Spent) {
+            Logger::Blocks(state) if circ.next() < bounds.cut => {
+                let update = self.memory.at(circ.next());
+                Logger::Blocks(circ.put_slot(state, update.block, &update.bytes)?)
+            }
+            Logger::Blocks(state) if bounds.logged < bounds.cut => {
+                Logger::Synced(circ.sync_slots(state)?)
+            }
+            Logger::Blocks(state) => {
+                self.on_disk.logger = Logger::Blocks(state);
+                return Ok(self.cut());
+            }
+            Logger::Synced(state) => Logger::EndPut(circ.put_end(state)?),
+            Logger::EndPut(state) => {
+                let state = circ.sync_end(state)?;
+                self.memory.logged(circ.end());
+                Logger::Blocks(state)
+            }
+            Logger::Spent => return Err(Refusal::DeviceFailed(())),
+        };
+        Ok(Step::Moved)
+    }
+
+    // Cuts the tail, where it has a block and the log has a position for each.
+    fn cut(&mut self) -> Step
+        requires rest { self.old.log.logged ≡ self.old.log.cut }
+        requires phase { self.old.logging ≡ log_blocks }
+        ensures step { LogAnswers self.old result self.new }
+        ensures crash { Crashes self.old self.new }
+    {
+        let bounds = self.memory.bounds();
+        let used = bounds.logged - bounds.start;
+        let tail = self.memory.tail_len();
+        if tail == 0 || tail > LOG_POSITIONS - used {
+            return Step::Idle;
+        }
+        self.memory.cut();
+        Step::Moved
+    }
+}

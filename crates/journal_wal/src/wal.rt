@@ -1,0 +1,145 @@
+// The write-ahead log, and what it tells without a step.
+ghost use Rattle.std.specs.Prelude.{ℕ, ◌≡◌, ◌≤◌, ◌<◌, ◌↔◌, IsTrue, OnOk, OnErr, IsErr, IfErr, IfSome};
+ghost use Rattle.journal_circ.specs.Ring.{IsFault};
+ghost use Rattle.journal_wal.specs.Wal.{Reads, Fails, Crashes, size_of, tail_length, blocks_now};
+
+use crate::disk_log::DiskLog;
+use journal_block::Block;
+use journal_disk::{BlockDisk, MemDisk};
+use journal_memlog::MemLog;
+use journal_world::Refusal;
+use std::alloc::Global;
+use std::marker::Model;
+
+/// A write-ahead log over a disk.
+///
+/// The updates in memory and the log on the disk are apart, and no call but a cut, the end of a cycle and a
+/// read needs both.
+pub struct Wal<D: BlockDisk> {
+    pub(crate) alloc: Global,
+    pub(crate) memory: MemLog,
+    pub(crate) on_disk: DiskLog<D>,
+}
+
+impl<D: BlockDisk> Model for Wal<D> {
+    ghost use Rattle.journal_wal.specs.Wal.{WalState};
+    ghost use Rattle.journal_wal.specs.States.{logging_of, installing_of, IsInStep};
+
+    ghost Value = { WalState };
+
+    ghost view = { λ w. record {
+      ring = w.on_disk.circ;
+      log = w.memory;
+      logging = logging_of w.on_disk.logger;
+      installing = installing_of w.on_disk.installer;
+    } };
+
+    ghost invariant = { λ w. IsInStep (record {
+      ring = w.on_disk.circ;
+      log = w.memory;
+      logging = logging_of w.on_disk.logger;
+      installing = installing_of w.on_disk.installer;
+    }) };
+}
+
+impl<D: BlockDisk> Wal<D> {
+    /// The number of blocks of the disk.
+    pub fn size(&self) -> u64
+        ensures { result ≡ size_of self.now }
+    {
+        self.on_disk.circ.size()
+    }
+
+    /// Where the log on the disk starts and ends, as last synced: positions, of which there are at most 511.
+    pub fn bounds(&self) -> (u64, u64)
+        ensures { result ≡ (self.now.log.start, self.now.log.logged) }
+    {
+        let bounds = self.memory.bounds();
+        (bounds.start, bounds.logged)
+    }
+
+    /// Whether a device call failed, so that every step, read and append answers J6.
+    pub fn is_faulted(&self) -> bool
+        ensures { result ≡ self.now.ring.faulted }
+    {
+        self.on_disk.circ.is_faulted()
+    }
+
+    /// Whether a group is in flight.
+    pub fn is_logging(&self) -> bool
+        ensures { IsTrue result ↔ (self.now.log.logged < self.now.log.cut) }
+    {
+        let bounds = self.memory.bounds();
+        bounds.logged < bounds.cut
+    }
+
+    /// How many blocks stand in the tail, at most 255.
+    pub fn tail_len(&self) -> u64
+        ensures length { result ≡ tail_length self.now }
+        ensures few { result ≤ 255 }
+    {
+        self.memory.tail_len()
+    }
+
+    /// The block with all updates, lent, where it is in memory.
+    pub fn latest(&self, block: u64) -> Option<&Block>
+        ensures some { IfSome result (λ found. found.now ≡ blocks_now self.now block) }
+    {
+        self.memory.latest(block)
+    }
+
+    /// Copies the block with all updates. It is read from the device only where it is not in memory.
+    ///
+    /// Answers J6 `DeviceFailed` where the device failed now or before; what `into` then holds is not said.
+    pub fn read(&mut self, block: u64, into: &mut Block) -> Result<(), Refusal<()>>
+        requires { block < size_of self.old }
+        ensures cause { IfErr result (IsFault self.old.ring.faulted self.old.ring.disk self.new.ring.disk) }
+        ensures faulted { IsTrue self.old.ring.faulted → IsErr result × (self.new ≡ self.old) }
+        ensures ok { OnOk result (Reads self.old self.new) }
+        ensures err { OnErr result (Fails self.old self.new) }
+        ensures value { IsTrue self.old.ring.disk.honest → OnOk result (into.new ≡ blocks_now self.old block) }
+        ensures crash { Crashes self.old self.new }
+    {
+        if self.on_disk.circ.is_faulted() {
+            return Err(Refusal::DeviceFailed(()));
+        }
+        if let Some(found) = self.memory.latest(block) {
+            into.copy_from(found);
+            return Ok(());
+        }
+        self.on_disk.circ.read(block, into)
+    }
+
+    /// The disk, lent.
+    pub fn disk(&self) -> &D
+        ensures { D.state result.now ≡ self.now.ring.disk }
+    {
+        self.on_disk.circ.disk()
+    }
+
+    /// Gives the disk up, as it is.
+    pub fn into_disk(self) -> D
+        ensures { D.state result ≡ self.ring.disk }
+    {
+        let Wal {
+            alloc: _,
+            memory: _,
+            on_disk,
+        } = self;
+        let DiskLog {
+            circ,
+            logger: _,
+            installer: _,
+        } = on_disk;
+        circ.into_disk()
+    }
+}
+
+impl Wal<MemDisk> {
+    /// Makes the k-th device call from now on fail.
+    pub fn fail_in(&mut self, k: u64)
+        ensures { self.new ≡ self.old }
+    {
+        self.on_disk.circ.fail_in(k);
+    }
+}
