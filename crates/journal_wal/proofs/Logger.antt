@@ -1,5 +1,5 @@
 -- The steps of the logger's cycle.
-use Rattle.std.proofs.Common.{◌≡◌, ◌⊎◌, inl, inr, ⊎_elim, ◌<◌, ◌≤◌, ◌+◌, ◌-◌, ◌^◌, ℕ, zero, suc, Bool, true, List, [], ◌∷◌, ◌++◌, take, length, length-drop, get_or, Option, Some, IsTrue, refl, sym, ap, subst, ◌∙◌, arith}
+use Rattle.std.proofs.Common.{◌≡◌, ◌⊎◌, inl, inr, ⊎_elim, ◌<◌, ◌≤◌, ◌+◌, ◌-◌, ◌^◌, ℕ, zero, suc, Bool, false, true, List, [], ◌∷◌, ◌++◌, take, length, length-drop, get_or, Option, Some, IsTrue, refl, sym, ap, subst, ◌∙◌, arith}
 use Rattle.std.specs.List.{slice_get, All}
 use Rattle.std.proofs.Math.Seq.{take-suc}
 use Rattle.std.proofs.lemmas.List.{take_all}
@@ -437,3 +437,26 @@ group_cut w later is phase rest later_is some fits = (
       logged = omega (arith, logged_is);
       updates = λ upto le. λ i. take (upto - (later_is i).start) (later_is i).updates;
     }
+
+-- while a group is in flight there are steps left
+pub steps_left : (w : WalState) → IsInStep w → w.ring.faulted ≡ false → w.log.logged < w.log.cut → 0 < log_steps w
+steps_left w is fine group = by_phase w.logging is.logging
+  where
+    by_phase : (phase : Logging) → IsLogging w.ring w.log phase → 0 < log_steps_by phase (w.log.cut - w.log.logged) (w.log.cut - w.ring.next)
+    by_phase log_blocks at_blocks = omega (arith, steps_in_group (w.log.cut - w.log.logged) (w.log.cut - w.ring.next) (omega (arith, group)))
+    by_phase log_end at_end = omega arith
+    by_phase log_sync at_sync = omega arith
+    by_phase log_spent faulted = let impossible : ⊥ = cc in absurd impossible
+
+-- and none where there is no group
+pub steps_none : (w : WalState) → IsInStep w → w.log.logged ≡ w.log.cut → log_steps w ≡ 0
+steps_none w is rest = by_phase w.logging is.logging
+  where
+    none : w.log.cut - w.log.logged ≡ 0
+    none = omega (arith, rest)
+
+    by_phase : (phase : Logging) → IsLogging w.ring w.log phase → log_steps_by phase (w.log.cut - w.log.logged) (w.log.cut - w.ring.next) ≡ 0
+    by_phase log_blocks at_blocks = λ i. log_steps_by log_blocks (none i) (w.log.cut - w.ring.next)
+    by_phase log_end at_end = absurd (omega (arith, rest, at_end.3))
+    by_phase log_sync at_sync = absurd (omega (arith, rest, at_sync.2))
+    by_phase log_spent faulted = refl

@@ -1,3 +1,4 @@
 pub mod Wal
 pub mod States
 pub mod Recovery
+pub mod Rooms

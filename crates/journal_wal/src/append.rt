@@ -2,6 +2,8 @@
 ghost use Rattle.std.specs.Prelude.{ℕ, ◌≡◌, ◌≤◌, ◌<◌, OnOk, OnErr, IfErr, length};
 ghost use Rattle.journal_memlog.specs.Logs.{HasDistinctBlocks, fresh_count, tail_of};
 ghost use Rattle.journal_wal.specs.Wal.{Crashes, AreHomes, HasRoom, IsRefusal, Appends, with_room, size_of};
+ghost use Rattle.journal_block.specs.Updates.{updates_block};
+ghost use Rattle.journal_wal.specs.Rooms.{HasPlaces, IsShortage};
 
 use crate::wal::Wal;
 use journal_block::Update;
@@ -33,6 +35,35 @@ impl<D: BlockDisk> Wal<D> {
     {
         self.reserve(&updates)?;
         self.append_reserved(updates);
+        Ok(())
+    }
+
+    /// Whether the block stands in the tail, so that an update of it takes no new place.
+    pub fn stands(&self, block: u64) -> bool
+        ensures { result ≡ updates_block (tail_of self.now.log) block }
+    {
+        self.memory.stands(block)
+    }
+
+    /// Refuses updates of so many blocks, of which so many are fresh, that is do not stand in the tail, as
+    /// `reserve` would: J6, J4, J11 or J12. It takes no memory.
+    pub fn check_room(&self, blocks: usize, fresh: usize) -> Result<(), Refusal<()>>
+        requires { fresh ≤ blocks }
+        ensures ok { OnOk result (HasPlaces self.now blocks fresh) }
+        ensures refusal { IfErr result (IsShortage self.now blocks fresh) }
+    {
+        if self.on_disk.circ.is_faulted() {
+            return Err(Refusal::DeviceFailed(()));
+        }
+        if blocks > MAX_UPDATES {
+            return Err(Refusal::TooLarge);
+        }
+        if self.memory.bounds().next + fresh as u64 >= MAX_POSITION {
+            return Err(Refusal::Worn(()));
+        }
+        if self.memory.tail_len() + fresh as u64 > MAX_TAIL {
+            return Err(Refusal::Full(()));
+        }
         Ok(())
     }
 

@@ -1,7 +1,7 @@
 // The write-ahead log, and what it tells without a step.
-ghost use Rattle.std.specs.Prelude.{ℕ, ◌≡◌, ◌≤◌, ◌<◌, ◌↔◌, IsTrue, OnOk, OnErr, IsErr, IfErr, IfSome};
+ghost use Rattle.std.specs.Prelude.{ℕ, ◌≡◌, ◌≤◌, ◌<◌, ◌↔◌, ◌⊎◌, false, IsTrue, OnOk, OnErr, IsErr, IfErr, IfSome};
 ghost use Rattle.journal_circ.specs.Ring.{IsFault};
-ghost use Rattle.journal_wal.specs.Wal.{Reads, Fails, Crashes, size_of, tail_length, blocks_now};
+ghost use Rattle.journal_wal.specs.Wal.{Reads, Fails, Crashes, size_of, tail_length, blocks_now, log_steps};
 
 use crate::disk_log::DiskLog;
 use journal_block::Block;
@@ -15,6 +15,7 @@ use std::marker::Model;
 ///
 /// The updates in memory and the log on the disk are apart, and no call but a cut, the end of a cycle and a
 /// read needs both.
+#[derive(Drop)]
 pub struct Wal<D: BlockDisk> {
     pub(crate) alloc: Global,
     pub(crate) memory: MemLog,
@@ -67,7 +68,9 @@ impl<D: BlockDisk> Wal<D> {
 
     /// Whether a group is in flight.
     pub fn is_logging(&self) -> bool
-        ensures { IsTrue result ↔ (self.now.log.logged < self.now.log.cut) }
+        ensures group { IsTrue result ↔ (self.now.log.logged < self.now.log.cut) }
+        ensures steps { self.now.ring.faulted ≡ false → IsTrue result → 0 < log_steps self.now }
+        ensures rest { IsTrue result ⊎ ((log_steps self.now ≡ 0) × (self.now.log.logged ≡ self.now.log.cut)) }
     {
         let bounds = self.memory.bounds();
         bounds.logged < bounds.cut
