@@ -1,5 +1,6 @@
 // The write-ahead log, and what it tells without a step.
-ghost use Rattle.std.specs.Prelude.{ℕ, ◌≡◌, ◌≤◌, ◌<◌, ◌↔◌, ◌⊎◌, false, IsTrue, OnOk, OnErr, IsErr, IfErr, IfSome};
+ghost use Rattle.std.specs.Prelude.{ℕ, ◌≡◌, ◌≤◌, ◌<◌, ◌↔◌, ◌⊎◌, false, is_some, IsTrue, OnOk, OnErr, IsErr, IfErr, IfSome};
+ghost use Rattle.journal_block.specs.Updates.{updates_block};
 ghost use Rattle.journal_circ.specs.Ring.{IsFault};
 ghost use Rattle.journal_wal.specs.Wal.{Reads, Fails, Crashes, size_of, tail_length, blocks_now, log_steps};
 
@@ -86,6 +87,7 @@ impl<D: BlockDisk> Wal<D> {
 
     /// The block with all updates, lent, where it is in memory.
     pub fn latest(&self, block: u64) -> Option<&Block>
+        ensures found { is_some result ≡ updates_block self.now.log.updates block }
         ensures some { IfSome result (λ found. found.now ≡ blocks_now self.now block) }
     {
         self.memory.latest(block)
