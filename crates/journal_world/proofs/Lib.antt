@@ -9,3 +9,4 @@ pub mod SessionCommits
 pub mod MapsOfHistories
 pub mod Slots
 mod Examples
+mod Ascending

@@ -2,6 +2,7 @@
 ghost use Rattle.std.specs.Prelude.{◌≡◌, ℕ, [], ◌∷◌, ◌++◌, IsTrue, OnOk, OnErr, IfSome, IfNone};
 ghost use Rattle.std.specs.Option.{option_copied};
 ghost use Rattle.journal_world.specs.Maps.{value_among, SamePairs, is_object, are_objects};
+ghost use Rattle.journal_world.specs.Orders.{HasAscendingBlocks};
 
 use crate::{Addr, Value};
 use std::alloc::{AllocError, Global};
@@ -43,7 +44,8 @@ impl Objects {
 
     /// The pairs, addresses ascending.
     pub fn iter(&self) -> Iter<'_, Addr, Value>
-        ensures { result ≡ self.now }
+        ensures pairs { result ≡ self.now }
+        ensures ascending { HasAscendingBlocks self.now }
     {
         self.values.iter()
     }

@@ -1,0 +1,12 @@
+pub mod MapsOfBlocks
+pub mod Openings
+pub mod StepsOfMaps
+pub mod Stored
+pub mod Updates
+pub mod Ascending
+pub mod Covering
+pub mod Staged
+pub mod Refusing
+pub mod Counting
+pub mod StagingLoop
+pub mod Preparing

@@ -1,0 +1,106 @@
+-- What steps make of the maps, by what they make of the blocks.
+use Rattle.std.proofs.Common.{◌≡◌, ℕ, zero, suc, Bool, cond, List, IsTrue, Result, Ok, Err, OnErr, IfOk, IfErr, sym, ap, subst, ◌∙◌}
+use Rattle.journal_world.specs.declared.refusal.Refusal.{Refusal}
+use Rattle.journal_world.specs.declared.refusal.Refusal.TheVariants.{NoMemory, BadAddress, BadSize, TooLarge, Busy, DeviceFailed, BadLog, BadSuper, Stale, Stranger, Worn, Full, Closed, Fenced}
+use Rattle.journal_world.specs.declared.step.Step.{Step}
+use Rattle.journal_world.specs.declared.step.Step.TheVariants.{Idle, Moved}
+use Rattle.std.proofs.lemmas.Bool.{and_parts}
+use Rattle.journal_world.specs.declared.address.Addr.{Addr}
+use Rattle.journal_world.specs.Addresses.{Value, kind_of, is_valid}
+use Rattle.journal_world.specs.Maps.{Pair, SameMap, value_at, zeros_at, is_value_at, is_object, overwritten}
+use Rattle.journal_block.specs.declared.update.Update.{Update}
+use Rattle.journal_block.specs.Block.{Bytes}
+use Rattle.journal_object.specs.Objects.{object_at}
+use Rattle.journal_block.specs.Updates.{Content, with_updates}
+use Rattle.journal_wal.specs.Wal.{WalState, size_of, blocks_now, blocks_cut, blocks_logged, log_steps, Fails, LogAnswers, LogMoves, InstallAnswers, IsInstallFault, SameBlocks, Appends}
+use Rattle.journal_objlog.specs.Maps.{map_of}
+use Rattle.journal_objlog.specs.ObjectLogs.{map_now, map_cut, map_logged, KeepsMaps, LogsMaps, LogMovesMaps}
+use Rattle.journal_objlog.specs.Writes.{IsPrepared}
+use Rattle.journal_objlog.specs.Soundness.{IsSound}
+use Rattle.journal_objlog.proofs.MapsOfBlocks.{HasObjects-map_of, map_of-same, SameMap-refl, SameMap-trans}
+use Rattle.journal_objlog.proofs.Openings.{law_of, low_of, keeps_maps}
+
+pub KeepsMaps-refl : (w : WalState) → KeepsMaps w w
+KeepsMaps-refl w = record { now = SameMap-refl (map_now w); cut = SameMap-refl (map_cut w); logged = SameMap-refl (map_logged w) }
+
+pub KeepsMaps-path : (old new : WalState) → new ≡ old → KeepsMaps old new
+KeepsMaps-path old new is = subst (λ (w : WalState). KeepsMaps old w) (sym is) (KeepsMaps-refl old)
+
+module _ (n : ℕ) (old new : WalState) (sound : IsSound n old) (size : size_of new ≡ size_of old) where
+  pub same_map : (f g : Content) → SameBlocks (size_of old) f g → SameMap (map_of (size_of new) f) (map_of (size_of old) g)
+  same_map f g same = subst (λ (k : ℕ). SameMap (map_of k f) (map_of (size_of old) g)) (sym size)
+      (map_of-same (size_of old) (law_of n old sound) (low_of n old sound) f g same)
+
+  moves_maps : (left : ℕ) → IsTrue old.ring.disk.honest → LogMoves left old new → LogMovesMaps left old new
+  moves_maps zero honest moves = record {
+    now = same_map (blocks_now new) (blocks_now old) moves.now;
+    cut = same_map (blocks_cut new) (blocks_now old) moves.cut;
+    logged = same_map (blocks_logged new) (blocks_logged old) moves.logged;
+  }
+  moves_maps (suc zero) honest moves = record {
+    now = same_map (blocks_now new) (blocks_now old) (moves.now honest);
+    cut = same_map (blocks_cut new) (blocks_cut old) (moves.cut honest);
+    logged = same_map (blocks_logged new) (blocks_cut old) (moves.logged honest);
+  }
+  moves_maps (suc (suc left)) honest moves = keeps_maps n old new sound size (moves.blocks honest)
+
+  pub logs_maps : IsTrue old.ring.disk.honest → (result : Result Step (Refusal Unit)) → IfOk result (λ step. LogAnswers old step new)
+      → IfOk result (λ step. LogsMaps old step new)
+  logs_maps honest (Ok Idle) answers = KeepsMaps-path old new answers.1
+  logs_maps honest (Ok Moved) answers = moves_maps (log_steps old) honest answers
+  logs_maps honest (Err refusal) answers = tt
+
+  pub fails_maps : IsTrue old.ring.disk.honest → (result : Result Step (Refusal Unit)) → OnErr result (Fails old new)
+      → OnErr result (KeepsMaps old new)
+  fails_maps honest (Ok step) fails = tt
+  fails_maps honest (Err refusal) fails = keeps_maps n old new sound size (fails.blocks honest)
+
+  fault_maps : IsTrue old.ring.disk.honest → (refusal : Refusal Unit) → IsInstallFault old new refusal → KeepsMaps old new
+  fault_maps honest NoMemory fault = KeepsMaps-path old new fault.1
+  fault_maps honest (DeviceFailed cause) fault = keeps_maps n old new sound size (fault.1.blocks honest)
+  fault_maps honest BadAddress fault = absurd fault
+  fault_maps honest BadSize fault = absurd fault
+  fault_maps honest TooLarge fault = absurd fault
+  fault_maps honest Busy fault = absurd fault
+  fault_maps honest BadLog fault = absurd fault
+  fault_maps honest BadSuper fault = absurd fault
+  fault_maps honest (Stale cause) fault = absurd fault
+  fault_maps honest (Stranger cause) fault = absurd fault
+  fault_maps honest (Worn cause) fault = absurd fault
+  fault_maps honest (Full cause) fault = absurd fault
+  fault_maps honest (Closed cause) fault = absurd fault
+  fault_maps honest Fenced fault = absurd fault
+
+  pub installs_maps : IsTrue old.ring.disk.honest → (result : Result Step (Refusal Unit)) → IfOk result (λ step. InstallAnswers old step new)
+      → IfErr result (IsInstallFault old new) → KeepsMaps old new
+  installs_maps honest (Ok Idle) answers fault = KeepsMaps-path old new answers.1
+  installs_maps honest (Ok Moved) answers fault = keeps_maps n old new sound size (answers.blocks honest)
+  installs_maps honest (Err refusal) answers fault = fault_maps honest refusal fault
+
+-- what is prepared overwrites the map now
+pub applied : (n : ℕ) (old new : WalState) (updates : List Update) → IsSound n old → Appends old updates new → (writes : List Pair)
+    → IsTrue old.ring.disk.honest → IsPrepared old updates writes → SameMap (map_now new) (overwritten (map_now old) writes)
+applied n old new updates sound appends writes honest prepared =
+    SameMap-trans (map_now new) (map_of (size_of old) (with_updates (blocks_now old) updates)) (overwritten (map_now old) writes)
+    (same_map n old new sound (ap size_of appends.log) (blocks_now new) (with_updates (blocks_now old) updates) appends.now)
+    (prepared.map honest)
+
+pub applied_cut : (n : ℕ) (old new : WalState) (updates : List Update) → IsSound n old → Appends old updates new → SameMap (map_cut new) (map_cut old)
+applied_cut n old new updates sound appends = same_map n old new sound (ap size_of appends.log) (blocks_cut new) (blocks_cut old) appends.cut
+
+pub applied_logged : (n : ℕ) (old new : WalState) (updates : List Update) → IsSound n old → Appends old updates new → SameMap (map_logged new) (map_logged old)
+applied_logged n old new updates sound appends = same_map n old new sound (ap size_of appends.log) (blocks_logged new) (blocks_logged old) appends.logged
+
+-- the object of the block as it is now is the map's value
+pub read_value : (n : ℕ) (w : WalState) → IsSound n w → (a : Addr) (bytes : Bytes) (value : Value) → IsTrue (is_object n (a, value))
+    → value ≡ object_at n bytes a → bytes ≡ blocks_now w a.block → value ≡ value_at (map_now w) a
+unfolding map_of
+read_value n w sound a bytes value object is now =
+    let size : n ≡ size_of w = sound.size in
+    let here : IsTrue (is_object (size_of w) (a, value)) = subst (λ (k : ℕ). IsTrue (is_object k (a, value))) size object in
+    let parts = and_parts (is_valid (size_of w) a) (is_value_at (kind_of (size_of w) a.block) value) here in
+    let found : value ≡ object_at (size_of w) (blocks_now w a.block) a =
+    is ∙ ap (λ (b : Bytes). object_at n b a) now ∙ ap (λ (k : ℕ). object_at k (blocks_now w a.block) a) size in
+    sym ((HasObjects-map_of (size_of w) (law_of n w sound) (blocks_now w)).values a parts.0
+    ∙ ap (λ (v : Value). cond (is_value_at (kind_of (size_of w) a.block) v) v (zeros_at (kind_of (size_of w) a.block))) (sym found)
+    ∙ ap (λ (b : Bool). cond b value (zeros_at (kind_of (size_of w) a.block))) parts.1)

@@ -1,0 +1,89 @@
+-- What contracts see of an object log: the map now, the two that a crash may leave, and what each call makes of them.
+use Rattle.std.specs.Prelude.{ℕ, zero, suc, ◌≡◌, ◌⊎◌, true, false, IsTrue, List}
+use Rattle.journal_world.specs.declared.address.Addr.{Addr}
+use Rattle.journal_world.specs.declared.refusal.Refusal.{Refusal}
+use Rattle.journal_world.specs.declared.refusal.Refusal.TheVariants.{NoMemory, BadAddress, DeviceFailed}
+use Rattle.journal_world.specs.declared.step.Step.{Step}
+use Rattle.journal_world.specs.declared.step.Step.TheVariants.{Idle, Moved}
+use Rattle.journal_world.specs.Addresses.{is_valid}
+use Rattle.journal_world.specs.Maps.{Map, SameMap}
+use Rattle.journal_block.specs.Block.{Bytes}
+use Rattle.journal_disk.specs.Disks.{Keeps, HasFailed}
+use Rattle.journal_disk.specs.Images.{EveryImage}
+use Rattle.journal_disk.specs.Moments.{LeavesOnly}
+use Rattle.journal_wal.specs.Wal.{WalState, size_of, blocks_now, blocks_cut, blocks_logged, log_steps}
+use Rattle.journal_objlog.specs.Maps.{map_of, OpensAs}
+
+-- the map with all overwrites
+abbrev pub map_now : WalState → Map
+map_now w = map_of (size_of w) (blocks_now w)
+
+-- the map at the last cut
+abbrev pub map_cut : WalState → Map
+map_cut w = map_of (size_of w) (blocks_cut w)
+
+-- the map at the cut of the last group whose cycle ended
+abbrev pub map_logged : WalState → Map
+map_logged w = map_of (size_of w) (blocks_logged w)
+
+-- What a crash may leave opens as the map of the last group whose cycle ended, or as that of the last cut
+abbrev pub MayOpenAs : WalState → List Bytes → Type 0
+MayOpenAs w image = OpensAs (map_logged w) image ⊎ OpensAs (map_cut w) image
+
+-- The map now, and the two that a crash may leave, are as before
+pub record KeepsMaps (old new : WalState) : Type 0 where
+  pub now : SameMap (map_now new) (map_now old)
+  pub cut : SameMap (map_cut new) (map_cut old)
+  pub logged : SameMap (map_logged new) (map_logged old)
+
+-- What each call says of the disk: at every moment of it an image opens as one of the two maps that a crash might have
+-- left before, and at its end as one of those that it may leave now
+pub record MayCrash (old new : WalState) : Type 0 where
+  pub keeps : Keeps old.ring.disk new.ring.disk
+  pub moments : IsTrue old.ring.disk.honest → LeavesOnly old.ring.disk.past new.ring.disk.past (MayOpenAs old)
+  pub images : IsTrue new.ring.disk.honest → EveryImage new.ring.disk.past (MayOpenAs new)
+
+-- The disk was read, with or without a fault, and there may be other room in memory: all else is as before
+pub record OnlyReads (old new : WalState) : Type 0 where
+  pub same : new ≡ record old {
+    ring = record old.ring { disk = new.ring.disk; faulted = new.ring.faulted };
+    log = record old.log { room = new.log.room };
+  }
+  pub keeps : Keeps old.ring.disk new.ring.disk
+  pub past : IsTrue old.ring.disk.honest → new.ring.disk.past ≡ old.ring.disk.past
+
+-- what a refusal leaves: after J6 the device has failed, after any other all is as before
+abbrev pub IsLeft : WalState → WalState → Refusal Unit → Type 0
+IsLeft old new (DeviceFailed cause) = new.ring.faulted ≡ true
+IsLeft old new other = OnlyReads old new
+
+-- Why an object is not read: the first of these that holds, then J1 or a new J6
+abbrev pub IsReadRefusal : WalState → Addr → WalState → Refusal Unit → Type 0
+IsReadRefusal old addr new (DeviceFailed cause) =
+    IsTrue old.ring.faulted ⊎ (IsTrue (is_valid (size_of old) addr) × HasFailed old.ring.disk new.ring.disk)
+IsReadRefusal old addr new BadAddress = (old.ring.faulted ≡ false) × (is_valid (size_of old) addr ≡ false)
+IsReadRefusal old addr new NoMemory = (old.ring.faulted ≡ false) × IsTrue (is_valid (size_of old) addr)
+IsReadRefusal old addr new other = ⊥
+
+-- The tail was cut: what a crash may leave from now on is the map now
+pub record CutsMap (old new : WalState) : Type 0 where
+  pub now : SameMap (map_now new) (map_now old)
+  pub cut : SameMap (map_cut new) (map_now old)
+  pub logged : SameMap (map_logged new) (map_logged old)
+
+-- The cycle of the group in flight ended: only the map at its cut is left by a crash
+pub record EndsMap (old new : WalState) : Type 0 where
+  pub now : SameMap (map_now new) (map_now old)
+  pub cut : SameMap (map_cut new) (map_cut old)
+  pub logged : SameMap (map_logged new) (map_cut old)
+
+-- What a step of the logger that moves makes of the maps, where so many steps are left of the group in flight
+abbrev pub LogMovesMaps : ℕ → WalState → WalState → Type 0
+LogMovesMaps zero old new = CutsMap old new
+LogMovesMaps (suc zero) old new = EndsMap old new
+LogMovesMaps (suc (suc left)) old new = KeepsMaps old new
+
+-- what a step of the logger makes of the maps
+abbrev pub LogsMaps : WalState → Step → WalState → Type 0
+LogsMaps old Idle new = KeepsMaps old new
+LogsMaps old Moved new = LogMovesMaps (log_steps old) old new

@@ -1,0 +1,142 @@
+// An object log, how it is opened, and what it tells without a step.
+ghost use Rattle.std.specs.Prelude.{ℕ, ◌≡◌, ◌<◌, ◌↔◌, ◌≤◌, IsTrue, IfOk, IfErr, MatchResult};
+ghost use Rattle.journal_disk.specs.Disks.{Keeps, IsSettled};
+ghost use Rattle.journal_disk.specs.Images.{EveryImage, reading};
+ghost use Rattle.journal_circ.specs.Log.{IsWellFormed};
+ghost use Rattle.journal_circ.specs.Ring.{IsReason};
+ghost use Rattle.journal_wal.specs.Wal.{IsOpened, tail_length, size_of};
+ghost use Rattle.journal_objlog.specs.Maps.{OpensAs};
+ghost use Rattle.journal_objlog.specs.ObjectLogs.{map_now};
+
+use journal_block::Block;
+use journal_disk::{BlockDisk, MemDisk};
+use journal_object::objects_law;
+use journal_wal::Wal;
+use journal_world::{Layout, Refused};
+use std::alloc::Global;
+use std::marker::Model;
+
+/// The map of objects of a disk, over the write-ahead log.
+pub struct ObjectLog<D: BlockDisk> {
+    pub(crate) alloc: Global,
+    pub(crate) layout: Layout,
+    // What a read from the device is made into.
+    pub(crate) spare: Block,
+    pub(crate) wal: Wal<D>,
+}
+
+impl<D: BlockDisk> Model for ObjectLog<D> {
+    ghost use Rattle.journal_wal.specs.Wal.{WalState};
+    ghost use Rattle.journal_objlog.specs.Soundness.{IsSound};
+
+    ghost Value = { WalState };
+
+    ghost view = { λ o. o.wal };
+
+    ghost invariant = { λ o. IsSound o.layout.blocks o.wal };
+}
+
+impl<D: BlockDisk> ObjectLog<D> {
+    /// Opens the map of a disk, on which nothing is pending: what lies in its log is read into memory, and
+    /// nothing is written.
+    ///
+    /// Answers J1 `NoMemory` where memory is refused, J6 `DeviceFailed` where the device fails in this call,
+    /// and J7 `BadLog` where the disk's log is not well formed, and no other refusal. A refusal hands the disk
+    /// back, with nothing written.
+    pub fn open(alloc: Global, layout: Layout, disk: D) -> Result<ObjectLog<D>, Refused<D, ()>>
+        requires size { (D.state disk).past.size ≡ layout.blocks }
+        requires settled { IsTrue (D.state disk).honest → IsSettled (D.state disk).past }
+        ensures refusal { IfErr result (λ refused.
+            IsReason (D.state disk) (D.state refused.disk) refused.refusal) }
+        ensures keeps { MatchResult result
+            (λ log. Keeps (D.state disk) log.ring.disk)
+            (λ refused. Keeps (D.state disk) (D.state refused.disk)) }
+        ensures same { IsTrue (D.state disk).honest → MatchResult result
+            (λ log. log.ring.disk.past ≡ (D.state disk).past)
+            (λ refused. (D.state refused.disk).past ≡ (D.state disk).past) }
+        ensures well_formed { IsTrue (D.state disk).honest → IfOk result (λ _. IsWellFormed (reading (D.state disk).past)) }
+        ensures opened { IfOk result IsOpened }
+        ensures blocks { IfOk result (λ log. (map_now log).blocks ≡ layout.blocks) }
+        // Each image opens as the map now.
+        ensures images { IsTrue (D.state disk).honest → IfOk result (λ log.
+            EveryImage log.ring.disk.past (OpensAs (map_now log))) }
+    {
+        objects_law();
+        let spare = match Block::try_new(alloc) {
+            Ok(spare) => spare,
+            Err(refusal) => return Err(Refused { refusal, disk }),
+        };
+        let wal = Wal::open(alloc, disk)?;
+        Ok(ObjectLog {
+            alloc,
+            layout,
+            spare,
+            wal,
+        })
+    }
+
+    /// Which addresses the map has.
+    pub fn layout(&self) -> Layout
+        ensures { result.blocks ≡ (map_now self.now).blocks }
+    {
+        self.layout
+    }
+
+    /// Where the log on the disk starts and ends, as last synced: positions, of which there are at most 511.
+    pub fn bounds(&self) -> (u64, u64)
+        ensures { result ≡ (self.now.log.start, self.now.log.logged) }
+    {
+        self.wal.bounds()
+    }
+
+    /// Whether a group is in flight.
+    pub fn is_logging(&self) -> bool
+        ensures { IsTrue result ↔ (self.now.log.logged < self.now.log.cut) }
+    {
+        self.wal.is_logging()
+    }
+
+    /// How many blocks stand in the tail, at most 255.
+    pub fn tail_len(&self) -> u64
+        ensures length { result ≡ tail_length self.now }
+        ensures few { result ≤ 255 }
+    {
+        self.wal.tail_len()
+    }
+
+    /// Whether the device failed, so that each read, overwrite and step answers J6.
+    pub fn is_faulted(&self) -> bool
+        ensures { result ≡ self.now.ring.faulted }
+    {
+        self.wal.is_faulted()
+    }
+
+    /// The disk, lent.
+    pub fn disk(&self) -> &D
+        ensures { D.state result.now ≡ self.now.ring.disk }
+    {
+        self.wal.disk()
+    }
+
+    /// Gives the disk up, as it is.
+    pub fn into_disk(self) -> D
+        ensures { D.state result ≡ self.ring.disk }
+    {
+        let ObjectLog {
+            alloc: _,
+            layout: _,
+            spare: _,
+            wal,
+        } = self;
+        wal.into_disk()
+    }
+}
+
+impl ObjectLog<MemDisk> {
+    /// Makes the k-th device call from now on fail.
+    pub fn fail_in(&mut self, k: u64)
+        ensures { self.new ≡ self.old }
+    {
+        self.wal.fail_in(k);
+    }
+}

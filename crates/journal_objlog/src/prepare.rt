@@ -1,0 +1,90 @@
+// Overwriting the map: all that may fail comes first, and then nothing can.
+ghost use Rattle.std.specs.Prelude.{◌≡◌, IsTrue, IsErr, OnOk, IfOk, IfErr, List};
+ghost use Rattle.journal_world.specs.Maps.{Pair, SameMap, overwritten};
+ghost use Rattle.journal_wal.specs.Wal.{Appends};
+ghost use Rattle.journal_objlog.specs.ObjectLogs.{map_now, map_cut, map_logged, KeepsMaps, MayCrash, OnlyReads, IsLeft};
+ghost use Rattle.journal_objlog.specs.Writes.{CanPrepare, IsWriteRefusal, IsPrepareRefusal, IsReady, IsPrepared};
+
+use crate::object_log::ObjectLog;
+use crate::writes::{addresses_are_valid, values_are_objects};
+use journal_block::Update;
+use journal_disk::BlockDisk;
+use journal_world::{Objects, Refusal};
+use std::marker::Model;
+
+/// Overwrites that are ready to be applied, made by [`ObjectLog::prepare`].
+#[derive(Drop)]
+pub struct Prepared {
+    // One for each block that is written, blocks ascending, with its objects stored.
+    updates: Vec<Update>,
+}
+
+impl Model for Prepared {
+    ghost use Rattle.std.specs.Prelude.{List};
+    ghost use Rattle.journal_block.specs.declared.update.Update.{Update};
+
+    ghost Value = { List Update };
+
+    ghost view = { λ prepared. prepared.updates.items };
+}
+
+impl<D: BlockDisk> ObjectLog<D> {
+    /// Makes the overwriting of the map by these values ready for `apply`, with all the memory and all the reads
+    /// from the device that it takes. Each block that is written is read at most once, and from the device only
+    /// where it is not in memory and the write is not the whole block.
+    ///
+    /// The first that applies of these refuses it: J6 `DeviceFailed` where the device failed before, J2
+    /// `BadAddress` where an address is not valid, J3 `BadSize` where a value is not of its address's kind, J4
+    /// `TooLarge` where more than 128 distinct blocks are written, J11 `Worn` where a position of the log would
+    /// reach 2^62, J12 `Full` where the tail cannot take the blocks that do not stand in it, then J1 `NoMemory`
+    /// where memory is refused, or J6 where the device fails in this call. The maps are as they were, whatever it
+    /// answers.
+    pub fn prepare(&mut self, writes: &Objects) -> Result<Prepared, Refusal<()>>
+        ensures prepared { IfOk result (λ prepared. IsPrepared self.new prepared writes.now) }
+        ensures ok { OnOk result (CanPrepare self.old writes.now) }
+        ensures refusal { IfErr result (IsPrepareRefusal self.old writes.now self.new) }
+        ensures faulted { IsTrue self.old.ring.faulted → IsErr result × (self.new ≡ self.old) }
+        ensures reads { OnOk result (OnlyReads self.old self.new) }
+        ensures left { IfErr result (IsLeft self.old self.new) }
+        ensures maps { IsTrue self.old.ring.disk.honest → KeepsMaps self.old self.new }
+        ensures crash { MayCrash self.old self.new }
+    {
+        self.check(writes)?;
+        let updates = self.stage(writes)?;
+        self.wal.reserve(&updates)?;
+        Ok(Prepared { updates })
+    }
+
+    /// Overwrites the map by what `prepare` made ready, where no call came between that changes the log. It takes
+    /// no memory, and moves the blocks. What a crash may leave is as before.
+    pub fn apply(&mut self, prepared: Prepared)
+        requires { IsReady self.old prepared }
+        ensures log { Appends self.old prepared self.new }
+        ensures map { IsTrue self.old.ring.disk.honest → (writes : List Pair) → IsPrepared self.old prepared writes
+            → SameMap (map_now self.new) (overwritten (map_now self.old) writes) }
+        ensures cut { SameMap (map_cut self.new) (map_cut self.old) }
+        ensures logged { SameMap (map_logged self.new) (map_logged self.old) }
+        ensures crash { MayCrash self.old self.new }
+    {
+        self.wal.append_reserved(prepared.updates);
+    }
+
+    // Refuses what asks for neither memory nor the device: J6 of an earlier fault, J2, J3, J4, J11 and J12.
+    fn check(&self, writes: &Objects) -> Result<(), Refusal<()>>
+        ensures ok { OnOk result (CanPrepare self.now writes.now) }
+        ensures refusal { IfErr result (IsWriteRefusal self.now writes.now) }
+        ensures crash { MayCrash self.now self.now }
+    {
+        if self.wal.is_faulted() {
+            return Err(Refusal::DeviceFailed(()));
+        }
+        if !addresses_are_valid(&self.layout, writes) {
+            return Err(Refusal::BadAddress);
+        }
+        if !values_are_objects(&self.layout, writes) {
+            return Err(Refusal::BadSize);
+        }
+        let (blocks, fresh) = self.count_blocks(writes);
+        self.wal.check_room(blocks, fresh)
+    }
+}

@@ -1,0 +1,49 @@
+// The steps of the logger and of the installer.
+ghost use Rattle.std.specs.Prelude.{◌≡◌, IsTrue, IsErr, OnErr, IfOk, IfErr, true};
+ghost use Rattle.journal_circ.specs.Ring.{IsFault};
+ghost use Rattle.journal_wal.specs.Wal.{LogAnswers, InstallAnswers, IsInstallFault};
+ghost use Rattle.journal_objlog.specs.ObjectLogs.{KeepsMaps, LogsMaps, MayCrash};
+
+use crate::object_log::ObjectLog;
+use journal_disk::BlockDisk;
+use journal_world::{Refusal, Step};
+
+impl<D: BlockDisk> ObjectLog<D> {
+    /// Does the next thing of the logger: cuts the whole tail into a group, writes one of its log blocks,
+    /// makes a barrier, writes block 0, makes a barrier. For a group of k blocks these are k + 4 steps. It is
+    /// idle where no group is in flight and the tail is empty or has no place in the log.
+    ///
+    /// The map now stays. A cut makes it the map at the last cut, and the last step of a group makes that the
+    /// map which alone a crash may leave.
+    ///
+    /// Answers J6 `DeviceFailed`, and nothing else, where the device failed in this call or before. The maps
+    /// are then as they were.
+    pub fn log_step(&mut self) -> Result<Step, Refusal<()>>
+        ensures cause { IfErr result (IsFault self.old.ring.faulted self.old.ring.disk self.new.ring.disk) }
+        ensures faulted { IsTrue self.old.ring.faulted → IsErr result × (self.new ≡ self.old) }
+        ensures ok { IfOk result (λ step. LogAnswers self.old step self.new) }
+        ensures maps { IsTrue self.old.ring.disk.honest → IfOk result (λ step. LogsMaps self.old step self.new) }
+        ensures err { OnErr result (self.new.ring.faulted ≡ true) }
+        ensures err_maps { IsTrue self.old.ring.disk.honest → OnErr result (KeepsMaps self.old self.new) }
+        ensures crash { MayCrash self.old self.new }
+    {
+        self.wal.log_step()
+    }
+
+    /// Does the next thing of the installer: writes one home block, the last logged one of its address, the
+    /// addresses ascending; makes a barrier; writes block 1; makes a barrier, after which the positions are
+    /// free. For h distinct addresses these are h + 3 steps. It is idle where nothing is logged that is not at
+    /// home. The maps stay.
+    ///
+    /// Answers J6 `DeviceFailed` where the device failed in this call or before, and J1 `NoMemory` where memory
+    /// for the list of addresses is refused, at the first of these steps; the log is then as it was.
+    pub fn install_step(&mut self) -> Result<Step, Refusal<()>>
+        ensures cause { IfErr result (IsInstallFault self.old self.new) }
+        ensures faulted { IsTrue self.old.ring.faulted → IsErr result × (self.new ≡ self.old) }
+        ensures ok { IfOk result (λ step. InstallAnswers self.old step self.new) }
+        ensures maps { IsTrue self.old.ring.disk.honest → KeepsMaps self.old self.new }
+        ensures crash { MayCrash self.old self.new }
+    {
+        self.wal.install_step()
+    }
+}
