@@ -1,6 +1,9 @@
 -- Updates enter the tail.
-use Rattle.std.proofs.Common.{◌≡◌, ◌⊎◌, inl, inr, ⊎_elim, ◌<◌, ◌≤◌, ◌+◌, ◌-◌, ◌^◌, ℕ, Bool, true, false, List, [], ◌∷◌, ◌++◌, take, drop, length, length-append, length-take, Result, Ok, Err, OnOk, IsTrue, refl, sym, ap, subst, ◌∙◌, arith}
+use Rattle.std.proofs.Common.{◌≡◌, inl, inr, ⊎_elim, ◌<◌, ◌≤◌, ◌-◌, ℕ, List, length, length-append, Result, Ok, Err, OnOk, IfErr, IsOkUnless, IsTrue, refl, sym, ap, subst, ◌∙◌, arith}
+use Rattle.std.proofs.lemmas.Result.{IfErr-weaker}
 use Rattle.std.proofs.lemmas.List.{take-append-le, length-take-le}
+use Rattle.journal_world.specs.declared.refusal.Refusal.{Refusal}
+use Rattle.journal_world.specs.declared.refusal.Refusal.TheVariants.{NoMemory}
 use Rattle.journal_block.specs.declared.update.Update.{Update}
 use Rattle.journal_block.specs.Block.{Bytes}
 use Rattle.journal_block.specs.Updates.{updated}
@@ -8,11 +11,12 @@ use Rattle.journal_block.specs.UpdateLaws.{updated-append}
 use Rattle.journal_disk.specs.Images.{EveryImage}
 use Rattle.journal_disk.specs.Laws.{leaves_none}
 use Rattle.journal_circ.specs.StandsFor.{StandsFor}
-use Rattle.journal_circ.specs.Ring.{Ring, log_of, home_of}
-use Rattle.journal_memlog.specs.Logs.{LogState, next_of, tail_of, head_of, absorbed, appended, fresh_count, CanTake}
+use Rattle.journal_circ.specs.Ring.{Ring, home_of}
+use Rattle.journal_memlog.specs.Logs.{LogState, tail_of, head_of, absorbed, appended, fresh_count, CanTake}
 use Rattle.journal_memlog.specs.Laws.{tail_of-appended, updated-appended, All-appended, can_take_fresh, length-absorbed_le}
-use Rattle.journal_wal.specs.Wal.{WalState, Logging, log_blocks, log_end, log_sync, log_spent, Crashes, IsCrash, HasRoom, AreHomes, Appends, with_room, tail_length, size_of, blocks_at, blocks_cut, blocks_logged}
+use Rattle.journal_wal.specs.Wal.{WalState, Logging, log_blocks, log_end, log_sync, log_spent, Crashes, IsCrash, HasRoom, AreHomes, Appends, with_room, size_of, blocks_at}
 use Rattle.journal_wal.specs.States.{updates_to, AreTied, IsInStep, IsLogging}
+use Rattle.journal_wal.specs.Rooms.{HasPlaces, IsShortage, IsRefusal}
 use Rattle.journal_wal.proofs.Lists.{take-take}
 use Rattle.journal_wal.proofs.Frames.{KeepsInstalling, installing_stays}
 use Rattle.journal_wal.proofs.Logger.{Leaves}
@@ -151,20 +155,32 @@ room_made w room is = record {
 
 -- once there is room for the fresh blocks
 pub has_room : (w : WalState) (updates : List Update) (later : LogState) → IsInStep w → AreHomes (size_of w) updates
-    → (fresh : ℕ) → fresh ≡ fresh_count (tail_of w.log) updates → later ≡ record w.log { room = later.room }
-    → w.ring.faulted ≡ false → length updates ≤ 128 → next_of w.log + fresh < 2 ^ 62 → tail_length w + fresh ≤ 255
+    → (fresh : ℕ) → fresh ≡ fresh_count (tail_of w.log) updates → HasPlaces w (length updates) fresh
+    → later ≡ record w.log { room = later.room }
     → {E : Type 0} (result : Result Unit E) → OnOk result (fresh ≤ later.room) → OnOk result (HasRoom (record w { log = later }) updates)
-has_room w updates later is homes fresh number same fine few below tail (Err error) room = tt
-has_room w updates later is homes fresh number same fine few below tail (Ok unit) room = record {
-  faulted = fine;
-  few = few;
+has_room w updates later is homes fresh number has same (Err error) room = tt
+has_room w updates later is homes fresh number has same (Ok unit) room = record {
+  faulted = has.fine;
+  few = has.few;
   room = subst (λ (l : LogState). CanTake l updates) (sym same)
       (can_take_fresh (record w.log { room = later.room }) updates
       (λ k d lt. omega (arith, (homes k d lt).1, is.tied.size))
-      (omega (arith, room, number)) (omega (arith, below, number)));
+      (omega (arith, room, number)) (omega (arith, has.small, number)));
   tail = subst (λ (l : LogState). length (absorbed (tail_of l) updates) ≤ 255) (sym same)
-      (omega (arith, length-absorbed_le (tail_of w.log) updates, tail, number));
+      (omega (arith, length-absorbed_le (tail_of w.log) updates, has.tail, number));
 }
+
+-- what lacks room refuses an append
+pub refuses_shortage : (w : WalState) (updates : List Update) (fresh : ℕ) → fresh ≡ fresh_count (tail_of w.log) updates
+    → (refusal : Refusal Unit) → IsShortage w (length updates) fresh refusal → IsRefusal w updates refusal
+refuses_shortage w updates fresh number refusal short = inl (subst (λ (n : ℕ). IsShortage w (length updates) n refusal) number short)
+
+-- and where nothing does, memory
+pub refuses_memory : (w : WalState) (updates : List Update) (fresh : ℕ) → fresh ≡ fresh_count (tail_of w.log) updates
+    → HasPlaces w (length updates) fresh → (result : Result Unit (Refusal Unit)) → IsOkUnless result NoMemory → IfErr result (IsRefusal w updates)
+refuses_memory w updates fresh number has result =
+    IfErr-weaker result (λ e. e ≡ NoMemory) (IsRefusal w updates)
+    (λ e is. inr (subst (λ (n : ℕ). HasPlaces w (length updates) n) number has, is))
 
 -- room makes no difference to what is appended
 appends_in : (w new : WalState) (room : ℕ) (updates : List Update) → Appends (with_room w room) updates new → Appends w updates new

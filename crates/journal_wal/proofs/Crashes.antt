@@ -1,26 +1,19 @@
 -- What the log on the disk says of images, in the words of the log in memory.
-use Rattle.std.proofs.Common.{◌≡◌, ◌⊎◌, inl, inr, ⊎_elim, ◌<◌, ◌≤◌, ◌-◌, ℕ, List, take, IsTrue, refl, sym, ap, subst, ◌∙◌, arith}
+use Rattle.std.proofs.Common.{◌≡◌, ◌⊎◌, inl, inr, ⊎_elim, ◌≤◌, ◌-◌, ℕ, List, take, refl, ap, subst, ◌∙◌, arith}
 use Rattle.journal_block.specs.declared.update.Update.{Update}
 use Rattle.journal_block.specs.Block.{Bytes}
-use Rattle.journal_block.specs.Updates.{Content, updated, with_updates}
+use Rattle.journal_block.specs.Updates.{updated}
 use Rattle.journal_disk.specs.Disks.{Past}
 use Rattle.journal_disk.specs.Images.{EveryImage}
 use Rattle.journal_disk.specs.Moments.{LeavesOnly}
 use Rattle.journal_disk.specs.Laws.{leaves_also}
 use Rattle.journal_circ.specs.StandsFor.{StandsFor}
 use Rattle.journal_circ.specs.Ring.{Ring, log_of, home_of, blocks_to, StandsForEither}
+use Rattle.journal_circ.specs.Laws.{stands_same}
 use Rattle.journal_memlog.specs.Logs.{LogState}
-use Rattle.journal_wal.specs.Wal.{WalState, SameBlocks, IsCrash, size_of, blocks_at, blocks_cut, blocks_logged}
+use Rattle.journal_wal.specs.Wal.{WalState, IsCrash, size_of, blocks_at}
 use Rattle.journal_wal.specs.States.{AreTied, updates_to}
 use Rattle.journal_wal.proofs.Lists.{take-take}
-
--- the image stands for the same objects
-pub stands_same : (n : ℕ) (f g : Content) (image : List Bytes) → SameBlocks n f g → StandsFor n f image → StandsFor n g image
-stands_same n f g image same stands = record {
-  size = stands.size;
-  well_formed = stands.well_formed;
-  each = λ b home lt. stands.each b home lt ∙ same b home lt;
-}
 
 -- the log on the disk, up to a position that was put
 pub ring_updates : (ring : Ring) (log : LogState) → ring.marks.start ≡ log.start
@@ -37,7 +30,7 @@ module _ (w : WalState) (tied : AreTied w.ring w.log) (same : log_of w.ring ≡ 
       → StandsFor w.ring.disk.past.size (blocks_to w.ring to) image → StandsFor (size_of w) (blocks_at w at) image
   stands_at to at image is le stands =
       subst (λ (n : ℕ). StandsFor (size_of w) (blocks_at w n) image) is
-      (stands_same (size_of w) (blocks_to w.ring to) (blocks_at w to) image (λ b home lt. ring_blocks to b le) stands)
+      (stands_same (size_of w) (size_of w) (blocks_to w.ring to) (blocks_at w to) image refl (λ b home lt. ring_blocks to b le) stands)
 
   pub is_crash : (end coming : ℕ) → end ≡ w.log.logged
       → (coming ≡ w.log.logged) ⊎ ((coming ≡ w.log.cut) × (w.ring.next ≡ w.log.cut))

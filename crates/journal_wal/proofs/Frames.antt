@@ -1,15 +1,14 @@
 -- What a step of one cycle leaves of the other.
-use Rattle.std.proofs.Common.{◌≡◌, ◌≢◌, ◌⊎◌, inl, inr, ⊎_elim, ◌<◌, ◌≤◌, ◌-◌, ℕ, Bool, true, List, take, Option, Some, None, IsTrue, refl, sym, ap, subst, ◌∙◌, arith}
+use Rattle.std.proofs.Common.{◌≡◌, ◌≢◌, ◌⊎◌, ⊎_elim, ◌<◌, ◌≤◌, ◌-◌, ℕ, true, List, IsTrue, refl, sym, ap, subst, ◌∙◌, arith}
 use Rattle.std.proofs.lemmas.Bool.{cases_eq}
 use Rattle.journal_block.specs.declared.update.Update.{Update}
-use Rattle.journal_block.specs.Block.{Bytes}
-use Rattle.journal_block.specs.Updates.{Content, updated, with_updates, updates_block}
+use Rattle.journal_block.specs.Updates.{updated, with_updates, updates_block}
 use Rattle.journal_block.specs.UpdateLaws.{updated-named}
 use Rattle.journal_disk.specs.Disks.{Keeps}
 use Rattle.journal_circ.specs.Ring.{Ring, home_of, SameHome, SameHomeBut}
-use Rattle.journal_memlog.specs.Logs.{LogState, next_of}
-use Rattle.journal_wal.specs.Wal.{WalState, Logging, log_blocks, log_end, log_sync, log_spent, Installing, install_none, install_homes, install_start, install_sync, install_spent, SameBlocks, KeepsBlocks, size_of, blocks_now, blocks_at}
-use Rattle.journal_wal.specs.States.{AreTied, IsInLog, IsHomeOf, PutsHomes, HasHomes, IsInstalling, IsLogging, updates_to, IsLast}
+use Rattle.journal_memlog.specs.Logs.{LogState}
+use Rattle.journal_wal.specs.Wal.{WalState, Installing, install_none, install_homes, install_start, install_sync, install_spent, SameBlocks, KeepsBlocks, size_of}
+use Rattle.journal_wal.specs.States.{AreTied, IsInLog, IsHomeOf, HasHomes, IsInstalling, updates_to, IsLast}
 use Rattle.journal_wal.proofs.Lists.{updates_block-longer, updates_block-all}
 
 -- where home blocks and updates are as before, so are all blocks

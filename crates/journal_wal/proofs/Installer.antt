@@ -1,6 +1,6 @@
 -- The steps of the installer's cycle.
-use Rattle.std.proofs.Common.{◌≡◌, ◌≢◌, ◌⊎◌, inl, inr, ⊎_elim, ◌<◌, ◌≤◌, ◌+◌, ◌-◌, ◌^◌, ℕ, zero, suc, Bool, true, false, cond, List, [], ◌∷◌, ◌++◌, take, drop, length, length-drop, length-take, get_or, Option, Some, None, IsTrue, refl, sym, ap, subst, ◌∙◌, arith}
-use Rattle.std.specs.List.{slice_get, All}
+use Rattle.std.proofs.Common.{◌≡◌, ◌≢◌, inl, inr, ⊎_elim, ◌<◌, ◌≤◌, ◌+◌, ◌-◌, ℕ, suc, Bool, true, false, cond, List, [], ◌++◌, take, drop, length-drop, length-take, Some, None, IsTrue, refl, sym, ap, subst, ◌∙◌, arith}
+use Rattle.std.specs.List.{slice_get}
 use Rattle.std.specs.BTreeMap.{is_at}
 use Rattle.std.specs.Ordering.{nat_cmp}
 use Rattle.std.specs.Cmp.{unsigned_ties}
@@ -10,13 +10,13 @@ use Rattle.std.proofs.lemmas.List.Elements.{All-drop}
 use Rattle.std.proofs.lemmas.Option.{get_or_from_slice_get, slice_get-get_or, slice_get_within}
 use Rattle.journal_block.specs.declared.update.Update.{Update}
 use Rattle.journal_block.specs.Block.{Bytes}
-use Rattle.journal_block.specs.Updates.{updated, with_updates, updates_block}
+use Rattle.journal_block.specs.Updates.{updated, updates_block}
 use Rattle.journal_block.specs.UpdateLaws.{updated-append, updated-unnamed}
 use Rattle.journal_disk.specs.Images.{EveryImage}
-use Rattle.journal_circ.specs.Ring.{Ring, log_of, home_of, blocks_to, Steps, SameHome, SameHomeBut, IsLogged, IsInstalled}
+use Rattle.journal_circ.specs.Ring.{Ring, log_of, home_of, Steps, SameHome, SameHomeBut, IsLogged, IsInstalled}
 use Rattle.journal_memlog.specs.Logs.{LogState, next_of, trimmed}
-use Rattle.journal_wal.specs.Wal.{WalState, Logging, log_blocks, log_end, log_sync, log_spent, Installing, install_none, install_homes, install_start, install_sync, install_spent, Crashes, Fails, KeepsBlocks, IsCrash, size_of, blocks_now, blocks_at, SameBlocks, Installs, InstallMoves, install_steps_by, log_steps_by}
-use Rattle.journal_wal.specs.States.{planned, updates_to, IsLast, IsPlanOf, IsInLog, IsHomeOf, PutsHomes, HasHomes, AreTied, IsInStep, IsLogging, IsInstalling}
+use Rattle.journal_wal.specs.Wal.{WalState, Logging, log_blocks, log_end, log_sync, log_spent, Installing, install_none, install_homes, install_start, install_sync, install_spent, Fails, KeepsBlocks, IsCrash, size_of, blocks_now, blocks_at, SameBlocks, Installs, InstallMoves, install_steps_by, log_steps_by}
+use Rattle.journal_wal.specs.States.{planned, updates_to, IsPlanOf, IsInLog, IsHomeOf, PutsHomes, AreTied, IsInStep, IsLogging, IsInstalling}
 use Rattle.journal_wal.proofs.Lists.{take-take, updates_block-longer}
 use Rattle.journal_wal.proofs.Crashes.{images_of, moments_of, ring_updates}
 use Rattle.journal_wal.proofs.Frames.{keeps_homes, keeps_covered, tied_by}

@@ -1,6 +1,6 @@
 -- The steps of the logger's cycle.
-use Rattle.std.proofs.Common.{◌≡◌, ◌⊎◌, inl, inr, ⊎_elim, ◌<◌, ◌≤◌, ◌+◌, ◌-◌, ◌^◌, ℕ, zero, suc, Bool, false, true, List, [], ◌∷◌, ◌++◌, take, length, length-drop, get_or, Option, Some, IsTrue, refl, sym, ap, subst, ◌∙◌, arith}
-use Rattle.std.specs.List.{slice_get, All}
+use Rattle.std.proofs.Common.{◌≡◌, ◌⊎◌, inl, inr, ⊎_elim, ◌<◌, ◌≤◌, ◌+◌, ◌-◌, ◌^◌, ℕ, zero, suc, false, true, List, [], ◌∷◌, ◌++◌, take, length, length-drop, Some, IsTrue, refl, sym, ap, subst, ◌∙◌, arith}
+use Rattle.std.specs.List.{slice_get}
 use Rattle.std.proofs.Math.Seq.{take-suc}
 use Rattle.std.proofs.lemmas.List.{take_all}
 use Rattle.journal_block.specs.Block.{Bytes}
@@ -12,7 +12,7 @@ use Rattle.journal_block.specs.declared.update.Update.{Update}
 use Rattle.journal_disk.specs.Images.{EveryImage}
 use Rattle.journal_circ.specs.Ring.{Ring, log_of, home_of, Steps, SameHome}
 use Rattle.journal_memlog.specs.Logs.{LogState, next_of, tail_of}
-use Rattle.journal_wal.specs.Wal.{WalState, Logging, log_blocks, log_end, log_sync, log_spent, Installing, Crashes, Fails, LogsOn, EndsGroup, LogMoves, log_steps, log_steps_by, IsCrash, size_of, blocks_at, blocks_cut, blocks_logged, AreHomes, tail_length, free_positions}
+use Rattle.journal_wal.specs.Wal.{WalState, Logging, log_blocks, log_end, log_sync, log_spent, Installing, Crashes, Fails, LogMoves, log_steps, log_steps_by, IsCrash, size_of, blocks_at, blocks_cut, blocks_logged, AreHomes, tail_length, free_positions}
 use Rattle.journal_wal.specs.States.{updates_to, AreTied, IsInStep, IsLogging, IsInstalling}
 use Rattle.journal_wal.proofs.Crashes.{images_of, moments_of}
 use Rattle.journal_wal.proofs.Frames.{keeps_homes, KeepsInstalling, installing_stays, tied_by, keeps_installing}

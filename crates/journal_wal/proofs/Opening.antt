@@ -1,13 +1,12 @@
 -- A recovery, position by position.
-use Rattle.std.proofs.Common.{◌≡◌, ◌⊎◌, ⊎_elim, inl, inr, ◌<◌, ◌≤◌, ◌+◌, ◌-◌, ◌^◌, ℕ, zero, suc, Bool, false, List, [], ◌∷◌, ◌++◌, take, drop, length, length-append, length-drop, get_or, Option, Some, Result, Ok, Err, OnOk, IsTrue, refl, sym, ap, subst, ◌∙◌, arith}
-use Rattle.std.specs.List.{slice_get, All}
+use Rattle.std.proofs.Common.{◌≡◌, ⊎_elim, inl, inr, ◌<◌, ◌≤◌, ◌+◌, ◌-◌, ◌^◌, ℕ, suc, false, List, [], ◌∷◌, ◌++◌, take, length-append, length-drop, Some, Result, Ok, Err, OnOk, IsTrue, refl, sym, ap, subst, ◌∙◌, arith}
+use Rattle.std.specs.List.{slice_get}
 use Rattle.std.proofs.Math.Seq.{take-suc}
 use Rattle.std.proofs.lemmas.List.{take_all}
 use Rattle.std.proofs.lemmas.List.Elements.{All-push}
 use Rattle.std.proofs.lemmas.Option.{get_or_from_slice_get, slice_get_within}
 use Rattle.journal_block.specs.declared.update.Update.{Update}
-use Rattle.journal_block.specs.Block.{Bytes}
-use Rattle.journal_block.specs.Updates.{Content, updated}
+use Rattle.journal_block.specs.Updates.{updated}
 use Rattle.journal_world.specs.declared.refusal.Refusal.{Refusal}
 use Rattle.journal_world.specs.declared.refusal.Refusal.TheVariants.{NoMemory, BadAddress, BadSize, TooLarge, Busy, DeviceFailed, BadLog, BadSuper, Stale, Stranger, Worn, Full, Closed, Fenced}
 use Rattle.journal_disk.specs.Disks.{Past, DiskState, Keeps, HasFailed, read_of}
@@ -15,11 +14,10 @@ use Rattle.journal_disk.specs.Images.{reading, IsImage, EveryImage}
 use Rattle.journal_circ.specs.Log.{IsWellFormed, updates_from}
 use Rattle.journal_circ.specs.StandsFor.{StandsFor}
 use Rattle.journal_circ.specs.Ring.{Ring, log_of, home_of, blocks_to, at_rest, IsReason}
-use Rattle.journal_circ.specs.Laws.{log_length}
+use Rattle.journal_circ.specs.Laws.{log_length, stands_same}
 use Rattle.journal_memlog.specs.Logs.{LogState, next_of, with_logged}
 use Rattle.journal_wal.specs.Wal.{WalState, log_blocks, install_none, AreHomes, IsCrash, IsOpened, size_of, blocks_now, blocks_logged, log_steps_by}
 use Rattle.journal_wal.specs.States.{AreTied, IsInStep}
-use Rattle.journal_wal.proofs.Crashes.{stands_same}
 use Rattle.journal_wal.specs.Recovery.{Recovers, IsRecovered}
 
 -- one position more
@@ -168,13 +166,12 @@ module _ (first ring : Ring) (log : LogState) (rest : first ≡ at_rest first.di
   pub stands_now : IsTrue ring.disk.honest → EveryImage ring.disk.past (StandsFor (size_of opened) (blocks_now opened))
   stands_now honest image one =
       let was : IsTrue first.disk.honest = subst IsTrue recovers.keeps.honest honest in
-      subst (λ (n : ℕ). StandsFor n (blocks_now opened) image) (sym recovers.keeps.size)
-      (stands_same first.disk.past.size (blocks_to first first.marks.end) (blocks_now opened) image (λ b home lt.
+      stands_same first.disk.past.size (size_of opened) (blocks_to first first.marks.end) (blocks_now opened) image (sym recovers.keeps.size) (λ b home lt.
       (λ i. updated (sym (is.updates was) i) b (read_of (sym (recovers.past was) i) b)))
-      (stands was image (subst (λ (p : Past). IsImage p image) (recovers.past was) one)))
+      (stands was image (subst (λ (p : Past). IsImage p image) (recovers.past was) one))
 
   images : IsTrue ring.disk.honest → EveryImage ring.disk.past (IsCrash opened)
-  images honest image one = inl (stands_same (size_of opened) (blocks_now opened) (blocks_logged opened) image
+  images honest image one = inl (stands_same (size_of opened) (size_of opened) (blocks_now opened) (blocks_logged opened) image refl
       (λ b home lt. ap (λ (us : List Update). updated us b (home_of ring b))
       (sym (take_all (log.logged - log.start) log.updates (omega (arith, is.logged, is.next)))))
       (stands_now honest image one))

@@ -1,5 +1,5 @@
 -- From the states that the code holds to those that the lemmas speak of.
-use Rattle.std.proofs.Common.{◌≡◌, refl, sym, ap, subst, ◌∙◌}
+use Rattle.std.proofs.Common.{◌≡◌, ◌⊎◌, inl, inr, Bool, false, IsTrue, Result, Ok, Err, OnErr, sym, subst}
 use Rattle.journal_circ.specs.Ring.{Ring}
 use Rattle.journal_memlog.specs.Logs.{LogState}
 use Rattle.journal_wal.specs.Wal.{WalState, Logging, Installing}
@@ -33,3 +33,12 @@ installed_from P old ring now log later logging before p after q view is_p is_q 
     subst (λ (w : WalState). P w (of_parts now later logging after)) view
     (subst (λ (i : Installing). P (of_parts ring log logging i) (of_parts now later logging after)) (sym is_p)
     (subst (λ (i : Installing). P (of_parts ring log logging p) (of_parts now later logging i)) (sym is_q) holds))
+
+-- a call that is made on a log that is not faulted may have failed, no more
+pub put_failed : {X : Type 0} {faulted : Bool} → faulted ≡ false → IsTrue faulted ⊎ X → X
+put_failed fine (inl was) = let impossible : ⊥ = cc in absurd impossible
+put_failed fine (inr x) = x
+
+pub on_err : {T E X : Type 0} (result : Result T E) → X → OnErr result X
+on_err (Ok value) x = tt
+on_err (Err error) x = x

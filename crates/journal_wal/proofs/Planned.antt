@@ -1,7 +1,6 @@
 -- The first step of an installing: its plan, and its first home block.
-use Rattle.std.proofs.Common.{◌≡◌, ◌⊎◌, inl, inr, ◌<◌, ◌≤◌, ◌+◌, ℕ, zero, suc, IsTrue, true, refl, sym, ap, subst, ◌∙◌, arith}
+use Rattle.std.proofs.Common.{◌≡◌, ◌<◌, ◌+◌, ℕ, zero, suc, refl, sym, ap, subst, ◌∙◌, arith}
 use Rattle.journal_wal.specs.Wal.{WalState, Installing, Crashes, Fails, KeepsBlocks, Plans, Installs, InstallMoves, BeginsInstall, InstallsOn, install_steps, distinct_blocks, logged_updates}
-use Rattle.journal_wal.specs.States.{IsInStep}
 
 -- a plan is no part of what a crash may leave, and none of the blocks
 keeps_planned : (old new : WalState) (installing : Installing) → KeepsBlocks (record old { installing = installing }) new → KeepsBlocks old new

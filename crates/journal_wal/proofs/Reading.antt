@@ -1,5 +1,5 @@
 -- A block that is not in memory is as the disk reads.
-use Rattle.std.proofs.Common.{◌≡◌, ◌⊎◌, ℕ, List, IsTrue, false, Result, Ok, Err, OnOk, refl, sym, ap, subst, ◌∙◌}
+use Rattle.std.proofs.Common.{◌≡◌, ◌⊎◌, ℕ, List, IsTrue, false, Result, Ok, Err, OnOk, sym, subst, ◌∙◌}
 use Rattle.journal_block.specs.Block.{Bytes}
 use Rattle.journal_block.specs.Updates.{updates_block}
 use Rattle.journal_block.specs.UpdateLaws.{updated-unnamed}

@@ -1,5 +1,5 @@
 -- What a recovery does to the disk, and how far it is.
-use Rattle.std.specs.Prelude.{ℕ, ◌≡◌, ◌+◌, ◌-◌, IsTrue, length, take}
+use Rattle.std.specs.Prelude.{ℕ, ◌≡◌, ◌-◌, IsTrue, take}
 use Rattle.journal_disk.specs.Disks.{Keeps}
 use Rattle.journal_circ.specs.Ring.{Ring, log_of}
 use Rattle.journal_memlog.specs.Logs.{LogState, next_of}

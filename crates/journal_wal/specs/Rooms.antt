@@ -1,8 +1,9 @@
--- How much room the log has.
-use Rattle.std.specs.Prelude.{ℕ, ◌≡◌, ◌<◌, ◌≤◌, ◌+◌, ◌^◌, Bool, true, false}
+-- How much room the log has, and why it refuses updates.
+use Rattle.std.specs.Prelude.{ℕ, ◌≡◌, ◌⊎◌, ◌<◌, ◌≤◌, ◌+◌, ◌^◌, true, false, List, length}
 use Rattle.journal_world.specs.declared.refusal.Refusal.{Refusal}
-use Rattle.journal_world.specs.declared.refusal.Refusal.TheVariants.{TooLarge, DeviceFailed, Worn, Full}
-use Rattle.journal_memlog.specs.Logs.{next_of}
+use Rattle.journal_world.specs.declared.refusal.Refusal.TheVariants.{NoMemory, TooLarge, DeviceFailed, Worn, Full}
+use Rattle.journal_block.specs.declared.update.Update.{Update}
+use Rattle.journal_memlog.specs.Logs.{next_of, tail_of, fresh_count}
 use Rattle.journal_wal.specs.Wal.{WalState, tail_length}
 
 -- Nothing but memory refuses updates of so many blocks, of which so many do not stand in the tail
@@ -20,3 +21,9 @@ IsShortage w blocks fresh (Worn cause) = (w.ring.faulted ≡ false) × (blocks �
 IsShortage w blocks fresh (Full cause) =
     (w.ring.faulted ≡ false) × (blocks ≤ 128) × (next_of w.log + fresh < 2 ^ 62) × (255 < tail_length w + fresh)
 IsShortage w blocks fresh other = ⊥
+
+-- Why updates are not appended: they lack room, or memory alone is refused
+abbrev pub IsRefusal : WalState → List Update → Refusal Unit → Type 0
+IsRefusal w updates refusal =
+    IsShortage w (length updates) (fresh_count (tail_of w.log) updates) refusal
+    ⊎ (HasPlaces w (length updates) (fresh_count (tail_of w.log) updates) × (refusal ≡ NoMemory))

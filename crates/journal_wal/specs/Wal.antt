@@ -1,8 +1,8 @@
 -- What contracts see of a write-ahead log: the blocks now, those that a crash may leave, and what the next steps are.
-use Rattle.std.specs.Prelude.{ℕ, zero, suc, ◌≡◌, ◌≢◌, ◌⊎◌, ◌<◌, ◌≤◌, ◌+◌, ◌-◌, ◌^◌, ◌==◌, nat_lt, Bool, true, false, IsTrue, if◌then◌else◌, List, [], ◌∷◌, length, take, drop}
+use Rattle.std.specs.Prelude.{ℕ, zero, suc, ◌≡◌, ◌⊎◌, ◌<◌, ◌≤◌, ◌+◌, ◌-◌, true, false, IsTrue, if◌then◌else◌, List, [], ◌∷◌, length, take}
 use Rattle.std.specs.List.{All}
 use Rattle.journal_world.specs.declared.refusal.Refusal.{Refusal}
-use Rattle.journal_world.specs.declared.refusal.Refusal.TheVariants.{NoMemory, TooLarge, DeviceFailed, Worn, Full}
+use Rattle.journal_world.specs.declared.refusal.Refusal.TheVariants.{NoMemory, DeviceFailed}
 use Rattle.journal_world.specs.declared.step.Step.{Step}
 use Rattle.journal_world.specs.declared.step.Step.TheVariants.{Idle, Moved}
 use Rattle.journal_block.specs.declared.update.Update.{Update}
@@ -13,7 +13,7 @@ use Rattle.journal_disk.specs.Images.{EveryImage}
 use Rattle.journal_disk.specs.Moments.{LeavesOnly}
 use Rattle.journal_circ.specs.StandsFor.{StandsFor}
 use Rattle.journal_circ.specs.Ring.{Ring, home_of}
-use Rattle.journal_memlog.specs.Logs.{LogState, next_of, tail_of, fresh_count, absorbed, appended, trimmed, CanTake}
+use Rattle.journal_memlog.specs.Logs.{LogState, tail_of, absorbed, appended, trimmed, CanTake}
 
 -- What the logger does next
 pub data Logging : Type 0 where
@@ -121,16 +121,6 @@ pub record HasRoom (w : WalState) (updates : List Update) : Type 0 where
   pub few : length updates ≤ 128
   pub room : CanTake w.log updates
   pub tail : length (absorbed (tail_of w.log) updates) ≤ 255
-
--- Why updates are not appended: the first of these that holds, or J1
-abbrev pub IsRefusal : WalState → List Update → Refusal Unit → Type 0
-IsRefusal w updates (DeviceFailed cause) = w.ring.faulted ≡ true
-IsRefusal w updates TooLarge = 128 < length updates
-IsRefusal w updates (Worn cause) = (length updates ≤ 128) × (2 ^ 62 ≤ next_of w.log + fresh_count (tail_of w.log) updates)
-IsRefusal w updates (Full cause) = (length updates ≤ 128) × (next_of w.log + fresh_count (tail_of w.log) updates < 2 ^ 62)
-    × (255 < tail_length w + fresh_count (tail_of w.log) updates)
-IsRefusal w updates NoMemory = Unit {0}
-IsRefusal w updates other = ⊥
 
 -- the log with other room in memory
 abbrev pub with_room : WalState → ℕ → WalState
@@ -258,7 +248,8 @@ pub record Plans (old new : WalState) : Type 0 where
 
 -- why a step of the installer is refused, and what is left
 abbrev pub IsInstallFault : WalState → WalState → Refusal Unit → Type 0
-IsInstallFault old new NoMemory = (install_steps old ≡ 0) × (new ≡ old)
+IsInstallFault old new NoMemory =
+    (install_steps old ≡ 0) × (new ≡ old) × (old.ring.faulted ≡ false) × (old.log.start < old.log.logged)
 IsInstallFault old new (DeviceFailed cause) = (IsTrue old.ring.faulted ⊎ HasFailed old.ring.disk new.ring.disk) × Fails old new
 IsInstallFault old new other = ⊥
 

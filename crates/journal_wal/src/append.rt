@@ -1,9 +1,9 @@
 // Updates enter the tail.
 ghost use Rattle.std.specs.Prelude.{ℕ, ◌≡◌, ◌≤◌, ◌<◌, OnOk, OnErr, IfErr, length};
 ghost use Rattle.journal_memlog.specs.Logs.{HasDistinctBlocks, fresh_count, tail_of};
-ghost use Rattle.journal_wal.specs.Wal.{Crashes, AreHomes, HasRoom, IsRefusal, Appends, with_room, size_of};
+ghost use Rattle.journal_wal.specs.Wal.{Crashes, AreHomes, HasRoom, Appends, with_room, size_of};
 ghost use Rattle.journal_block.specs.Updates.{updates_block};
-ghost use Rattle.journal_wal.specs.Rooms.{HasPlaces, IsShortage};
+ghost use Rattle.journal_wal.specs.Rooms.{HasPlaces, IsShortage, IsRefusal};
 
 use crate::wal::Wal;
 use journal_block::Update;
@@ -78,19 +78,8 @@ impl<D: BlockDisk> Wal<D> {
         ensures same { self.new ≡ with_room self.old self.new.log.room }
         ensures crash { Crashes self.old self.new }
     {
-        if self.on_disk.circ.is_faulted() {
-            return Err(Refusal::DeviceFailed(()));
-        }
-        if updates.len() > MAX_UPDATES {
-            return Err(Refusal::TooLarge);
-        }
         let fresh = count_fresh(&self.memory, updates);
-        if self.memory.bounds().next + fresh as u64 >= MAX_POSITION {
-            return Err(Refusal::Worn(()));
-        }
-        if self.memory.tail_len() + fresh as u64 > MAX_TAIL {
-            return Err(Refusal::Full(()));
-        }
+        self.check_room(updates.len(), fresh)?;
         self.memory.reserve(fresh)
     }
 

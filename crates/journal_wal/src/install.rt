@@ -55,7 +55,8 @@ impl<D: BlockDisk> Wal<D> {
         requires fine { self.old.ring.faulted ≡ false }
         requires some { IsInstallIdle self.old → ⊥ }
         ensures ok { OnOk result (Plans self.old self.new) }
-        ensures err { IfErr result (λ refusal. (refusal ≡ Refusal.NoMemory) × (install_steps self.old ≡ 0) × (self.new ≡ self.old)) }
+        ensures err { IfErr result (λ refusal. (refusal ≡ Refusal.NoMemory) × (install_steps self.old ≡ 0) × (self.new ≡ self.old)
+            × (self.old.log.start < self.old.log.logged)) }
     {
         let Installer::Resting = self.on_disk.installer else {
             return Ok(());

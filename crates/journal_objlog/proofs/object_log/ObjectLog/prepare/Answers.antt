@@ -2,7 +2,8 @@ use Rattle.std.proofs.Common.{◌≡◌, List, inr, sym, subst, ◌∙◌}
 use Rattle.journal_world.specs.declared.refusal.Refusal.{Refusal}
 use Rattle.journal_world.specs.declared.refusal.Refusal.TheVariants.{NoMemory}
 use Rattle.journal_block.specs.declared.update.Update.{Update}
-use Rattle.journal_wal.specs.Wal.{WalState, HasRoom, IsRefusal}
+use Rattle.journal_wal.specs.Wal.{WalState, HasRoom}
+use Rattle.journal_wal.specs.Rooms.{IsRefusal}
 use Rattle.journal_objlog.specs.Writes.{IsPrepareRefusal}
 use Rattle.journal_objlog.specs.Staging.{IsStaged}
 use Rattle.journal_objlog.proofs.Refusing.{if_err}

@@ -1,4 +1,4 @@
-use Rattle.std.proofs.Common.{◌≡◌, ◌-◌, length}
+use Rattle.std.proofs.Common.{◌≡◌, length}
 use Rattle.journal_wal.specs.Wal.{distinct_blocks}
 use Rattle.journal_wal.specs.States.{updates_to, IsPlanOf}
 use Rattle.journal_wal.proofs.plan.Plan.up_to.Given as goal

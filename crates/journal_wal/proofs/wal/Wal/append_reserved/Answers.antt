@@ -1,4 +1,4 @@
-use Rattle.std.proofs.Common.{◌≡◌, ℕ, List, refl, sym, ap, subst, ◌∙◌, arith}
+use Rattle.std.proofs.Common.{sym, subst}
 use Rattle.journal_memlog.specs.Logs.{LogState}
 use Rattle.journal_wal.specs.Wal.{WalState, HasRoom, AreHomes, Appends, Crashes, size_of}
 use Rattle.journal_wal.specs.States.{logging_of, installing_of, IsInStep}

@@ -1,4 +1,4 @@
-use Rattle.std.proofs.Common.{◌≡◌, ◌≤◌, ◌<◌, ◌-◌, ℕ, length, List, refl, sym, ap, subst, ◌∙◌, arith}
+use Rattle.std.proofs.Common.{◌≡◌, sym, ap, subst, arith}
 use Rattle.journal_memlog.specs.declared.bounds.Bounds.{Bounds}
 use Rattle.journal_wal.specs.Wal.{WalState, log_blocks, Crashes, LogMoves, log_steps}
 use Rattle.journal_wal.specs.States.{logging_of, installing_of}

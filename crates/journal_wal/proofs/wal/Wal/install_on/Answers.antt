@@ -1,24 +1,12 @@
-use Rattle.std.proofs.Common.{◌≡◌, ◌≤◌, ◌<◌, ◌+◌, ◌-◌, ◌⊎◌, ⊎_elim, inl, inr, ℕ, suc, IsTrue, Bool, false, true, List, [], ◌∷◌, length, Result, Ok, Err, OnErr, IfOk, Option, Some, refl, sym, ap, subst, ◌∙◌, arith}
-use Rattle.std.specs.List.{slice_get}
+use Rattle.std.proofs.Common.{◌≡◌, ◌+◌, ℕ, false, List, length, refl, sym, ap, subst, ◌∙◌, arith}
 use Rattle.journal_circ.specs.Ring.{Ring}
 use Rattle.journal_memlog.specs.Logs.{LogState, trimmed}
-use Rattle.journal_wal.specs.declared.disk_log.Installer.{Installer}
-use Rattle.journal_wal.specs.Wal.{WalState, Installing, install_none, install_homes, install_start, install_sync, install_spent, Crashes, Fails, Installs}
-use Rattle.journal_wal.specs.States.{logging_of, installing_of, updates_to, IsInStep, IsInstalling}
-use Rattle.journal_wal.proofs.Homes.{home_at}
-use Rattle.journal_wal.proofs.Phases.{of_parts, in_installing, installed_from}
+use Rattle.journal_wal.specs.Wal.{WalState, install_none, install_homes, install_start, install_sync, install_spent, Crashes, Fails, Installs}
+use Rattle.journal_wal.specs.States.{logging_of, installing_of, IsInStep, IsInstalling}
+use Rattle.journal_wal.proofs.Phases.{of_parts, in_installing, installed_from, put_failed, on_err}
 use Rattle.journal_wal.proofs.Installer.{planned_home, logged_on_disk, home_put, home_failed, homes_synced, installer_failed, is_installed, start_written, start_synced, installs_on, installs_freed}
 use Rattle.journal_wal.proofs.wal.Wal.install_on.Goals as goal
 use Rattle.journal_wal.proofs.wal.Wal.install_on.Goals.{in-Homes+in-Some+in_ok-put_home-in-Some, in-Homes+in-None+in_ok-sync_homes-in-None, in-Synced+in_ok-put_start-in-Synced, in-StartPut+in_ok-freed-in-StartPut}
-
--- a call that is made on a log that is not faulted may have failed, no more
-put_failed : {X : Type 0} {faulted : Bool} → faulted ≡ false → IsTrue faulted ⊎ X → X
-put_failed fine (inl was) = let impossible : ⊥ = cc in absurd impossible
-put_failed fine (inr x) = x
-
-on_err : {T E X : Type 0} (result : Result T E) → X → OnErr result X
-on_err (Ok value) x = tt
-on_err (Err error) x = x
 
 pub put_home-requires-clause-home : goal.put_home-requires-clause-home
 put_home-requires-clause-home g c =

@@ -1,9 +1,9 @@
-use Rattle.std.proofs.Common.{◌≡◌, ◌⊎◌, inl, inr, ℕ, IsTrue, true, Result, Ok, Err, refl, sym, ap, subst, ◌∙◌, arith}
+use Rattle.std.proofs.Common.{sym, subst}
 use Rattle.journal_wal.specs.Wal.{WalState, Crashes}
-use Rattle.journal_wal.specs.States.{logging_of, installing_of, IsInStep}
+use Rattle.journal_wal.specs.States.{logging_of, installing_of}
 use Rattle.journal_wal.proofs.Phases.{of_parts}
 use Rattle.journal_wal.proofs.Logger.{unchanged}
-use Rattle.journal_wal.proofs.Planned.{crashes_planned, fails_planned, installs_planned}
+use Rattle.journal_wal.proofs.Planned.{crashes_planned, installs_planned}
 use Rattle.journal_wal.proofs.wal.Wal.install_step.Goals as goal
 
 pub returns-then-is_faulted-clause-crash : goal.returns-then-is_faulted-clause-crash

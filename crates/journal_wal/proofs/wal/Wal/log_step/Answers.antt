@@ -1,13 +1,12 @@
-use Rattle.std.proofs.Common.{◌≡◌, ◌≤◌, ◌<◌, ◌-◌, ◌⊎◌, ⊎_elim, inl, inr, ℕ, IsTrue, Bool, false, true, List, Result, Ok, Err, OnErr, IfOk, Option, Some, refl, sym, ap, subst, ◌∙◌, arith}
+use Rattle.std.proofs.Common.{◌≡◌, ◌-◌, ℕ, Result, Ok, IfOk, Some, sym, ap, subst, ◌∙◌, arith}
 use Rattle.std.specs.List.{slice_get}
 use Rattle.journal_world.specs.declared.step.Step.{Step}
 use Rattle.journal_world.specs.declared.step.Step.TheVariants.{Moved}
 use Rattle.journal_memlog.specs.declared.bounds.Bounds.{Bounds}
-use Rattle.journal_wal.specs.declared.disk_log.Logger.{Logger}
-use Rattle.journal_wal.specs.Wal.{WalState, Logging, log_blocks, log_end, log_sync, log_spent, Crashes, Fails, LogMoves, LogAnswers, log_steps}
+use Rattle.journal_wal.specs.Wal.{WalState, log_blocks, log_end, log_sync, log_spent, Crashes, Fails, LogMoves, log_steps}
 use Rattle.journal_wal.specs.States.{logging_of, installing_of, IsInStep}
 use Rattle.journal_wal.proofs.Homes.{home_at}
-use Rattle.journal_wal.proofs.Phases.{of_parts, in_logging, logged_from}
+use Rattle.journal_wal.proofs.Phases.{of_parts, in_logging, logged_from, put_failed, on_err}
 use Rattle.journal_wal.proofs.Logger.{unchanged, block_logged, blocks_synced, end_written, group_ended, call_failed, end_failed}
 use Rattle.journal_wal.proofs.wal.Wal.log_step.Goals as goal
 use Rattle.journal_wal.proofs.wal.Wal.log_step.Goals.{in-Blocks+in_ok-put_slot-in-Blocks, in-Blocks-2+in_ok-sync_slots-in-Blocks-2, in-Synced+in_ok-put_end-in-Synced, in-EndPut+in_ok-state-in-EndPut}
@@ -25,15 +24,6 @@ put_slot-requires-clause-on_disk g c =
 
 abbrev Moves : WalState → WalState → Type 0
 Moves old new = LogMoves (log_steps old) old new
-
--- a call that is made on a log that is not faulted may have failed, no more
-put_failed : {X : Type 0} {faulted result : Bool} → result ≡ false → result ≡ faulted → IsTrue faulted ⊎ X → X
-put_failed fine is (inl was) = let impossible : ⊥ = cc in absurd impossible
-put_failed fine is (inr x) = x
-
-on_err : {T E X : Type 0} (result : Result T E) → X → OnErr result X
-on_err (Ok value) x = tt
-on_err (Err error) x = x
 
 on_moved : {E : Type 0} {result : Result Step E} (P : Step → Type 0) → result ≡ Ok Moved → P Moved → IfOk result P
 on_moved P is holds = subst (λ (r : _). IfOk r P) (sym is) holds
@@ -84,21 +74,21 @@ pub invariant_of-self-in_err-put_end-in-Synced : goal.invariant_of-self-in_err-p
 invariant_of-self-in_err-put_end-in-Synced g c =
     let failed = end_failed c.self.inside.on_disk.circ c.put_end.new.self c.self.inside.memory (installing_of c.self.inside.on_disk.installer)
     (in_logging c.self.inside.on_disk.circ c.self.inside.memory (logging_of c.self.inside.on_disk.logger) log_end (installing_of c.self.inside.on_disk.installer) (ap logging_of (sym c.in-Synced.ensures.value)) c.self.invariant)
-    c.put_end.ensures.step c.in_err-put_end-in-Synced.ensures.log c.in_err-put_end-in-Synced.ensures.home (put_failed c.if-is_faulted.false c.is_faulted.ensures c.in_err-put_end-in-Synced.ensures.err) in
+    c.put_end.ensures.step c.in_err-put_end-in-Synced.ensures.log c.in_err-put_end-in-Synced.ensures.home (put_failed (sym c.is_faulted.ensures ∙ c.if-is_faulted.false) c.in_err-put_end-in-Synced.ensures.err) in
     in_logging c.put_end.new.self c.self.inside.memory log_spent (logging_of c.replace.new.dest) (installing_of c.self.inside.on_disk.installer) (sym (ap logging_of c.in-Synced.ensures.after)) failed.0.sound
 
 pub returns-in_err-put_end-in-Synced-clause-crash : goal.returns-in_err-put_end-in-Synced-clause-crash
 returns-in_err-put_end-in-Synced-clause-crash g c =
     let failed = end_failed c.self.inside.on_disk.circ c.put_end.new.self c.self.inside.memory (installing_of c.self.inside.on_disk.installer)
     (in_logging c.self.inside.on_disk.circ c.self.inside.memory (logging_of c.self.inside.on_disk.logger) log_end (installing_of c.self.inside.on_disk.installer) (ap logging_of (sym c.in-Synced.ensures.value)) c.self.invariant)
-    c.put_end.ensures.step c.in_err-put_end-in-Synced.ensures.log c.in_err-put_end-in-Synced.ensures.home (put_failed c.if-is_faulted.false c.is_faulted.ensures c.in_err-put_end-in-Synced.ensures.err) in
+    c.put_end.ensures.step c.in_err-put_end-in-Synced.ensures.log c.in_err-put_end-in-Synced.ensures.home (put_failed (sym c.is_faulted.ensures ∙ c.if-is_faulted.false) c.in_err-put_end-in-Synced.ensures.err) in
     logged_from Crashes c.args.self.now c.self.inside.on_disk.circ c.put_end.new.self c.self.inside.memory c.self.inside.memory (logging_of c.self.inside.on_disk.logger) log_end (logging_of c.replace.new.dest) log_spent (installing_of c.self.inside.on_disk.installer) c.self.view_is (ap logging_of (sym c.in-Synced.ensures.value)) (ap logging_of c.in-Synced.ensures.after) failed.0.crash
 
 pub returns-in_err-put_end-in-Synced-clause-err : goal.returns-in_err-put_end-in-Synced-clause-err
 returns-in_err-put_end-in-Synced-clause-err g c =
     let failed = end_failed c.self.inside.on_disk.circ c.put_end.new.self c.self.inside.memory (installing_of c.self.inside.on_disk.installer)
     (in_logging c.self.inside.on_disk.circ c.self.inside.memory (logging_of c.self.inside.on_disk.logger) log_end (installing_of c.self.inside.on_disk.installer) (ap logging_of (sym c.in-Synced.ensures.value)) c.self.invariant)
-    c.put_end.ensures.step c.in_err-put_end-in-Synced.ensures.log c.in_err-put_end-in-Synced.ensures.home (put_failed c.if-is_faulted.false c.is_faulted.ensures c.in_err-put_end-in-Synced.ensures.err) in
+    c.put_end.ensures.step c.in_err-put_end-in-Synced.ensures.log c.in_err-put_end-in-Synced.ensures.home (put_failed (sym c.is_faulted.ensures ∙ c.if-is_faulted.false) c.in_err-put_end-in-Synced.ensures.err) in
     on_err c.from_residual-in_err-put_end-in-Synced.result (logged_from Fails c.args.self.now c.self.inside.on_disk.circ c.put_end.new.self c.self.inside.memory c.self.inside.memory (logging_of c.self.inside.on_disk.logger) log_end (logging_of c.replace.new.dest) log_spent (installing_of c.self.inside.on_disk.installer) c.self.view_is (ap logging_of (sym c.in-Synced.ensures.value)) (ap logging_of c.in-Synced.ensures.after) failed.1)
 
 pub invariant_of-self-in_err-state-in-EndPut : goal.invariant_of-self-in_err-state-in-EndPut

@@ -1,4 +1,4 @@
-use Rattle.std.proofs.Common.{◌≡◌, IsTrue, sym, subst, ◌∙◌}
+use Rattle.std.proofs.Common.{IsTrue, sym, subst, ◌∙◌}
 use Rattle.journal_wal.proofs.Opening.{opened_sound, stands_now}
 use Rattle.journal_wal.proofs.wal.Wal.open.Goals as goal
 

@@ -1,7 +1,7 @@
-use Rattle.std.proofs.Common.{◌≡◌, ℕ, List, refl, sym, ap, subst, ◌∙◌, arith}
+use Rattle.std.proofs.Common.{◌≡◌, ℕ, sym, ap, subst, ◌∙◌}
 use Rattle.journal_memlog.specs.declared.bounds.Bounds.{Bounds}
-use Rattle.journal_wal.specs.Wal.{WalState, Installing, install_homes}
-use Rattle.journal_wal.specs.States.{logging_of, installing_of, updates_to, IsInStep, IsPlanOf}
+use Rattle.journal_wal.specs.Wal.{WalState, install_homes}
+use Rattle.journal_wal.specs.States.{logging_of, installing_of, updates_to, IsPlanOf}
 use Rattle.journal_wal.proofs.Phases.{of_parts, in_installing}
 use Rattle.journal_wal.proofs.Installer.{plan_made}
 use Rattle.journal_wal.proofs.wal.Wal.plan.Goals as goal

@@ -1,4 +1,4 @@
-use Rattle.std.proofs.Common.{◌≡◌, IsTrue, OnOk, false, sym, subst, ◌∙◌}
+use Rattle.std.proofs.Common.{◌≡◌, IsTrue, OnOk, sym, subst}
 use Rattle.journal_wal.specs.Wal.{WalState, Crashes, blocks_now}
 use Rattle.journal_wal.specs.States.{logging_of, installing_of}
 use Rattle.journal_wal.proofs.Phases.{of_parts}

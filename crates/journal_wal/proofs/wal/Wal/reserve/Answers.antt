@@ -1,13 +1,12 @@
-use Rattle.std.proofs.Common.{◌≡◌, ◌≤◌, ◌<◌, ◌+◌, ◌^◌, ℕ, Bool, false, true, List, length, Result, Ok, Err, OnOk, refl, sym, ap, subst, ◌∙◌, arith}
-use Rattle.std.specs.List.{All}
-use Rattle.journal_block.specs.declared.update.Update.{Update}
-use Rattle.journal_memlog.specs.declared.bounds.Bounds.{Bounds}
-use Rattle.journal_memlog.specs.Logs.{LogState, tail_of, next_of, fresh_count}
-use Rattle.journal_memlog.specs.Laws.{can_take_fresh, length-absorbed_le}
-use Rattle.journal_wal.specs.Wal.{WalState, Crashes, HasRoom, AreHomes, with_room, size_of}
+use Rattle.std.proofs.Common.{◌≡◌, length, sym, subst}
+use Rattle.std.proofs.lemmas.Result.{err_from_is_err_and}
+use Rattle.journal_world.specs.declared.refusal.Refusal.{Refusal}
+use Rattle.journal_memlog.specs.Logs.{LogState, tail_of, fresh_count}
+use Rattle.journal_wal.specs.Wal.{WalState, Crashes, AreHomes, size_of}
+use Rattle.journal_wal.specs.Rooms.{HasPlaces, IsRefusal}
 use Rattle.journal_wal.specs.States.{logging_of, installing_of, IsInStep}
 use Rattle.journal_wal.proofs.Phases.{of_parts}
-use Rattle.journal_wal.proofs.Appending.{room_made, has_room, crashes_room}
+use Rattle.journal_wal.proofs.Appending.{room_made, has_room, refuses_shortage, refuses_memory, crashes_room}
 use Rattle.journal_wal.proofs.Logger.{unchanged}
 use Rattle.journal_wal.proofs.wal.Wal.reserve.Goals as goal
 
@@ -21,24 +20,26 @@ returns-clause-room g c =
     let w : WalState = of_parts c.self.inside.on_disk.circ c.self.inside.memory (logging_of c.self.inside.on_disk.logger) (installing_of c.self.inside.on_disk.installer) in
     has_room w c.args.updates.now c.reserve.new.self c.self.invariant
     (subst (λ (v : WalState). AreHomes (size_of v) c.args.updates.now) (sym c.self.view_is) c.requires.homes)
-    c.count_fresh-fresh.result c.count_fresh-fresh.ensures.number c.reserve.ensures.same
-    (sym c.is_faulted.ensures ∙ c.if-is_faulted.false)
-    c.if-updates-gt-MAX_UPDATES.false
-    (omega (arith, c.if-bounds-fresh-ge-MAX_POSITION.false, ap (λ (b : Bounds). b.next) c.bounds.ensures.bounds))
-    (omega (arith, c.if-tail_len-fresh-gt-MAX_TAIL.false, c.tail_len.ensures))
-    c.reserve.result c.reserve.ensures.room
+    c.count_fresh-fresh.result c.count_fresh-fresh.ensures.number
+    (subst (λ (v : WalState). HasPlaces v (length c.args.updates.now) c.count_fresh-fresh.result) (sym c.self.view_is) c.in_ok-check_room.ensures.ok)
+    c.reserve.ensures.same c.reserve.result c.reserve.ensures.room
 
-pub returns-then-is_faulted-clause-crash : goal.returns-then-is_faulted-clause-crash
-returns-then-is_faulted-clause-crash g c = subst (λ (w : WalState). Crashes w w) c.self.view_is (unchanged (of_parts c.self.inside.on_disk.circ c.self.inside.memory (logging_of c.self.inside.on_disk.logger) (installing_of c.self.inside.on_disk.installer)) c.self.invariant)
+pub returns-in_err-check_room-clause-refusal : goal.returns-in_err-check_room-clause-refusal
+returns-in_err-check_room-clause-refusal g c =
+    let err = err_from_is_err_and c.from_residual.result c.from_residual.ensures.1 in rw err.1
+    (subst (λ (r : Refusal Unit). IsRefusal c.args.self.now c.args.updates.now r) (sym err.2)
+    (refuses_shortage c.args.self.now c.args.updates.now c.count_fresh-fresh.result
+    (subst (λ (w : WalState). c.count_fresh-fresh.result ≡ fresh_count (tail_of w.log) c.args.updates.now) c.self.view_is c.count_fresh-fresh.ensures.number)
+    c.in_err-check_room.field-0.0 c.in_err-check_room.ensures.refusal))
 
-pub returns-then-updates-gt-MAX_UPDATES-clause-crash : goal.returns-then-updates-gt-MAX_UPDATES-clause-crash
-returns-then-updates-gt-MAX_UPDATES-clause-crash g c = subst (λ (w : WalState). Crashes w w) c.self.view_is (unchanged (of_parts c.self.inside.on_disk.circ c.self.inside.memory (logging_of c.self.inside.on_disk.logger) (installing_of c.self.inside.on_disk.installer)) c.self.invariant)
+pub returns-clause-refusal : goal.returns-clause-refusal
+returns-clause-refusal g c =
+    refuses_memory c.args.self.now c.args.updates.now c.count_fresh-fresh.result
+    (subst (λ (w : WalState). c.count_fresh-fresh.result ≡ fresh_count (tail_of w.log) c.args.updates.now) c.self.view_is c.count_fresh-fresh.ensures.number)
+    c.in_ok-check_room.ensures.ok c.reserve.result c.reserve.ensures.refusal
 
-pub returns-then-bounds-fresh-ge-MAX_POSITION-clause-crash : goal.returns-then-bounds-fresh-ge-MAX_POSITION-clause-crash
-returns-then-bounds-fresh-ge-MAX_POSITION-clause-crash g c = subst (λ (w : WalState). Crashes w w) c.self.view_is (unchanged (of_parts c.self.inside.on_disk.circ c.self.inside.memory (logging_of c.self.inside.on_disk.logger) (installing_of c.self.inside.on_disk.installer)) c.self.invariant)
-
-pub returns-then-tail_len-fresh-gt-MAX_TAIL-clause-crash : goal.returns-then-tail_len-fresh-gt-MAX_TAIL-clause-crash
-returns-then-tail_len-fresh-gt-MAX_TAIL-clause-crash g c = subst (λ (w : WalState). Crashes w w) c.self.view_is (unchanged (of_parts c.self.inside.on_disk.circ c.self.inside.memory (logging_of c.self.inside.on_disk.logger) (installing_of c.self.inside.on_disk.installer)) c.self.invariant)
+pub returns-in_err-check_room-clause-crash : goal.returns-in_err-check_room-clause-crash
+returns-in_err-check_room-clause-crash g c = subst (λ (w : WalState). Crashes w w) c.self.view_is (unchanged (of_parts c.self.inside.on_disk.circ c.self.inside.memory (logging_of c.self.inside.on_disk.logger) (installing_of c.self.inside.on_disk.installer)) c.self.invariant)
 
 pub returns-clause-crash : goal.returns-clause-crash
 returns-clause-crash g c =
