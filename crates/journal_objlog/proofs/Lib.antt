@@ -5,8 +5,10 @@ pub mod Stored
 pub mod Updates
 pub mod Ascending
 pub mod Covering
+pub mod Backwards
 pub mod Staged
 pub mod Refusing
+pub mod Readings
 pub mod Counting
 pub mod StagingLoop
 pub mod Preparing

@@ -2,15 +2,16 @@
 use Rattle.std.proofs.Common.{◌≡◌, inl, inr, ⊎_elim, ◌<◌, ◌≤◌, ℕ, IsTrue, List, refl, sym, ap, subst, ◌∙◌, arith}
 use Rattle.journal_world.specs.Maps.{Map, SameMap}
 use Rattle.journal_block.specs.Block.{Bytes}
-use Rattle.journal_block.specs.Updates.{Content, with_updates}
-use Rattle.journal_disk.specs.Disks.{Past, read_of}
+use Rattle.journal_block.specs.Updates.{Content}
+use Rattle.journal_disk.specs.Disks.{Past}
 use Rattle.journal_disk.specs.Images.{EveryImage}
 use Rattle.journal_disk.specs.Moments.{LeavesOnly}
 use Rattle.journal_disk.specs.Laws.{leaves_none, leaves_also}
 use Rattle.journal_circ.specs.StandsFor.{StandsFor}
 use Rattle.journal_wal.specs.Wal.{WalState, size_of, blocks_now, blocks_cut, blocks_logged, IsCrash, Crashes, KeepsBlocks, Reads}
 use Rattle.journal_objlog.specs.Maps.{map_of, OpensAs}
-use Rattle.journal_objlog.specs.ObjectLogs.{map_now, map_cut, map_logged, MayOpenAs, KeepsMaps, MayCrash, OnlyReads}
+use Rattle.journal_objlog.specs.ObjectLogs.{map_cut, map_logged, MayOpenAs, KeepsMaps, MayCrash, OnlyReads}
+use Rattle.journal_objlog.specs.ReadLaws.{now_read}
 use Rattle.journal_objlog.specs.Soundness.{IsSound}
 use Rattle.journal_objlog.proofs.MapsOfBlocks.{Law, HasObjects-map_of, map_of-same, SameMap-path}
 
@@ -55,10 +56,6 @@ may_crash n old new sound crash = record {
 
 -- nothing changed but what no map shows
 module _ (old new : WalState) (reads : OnlyReads old new) (honest : IsTrue old.ring.disk.honest) where
-  pub now_read : map_now new ≡ map_now old
-  now_read = ap map_now reads.same
-      ∙ ap (λ (past : Past). map_of past.size (with_updates (read_of past) old.log.updates)) (reads.past honest)
-
   pub cut_read : map_cut new ≡ map_cut old
   cut_read = ap map_cut reads.same
       ∙ ap (λ (past : Past). map_cut (record old { ring = record old.ring { disk = record old.ring.disk { past = past } } })) (reads.past honest)
@@ -68,7 +65,7 @@ module _ (old new : WalState) (reads : OnlyReads old new) (honest : IsTrue old.r
       ∙ ap (λ (past : Past). map_logged (record old { ring = record old.ring { disk = record old.ring.disk { past = past } } })) (reads.past honest)
 
   pub maps_read : KeepsMaps old new
-  maps_read = record { now = SameMap-path now_read; cut = SameMap-path cut_read; logged = SameMap-path logged_read }
+  maps_read = record { now = SameMap-path (now_read old new reads honest); cut = SameMap-path cut_read; logged = SameMap-path logged_read }
 
   pub opens_read : (image : List Bytes) → MayOpenAs new image → MayOpenAs old image
   opens_read image opens = ⊎_elim

@@ -26,7 +26,7 @@ refuses_device n old new sound fine refusal fault fails crash = subst (λ (r : R
   crash = may_crash n old new sound crash;
 })
 
-keeps_trans : (a b c : WalState) → KeepsMaps a b → KeepsMaps b c → KeepsMaps a c
+pub keeps_trans : (a b c : WalState) → KeepsMaps a b → KeepsMaps b c → KeepsMaps a c
 keeps_trans a b c first second = record {
   now = SameMap-trans (map_now c) (map_now b) (map_now a) second.now first.now;
   cut = SameMap-trans (map_cut c) (map_cut b) (map_cut a) second.cut first.cut;

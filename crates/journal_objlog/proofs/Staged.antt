@@ -18,7 +18,7 @@ use Rattle.journal_objlog.specs.ObjectLogs.{map_now, OnlyReads}
 use Rattle.journal_objlog.specs.Writes.{writes_block, fresh_among}
 use Rattle.journal_objlog.specs.Staging.{IsBelow, first_update, first_bytes, with_first, CoversBlocks, IsStaged, IsOpen}
 use Rattle.journal_objlog.proofs.MapsOfBlocks.{valid_block}
-use Rattle.journal_objlog.proofs.Openings.{now_read}
+use Rattle.journal_objlog.specs.ReadLaws.{now_read}
 use Rattle.journal_objlog.proofs.Stored.{HasObjects-stored}
 use Rattle.journal_objlog.proofs.Updates.{updated_first, updated_later}
 use Rattle.journal_objlog.proofs.Ascending.{not_first}

@@ -12,8 +12,11 @@
 mod object_log;
 mod prepare;
 mod read;
+mod rules;
 mod stage;
 mod steps;
+#[cfg(test)]
+mod tests;
 mod writes;
 
 pub use object_log::ObjectLog;

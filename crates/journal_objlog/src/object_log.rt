@@ -1,10 +1,10 @@
 // An object log, how it is opened, and what it tells without a step.
-ghost use Rattle.std.specs.Prelude.{ℕ, ◌≡◌, ◌<◌, ◌↔◌, ◌≤◌, IsTrue, IfOk, IfErr, MatchResult};
+ghost use Rattle.std.specs.Prelude.{ℕ, ◌≡◌, ◌<◌, ◌↔◌, ◌⊎◌, ◌≤◌, false, IsTrue, IfOk, IfErr, MatchResult};
 ghost use Rattle.journal_disk.specs.Disks.{Keeps, IsSettled};
 ghost use Rattle.journal_disk.specs.Images.{EveryImage, reading};
 ghost use Rattle.journal_circ.specs.Log.{IsWellFormed};
 ghost use Rattle.journal_circ.specs.Ring.{IsReason};
-ghost use Rattle.journal_wal.specs.Wal.{IsOpened, tail_length, size_of};
+ghost use Rattle.journal_wal.specs.Wal.{IsOpened, log_steps, tail_length, size_of};
 ghost use Rattle.journal_objlog.specs.Maps.{OpensAs};
 ghost use Rattle.journal_objlog.specs.ObjectLogs.{map_now};
 
@@ -17,6 +17,7 @@ use std::alloc::Global;
 use std::marker::Model;
 
 /// The map of objects of a disk, over the write-ahead log.
+#[derive(Drop)]
 pub struct ObjectLog<D: BlockDisk> {
     pub(crate) alloc: Global,
     pub(crate) layout: Layout,
@@ -91,7 +92,9 @@ impl<D: BlockDisk> ObjectLog<D> {
 
     /// Whether a group is in flight.
     pub fn is_logging(&self) -> bool
-        ensures { IsTrue result ↔ (self.now.log.logged < self.now.log.cut) }
+        ensures group { IsTrue result ↔ (self.now.log.logged < self.now.log.cut) }
+        ensures steps { self.now.ring.faulted ≡ false → IsTrue result → 0 < log_steps self.now }
+        ensures rest { IsTrue result ⊎ ((log_steps self.now ≡ 0) × (self.now.log.logged ≡ self.now.log.cut)) }
     {
         self.wal.is_logging()
     }

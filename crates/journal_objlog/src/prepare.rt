@@ -16,7 +16,7 @@ use std::marker::Model;
 #[derive(Drop)]
 pub struct Prepared {
     // One for each block that is written, blocks ascending, with its objects stored.
-    updates: Vec<Update>,
+    pub(crate) updates: Vec<Update>,
 }
 
 impl Model for Prepared {

@@ -1,5 +1,5 @@
 // The blocks that are written, with their objects stored.
-ghost use Rattle.std.specs.Prelude.{ℕ, ◌≡◌, ◌⊎◌, ◌<◌, ◌≤◌, ◌↔◌, false, IsTrue, OnOk, IfOk, IfErr, List, [], Some, length};
+ghost use Rattle.std.specs.Prelude.{ℕ, ◌≡◌, ◌⊎◌, ◌<◌, ◌≤◌, ◌↔◌, [], ◌∷◌, false, IsTrue, OnOk, OnErr, IfOk, IfErr, List, Some, length};
 ghost use Rattle.journal_world.specs.declared.layout.TheConstants.{MIN_BLOCKS};
 ghost use Rattle.journal_world.specs.Addresses.{kind_of, is_valid};
 ghost use Rattle.journal_world.specs.Maps.{Pair, is_object, are_objects};
@@ -14,6 +14,73 @@ use journal_block::{Block, Update};
 use journal_disk::BlockDisk;
 use journal_object::store;
 use journal_world::{Addr, Kind, Layout, Objects, Refusal, Value};
+use std::alloc::{AllocError, Global};
+use std::marker::Model;
+
+/// Updates that are made from the last on. Contracts see them in order.
+#[derive(Drop)]
+struct Backwards {
+    // The last first, so that one more goes to the end.
+    updates: Vec<Update>,
+}
+
+impl Model for Backwards {
+    ghost use Rattle.std.specs.Prelude.{List, reverse};
+    ghost use Rattle.journal_block.specs.declared.update.Update.{Update};
+
+    ghost Value = { List Update };
+
+    ghost view = { λ b. reverse b.updates.items };
+}
+
+impl Backwards {
+    fn new(alloc: Global) -> Backwards
+        ensures { result ≡ [] }
+    {
+        Backwards {
+            updates: Vec::new(alloc),
+        }
+    }
+
+    /// Puts an update before the others.
+    fn put_first(&mut self, update: Update) -> Result<(), AllocError>
+        ensures ok { OnOk result (self.new ≡ update ∷ self.old) }
+    {
+        self.updates.push(update)?;
+        Ok(())
+    }
+
+    /// Whether the first of the updates is of the block.
+    fn has_first(&self, block: u64) -> bool
+        ensures { IsTrue result ↔ (first_update self.now ≡ Some block) }
+    {
+        match self.updates.last() {
+            Some(first) => first.block == block,
+            None => false,
+        }
+    }
+
+    /// Overwrites an object of the first update's block.
+    fn store_first(&mut self, layout: &Layout, addr: Addr, value: &Value)
+        requires some { 0 < length self.old }
+        requires object { IsTrue (is_object layout.now.blocks (addr, value.now)) }
+        ensures stored { self.new ≡ with_first self.old (first_bytes self.new) }
+        ensures only { ChangesOnly layout.now.blocks (first_bytes self.old) (first_bytes self.new) addr value.now }
+    {
+        let last = self.updates.len() - 1;
+        let first = &mut self.updates[last];
+        store::<()>(layout, &mut first.bytes, addr, value.bytes()).unwrap();
+    }
+
+    /// The updates, in order.
+    fn into_updates(self) -> Vec<Update>
+        ensures { result.items ≡ self }
+    {
+        let Backwards { mut updates } = self;
+        updates.reverse();
+        updates
+    }
+}
 
 impl<D: BlockDisk> ObjectLog<D> {
     /// One update for each block that is written, blocks ascending, with its objects stored.
@@ -25,27 +92,26 @@ impl<D: BlockDisk> ObjectLog<D> {
         ensures reads { OnOk result (OnlyReads self.old self.new) }
         ensures refusal { IfErr result (RefusesLate self.old self.new) }
     {
-        let mut updates = Vec::new(self.alloc);
-        // From the last on: of two values of one address the first would stand, and a further block goes before
-        // the others.
+        let mut updates = Backwards::new(self.alloc);
+        // From the last on: of two values of one address the first would stand.
         for (addr, value) in writes.iter().rev() {
             self.open_block(&mut updates, *addr)?;
-            store_first(&self.layout, &mut updates, *addr, value);
+            updates.store_first(&self.layout, *addr, value);
         }
-        Ok(updates)
+        Ok(updates.into_updates())
     }
 
     // Makes the first of the updates that of the address's block.
-    fn open_block(&mut self, updates: &mut Vec<Update>, addr: Addr) -> Result<(), Refusal<()>>
+    fn open_block(&mut self, updates: &mut Backwards, addr: Addr) -> Result<(), Refusal<()>>
         requires valid { IsTrue (is_valid (size_of self.old) addr) }
         requires fine { self.old.ring.faulted ≡ false }
-        ensures opened { OnOk result ((writes : List Pair) → IsStaged self.old writes updates.old.items
-            → HasAscendingBlocks writes → IsBelow addr.block writes → IsOpen self.new writes addr updates.new.items) }
+        ensures opened { OnOk result ((writes : List Pair) → IsStaged self.old writes updates.old
+            → HasAscendingBlocks writes → IsBelow addr.block writes → IsOpen self.new writes addr updates.new) }
         ensures fine { OnOk result (self.new.ring.faulted ≡ false) }
         ensures reads { OnOk result (OnlyReads self.old self.new) }
         ensures refusal { IfErr result (RefusesLate self.old self.new) }
     {
-        if is_first(updates, addr.block) {
+        if updates.has_first(addr.block) {
             return Ok(());
         }
         let bytes = self.block_before(addr)?;
@@ -53,8 +119,7 @@ impl<D: BlockDisk> ObjectLog<D> {
             block: addr.block,
             bytes,
         };
-        // There are at most 128 to be moved.
-        updates.insert(0, update)?;
+        updates.put_first(update)?;
         Ok(())
     }
 
@@ -77,25 +142,4 @@ impl<D: BlockDisk> ObjectLog<D> {
         self.wal.read(addr.block, &mut block)?;
         Ok(block)
     }
-}
-
-// Whether the first of the updates is of the block.
-fn is_first(updates: &[Update], block: u64) -> bool
-    ensures { IsTrue result ↔ (first_update updates.now ≡ Some block) }
-{
-    match updates {
-        [first, ..] => first.block == block,
-        [] => false,
-    }
-}
-
-// Overwrites an object of the first update's block.
-fn store_first(layout: &Layout, updates: &mut Vec<Update>, addr: Addr, value: &Value)
-    requires some { 0 < length updates.old.items }
-    requires object { IsTrue (is_object layout.now.blocks (addr, value.now)) }
-    ensures stored { updates.new.items ≡ with_first updates.old.items (first_bytes updates.new.items) }
-    ensures only { ChangesOnly layout.now.blocks (first_bytes updates.old.items) (first_bytes updates.new.items) addr value.now }
-{
-    let first = &mut updates[0];
-    store::<()>(layout, &mut first.bytes, addr, value.bytes()).unwrap();
 }

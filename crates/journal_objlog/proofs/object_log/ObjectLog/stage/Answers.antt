@@ -11,10 +11,10 @@ use Rattle.journal_objlog.proofs.object_log.ObjectLog.stage.Goals as goal
 pub loop-addr-init : goal.loop-addr-init
 loop-addr-init g c = (
   [],
-  staging_begins c.self.inside.layout.blocks c.self.inside.wal c.args.self.now c.args.writes.now (rev_source c.into_iter-addr-iterator.result) c.new-updates.result.items
+  staging_begins c.self.inside.layout.blocks c.self.inside.wal c.args.self.now c.args.writes.now (rev_source c.into_iter-addr-iterator.result) c.new-updates.result
       c.self.invariant c.self.view_is
       (ap rev_source c.into_iter-addr-iterator.ensures.into_iter_gives ∙ c.rev-addr-items.ensures.source ∙ c.iter.ensures.pairs)
-      c.new-updates.ensures.items c.requires.fine c.requires.objects,
+      c.new-updates.ensures c.requires.fine c.requires.objects,
 )
 
 pub returns-in_err-open_block-clause-refusal : goal.returns-in_err-open_block-clause-refusal
@@ -27,19 +27,19 @@ pub store_first-requires-clause-some : goal.store_first-requires-clause-some
 store_first-requires-clause-some g c =
     let p : Pair = (c.in-Some.addr.now, c.in-Some.value.now) in
     let under = below c.args.self.now c.loop-addr.self c.args.writes.now (rev_source c.loop-addr.addr-iterator) (rev_source c.next.new.self) c.loop-addr.invariant.0 p
-    c.loop-addr.updates.items c.iter.ensures.ascending c.in-Some.ensures.steps c.loop-addr.invariant.1 in
-    some_first c.open_block.new.updates.items c.in-Some.addr.now.block
+    c.loop-addr.updates c.iter.ensures.ascending c.in-Some.ensures.steps c.loop-addr.invariant.1 in
+    some_first c.open_block.new.updates c.in-Some.addr.now.block
     (c.in_ok-open_block.ensures.opened c.loop-addr.invariant.0 c.loop-addr.invariant.1.staged under.1 under.0).blocks.first
 
 pub loop-addr-preserved : goal.loop-addr-preserved
 loop-addr-preserved g c =
     let p : Pair = (c.in-Some.addr.now, c.in-Some.value.now) in
     let under = below c.args.self.now c.loop-addr.self c.args.writes.now (rev_source c.loop-addr.addr-iterator) (rev_source c.next.new.self) c.loop-addr.invariant.0 p
-    c.loop-addr.updates.items c.iter.ensures.ascending c.in-Some.ensures.steps c.loop-addr.invariant.1 in (
+    c.loop-addr.updates c.iter.ensures.ascending c.in-Some.ensures.steps c.loop-addr.invariant.1 in (
       p ∷ c.loop-addr.invariant.0,
       staged_on c.args.self.now c.loop-addr.self c.args.writes.now (rev_source c.loop-addr.addr-iterator) (rev_source c.next.new.self) c.loop-addr.invariant.0 p
-          c.loop-addr.updates.items c.iter.ensures.ascending c.in-Some.ensures.steps c.loop-addr.invariant.1
-          c.open_block.new.self c.in_ok-open_block.ensures.reads c.in_ok-open_block.ensures.fine c.open_block.new.updates.items c.store_first.new.updates.items
+          c.loop-addr.updates c.iter.ensures.ascending c.in-Some.ensures.steps c.loop-addr.invariant.1
+          c.open_block.new.self c.in_ok-open_block.ensures.reads c.in_ok-open_block.ensures.fine c.open_block.new.updates c.store_first.new.self
           (c.in_ok-open_block.ensures.opened c.loop-addr.invariant.0 c.loop-addr.invariant.1.staged under.1 under.0)
           c.store_first.ensures.stored c.self-in-loop-addr.inside.layout.blocks
           (c.self-in-loop-addr.invariant.size ∙ ap size_of c.self-in-loop-addr.view_is)

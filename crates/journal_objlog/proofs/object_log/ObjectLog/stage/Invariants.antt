@@ -7,4 +7,4 @@ use Rattle.journal_objlog.proofs.object_log.ObjectLog.stage.Given as goal
 -- the writes that are done are staged
 abbrev pub invariant-loop-addr : goal.invariant-loop-addr
 invariant-loop-addr g l =
-    (done : List Pair) × IsStaging l.fn.self l.self l.writes (rev_source l.addr-iterator) done l.updates.items
+    (done : List Pair) × IsStaging l.fn.self l.self l.writes (rev_source l.addr-iterator) done l.updates

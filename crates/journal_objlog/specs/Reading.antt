@@ -1,0 +1,25 @@
+-- What reads leave of an object log, whatever order they come in and whatever asks for them.
+use Rattle.std.specs.Prelude.{◌≡◌, ◌⊎◌, true, false, IsTrue, []}
+use Rattle.journal_wal.specs.Wal.{WalState, log_blocks, install_none}
+use Rattle.journal_objlog.specs.ObjectLogs.{KeepsMaps, MayCrash, OnlyReads}
+
+-- The log was only read since this state of it, and once the device failed nothing more
+pub record IsRead (opened now : WalState) : Type 0 where
+  pub only : OnlyReads opened now ⊎ (now.ring.faulted ≡ true)
+  pub maps : IsTrue opened.ring.disk.honest → KeepsMaps opened now
+  pub crash : MayCrash opened now
+
+-- the log of no disk
+abbrev pub no_log : WalState
+no_log = record {
+  ring = record {
+    disk = record { past = record { size = 0; first = []; events = [] }; honest = false; failures = 0 };
+    header = [];
+    marks = record { start = 0; freed = 0; end = 0; coming = 0; stable = 0; homes = false };
+    next = 0;
+    faulted = false;
+  };
+  log = record { blocks = 0; start = 0; logged = 0; cut = 0; updates = []; room = 0 };
+  logging = log_blocks;
+  installing = install_none;
+}
