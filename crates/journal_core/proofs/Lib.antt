@@ -1,4 +1,7 @@
-pub mod Overwriting
-pub mod Reading
-pub mod Replay
+pub mod Keeping
+pub mod Stepping
+pub mod Committing
+pub mod Comparing
+pub mod Readying
+pub mod Opening
 pub mod Running

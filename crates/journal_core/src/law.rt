@@ -1,18 +1,26 @@
 // The law over whole lists of events.
-ghost use Rattle.std.specs.Prelude.{List, ℕ};
-ghost use Rattle.journal_world.specs.Histories.{IsLegal};
-ghost use Rattle.journal_core.specs.Commits.{any_map, begun};
-ghost use Rattle.journal_core.specs.Interleavings.{Event, Answer, State, TellsAll, Happens, Run, first};
+ghost use Rattle.std.specs.Prelude.{ℕ, ◌≡◌, List, IsTrue};
+ghost use Rattle.journal_world.specs.Histories.{Entry, IsLegal};
+ghost use Rattle.journal_disk.specs.Disks.{DiskState};
+ghost use Rattle.journal_core.specs.Cores.{CoreState};
+ghost use Rattle.journal_core.specs.Openings.{Begins};
+ghost use Rattle.journal_core.specs.Interleavings.Machine.{up};
+ghost use Rattle.journal_core.specs.Interleavings.{Event, Answer, Machine, Mount, mounted, TellsAll, Run, HasHistory};
 
-/// Transactions of any number of actors, in any order of their events, on one core: each read is answered
-/// by the map after the history so far, each commit adds one legal entry, and nothing else changes the
-/// history. An event that the core cannot answer is refused, so that no list of events gets stuck.
+use journal_world::MapRule;
+
+/// Transactions of any number of actors, steps of the logger and the installer, crashes at any moment of any
+/// call, and openings, in any order of their events, on a disk that is honest. Each read is answered by the map
+/// after the history so far, each commit adds one legal entry, a mark is one that is allowed, a crash leaves the
+/// map after a front of the history that has every marked commit, and the next mount begins with it; nothing
+/// else changes the history. The history of each mount is legal.
 ///
 /// The call does nothing: its contract is the law, over the definitions that the steps of `Core` cite.
-pub fn every_interleaving()
-    ensures told { (blocks : ℕ) (events : List Event) (answers : List Answer) (last : State) →
-        Run (first blocks) events answers last → TellsAll (begun blocks) answers last.history }
-    ensures legal { (blocks : ℕ) (events : List Event) (answers : List Answer) (last : State) →
-        Run (first blocks) events answers last → IsLegal any_map last.history }
-    ensures goes_on { (old : State) (event : Event) → (answer : Answer) × ((new : State) × Happens old event answer new) }
+pub fn every_interleaving<R: MapRule>()
+    ensures told { (disk : DiskState) (first : CoreState) (events : List Event) (answers : List Answer) (last : Machine) →
+        IsTrue disk.honest → Begins R.statement disk first → Run R.statement (mounted first) events answers last →
+        (history : List Entry) × HasHistory last history × TellsAll first.history answers history }
+    ensures legal { (disk : DiskState) (first : CoreState) (events : List Event) (answers : List Answer) (last : Mount) →
+        IsTrue disk.honest → Begins R.statement disk first → Run R.statement (mounted first) events answers (up last) →
+        IsLegal R.statement last.core.history }
 {}

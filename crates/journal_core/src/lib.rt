@@ -1,17 +1,24 @@
-//! The journal's core, plain: a map of the objects that were overwritten so far, beside the history that
-//! says how they came to be. Contracts see the core as that history, and nothing else.
+//! The core of a journal: each call is one event of its history.
 //!
-//! A step is one event. `Core::read_step` answers what the map gives now, and `Core::commit_step` adds one
-//! transaction to the history, or nothing. `every_interleaving` states what that means for whole lists of
-//! events, of many transactions side by side.
+//! It keeps the map of objects in logged blocks, and the one writer of a mount's history. Contracts see both,
+//! with the numbers of commits at the last cut and at that of the last group whose cycle ended. `specs/` has
+//! what a crash may leave: always the map after a front of the history that is no shorter than its greatest
+//! mark.
 #![tactic(auto)]
 
-mod entry;
+mod cause;
+mod commit;
+mod install;
 mod law;
-mod map;
-mod steps;
+mod log;
+mod open;
+mod read;
+mod session;
+mod state;
+mod tally;
 mod transaction;
 
+pub use cause::Cause;
 pub use law::every_interleaving;
-pub use steps::Core;
+pub use state::{Core, Stat};
 pub use transaction::Transaction;

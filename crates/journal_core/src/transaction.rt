@@ -1,4 +1,5 @@
 // What a transaction did.
+use journal_history::Recorded;
 use journal_world::Objects;
 
 /// What an open transaction has read and overwritten, by address.
@@ -8,4 +9,10 @@ pub struct Transaction {
     pub reads: Objects,
     /// The values that it writes where it is committed.
     pub writes: Objects,
+}
+
+impl Recorded for Transaction {
+    ghost reads = { λ t. t.reads };
+
+    ghost writes = { λ t. t.writes };
 }

@@ -1,5 +1,5 @@
 // The law of the book, its four kinds of step, and the entries that steps ask for.
-use journal_world::{MapRule, ObjectReader};
+use journal_world::MapRule;
 use logbook::{Gain, Plain, Play, Rule};
 use std::marker::{Model, PhantomData};
 
@@ -93,10 +93,21 @@ impl<R: MapRule> Play<LogEntry, u64> for ExchangeFloor<R> {
     ghost then = { λ step before found after. ExchangesFloor R.statement step before found after };
 }
 
-/// Asks for the opening of the map that a reader reads.
+/// The map that a history begins with.
+pub trait Opened {
+    ghost use Rattle.std.specs.Prelude.{Bool};
+    ghost use Rattle.journal_world.specs.Maps.{Map};
+
+    ghost map: { Self → Map };
+
+    // Whether the disk that it was found on was honest and settled.
+    ghost trusted: { Self → Bool };
+}
+
+/// Asks for the opening of a map.
 pub struct AskOpening;
 
-impl<O: ObjectReader> Plain<O, LogEntry, u64> for AskOpening {
+impl<O: Opened> Plain<O, LogEntry, u64> for AskOpening {
     ghost use Rattle.std.specs.Prelude.{None};
     ghost use Rattle.journal_world.specs.Histories.Entry.{opening};
 

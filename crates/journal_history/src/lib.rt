@@ -27,7 +27,7 @@ mod writer;
 
 pub use book::{Book, Naming};
 pub use front::Front;
-pub use law::Recorded;
+pub use law::{Opened, Recorded};
 pub use receipt::{Receipt, StableNote};
 pub use session::Session;
 pub use writer::Writer;

@@ -62,7 +62,8 @@ impl<'b, J: Naming, R: MapRule> Session<'b, J, R> {
 
     /// How many transactions it has committed.
     pub fn made(&self) -> u64
-        ensures { result ≡ made self.now }
+        ensures made { result ≡ made self.now }
+        ensures own { IsPrefix self.now.mine self.now.seen }
     {
         self.commits
     }

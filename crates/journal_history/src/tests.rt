@@ -4,7 +4,7 @@ ghost use Rattle.journal_history.specs.Tokens.{made};
 
 use super::*;
 use crate::law::{AskMark, Law, LogEntry, NoGain};
-use journal_world::{Addr, AnyMap, Layout, ObjectReader, Refusal, Value};
+use journal_world::{AnyMap, Layout};
 use logbook::Seen;
 use std::marker::Brand;
 use std::mem::size_of;
@@ -13,28 +13,18 @@ use std::sync::Wait;
 use std::test::*;
 use std::thread::{Threads, join};
 
-// A disk of zeros. Nobody reads it.
+// A disk of zeros.
 #[derive(Drop)]
 struct Zeros {
     layout: Layout,
 }
 
-impl ObjectReader for Zeros {
+impl Opened for Zeros {
     ghost use Rattle.std.specs.Prelude.{[], true};
-
-    type Cause = ();
 
     ghost map = { λ zeros. record { blocks = zeros.layout.blocks; pairs = [] } };
 
     ghost trusted = { λ zeros. true };
-
-    fn layout(&self) -> Layout {
-        self.layout
-    }
-
-    fn read(&mut self, _addr: Addr) -> Result<Value, Refusal<()>> {
-        Err(Refusal::NoMemory)
-    }
 }
 
 // A transaction that reads and writes nothing.

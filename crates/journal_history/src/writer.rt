@@ -9,10 +9,10 @@ ghost use Rattle.journal_history.specs.Tokens.{made, IsExact, OnlyExtends, next_
 
 use crate::book::{Book, Naming};
 use crate::front::Front;
-use crate::law::{AskMark, AskOpening, Recorded};
+use crate::law::{AskMark, AskOpening, Opened, Recorded};
 use crate::receipt::Receipt;
 use crate::session::Session;
-use journal_world::{MapRule, ObjectReader};
+use journal_world::MapRule;
 use std::fmt;
 use std::fmt::Debug;
 use std::marker::Model;
@@ -43,10 +43,10 @@ impl<'b, J: Naming, R: MapRule> Model for Writer<'b, J, R> {
 }
 
 impl<'b, J: Naming, R: MapRule> Writer<'b, J, R> {
-    /// Begins the history of a book with the map that is read.
+    /// Begins the history of a book with a map.
     ///
     /// At `Err` the book has a history already, and the front has seen it.
-    pub fn begin<O: ObjectReader>(
+    pub fn begin<O: Opened>(
         book: &'b Book<R>,
         objects: &O,
     ) -> Result<Writer<'b, J, R>, Front<'b, J, R>>

@@ -35,3 +35,9 @@ pub record Overwrites (old : Draft) (a : Addr) (v : Value) (new : Draft) : Type 
   pub blocks : new.blocks ≡ old.blocks
   pub reads : new.reads ≡ old.reads
   pub writes : SamePairs new.writes ((a, v) ∷ old.writes)
+
+-- The answer is among those that are remembered
+pub record Reads (old : Draft) (a : Addr) (v : Value) (new : Draft) : Type 0 where
+  pub blocks : new.blocks ≡ old.blocks
+  pub reads : SamePairs new.reads ((a, v) ∷ old.reads)
+  pub writes : new.writes ≡ old.writes

@@ -1,7 +1,12 @@
+pub mod Answers
 pub mod Commands
+pub mod Downs
 pub mod Drafts
+pub mod Journals
 pub mod Lines
+pub mod Mounts
 pub mod Numbers
 pub mod Programs
+pub mod Ranges
 pub mod Shells
 pub mod Values

@@ -1,101 +1,175 @@
--- What a command does to a journal with at most one transaction open, and what it is answered.
-use Rattle.std.specs.Prelude.{ℕ, ◌≡◌, false, IsTrue, List, [], ◌∷◌, ◌++◌, codes, Option, Some, None, Result, Ok, Err, unwrap_or, IsSome, MatchOption}
+-- What a command does to a mounted journal with at most one transaction open, and what it is answered.
+use Rattle.std.specs.Prelude.{ℕ, ◌≡◌, ◌⊎◌, ◌<◌, ◌+◌, ◌-◌, ◌^◌, false, IsTrue, List, [], length, replicate, slice_range, Option, Some, None, Result, Ok, Err, unwrap_or, IsSome, MatchOption}
 use Rattle.journal_world.specs.declared.address.Addr.{Addr}
 use Rattle.journal_world.specs.declared.refusal.Refusal.{Refusal}
 use Rattle.journal_world.specs.declared.refusal.Refusal.TheVariants as refusals
 use Rattle.journal_world.specs.Addresses.{Value, is_valid, kind_of}
-use Rattle.journal_world.specs.Maps.{Pair, Agrees, is_value_at}
-use Rattle.journal_world.specs.Histories.{Entry, opened, latest, count}
-use Rattle.journal_core.specs.Commits.{Commits}
+use Rattle.journal_world.specs.Maps.{Agrees, is_value_at}
+use Rattle.journal_world.specs.Histories.{latest, count, floor}
+use Rattle.journal_disk.specs.Disks.{Past, read_of}
+use Rattle.journal_disk.specs.MemDisks.{pending_blocks}
+use Rattle.journal_history.specs.Tokens.{OnlyExtends}
+use Rattle.journal_core.specs.Causes.{Told}
+use Rattle.journal_core.specs.Commits.{IsCommitted, IsCommitRefusal}
 use Rattle.jtool.specs.declared.command.Command.{Command}
 use Rattle.jtool.specs.declared.command.Command.TheVariants as commands
-use Rattle.jtool.specs.declared.shell.Answer.{Answer}
-use Rattle.jtool.specs.declared.shell.Answer.TheVariants as answers
-use Rattle.std.specs.Fmt.{decimal}
-use Rattle.jtool.specs.Values.{text_of}
-use Rattle.jtool.specs.Commands.{words, Says}
+use Rattle.jtool.specs.declared.command.Choice.{Choice}
+use Rattle.jtool.specs.declared.command.Choice.TheVariants as choices
+use Rattle.jtool.specs.declared.answer.Answer.{Answer}
+use Rattle.jtool.specs.declared.answer.Answer.TheVariants as answers
+use Rattle.jtool.specs.declared.shell.Reply.{Reply}
+use Rattle.jtool.specs.declared.shell.Reply.TheVariants as replies
 use Rattle.jtool.specs.Drafts.{Draft, empty, told, Remembers, Overwrites}
+use Rattle.jtool.specs.Journals.{JournalState, history_of, disk_of, blocks_of, OnlyLooks, RefusesRead, Logs, RefusesLog, Installs, RefusesInstall, OnlyMarks}
 
--- The journal's history, and the transaction that is open
+-- The journal, and the transaction that is open
 pub record State : Type 0 where
-  pub history : List Entry
+  pub journal : JournalState
   pub draft : Option Draft
-
--- how many blocks the disk has
-abbrev pub blocks_of : State → ℕ
-blocks_of s = (opened s.history).blocks
 
 -- the transaction that is open, else the one that begins
 abbrev pub begun_draft : State → Draft
-begun_draft s = unwrap_or s.draft (empty (blocks_of s))
+begun_draft s = unwrap_or s.draft (empty (blocks_of s.journal))
 
 -- the state with this transaction
 abbrev pub with_draft : State → Option Draft → State
-with_draft s draft = record { history = s.history; draft = draft }
+with_draft s draft = record { journal = s.journal; draft = draft }
 
 -- The transaction overwrites the address
 pub record Puts (old : State) (a : Addr) (v : Value) (new : State) : Type 0 where
-  pub history : new.history ≡ old.history
+  pub journal : new.journal ≡ old.journal
   pub draft : Draft
   pub is_open : new.draft ≡ Some draft
   pub overwrites : Overwrites (begun_draft old) a v draft
 
 -- The transaction is told the value
 pub record Gets (old : State) (a : Addr) (v : Value) (new : State) : Type 0 where
-  pub history : new.history ≡ old.history
+  pub journal : OnlyLooks old.journal new.journal
   pub draft : Draft
   pub is_open : new.draft ≡ Some draft
-  pub is_told : v ≡ told (begun_draft old) old.history a
+  pub is_told : v ≡ told (begun_draft old) (history_of old.journal) a
   pub remembers : Remembers (begun_draft old) a v draft
 
 -- when a put is refused
-abbrev pub RefusesPut : State → Addr → Value → Refusal (Unit {0}) → Type 0
-RefusesPut s a v refusals.NoMemory = IsTrue (is_valid (blocks_of s) a) × IsTrue (is_value_at (kind_of (blocks_of s) a.block) v)
-RefusesPut s a v refusals.BadAddress = is_valid (blocks_of s) a ≡ false
-RefusesPut s a v refusals.BadSize = IsTrue (is_valid (blocks_of s) a) × (is_value_at (kind_of (blocks_of s) a.block) v ≡ false)
+abbrev pub RefusesPut : State → Addr → Value → Refusal Told → Type 0
+RefusesPut s a v refusals.NoMemory = IsTrue (is_valid (begun_draft s).blocks a) × IsTrue (is_value_at (kind_of (begun_draft s).blocks a.block) v)
+RefusesPut s a v refusals.BadAddress = is_valid (begun_draft s).blocks a ≡ false
+RefusesPut s a v refusals.BadSize = IsTrue (is_valid (begun_draft s).blocks a) × (is_value_at (kind_of (begun_draft s).blocks a.block) v ≡ false)
 RefusesPut s a v _ = ⊥
 
--- when a get is
-abbrev pub RefusesGet : State → Addr → Refusal (Unit {0}) → Type 0
-RefusesGet s a refusals.NoMemory = IsTrue (is_valid (blocks_of s) a)
-RefusesGet s a refusals.BadAddress = is_valid (blocks_of s) a ≡ false
-RefusesGet s a _ = ⊥
+-- A get is refused, and leaves a transaction open
+pub record RefusesGet (old : State) (a : Addr) (why : Refusal Told) (new : State) : Type 0 where
+  pub journal : OnlyLooks old.journal new.journal
+  pub draft : new.draft ≡ Some (begun_draft old)
+  pub refused : RefusesRead old.journal a new.journal why
 
--- when a commit is
-abbrev pub RefusesCommit : List Entry → List Pair → Refusal (Unit {0}) → Type 0
-RefusesCommit history reads refusals.NoMemory = Agrees (latest history) reads
-RefusesCommit history reads refusals.Busy = Agrees (latest history) reads → ⊥
-RefusesCommit history reads _ = ⊥
+-- The transaction is committed, and there are so many commits now
+pub record CommitsDraft (old : State) (d : Draft) (n : ℕ) (new : State) : Type 0 where
+  pub committed : IsCommitted d.reads d.writes old.journal.session new.journal.session old.journal.core new.journal.core
+  pub agrees : Agrees (latest (history_of old.journal)) d.reads
+  pub counted : n ≡ count (history_of new.journal)
+  pub ended : new.draft ≡ None
+
+-- It is not, and is ended
+pub record RefusesCommit (old : State) (d : Draft) (why : Refusal Told) (new : State) : Type 0 where
+  pub refused : IsCommitRefusal old.journal.core old.journal.session d.reads d.writes new.journal.core why
+  pub same : new.journal.core ≡ record old.journal.core { objects = new.journal.core.objects }
+  pub session : OnlyExtends old.journal.session new.journal.session
+  pub ended : new.draft ≡ None
 
 -- what a result answers
-abbrev pub answered : Result Answer (Refusal (Unit {0})) → Answer
+abbrev pub answered : Result (Answer Told) (Refusal Told) → Answer Told
 answered (Ok answer) = answer
 answered (Err why) = answers.Refused why
 
+-- What each command may be answered, and then leaves
+abbrev pub ObeysPut : State → Addr → Value → Answer Told → State → Type 0
+ObeysPut old a v answers.Done new = Puts old a v new
+ObeysPut old a v (answers.Refused why) new = RefusesPut old a v why × (new ≡ with_draft old (Some (begun_draft old)))
+ObeysPut old a v _ new = ⊥
+
+abbrev pub ObeysGet : State → Addr → Answer Told → State → Type 0
+ObeysGet old a (answers.Value v) new = Gets old a v new
+ObeysGet old a (answers.Refused why) new = RefusesGet old a why new
+ObeysGet old a _ new = ⊥
+
+abbrev pub ObeysCommit : State → Answer Told → State → Type 0
+ObeysCommit old (answers.Committed n) new = MatchOption old.draft ⊥ (λ d. CommitsDraft old d n new)
+ObeysCommit old (answers.Refused why) new = MatchOption old.draft ⊥ (λ d. RefusesCommit old d why new)
+ObeysCommit old answers.NoTransaction new = (old.draft ≡ None) × (new ≡ old)
+ObeysCommit old _ new = ⊥
+
+abbrev pub ObeysAbort : State → Answer Told → State → Type 0
+ObeysAbort old answers.Done new = IsSome old.draft × (new ≡ with_draft old None)
+ObeysAbort old answers.NoTransaction new = (old.draft ≡ None) × (new ≡ old)
+ObeysAbort old _ new = ⊥
+
+abbrev pub ObeysWait : State → Answer Told → State → Type 0
+ObeysWait old (answers.Stable n) new =
+    OnlyMarks old.journal new.journal × (n ≡ floor (history_of new.journal)) × (new.draft ≡ old.draft)
+ObeysWait old (answers.Refused why) new = OnlyMarks old.journal new.journal × (new.draft ≡ old.draft)
+ObeysWait old _ new = ⊥
+
+abbrev pub ObeysLog : State → ℕ → Answer Told → State → Type 0
+ObeysLog old most (answers.Logged moved) new = Logs most old.journal moved new.journal × (new.draft ≡ old.draft)
+ObeysLog old most (answers.Refused why) new = RefusesLog old.journal new.journal why × (new.draft ≡ old.draft)
+ObeysLog old most _ new = ⊥
+
+abbrev pub ObeysInstall : State → ℕ → Answer Told → State → Type 0
+ObeysInstall old most (answers.Installed moved) new = Installs most old.journal moved new.journal × (new.draft ≡ old.draft)
+ObeysInstall old most (answers.Refused why) new = RefusesInstall old.journal new.journal why × (new.draft ≡ old.draft)
+ObeysInstall old most _ new = ⊥
+
+-- a poke is for a disk that is down
+abbrev pub Pokes : State → ℕ → Answer Told → Type 0
+Pokes s block answers.Up = block < blocks_of s.journal
+Pokes s block answers.BadLine = block < blocks_of s.journal → ⊥
+Pokes s block _ = ⊥
+
+-- what is told of a state that stays
+abbrev pub Tells : State → Command → Answer Told → Type 0
+Tells s commands.Stat (answers.Stat stat) = stat ≡ record {
+  commits = count (history_of s.journal);
+  floor = floor (history_of s.journal);
+  start = s.journal.core.objects.log.start;
+  end = s.journal.core.objects.log.logged;
+}
+Tells s commands.Pend (answers.Pending pending) = pending.items ≡ pending_blocks (disk_of s.journal).past
+Tells s commands.Pend (answers.Refused why) = why ≡ refusals.NoMemory
+Tells s (commands.Disk block at len) (answers.Value v) = v ≡ slice_range (read_of (disk_of s.journal).past block) at (at + len)
+Tells s (commands.Disk block at len) (answers.Refused why) = why ≡ refusals.NoMemory
+Tells s (commands.Disk block at len) answers.BadLine = block < blocks_of s.journal → ⊥
+Tells s (commands.Fail call) answers.Done = Unit {0}
+Tells s (commands.Poke block at v) answer = Pokes s block answer
+Tells s commands.Open answers.Up = Unit {0}
+Tells s (commands.Down choice) (answers.Refused why) = why ≡ refusals.NoMemory
+Tells s (commands.Crash choice) (answers.Refused why) = why ≡ refusals.NoMemory
+Tells s command answer = ⊥
+
+-- at most so many steps, or as many as there are
+abbrev pub most_of : Option ℕ → ℕ
+most_of most = unwrap_or most (2 ^ 64 - 1)
+
 -- The command may be answered so, and then leaves new. `put` and `get` begin a transaction where none is open
-abbrev pub Obeys : State → Command → Answer → State → Type 0
-Obeys old (commands.Put a v) answers.Done new = Puts old a v.now new
-Obeys old (commands.Put a v) (answers.Refused why) new = RefusesPut old a v.now why × (new ≡ with_draft old (Some (begun_draft old)))
-Obeys old (commands.Get a) (answers.Value v) new = Gets old a v new
-Obeys old (commands.Get a) (answers.Refused why) new = RefusesGet old a why × (new ≡ with_draft old (Some (begun_draft old)))
-Obeys old commands.Commit (answers.Committed n) new =
-    MatchOption old.draft ⊥ (λ d. Commits old.history (record { reads = d.reads; writes = d.writes }) new.history) × (n ≡ count new.history) × (new.draft ≡ None)
-Obeys old commands.Commit (answers.Refused why) new = MatchOption old.draft ⊥ (λ d. RefusesCommit old.history d.reads why) × (new ≡ with_draft old None)
-Obeys old commands.Commit answers.NoTransaction new = (old.draft ≡ None) × (new ≡ old)
-Obeys old commands.Abort answers.Done new = IsSome old.draft × (new ≡ with_draft old None)
-Obeys old commands.Abort answers.NoTransaction new = (old.draft ≡ None) × (new ≡ old)
-Obeys old _ _ new = ⊥
+abbrev pub Obeys : State → Command → Answer Told → State → Type 0
+Obeys old (commands.Put a v) answer new = ObeysPut old a v.now answer new
+Obeys old (commands.Get a) answer new = ObeysGet old a answer new
+Obeys old commands.Commit answer new = ObeysCommit old answer new
+Obeys old commands.Abort answer new = ObeysAbort old answer new
+Obeys old commands.Wait answer new = ObeysWait old answer new
+Obeys old (commands.Log most) answer new = ObeysLog old (most_of most) answer new
+Obeys old (commands.Install most) answer new = ObeysInstall old (most_of most) answer new
+Obeys old command answer new = Tells old command answer × (new ≡ old)
 
--- The line may be answered so: as the command that it says, or as a bad line where it says none
-abbrev pub Answers : State → List ℕ → Answer → State → Type 0
-Answers old line answers.BadLine new = ((command : Command) → Says (words line) command → ⊥) × (new ≡ old)
-Answers old line answer new = (command : Command) × Says (words line) command × Obeys old command answer new
+-- the numbers by which an image is chosen
+abbrev pub numbers_of : Choice → Past → List ℕ
+numbers_of choices.Stable p = []
+numbers_of choices.Last p = replicate (length (pending_blocks p)) (2 ^ 32 - 1)
+numbers_of (choices.Listed numbers) p = numbers.now
 
--- the line that is printed, where it is said here: that of a refusal is the refusal's own
-abbrev pub answer_line : Answer → Option (List ℕ)
-answer_line answers.Done = Some (codes "ok" ++ 10 ∷ [])
-answer_line (answers.Value v) = Some (codes "= " ++ text_of v ++ 10 ∷ [])
-answer_line (answers.Committed n) = Some (codes "committed " ++ decimal n ++ 10 ∷ [])
-answer_line answers.NoTransaction = Some (codes "no transaction" ++ 10 ∷ [])
-answer_line (answers.Refused why) = None
-answer_line answers.BadLine = Some (codes "bad line" ++ 10 ∷ [])
+-- The command is obeyed, or ends the mount, by the crash that leaves the image it names
+abbrev pub Replies : State → Command → Reply Told → State → Type 0
+Replies old command (replies.Answer answer) new = Obeys old command answer new
+Replies old (commands.Down choice) (replies.Down numbers) new = (numbers.items ≡ numbers_of choice (disk_of old.journal).past) × (new ≡ old)
+Replies old (commands.Crash choice) (replies.Crash numbers) new = (numbers.items ≡ numbers_of choice (disk_of old.journal).past) × (new ≡ old)
+Replies old command reply new = ⊥

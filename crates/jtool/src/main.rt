@@ -5,15 +5,25 @@
 ghost use Rattle.std.specs.Prelude.{◌≡◌, ◌≤◌, ℕ, map, string_bytes, IfSome, IfNone, IfErr, OnOk};
 ghost use Rattle.jtool.specs.Programs.{Asks, IsSize, CannotBegin};
 
+mod actors;
+mod answer;
+mod blocks;
+mod choices;
 mod command;
+mod console;
+mod down;
 mod fault;
+mod format;
 mod journal;
 mod lines;
+mod mount;
 mod numbers;
+mod room;
 mod script;
 mod shell;
 #[cfg(test)]
 mod tests;
+mod txn;
 mod values;
 
 use fault::Fault;
@@ -39,24 +49,30 @@ pub fn run<I: BufRead, O: Write, E: Write>(
     ensures words { ((n : ℕ) → Asks (map string_bytes words.now) n → IsSize n → ⊥) → result ≡ 2 }
     ensures status { result ≤ 2 }
 {
-    match begin(alloc, words, input) {
-        Ok(script) => match script.answer(output) {
+    match begin(alloc, words, input, output, &mut *faults) {
+        Ok(script) => match script.answer() {
             Ok(Outcome::AllGood) => 0,
             Ok(Outcome::SomeBad) => 2,
-            Err(_) => 1,
+            Ok(Outcome::NotBegun) | Err(_) => 1,
         },
         Err(fault) => fault.report(faults),
     }
 }
 
 // The script that the words ask for.
-fn begin<I: BufRead + Drop>(alloc: Global, words: &[String], input: I) -> Result<Script<I>, Fault>
+fn begin<I: BufRead + Drop, O: Write + Drop, E: Write + Drop>(
+    alloc: Global,
+    words: &[String],
+    input: I,
+    output: O,
+    faults: E,
+) -> Result<Script<I, O, E>, Fault>
     ensures ok { OnOk result ((n : ℕ) × Asks (map string_bytes words.now) n × IsSize n) }
     ensures err { IfErr result (CannotBegin (map string_bytes words.now)) }
 {
     let blocks = blocks_asked(words).ok_or(Fault::Usage)?;
     let layout = Layout::new(u64::from(blocks)).ok_or(Fault::BadSize)?;
-    Script::open(alloc, layout, input)
+    Script::open(alloc, layout, input, output, faults)
 }
 
 // How many blocks the words ask for, where they ask for a script.

@@ -1,22 +1,29 @@
-// A script: lines that are read, obeyed and answered one after another.
-ghost use Rattle.std.specs.Prelude.{◌≡◌, IfErr};
-ghost use Rattle.jtool.specs.Shells.{Answers};
+// A script: lines that are read, obeyed and answered one after another, over one disk.
+ghost use Rattle.std.specs.Prelude.{◌≡◌, ◌⊎◌, IfErr, IfOk, IfSome};
+ghost use Rattle.jtool.specs.Mounts.{IsAtRest};
+ghost use Rattle.jtool.specs.Programs.{IsOfMemory};
 
+use crate::answer::Answer;
 use crate::command::Command;
+use crate::console::{Asked, Console};
+use crate::down;
 use crate::fault::Fault;
-use crate::lines::{Line, Lines};
-use crate::shell::{Answer, Shell};
-use crate::values::Room;
-use journal_world::{Layout, Refusal};
+use crate::format::format;
+use crate::mount::{Left, Opening, mount};
+use journal_disk::MemDisk;
+use journal_world::{Layout, Refused};
 use std::alloc::Global;
 use std::io;
 use std::io::{BufRead, Write};
 
-/// A script, with all the memory that its lines share. It must be ended, by `answer`.
-pub struct Script<I> {
-    shell: Shell,
-    lines: Lines<I>,
-    room: Room,
+/// A script over a fresh disk.
+#[derive(Drop)]
+pub struct Script<I, O, E> {
+    alloc: Global,
+    layout: Layout,
+    disk: MemDisk,
+    console: Console<I, O, E>,
+    ghost rest: { IsAtRest layout.blocks disk.past },
 }
 
 /// How a script went that was read and answered to its end.
@@ -26,62 +33,102 @@ pub enum Outcome {
     AllGood,
     /// Some line was bad.
     SomeBad,
+    /// The fresh disk was not mounted.
+    NotBegun,
 }
 
-impl<I: BufRead + Drop> Script<I> {
-    /// The input as a script over an empty disk. Refused only for want of memory (J1).
-    pub fn open(alloc: Global, layout: Layout, input: I) -> Result<Script<I>, Fault>
-        ensures { IfErr result (λ fault. fault ≡ Fault.Refused Refusal.NoMemory) }
+impl<I: BufRead + Drop, O: Write + Drop, E: Write + Drop> Script<I, O, E> {
+    /// The input as a script over a formatted disk. Refused only for want of memory.
+    pub fn open(
+        alloc: Global,
+        layout: Layout,
+        input: I,
+        output: O,
+        faults: E,
+    ) -> Result<Script<I, O, E>, Fault>
+        ensures { IfErr result IsOfMemory }
     {
-        let lines = Lines::new(alloc, input)?;
-        let room = Room::new(alloc)?;
-        let shell = Shell::open(alloc, layout)?;
-        Ok(Script { shell, lines, room })
+        let console = Console::new(alloc, input, output, faults)?;
+        let disk = match format(alloc, MemDisk::new(alloc, layout.blocks)?) {
+            Ok(disk) => disk,
+            Err(Refused { refusal, .. }) => return Err(refusal.into()),
+        };
+        Ok(Script {
+            alloc,
+            layout,
+            disk,
+            console,
+        })
     }
 
     /// Answers each line. What was printed before an error is written out too.
-    pub fn answer<O: Write>(self, output: &mut O) -> io::Result<Outcome> {
+    pub fn answer(self) -> io::Result<Outcome> {
         let Script {
-            mut shell,
-            mut lines,
-            mut room,
+            alloc,
+            layout,
+            disk,
+            mut console,
         } = self;
-        let answered = answer_lines(&mut shell, &mut lines, &mut room, output);
-        shell.close();
-        output.flush()?;
-        answered
+        let begun = answer_all(alloc, layout, disk, &mut console);
+        let some_bad = console.finish()?;
+        Ok(match (begun?, some_bad) {
+            (false, _) => Outcome::NotBegun,
+            (true, false) => Outcome::AllGood,
+            (true, true) => Outcome::SomeBad,
+        })
     }
 }
 
-// Answers line after line, until the input ends.
-fn answer_lines<I: BufRead + Drop, O: Write>(
-    shell: &mut Shell,
-    lines: &mut Lines<I>,
-    room: &mut Room,
-    output: &mut O,
-) -> io::Result<Outcome> {
-    let mut outcome = Outcome::AllGood;
-    for _ in 0..u64::MAX {
-        let answer = match lines.next_line()? {
-            None => break,
-            Some(Line::Whole([])) => continue,
-            Some(Line::Whole(line)) => answer_to(shell, room, line),
-            Some(Line::TooLong) => Answer::BadLine,
-        };
-        if matches!(answer, Answer::BadLine) {
-            outcome = Outcome::SomeBad;
-        }
-        answer.print(output)?;
-    }
-    Ok(outcome)
-}
-
-// Obeys a line, or leaves all as it is where the line is bad.
-fn answer_to(shell: &mut Shell, room: &mut Room, line: &[u8]) -> Answer
-    ensures { Answers shell.old line.now result shell.new }
+// Mounts the disk, and again whenever a line asks for it, until the input ends. Whether the first mount
+// began.
+fn answer_all<I: BufRead + Drop, O: Write + Drop, E: Write + Drop>(
+    alloc: Global,
+    layout: Layout,
+    disk: MemDisk,
+    console: &mut Console<I, O, E>,
+) -> io::Result<bool>
+    requires rest { IsAtRest layout.blocks disk.past }
 {
-    match Command::read(line, room) {
-        Some(command) => shell.obey(command),
-        None => Answer::BadLine,
+    let mut disk = disk;
+    let mut opening = Opening::First;
+    for _ in 0..u64::MAX {
+        disk = match mount(alloc, layout, disk, opening, console)? {
+            Left::Refused => return Ok(false),
+            Left::Ended => break,
+            Left::Crashed(disk) => disk,
+            Left::Down(disk) => match answer_down(alloc, layout, disk, console)? {
+                Some(disk) => disk,
+                None => break,
+            },
+        };
+        opening = Opening::Asked;
     }
+    Ok(true)
+}
+
+// Answers line after line while the disk is down, until one opens it. `None` at the end of the input.
+fn answer_down<I: BufRead + Drop, O: Write + Drop, E: Write + Drop>(
+    alloc: Global,
+    layout: Layout,
+    disk: MemDisk,
+    console: &mut Console<I, O, E>,
+) -> io::Result<Option<MemDisk>>
+    requires rest { IsAtRest layout.blocks disk.past }
+    ensures rest { IfOk result (λ left. IfSome left (λ disk. IsAtRest layout.blocks disk.past)) }
+{
+    let mut disk = disk;
+    for _ in 0..u64::MAX {
+        let answer = match console.ask()? {
+            None => return Ok(None),
+            Some(Asked::Nothing) => Answer::BadLine,
+            Some(Asked::Command(Command::Open)) => return Ok(Some(disk)),
+            Some(Asked::Command(command)) => {
+                let (left, answer) = down::obey(alloc, disk, command);
+                disk = left;
+                answer
+            }
+        };
+        console.answer(&answer)?;
+    }
+    Ok(None)
 }

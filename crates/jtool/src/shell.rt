@@ -1,91 +1,122 @@
-// A script's commands, obeyed one after another in a journal of their own.
-ghost use Rattle.std.specs.Prelude.{◌≡◌, None, Some, IsSome, IsNone, IfSome, IfOk, IfErr, OnOk, MatchOption};
-ghost use Rattle.std.specs.Io.KnownBytes.{Appends};
-ghost use Rattle.journal_world.specs.Histories.{count};
-ghost use Rattle.journal_core.specs.Commits.{begun, Commits};
-ghost use Rattle.jtool.specs.Shells.{State, blocks_of, begun_draft, with_draft, answered, Obeys, answer_line};
+// Commands to a mounted journal, obeyed one after another.
+ghost use Rattle.std.specs.Prelude.{◌≡◌, None, Some, IsNone, ◌+◌, ◌≤◌, IfOk, IfErr, IsOkUnless};
+ghost use Rattle.journal_disk.specs.Disks.{IsSettled};
+ghost use Rattle.journal_disk.specs.MemDisks.{state_of};
+ghost use Rattle.jtool.specs.Journals.{blocks_of, disk_of, IsMounted};
+ghost use Rattle.jtool.specs.Ranges.{IsInside};
+ghost use Rattle.jtool.specs.Shells.{State, begun_draft, with_draft, answered, most_of, numbers_of, Replies, Pokes, ObeysPut, ObeysGet, ObeysCommit, ObeysAbort, ObeysWait, ObeysLog, ObeysInstall, Tells};
 
-use crate::command::Command;
-use crate::journal::{Journal, Txn};
-use crate::values;
-use journal_world::{Addr, Layout, Refusal, Value};
+use crate::answer::Answer;
+use crate::command::{Choice, Command};
+use crate::journal::{Journal, Why};
+use crate::txn::Txn;
+use journal_core::Cause;
+use journal_disk::MemDisk;
+use journal_history::{Book, Naming};
+use journal_world::{Addr, AnyMap, Layout, Refusal, Refused};
 use std::alloc::Global;
-use std::io;
-use std::io::Write;
 use std::marker::Model;
 
-/// A journal, and the transaction that is open. It must be ended, by `close`.
-pub struct Shell {
-    journal: Journal,
+// What a mounted journal answers, or why it refuses.
+type Answered<'b, J> = Result<Answer<Cause<'b, J, AnyMap>>, Why<'b, J>>;
+
+/// What becomes of a mount by a command.
+#[derive(Drop)]
+pub enum Reply<C> {
+    /// It goes on.
+    Answer(Answer<C>),
+    /// It ends, by the crash that these numbers choose.
+    Down(Vec<u32>),
+    /// It ends so, and the disk is to be mounted again.
+    Crash(Vec<u32>),
+}
+
+/// A mounted journal, and the transaction that is open. It must be ended, by `close`.
+pub struct Shell<'b, J: Naming> {
+    journal: Journal<'b, J>,
     txn: Option<Txn>,
 }
 
-impl Model for Shell {
+impl<'b, J: Naming> Model for Shell<'b, J> {
     ghost use Rattle.std.specs.Prelude.{◌≡◌, IfSome};
+    ghost use Rattle.jtool.specs.Journals.{blocks_of};
     ghost use Rattle.jtool.specs.Shells.{State};
 
     ghost Value = { State };
 
-    ghost use Rattle.journal_world.specs.Histories.{opened};
+    ghost view = { λ shell. record { journal = shell.journal; draft = shell.txn } };
 
-    ghost view = { λ shell. record { history = shell.journal; draft = shell.txn } };
-
-    ghost invariant = { λ shell. IfSome shell.txn (λ txn. txn.blocks ≡ (opened shell.journal).blocks) };
+    ghost invariant = { λ shell. (blocks_of shell.journal ≡ J.blocks)
+        × IfSome shell.txn (λ txn. txn.blocks ≡ blocks_of shell.journal) };
 }
 
-/// What a line is answered.
-#[derive(Drop)]
-pub enum Answer {
-    /// It was done.
-    Done,
-    /// The value that was asked for.
-    Value(Value),
-    /// It was committed, and there are so many commits now.
-    Committed(u64),
-    /// There is none to commit or to give up.
-    NoTransaction,
-    /// It was refused.
-    Refused(Refusal<()>),
-    /// It is no line of a script.
-    BadLine,
-}
-
-impl Shell {
-    /// An empty journal, with no transaction open. Refused only for want of memory (J1).
-    pub fn open(alloc: Global, layout: Layout) -> Result<Shell, Refusal<()>>
-        ensures opened { IfOk result
-            (λ shell. shell ≡ record { history = begun layout.blocks; draft = None }) }
-        ensures refused { IfErr result (λ why. why ≡ Refusal.NoMemory) }
+impl<'b, J: Naming> Shell<'b, J> {
+    /// The disk mounted, with no transaction open.
+    pub fn open(
+        alloc: Global,
+        book: &'b Book<AnyMap>,
+        layout: Layout,
+        disk: MemDisk,
+    ) -> Result<Shell<'b, J>, Refused<MemDisk, Cause<'b, J, AnyMap>>>
+        requires book { book.now ≡ J.book }
+        requires layout { layout.blocks ≡ J.blocks }
+        requires blocks { disk.past.size ≡ J.blocks }
+        requires settled { IsSettled disk.past }
+        ensures mounted { IfOk result (λ shell. IsMounted (state_of disk) shell.journal) }
+        ensures nothing { IfOk result (λ shell. shell.draft ≡ None) }
+        ensures left { IfErr result (λ refused. refused.disk.past.size ≡ disk.past.size) }
     {
         Ok(Shell {
-            journal: Journal::open(alloc, layout)?,
+            journal: Journal::open(alloc, book, layout, disk)?,
             txn: None,
         })
     }
 
-    /// Does what the command says, and answers it.
-    pub fn obey(&mut self, command: Command<'_>) -> Answer
-        ensures { Obeys self.old command.entry result self.new }
+    /// Does what the command says, and answers it, or tells how the mount is to end.
+    pub fn obey(&mut self, command: Command<'_>) -> Reply<Cause<'b, J, AnyMap>>
+        requires inside { IsInside command }
+        ensures { Replies self.old command.entry result self.new }
     {
         let answer = match command {
             Command::Put { addr, value } => self.put(addr, value),
             Command::Get { addr } => self.get(addr),
             Command::Commit => self.commit(),
             Command::Abort => Ok(self.abort()),
+            Command::Wait => self.wait(),
+            Command::Log { most } => self.log(steps_of(most)),
+            Command::Install { most } => self.install(steps_of(most)),
+            Command::Stat => Ok(Answer::Stat(self.journal.stat())),
+            Command::Pend => self.pend(),
+            Command::Disk { block, at, len } => self.disk(block, at, len),
+            Command::Fail { call } => Ok(self.fail(call)),
+            Command::Poke { block, .. } => Ok(self.poke(block)),
+            Command::Open => Ok(Answer::Up),
+            Command::Down { choice } => match self.numbers_of(choice) {
+                Ok(numbers) => return Reply::Down(numbers),
+                Err(why) => Err(why),
+            },
+            Command::Crash { choice } => match self.numbers_of(choice) {
+                Ok(numbers) => return Reply::Crash(numbers),
+                Err(why) => Err(why),
+            },
         };
-        answer.unwrap_or_else(Answer::Refused)
+        Reply::Answer(answer.unwrap_or_else(Answer::Refused))
     }
 
-    /// Gives the open transaction up, if there is one.
-    pub fn close(self) {
-        let Shell { journal: _, txn } = self;
+    /// Gives the disk up, as it is, and the open transaction, if there is one.
+    pub fn close(self) -> MemDisk
+        ensures disk { state_of result ≡ disk_of self.entry.journal }
+        ensures size { result.past.size ≡ J.blocks }
+    {
+        let Shell { journal, txn } = self;
         if let Some(txn) = txn {
             txn.abort();
         }
+        journal.into_disk()
     }
 
-    fn put(&mut self, addr: Addr, value: &[u8]) -> Result<Answer, Refusal<()>>
-        ensures { Obeys self.old (Command.Put addr value.entry) (answered result) self.new }
+    fn put(&mut self, addr: Addr, value: &[u8]) -> Answered<'b, J>
+        ensures { ObeysPut self.old addr value.now (answered result) self.new }
     {
         let mut txn = self.take_or_begin();
         let done = txn.overwrite(addr, value);
@@ -94,17 +125,17 @@ impl Shell {
         Ok(Answer::Done)
     }
 
-    fn get(&mut self, addr: Addr) -> Result<Answer, Refusal<()>>
-        ensures { Obeys self.old (Command.Get addr) (answered result) self.new }
+    fn get(&mut self, addr: Addr) -> Answered<'b, J>
+        ensures { ObeysGet self.old addr (answered result) self.new }
     {
         let mut txn = self.take_or_begin();
-        let value = txn.read(&self.journal, addr);
+        let value = txn.read(&mut self.journal, addr);
         self.keep(txn);
         Ok(Answer::Value(value?))
     }
 
-    fn commit(&mut self) -> Result<Answer, Refusal<()>>
-        ensures { Obeys self.old Command.Commit (answered result) self.new }
+    fn commit(&mut self) -> Answered<'b, J>
+        ensures { ObeysCommit self.old (answered result) self.new }
     {
         let Some(txn) = self.txn.take() else {
             return Ok(Answer::NoTransaction);
@@ -112,8 +143,8 @@ impl Shell {
         Ok(Answer::Committed(txn.try_commit(&mut self.journal)?))
     }
 
-    fn abort(&mut self) -> Answer
-        ensures { Obeys self.old Command.Abort result self.new }
+    fn abort(&mut self) -> Answer<Cause<'b, J, AnyMap>>
+        ensures { ObeysAbort self.old result self.new }
     {
         let Some(txn) = self.txn.take() else {
             return Answer::NoTransaction;
@@ -122,10 +153,78 @@ impl Shell {
         Answer::Done
     }
 
+    fn wait(&mut self) -> Answered<'b, J>
+        ensures { ObeysWait self.old (answered result) self.new }
+    {
+        Ok(Answer::Stable(self.journal.wait()?))
+    }
+
+    fn log(&mut self, most: u64) -> Answered<'b, J>
+        ensures { ObeysLog self.old most (answered result) self.new }
+    {
+        Ok(Answer::Logged(self.journal.log(most)?))
+    }
+
+    fn install(&mut self, most: u64) -> Answered<'b, J>
+        ensures { ObeysInstall self.old most (answered result) self.new }
+    {
+        Ok(Answer::Installed(self.journal.install(most)?))
+    }
+
+    fn pend(&self) -> Answered<'b, J>
+        ensures { Tells self.now Command.Pend (answered result) }
+    {
+        Ok(Answer::Pending(self.journal.pending()?))
+    }
+
+    fn disk(&self, block: u32, at: u32, len: u32) -> Answered<'b, J>
+        requires { at + len ≤ 4096 }
+        ensures { Tells self.now (Command.Disk block at len) (answered result) }
+    {
+        if !self.journal.has_block(u64::from(block)) {
+            return Ok(Answer::BadLine);
+        }
+        let bytes = self
+            .journal
+            .bytes(u64::from(block), at as usize, len as usize)?;
+        Ok(Answer::Value(bytes))
+    }
+
+    fn fail(&mut self, call: u32) -> Answer<Cause<'b, J, AnyMap>>
+        ensures same { self.new ≡ self.old }
+        ensures done { result ≡ Answer.Done }
+    {
+        self.journal.fail_in(u64::from(call));
+        Answer::Done
+    }
+
+    fn poke(&self, block: u32) -> Answer<Cause<'b, J, AnyMap>>
+        ensures { Pokes self.now block result }
+    {
+        if self.journal.has_block(u64::from(block)) {
+            Answer::Up
+        } else {
+            Answer::BadLine
+        }
+    }
+
+    // The numbers by which the image is chosen.
+    fn numbers_of(&self, choice: Choice<'_>) -> Result<Vec<u32>, Why<'b, J>>
+        ensures numbers { IfOk result (λ numbers. numbers.items ≡ numbers_of choice.entry (disk_of self.now.journal).past) }
+        ensures refusal { IsOkUnless result Refusal.NoMemory }
+    {
+        let alloc = self.journal.alloc();
+        match choice {
+            Choice::Stable => Ok(Vec::new(alloc)),
+            Choice::Last => Ok(vec![in alloc; u32::MAX; self.journal.pending()?.len()]?),
+            Choice::Listed(numbers) => Ok(numbers.to_vec(alloc)?),
+        }
+    }
+
     // Takes the open transaction out, or begins one where none is open.
     fn take_or_begin(&mut self) -> Txn
         ensures value { result ≡ begun_draft self.old }
-        ensures blocks { result.blocks ≡ blocks_of self.old }
+        ensures blocks { result.blocks ≡ blocks_of self.old.journal }
         ensures taken { self.new ≡ with_draft self.old None }
     {
         match self.txn.take() {
@@ -137,7 +236,7 @@ impl Shell {
     // Puts the transaction that was taken out back.
     fn keep(&mut self, txn: Txn)
         requires taken { IsNone self.old.draft }
-        requires blocks { txn.blocks ≡ blocks_of self.old }
+        requires blocks { txn.blocks ≡ blocks_of self.old.journal }
         ensures { self.new ≡ with_draft self.old (Some txn) }
     {
         if let Some(other) = self.txn.replace(txn) {
@@ -146,23 +245,9 @@ impl Shell {
     }
 }
 
-impl Answer {
-    /// Prints the answer's line.
-    pub fn print<O: Write>(&self, output: &mut O) -> io::Result<()>
-        ensures { OnOk result (IfSome (answer_line self.now)
-            (Appends (O.contents output.old) (O.contents output.new))) }
-    {
-        match self {
-            Answer::Done => writeln!(output, "ok"),
-            Answer::Value(value) => {
-                write!(output, "= ")?;
-                values::print(output, value.bytes())?;
-                writeln!(output)
-            }
-            Answer::Committed(count) => writeln!(output, "committed {count}"),
-            Answer::NoTransaction => writeln!(output, "no transaction"),
-            Answer::Refused(why) => writeln!(output, "refused {why}"),
-            Answer::BadLine => writeln!(output, "bad line"),
-        }
-    }
+// At most so many steps, or until there is nothing to do.
+fn steps_of(most: Option<u32>) -> u64
+    ensures { result ≡ most_of most }
+{
+    most.map_or(u64::MAX, u64::from)
 }

@@ -1,4 +1,6 @@
 // The program from end to end: scripts, and what they are answered.
+mod crashes;
+mod rows;
 mod side_by_side;
 mod streams;
 
@@ -96,7 +98,7 @@ fn scripts_are_answered(rt: HostRuntime) -> Result<(), Fail> {
         ),
         (b"put 531 0 ff*4096\nget 531 0\n", b"ok\n= ff*4096\n"),
         // The last line needs no newline.
-        (b"get 515 0\nget 513 0", b"= 00*128\n= 00*4096\n"),
+        (b"get 515 0\nget 532 0", b"= 00*128\n= 00*4096\n"),
         (b"get 4294967295 4294967295\n", b"refused J2 BadAddress\n"),
     ];
     for (script, output) in table {
@@ -111,7 +113,7 @@ const BAD_LINES: &[&[u8]] = &[
     b" ",
     b"PUT 515 0 01*128",
     b"puts 515 0 01*128",
-    b"wait",
+    b"waits",
     b"\xff",
     // Spaces and other bytes round the words.
     b" put 515 0 01*128",

@@ -14,16 +14,16 @@ pub const LONGEST: usize = 4096;
 
 /// Room for the bytes of one value, taken once and used for one value after another.
 #[derive(Drop)]
-pub struct Room {
+pub struct ValueRoom {
     bytes: Vec<u8>,
     ghost roomy: { 4096 ≤ vec_capacity bytes },
     ghost fits: { vec_len bytes ≤ 4096 },
 }
 
-impl Room {
+impl ValueRoom {
     /// Takes the memory.
-    pub fn new(alloc: Global) -> Result<Room, AllocError> {
-        Ok(Room {
+    pub fn new(alloc: Global) -> Result<ValueRoom, AllocError> {
+        Ok(ValueRoom {
             bytes: Vec::with_capacity(alloc, LONGEST)?,
         })
     }

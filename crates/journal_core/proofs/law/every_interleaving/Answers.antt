@@ -1,12 +1,15 @@
-use Rattle.journal_core.specs.Interleavings.{first}
-use Rattle.journal_core.proofs.Running.{runs, first_kept, goes_on}
+use Rattle.journal_core.specs.Interleavings.{mounted}
+use Rattle.journal_core.specs.Interleavings.Machine.{up}
+use Rattle.journal_core.proofs.Running.{runs, has_history, first_holds}
 use Rattle.journal_core.proofs.law.every_interleaving.Goals as goal
 
 pub returns-clause-told : goal.returns-clause-told
-returns-clause-told c = λ blocks events answers last run. (runs (first blocks) events answers last run (first_kept blocks)).0
+returns-clause-told g c = λ disk first events answers last honest begins run.
+    let rule = g.R.MapRule.statement in
+    let ran = runs rule (mounted first) first.history events answers last run (first_holds rule disk first honest begins) in
+    (ran.0, has_history rule last ran.0 ran.1, ran.2)
 
 pub returns-clause-legal : goal.returns-clause-legal
-returns-clause-legal c = λ blocks events answers last run. (runs (first blocks) events answers last run (first_kept blocks)).1
-
-pub returns-clause-goes_on : goal.returns-clause-goes_on
-returns-clause-goes_on c = goes_on
+returns-clause-legal g c = λ disk first events answers last honest begins run.
+    let rule = g.R.MapRule.statement in
+    (runs rule (mounted first) first.history events answers (up last) run (first_holds rule disk first honest begins)).1.1.runs.legal

@@ -1,0 +1,228 @@
+-- What commits need, and what they leave.
+use Rattle.std.proofs.Common.{inl, inr, ◌⊎◌, ⊎_elim, Result, Ok, Err, OnOk, ◌≡◌, ◌≢◌, ◌<◌, ◌≤◌, ◌+◌, ◌==◌, ℕ, ◌^◌, Bool, true, false, cond, max, IsTrue, List, [], ◌∷◌, ◌++◌, length, length-append, refl, sym, ap, subst, ◌∙◌, arith}
+use Rattle.std.proofs.lemmas.Bool.{false≢true, eqb-true, eqb-false}
+use mathlib.Core.List.{IsPrefix}
+use Rattle.journal_world.specs.declared.refusal.Refusal.{Refusal}
+use Rattle.journal_world.specs.declared.refusal.Refusal.TheVariants.{NoMemory, BadAddress, BadSize, TooLarge, Busy, DeviceFailed, BadLog, BadSuper, Stale, Stranger, Worn, Full, Closed, Fenced}
+use Rattle.journal_world.specs.Maps.{Map, Pair, Transaction, SameMap, Agrees, overwritten}
+use Rattle.journal_world.specs.Histories.{Entry, opened, is_trusted, commits, commits_of, count, latest}
+use Rattle.journal_world.specs.Histories.Entry.{commit}
+use Rattle.journal_world.proofs.Prefixes.{IsPrefix-trans}
+use Rattle.journal_world.proofs.SessionCommits.{commits_of-append, length-commits_of-le}
+use Rattle.journal_world.proofs.LongerHistories.{commits_of-commit, after-blocks, at-count}
+use Rattle.journal_block.specs.declared.update.Update.{Update}
+use Rattle.journal_circ.specs.Ring.{Ring}
+use Rattle.journal_memlog.specs.Logs.{next_of, appended}
+use Rattle.journal_wal.specs.Wal.{WalState, log_steps, tail_length, Appends}
+use Rattle.journal_objlog.specs.ObjectLogs.{map_now, map_cut, map_logged, MayCrash, OnlyReads}
+use Rattle.journal_objlog.specs.Writes.{IsPrepared, fresh_blocks}
+use Rattle.journal_objlog.proofs.Openings.{OnlyReads-trans}
+use Rattle.journal_history.specs.Tokens.{SessionState, made, OnlyExtends, Commits, next_of as numbered}
+use Rattle.journal_history.specs.Soundness.{IsSound}
+use Rattle.journal_core.specs.Tallies.{Pairs, made_among, SameTally, CountsOne, IsTallied}
+use Rattle.journal_core.specs.Causes.{Told}
+use Rattle.journal_core.specs.Cores.{CoreState, IsKept}
+use Rattle.journal_core.specs.Commits.{Logs, IsCommitted, IsAdded, IsStrange, IsWorn, MayCommit, IsPreparingRefusal, IsCommitRefusal}
+use Rattle.journal_core.proofs.Keeping.{commits_of-other, Rests, kept_commit}
+use Rattle.journal_core.proofs.Comparing.{failed_after}
+
+-- a longer history has no fewer commits of a session
+fewer_commits : (s : ℕ) (history longer : List Entry) → IsPrefix history longer → length (commits_of s history) ≤ length (commits_of s longer)
+fewer_commits s history longer begins = omega (
+  arith,
+  ap length (ap (commits_of s) (sym begins.1) ∙ commits_of-append s history begins.0),
+  length-append (commits_of s history) (commits_of s begins.0),
+)
+
+-- a session that has seen the history made no more commits than it has, so that where they are not as many there is a strange one
+pub is_strange : (c : CoreState) (old seen shown : SessionState) (tally : Pairs) (number has own : ℕ) → OnlyExtends old seen → OnlyExtends seen shown
+    → shown.seen ≡ c.history → IsPrefix shown.mine shown.seen → IsTallied tally c.history → number ≡ shown.number
+    → has ≡ made_among tally number → own ≡ made shown → has ≢ own → IsStrange c old
+is_strange c old seen shown tally number has own first second all prefix tallied is counted told differs =
+    subst (λ (n : ℕ). n < length (commits_of old.number c.history)) same_made
+    (omega (arith, fewer, here, told, differs))
+  where
+    same_number : shown.number ≡ old.number
+    same_number = second.number ∙ first.number
+
+    same_made : made shown ≡ made old
+    same_made = (λ i. length (commits_of (same_number i) ((second.mine ∙ first.mine) i)))
+
+    fewer : made shown ≤ length (commits_of old.number c.history)
+    fewer = subst (λ (h : List Entry). made shown ≤ length (commits_of old.number h)) all
+        (subst (λ (n : ℕ). made shown ≤ length (commits_of n shown.seen)) same_number (fewer_commits shown.number shown.mine shown.seen prefix))
+
+    here : has ≡ length (commits_of old.number c.history)
+    here = counted ∙ tallied number ∙ ap (λ (n : ℕ). length (commits_of n c.history)) (is ∙ same_number)
+
+-- the map after all commits keeps the rule once it is overwritten
+pub ruled_then : (blocks : ℕ) (rule : Map → Type 0) (history : List Entry) (reads writes : List Pair) → (opened history).blocks ≡ blocks → IsSound rule history
+    → ((m : Map) → m.blocks ≡ blocks → rule m → Agrees m reads → rule (overwritten m writes))
+    → (IsTrue (is_trusted history) → Agrees (latest history) reads) → IsTrue (is_trusted history) → rule (overwritten (latest history) writes)
+ruled_then blocks rule history reads writes on_disk sound keeps agrees trusted =
+    keeps (latest history) (after-blocks (opened history) (commits history) ∙ on_disk)
+    (subst rule (at-count history) (sound.ruled trusted (count history))) (agrees trusted)
+
+-- a session's commits are fewer than the history's limit
+pub few_commits : (old new : Pairs) (history : List Entry) (session : ℕ) → SameTally old new → IsTallied old history → length history + 1 < 2 ^ 62
+    → made_among new session < 2 ^ 62
+few_commits old new history session same tallied room =
+    omega (arith, same session, tallied session, length-commits_of-le session history, room)
+
+-- one more commit is counted
+pub tallied_commit : (old mid new : Pairs) (history later : List Entry) (t : Transaction) (session : ℕ) → later ≡ history ++ commit t ∷ []
+    → session ≡ t.session → SameTally old mid → CountsOne session mid new → IsTallied old history → IsTallied new later
+tallied_commit old mid new history later t session added is same counts tallied s = by (s == session) refl
+  where
+    was : made_among mid s ≡ length (commits_of s history)
+    was = same s ∙ tallied s
+
+    own : s ≡ t.session → length (commits_of s later) ≡ length (commits_of s history) + 1
+    own equal = subst (λ (n : ℕ). length (commits_of n later) ≡ length (commits_of n history) + 1) (sym equal)
+        (ap (λ (h : List Entry). length (commits_of t.session h)) added
+        ∙ ap length (commits_of-commit history t) ∙ length-append (commits_of t.session history) (t ∷ []))
+
+    other : t.session ≢ s → length (commits_of s later) ≡ length (commits_of s history)
+    other differs = ap (λ (h : List Entry). length (commits_of s h)) added ∙ ap length (commits_of-other history t s differs)
+
+    by : (b : Bool) → (s == session) ≡ b → made_among new s ≡ length (commits_of s later)
+    by true equal =
+        counts s ∙ ap (λ (b : Bool). cond b (made_among mid s + 1) (made_among mid s)) equal
+        ∙ ap (λ (n : ℕ). n + 1) was ∙ sym (own (eqb-true s session equal ∙ is))
+    by false differs =
+        counts s ∙ ap (λ (b : Bool). cond b (made_among mid s + 1) (made_among mid s)) differs
+        ∙ was ∙ sym (other (λ equal. eqb-false s session differs (sym equal ∙ sym is)))
+
+-- an append moves no group
+pub rests_append : (old : WalState) (updates : List Update) (new : WalState) → Appends old updates new → Rests old new
+rests_append old updates new appends fine none =
+    (sym (ap (λ (w : WalState). w.ring.faulted) appends.log) ∙ fine, sym (ap log_steps appends.log) ∙ none)
+
+module _ (blocks : ℕ) (c : CoreState) (kept : IsKept blocks c) (begun : c.history ≢ []) where
+  -- the transaction was added, and its writes appended
+  pub kept_added : (t : Transaction) (prepared : List Update) (objects : WalState) (history : List Entry) (next : ℕ)
+      → history ≡ c.history ++ commit t ∷ [] → next ≡ max c.next (t.session + 1) → IsPrepared c.objects prepared t.writes
+      → Appends c.objects prepared objects → MayCrash c.objects objects
+      → (IsTrue c.objects.ring.disk.honest → (writes : List Pair) → IsPrepared c.objects prepared writes → SameMap (map_now objects) (overwritten (map_now c.objects) writes))
+      → SameMap (map_cut objects) (map_cut c.objects) → SameMap (map_logged objects) (map_logged c.objects)
+      → IsKept blocks (record { objects = objects; history = history; cut = c.cut; logged = c.logged; next = next })
+  kept_added t prepared objects history next added raised ready appends crash now cut logged =
+      subst (λ (n : ℕ). IsKept blocks (record { objects = objects; history = history; cut = c.cut; logged = c.logged; next = n })) (sym raised)
+      (subst (λ (h : List Entry). IsKept blocks (record { objects = objects; history = h; cut = c.cut; logged = c.logged; next = max c.next (t.session + 1) })) (sym added)
+      (kept_commit blocks c kept begun t objects crash (λ honest. now honest t.writes ready) cut logged (rests_append c.objects prepared objects appends)))
+
+-- Once what was read is compared and the writes are ready, the core was only read
+
+-- numbers that are as before are worn as before
+worn_as : (a b d a' b' d' : ℕ) → a ≡ a' → b ≡ b' → d ≡ d' → (2 ^ 62 ≤ a) ⊎ (2 ^ 62 ≤ b) ⊎ (2 ^ 62 ≤ d) → (2 ^ 62 ≤ a') ⊎ (2 ^ 62 ≤ b') ⊎ (2 ^ 62 ≤ d')
+worn_as a b d a' b' d' first second third worn =
+    subst (λ (n : ℕ). (2 ^ 62 ≤ n) ⊎ (2 ^ 62 ≤ b') ⊎ (2 ^ 62 ≤ d')) first
+    (subst (λ (n : ℕ). (2 ^ 62 ≤ a) ⊎ (2 ^ 62 ≤ n) ⊎ (2 ^ 62 ≤ d')) second
+    (subst (λ (n : ℕ). (2 ^ 62 ≤ a) ⊎ (2 ^ 62 ≤ b) ⊎ (2 ^ 62 ≤ n)) third worn))
+
+module _ (old mid : CoreState) (s seen : SessionState) (reads writes : List Pair) (extends : OnlyExtends s seen)
+    (others : mid ≡ record old { objects = mid.objects }) (only : OnlyReads old.objects mid.objects) (still : mid.objects.ring.faulted ≡ false) where
+  same_length : length mid.history + 1 ≡ length old.history + 1
+  same_length = ap (λ (c : CoreState). length c.history + 1) others
+
+  same_position : next_of mid.objects.log + fresh_blocks mid.objects writes ≡ next_of old.objects.log + fresh_blocks old.objects writes
+  same_position = ap (λ (w : WalState). next_of w.log + fresh_blocks w writes) only.same
+
+  worn_before : IsWorn mid seen writes → IsWorn old s writes
+  worn_before worn = worn_as (length mid.history + 1) seen.number (next_of mid.objects.log + fresh_blocks mid.objects writes)
+      (length old.history + 1) s.number (next_of old.objects.log + fresh_blocks old.objects writes) same_length extends.number same_position worn
+
+  worn_after : IsWorn old s writes → IsWorn mid seen writes
+  worn_after worn = worn_as (length old.history + 1) s.number (next_of old.objects.log + fresh_blocks old.objects writes)
+      (length mid.history + 1) seen.number (next_of mid.objects.log + fresh_blocks mid.objects writes)
+      (sym same_length) (sym extends.number) (sym same_position) worn
+
+  -- the writes are not made ready
+  pub refuses_writes : (new : CoreState) → MayCommit old s reads → (refusal : Refusal Told) → IsPreparingRefusal mid seen writes new refusal
+      → IsCommitRefusal old s reads writes new refusal
+  refuses_writes new may TooLarge why = (may, why)
+  refuses_writes new may (Worn cause) why = (may, why.0, worn_before why.1)
+  refuses_writes new may (Full cause) why = (
+    may,
+    why.0,
+    λ worn. why.1 (worn_after worn),
+    subst (λ (n : ℕ). 255 < n) (ap (λ (w : WalState). tail_length w + fresh_blocks w writes) only.same) why.2,
+  )
+  refuses_writes new may NoMemory why = (may.fine, may.own)
+  refuses_writes new may (DeviceFailed cause) why = record {
+    fault = ⊎_elim
+        (λ was. absurd (false≢true (sym still ∙ was)))
+        (λ failed. inr (failed_after old.objects.ring.disk mid.objects.ring.disk new.objects.ring.disk only.keeps failed))
+        why.fault;
+    faulted = why.faulted;
+    others = why.others ∙ ap (λ (c : CoreState). record c { objects = new.objects }) others;
+  }
+  refuses_writes new may BadAddress why = absurd why
+  refuses_writes new may BadSize why = absurd why
+  refuses_writes new may Busy why = absurd why
+  refuses_writes new may BadLog why = absurd why
+  refuses_writes new may BadSuper why = absurd why
+  refuses_writes new may (Stale cause) why = absurd why
+  refuses_writes new may (Stranger cause) why = absurd why
+  refuses_writes new may (Closed cause) why = absurd why
+  refuses_writes new may Fenced why = absurd why
+
+-- a session that has seen more commits the same
+commits_from : (reads writes : List Pair) (s seen after : SessionState) (before longer : List Entry) → OnlyExtends s seen
+    → Commits (numbered seen reads writes) seen after before longer → Commits (numbered s reads writes) s after before longer
+commits_from reads writes s seen after before longer extends was = record {
+  added = was.added ∙ ap (λ (t : Transaction). before ++ commit t ∷ []) same;
+  session = was.session ∙ ap (λ (n : ℕ). record { number = n; mine = longer; seen = longer }) extends.number;
+  later = IsPrefix-trans s.seen seen.seen before extends.seen was.later;
+  one_more = sym (ap (λ (n : ℕ). commits_of n longer) extends.number) ∙ was.one_more
+      ∙ (λ i. commits_of (extends.number i) (extends.mine i) ++ same i ∷ []);
+}
+  where
+    same : numbered seen reads writes ≡ numbered s reads writes
+    same = (λ i. record { session = extends.number i; number = length (commits_of (extends.number i) (extends.mine i)); reads = reads; writes = writes })
+
+-- what was appended after reads
+logs_from : (old mid new : WalState) (updates : List Update) → OnlyReads old mid → old.ring.faulted ≡ false → mid.ring.faulted ≡ false
+    → Appends mid updates new → Logs old new
+logs_from old mid new updates only fine still appends = record {
+  updates = updates;
+  log = ap (λ (w : WalState). w.log) appends.log
+      ∙ ap (λ (w : WalState). record (appended w.log updates) { room = new.log.room }) only.same;
+  ring = ring ∙ ap (λ (w : WalState). w.ring) only.same
+      ∙ (λ i. record old.ring { disk = sym (ap (λ (r : Ring). r.disk) ring) i; faulted = (still ∙ sym fine) i });
+  past = λ honest. ap (λ (r : Ring). r.disk.past) ring ∙ only.past honest;
+  logging = ap (λ (w : WalState). w.logging) appends.log ∙ ap (λ (w : WalState). w.logging) only.same;
+  installing = ap (λ (w : WalState). w.installing) appends.log ∙ ap (λ (w : WalState). w.installing) only.same;
+}
+  where
+    ring : new.ring ≡ mid.ring
+    ring = ap (λ (w : WalState). w.ring) appends.log
+
+-- the transaction was added after reads
+pub committed_from : (reads writes : List Pair) (s seen after : SessionState) (old mid ready new : CoreState) (prepared : List Update) → OnlyExtends s seen
+    → mid ≡ record old { objects = mid.objects } → OnlyReads old.objects mid.objects
+    → ready ≡ record mid { objects = ready.objects } → OnlyReads mid.objects ready.objects
+    → old.objects.ring.faulted ≡ false → ready.objects.ring.faulted ≡ false
+    → IsAdded (numbered seen reads writes) prepared seen after ready new → IsCommitted reads writes s after old new
+committed_from reads writes s seen after old mid ready new prepared extends first compared second readied fine still added = record {
+  committed = subst (λ (h : List Entry). Commits (numbered s reads writes) s after h new.history) (ap (λ (c : CoreState). c.history) same)
+      (commits_from reads writes s seen after ready.history new.history extends added.committed);
+  logs = logs_from old.objects ready.objects new.objects prepared (OnlyReads-trans old.objects mid.objects ready.objects compared readied) fine still added.appends;
+  others = added.others
+      ∙ (λ i. record (same i) { objects = new.objects; history = new.history; next = max (same i).next (extends.number i + 1) });
+}
+  where
+    same : ready ≡ record old { objects = ready.objects }
+    same = second ∙ ap (λ (c : CoreState). record c { objects = ready.objects }) first
+
+-- what is left after reads, whatever else was done
+pub left_after : (old mid new : WalState) → OnlyReads old mid → OnlyReads mid new ⊎ (new.ring.faulted ≡ true) → OnlyReads old new ⊎ (new.ring.faulted ≡ true)
+left_after old mid new first left = ⊎_elim
+    (λ (second : OnlyReads mid new). inl (OnlyReads-trans old mid new first second))
+    (λ (faulted : new.ring.faulted ≡ true). inr faulted)
+    left
+
+-- what follows of an answer
+pub on_ok : {T E P Q : Type 0} (r : Result T E) → OnOk r P → (P → Q) → OnOk r Q
+on_ok (Ok value) holds go = go holds
+on_ok (Err e) holds go = tt

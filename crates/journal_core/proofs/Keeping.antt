@@ -1,0 +1,340 @@
+-- Each step keeps what the core keeps, and leaves of its disk only fronts of its history.
+use Rattle.std.proofs.Common.{false, ◌==◌, Bool, cond, max, ◌≡◌, ◌≢◌, inr, ⊎_elim, ◌<◌, ◌≤◌, ◌+◌, ◌-◌, ℕ, List, [], ◌∷◌, ◌++◌, take, length, length-drop, IsTrue, refl, sym, ap, subst, ◌∙◌, arith}
+use Rattle.std.proofs.lemmas.List.{take_all, take-append-le, append-nil}
+use Rattle.std.proofs.lemmas.Bool.{ne_eqb}
+use Rattle.std.specs.List.{filter}
+use Rattle.journal_world.proofs.SessionCommits.{commits_of-append}
+use Rattle.journal_world.specs.Maps.{Map, Transaction, SameMap, overwritten}
+use Rattle.journal_world.specs.Histories.{Entry, opened, commits, commits_of, count, at, latest, after}
+use Rattle.journal_world.specs.Histories.Entry.{opening, commit, stable}
+use Rattle.journal_world.proofs.SameMaps.{SameMap-trans, overwritten-same}
+use Rattle.journal_world.proofs.LongerHistories.{commits-commit, count-commit, opened-append, latest-commit, at-count}
+use Rattle.journal_world.proofs.MapsOfHistories.{is_trusted-append}
+use Rattle.journal_world.proofs.Marks.{floor-mark, floor-commit, commits-mark, count-mark}
+use Rattle.journal_block.specs.declared.update.Update.{Update}
+use Rattle.journal_block.specs.Block.{Bytes}
+use Rattle.journal_block.specs.Updates.{updated}
+use Rattle.journal_disk.specs.Images.{EveryImage}
+use Rattle.journal_disk.specs.Laws.{leaves_also, leaves_none}
+use Rattle.journal_disk.specs.Disks.{Keeps, Past}
+use Rattle.journal_disk.specs.Moments.{LeavesOnly}
+use Rattle.journal_circ.specs.Ring.{home_of}
+use Rattle.journal_wal.specs.Wal.{WalState, size_of, log_steps, tail_length}
+use Rattle.journal_objlog.specs.Maps.{map_of, OpensAs}
+use Rattle.journal_objlog.specs.ObjectLogs.{map_now, map_cut, map_logged, MayOpenAs, MayCrash, KeepsMaps, CutsMap, EndsMap, OnlyReads}
+use Rattle.journal_core.specs.Tallies.{Pairs, IsTallied}
+use Rattle.journal_core.specs.Steps.{CanMark}
+use Rattle.journal_core.specs.Cores.{CoreState, Leaves, Crashes, IsKept}
+
+-- another session has no more commits
+pub commits_of-other : (history : List Entry) (t : Transaction) (s : ℕ) → t.session ≢ s
+    → commits_of s (history ++ commit t ∷ []) ≡ commits_of s history
+commits_of-other history t s other =
+    commits_of-append s history (commit t ∷ [])
+    ∙ ap (λ (b : Bool). commits_of s history ++ cond b (t ∷ []) []) (ne_eqb t.session s other)
+    ∙ append-nil (commits_of s history)
+
+-- what a crash may leave is the map after a front
+leaves_of : (blocks : ℕ) (c : CoreState) → IsKept blocks c → IsTrue c.objects.ring.disk.honest → (image : List Bytes)
+    → MayOpenAs c.objects image → Leaves c.history image
+leaves_of blocks c kept honest image may = ⊎_elim
+    (λ (opens : OpensAs (map_logged c.objects) image). record {
+      commits = c.logged;
+      marked = kept.marked;
+      made = omega (arith, kept.logged_to_cut, kept.cut_to_count);
+      map = map_logged c.objects;
+      opens = opens;
+      same = (kept.tied honest).logged;
+    })
+    (λ (opens : OpensAs (map_cut c.objects) image). record {
+      commits = c.cut;
+      marked = omega (arith, kept.marked, kept.logged_to_cut);
+      made = kept.cut_to_count;
+      map = map_cut c.objects;
+      opens = opens;
+      same = (kept.tied honest).cut;
+    })
+    may
+
+-- a step of the object log, before and after which the core is in order
+pub crashes_of : (blocks : ℕ) (old new : CoreState) → IsKept blocks old → IsKept blocks new → MayCrash old.objects new.objects
+    → Crashes old new
+crashes_of blocks old new before kept crash = record {
+  keeps = crash.keeps;
+  moments = λ honest. leaves_also old.objects.ring.disk.past new.objects.ring.disk.past (MayOpenAs old.objects) (Leaves old.history)
+      (crash.moments honest) (λ image may. leaves_of blocks old before honest image may);
+  images = λ honest image one. leaves_of blocks new kept honest image (crash.images honest image one);
+}
+
+-- where no group is in flight now, none was
+abbrev pub Rests : WalState → WalState → Type 0
+Rests old new = new.ring.faulted ≡ false → log_steps new ≡ 0 → (old.ring.faulted ≡ false) × (log_steps old ≡ 0)
+
+module _ (blocks : ℕ) (c : CoreState) (kept : IsKept blocks c) where
+  -- the maps stay
+  pub kept_on : (objects : WalState) → MayCrash c.objects objects
+      → (IsTrue c.objects.ring.disk.honest → KeepsMaps c.objects objects)
+      → Rests c.objects objects
+      → IsKept blocks (record c { objects = objects })
+  kept_on objects crash maps rest = record {
+    size = crash.keeps.size ∙ kept.size;
+    on_disk = kept.on_disk;
+    trusted = kept.trusted ∙ sym crash.keeps.honest;
+    marked = kept.marked;
+    logged_to_cut = kept.logged_to_cut;
+    cut_to_count = kept.cut_to_count;
+    rest = λ fine none. let was = rest fine none in kept.rest was.0 was.1;
+    tied = λ honest. let was : IsTrue c.objects.ring.disk.honest = subst IsTrue crash.keeps.honest honest in record {
+      now = SameMap-trans (map_now objects) (map_now c.objects) (latest c.history) (maps was).now (kept.tied was).now;
+      cut = SameMap-trans (map_cut objects) (map_cut c.objects) (at c.history c.cut) (maps was).cut (kept.tied was).cut;
+      logged = SameMap-trans (map_logged objects) (map_logged c.objects) (at c.history c.logged) (maps was).logged (kept.tied was).logged;
+    };
+    images = crash.images;
+    fresh = kept.fresh;
+  }
+
+  -- the tail is cut
+  pub kept_cut : (objects : WalState) → MayCrash c.objects objects
+      → (IsTrue c.objects.ring.disk.honest → CutsMap c.objects objects) → 0 < log_steps objects
+      → IsKept blocks (record c { objects = objects; cut = count c.history })
+  kept_cut objects crash maps flies = record {
+    size = crash.keeps.size ∙ kept.size;
+    on_disk = kept.on_disk;
+    trusted = kept.trusted ∙ sym crash.keeps.honest;
+    marked = kept.marked;
+    logged_to_cut = omega (arith, kept.logged_to_cut, kept.cut_to_count);
+    cut_to_count = omega arith;
+    rest = λ fine none. absurd (omega (arith, flies, none));
+    tied = λ honest. let was : IsTrue c.objects.ring.disk.honest = subst IsTrue crash.keeps.honest honest in record {
+      now = SameMap-trans (map_now objects) (map_now c.objects) (latest c.history) (maps was).now (kept.tied was).now;
+      cut = subst (λ (m : Map). SameMap (map_cut objects) m) (sym (at-count c.history))
+          (SameMap-trans (map_cut objects) (map_now c.objects) (latest c.history) (maps was).cut (kept.tied was).now);
+      logged = SameMap-trans (map_logged objects) (map_logged c.objects) (at c.history c.logged) (maps was).logged (kept.tied was).logged;
+    };
+    images = crash.images;
+    fresh = kept.fresh;
+  }
+
+  -- the cycle of the group in flight ends
+  pub kept_end : (objects : WalState) → MayCrash c.objects objects
+      → (IsTrue c.objects.ring.disk.honest → EndsMap c.objects objects)
+      → IsKept blocks (record c { objects = objects; logged = c.cut })
+  kept_end objects crash maps = record {
+    size = crash.keeps.size ∙ kept.size;
+    on_disk = kept.on_disk;
+    trusted = kept.trusted ∙ sym crash.keeps.honest;
+    marked = omega (arith, kept.marked, kept.logged_to_cut);
+    logged_to_cut = omega arith;
+    cut_to_count = kept.cut_to_count;
+    rest = λ fine none. refl;
+    tied = λ honest. let was : IsTrue c.objects.ring.disk.honest = subst IsTrue crash.keeps.honest honest in record {
+      now = SameMap-trans (map_now objects) (map_now c.objects) (latest c.history) (maps was).now (kept.tied was).now;
+      cut = SameMap-trans (map_cut objects) (map_cut c.objects) (at c.history c.cut) (maps was).cut (kept.tied was).cut;
+      logged = SameMap-trans (map_logged objects) (map_cut c.objects) (at c.history c.cut) (maps was).logged (kept.tied was).cut;
+    };
+    images = crash.images;
+    fresh = kept.fresh;
+  }
+
+  -- an entry that is no commit and no opening leaves the maps
+  at-mark : (n k : ℕ) → c.history ≢ [] → at (c.history ++ stable n ∷ []) k ≡ at c.history k
+  at-mark n k some =
+      (λ i. after (opened-append c.history (stable n ∷ []) some i) (take k (commits-mark c.history n i)))
+
+  latest-mark : (n : ℕ) → c.history ≢ [] → latest (c.history ++ stable n ∷ []) ≡ latest c.history
+  latest-mark n some = λ i. after (opened-append c.history (stable n ∷ []) some i) (commits-mark c.history n i)
+
+  same_sessions : (n s : ℕ) → commits_of s (c.history ++ stable n ∷ []) ≡ commits_of s c.history
+  same_sessions n s = ap (λ (ts : List Transaction). filter (λ (t : Transaction). t.session == s) ts) (commits-mark c.history n)
+
+  -- the commits of a group whose cycle ended are marked
+  pub kept_mark : c.history ≢ [] → c.logged ≡ c.cut → IsKept blocks (record c { history = c.history ++ stable c.cut ∷ [] })
+  kept_mark some rest = record {
+    size = kept.size;
+    on_disk = ap (λ (m : Map). m.blocks) (opened-append c.history (stable c.cut ∷ []) some) ∙ kept.on_disk;
+    trusted = is_trusted-append c.history (stable c.cut ∷ []) some ∙ kept.trusted;
+    marked = omega (arith, floor-mark c.history c.cut (omega (arith, kept.marked, kept.logged_to_cut)), rest);
+    logged_to_cut = kept.logged_to_cut;
+    cut_to_count = omega (arith, count-mark c.history c.cut, kept.cut_to_count);
+    rest = kept.rest;
+    tied = λ honest. record {
+      now = subst (λ (m : Map). SameMap (map_now c.objects) m) (sym (latest-mark c.cut some)) (kept.tied honest).now;
+      cut = subst (λ (m : Map). SameMap (map_cut c.objects) m) (sym (at-mark c.cut c.cut some)) (kept.tied honest).cut;
+      logged = subst (λ (m : Map). SameMap (map_logged c.objects) m) (sym (at-mark c.cut c.logged some)) (kept.tied honest).logged;
+    };
+    images = kept.images;
+    fresh = λ s le. same_sessions c.cut s ∙ kept.fresh s le;
+  }
+
+  -- where the tail is empty, the map at the last cut is the map now
+  cut_is_now : tail_length c.objects ≡ 0 → map_cut c.objects ≡ map_now c.objects
+  cut_is_now empty = ap (λ (us : List Update). map_of (size_of c.objects) (λ b. updated us b (home_of c.objects.ring b))) whole
+    where
+      whole : take (c.objects.log.cut - c.objects.log.start) c.objects.log.updates ≡ c.objects.log.updates
+      whole = take_all (c.objects.log.cut - c.objects.log.start) c.objects.log.updates
+          (omega (arith, empty, length-drop (c.objects.log.cut - c.objects.log.start) c.objects.log.updates))
+
+  -- where no group is in flight, the two maps that a crash may leave are one
+  logged_is_cut : c.objects.log.logged ≡ c.objects.log.cut → map_logged c.objects ≡ map_cut c.objects
+  logged_is_cut none = λ i. map_of (size_of c.objects)
+      (λ b. updated (take (none i - c.objects.log.start) c.objects.log.updates) b (home_of c.objects.ring b))
+
+  -- commits that wrote nothing are marked
+  pub kept_mark_all : c.history ≢ [] → tail_length c.objects ≡ 0 → c.objects.log.logged ≡ c.objects.log.cut
+      → IsKept blocks (record c { history = c.history ++ stable (count c.history) ∷ []; cut = count c.history; logged = count c.history })
+  kept_mark_all some empty none = record {
+    size = kept.size;
+    on_disk = ap (λ (m : Map). m.blocks) (opened-append c.history (stable (count c.history) ∷ []) some) ∙ kept.on_disk;
+    trusted = is_trusted-append c.history (stable (count c.history) ∷ []) some ∙ kept.trusted;
+    marked = omega (arith, floor-mark c.history (count c.history) (omega (arith, kept.marked, kept.logged_to_cut, kept.cut_to_count)));
+    logged_to_cut = omega arith;
+    cut_to_count = omega (arith, count-mark c.history (count c.history));
+    rest = λ fine none. refl;
+    tied = λ honest. record {
+      now = now honest;
+      cut = subst (λ (m : Map). SameMap m (at later (count c.history))) (sym (cut_is_now empty)) (at_all honest);
+      logged = subst (λ (m : Map). SameMap m (at later (count c.history))) (sym (logged_is_cut none ∙ cut_is_now empty)) (at_all honest);
+    };
+    images = kept.images;
+    fresh = λ s le. same_sessions (count c.history) s ∙ kept.fresh s le;
+  }
+    where
+      later : List Entry
+      later = c.history ++ stable (count c.history) ∷ []
+
+      now : IsTrue c.objects.ring.disk.honest → SameMap (map_now c.objects) (latest (c.history ++ stable (count c.history) ∷ []))
+      now honest = subst (λ (m : Map). SameMap (map_now c.objects) m) (sym (latest-mark (count c.history) some)) (kept.tied honest).now
+
+      at_all : IsTrue c.objects.ring.disk.honest → SameMap (map_now c.objects) (at (c.history ++ stable (count c.history) ∷ []) (count c.history))
+      at_all honest = subst (λ (m : Map). SameMap (map_now c.objects) m) (sym (at-mark (count c.history) (count c.history) some ∙ at-count c.history))
+          (kept.tied honest).now
+
+  -- a commit
+  pub kept_commit : c.history ≢ [] → (t : Transaction) → (objects : WalState) → MayCrash c.objects objects
+      → (IsTrue c.objects.ring.disk.honest → SameMap (map_now objects) (overwritten (map_now c.objects) t.writes))
+      → SameMap (map_cut objects) (map_cut c.objects) → SameMap (map_logged objects) (map_logged c.objects)
+      → Rests c.objects objects
+      → IsKept blocks (record c { objects = objects; history = c.history ++ commit t ∷ []; next = max c.next (t.session + 1) })
+  kept_commit some t objects crash now cut logged rests = record {
+    size = crash.keeps.size ∙ kept.size;
+    on_disk = ap (λ (m : Map). m.blocks) (opened-append c.history (commit t ∷ []) some) ∙ kept.on_disk;
+    trusted = is_trusted-append c.history (commit t ∷ []) some ∙ kept.trusted ∙ sym crash.keeps.honest;
+    marked = omega (arith, floor-commit c.history t, kept.marked);
+    logged_to_cut = kept.logged_to_cut;
+    cut_to_count = omega (arith, count-commit c.history t, kept.cut_to_count);
+    rest = λ fine none. let was = rests fine none in kept.rest was.0 was.1;
+    tied = λ honest. let was : IsTrue c.objects.ring.disk.honest = subst IsTrue crash.keeps.honest honest in record {
+      now = subst (λ (m : Map). SameMap (map_now objects) m) (sym (latest-commit c.history t some))
+          (SameMap-trans (map_now objects) (overwritten (map_now c.objects) t.writes) (overwritten (latest c.history) t.writes) (now was)
+          (overwritten-same (map_now c.objects) (latest c.history) t.writes (kept.tied was).now));
+      cut = subst (λ (m : Map). SameMap (map_cut objects) m) (sym (front c.cut kept.cut_to_count))
+          (SameMap-trans (map_cut objects) (map_cut c.objects) (at c.history c.cut) cut (kept.tied was).cut);
+      logged = subst (λ (m : Map). SameMap (map_logged objects) m) (sym (front c.logged (omega (arith, kept.logged_to_cut, kept.cut_to_count))))
+          (SameMap-trans (map_logged objects) (map_logged c.objects) (at c.history c.logged) logged (kept.tied was).logged);
+    };
+    images = crash.images;
+    fresh = λ s le. commits_of-other c.history t s (λ same. omega (arith, same, le)) ∙ kept.fresh s (omega (arith, le));
+  }
+    where
+      -- the map after fewer commits is as before
+      front : (n : ℕ) → n ≤ count c.history → at (c.history ++ commit t ∷ []) n ≡ at c.history n
+      front n le =
+          (λ i. after (opened-append c.history (commit t ∷ []) some i) (take n (commits-commit c.history t i)))
+          ∙ ap (after (opened c.history)) (take-append-le n (commits c.history) (t ∷ []) le)
+
+-- what was opened is kept
+pub kept_opened : (blocks : ℕ) (objects : WalState) (m : Map) → size_of objects ≡ blocks → SameMap (map_now objects) m → m.blocks ≡ blocks
+    → objects.log.logged ≡ objects.log.cut → tail_length objects ≡ 0
+    → (IsTrue objects.ring.disk.honest → EveryImage objects.ring.disk.past (OpensAs (map_now objects)))
+    → IsKept blocks (record { objects = objects; history = opening m objects.ring.disk.honest ∷ []; cut = 0; logged = 0; next = 0 })
+kept_opened blocks objects m size same on_disk none empty images = record {
+  size = size;
+  on_disk = on_disk;
+  trusted = refl;
+  marked = omega arith;
+  logged_to_cut = omega arith;
+  cut_to_count = omega arith;
+  rest = λ fine none. refl;
+  tied = λ honest. record {
+    now = same;
+    cut = subst (λ (l : Map). SameMap l m) (sym cut) same;
+    logged = subst (λ (l : Map). SameMap l m) (sym (logged ∙ cut)) same;
+  };
+  images = λ honest image one. inr (subst (λ (l : Map). OpensAs l image) (sym cut) (images honest image one));
+  fresh = λ n le. refl;
+}
+  where
+    cut : map_cut objects ≡ map_now objects
+    cut = ap (λ (us : List Update). map_of (size_of objects) (λ b. updated us b (home_of objects.ring b)))
+        (take_all (objects.log.cut - objects.log.start) objects.log.updates
+        (omega (arith, empty, length-drop (objects.log.cut - objects.log.start) objects.log.updates)))
+
+    logged : map_logged objects ≡ map_cut objects
+    logged = λ i. map_of (size_of objects) (λ b. updated (take (none i - objects.log.start) objects.log.updates) b (home_of objects.ring b))
+
+-- a step without a device call
+pub crashes_same : (blocks : ℕ) (old new : CoreState) → IsKept blocks old → IsKept blocks new → new.objects ≡ old.objects → Crashes old new
+crashes_same blocks old new before kept same = record {
+  keeps = subst (λ (w : WalState). Keeps old.objects.ring.disk w.ring.disk) (sym same) (record { size = refl; honest = refl; failures = omega arith });
+  moments = λ honest. leaves_none old.objects.ring.disk.past new.objects.ring.disk.past (Leaves old.history) (ap (λ (w : WalState). w.ring.disk.past) same)
+      (λ image one. leaves_of blocks old before honest image (before.images honest image one));
+  images = λ honest image one. leaves_of blocks new kept honest image (kept.images honest image one);
+}
+
+-- nothing was done
+pub crashes_still : (blocks : ℕ) (inside now : CoreState) → IsKept blocks inside → inside ≡ now → Crashes now now
+crashes_still blocks inside now kept is = subst (λ (c : CoreState). Crashes c c) is (crashes_same blocks inside inside kept kept refl)
+
+-- what was read before changes nothing
+pub crashes_after : (old mid new : CoreState) → OnlyReads old.objects mid.objects → mid.history ≡ old.history → Crashes mid new → Crashes old new
+crashes_after old mid new reads same crash = record {
+  keeps = record {
+    size = crash.keeps.size ∙ reads.keeps.size;
+    honest = crash.keeps.honest ∙ reads.keeps.honest;
+    failures = omega (arith, crash.keeps.failures, reads.keeps.failures);
+  };
+  moments = λ honest.
+      subst (λ (p : Past). LeavesOnly p new.objects.ring.disk.past (Leaves old.history)) (reads.past honest)
+      (subst (λ (h : List Entry). LeavesOnly mid.objects.ring.disk.past new.objects.ring.disk.past (Leaves h)) same
+      (crash.moments (subst IsTrue (sym reads.keeps.honest) honest)));
+  images = crash.images;
+}
+
+-- a step without a device call, seen from outside
+pub crashes_seen : (blocks : ℕ) (inside now new : CoreState) → IsKept blocks inside → inside ≡ now → IsKept blocks new
+    → new.objects ≡ inside.objects → Crashes now new
+crashes_seen blocks inside now new before is kept same =
+    subst (λ (c : CoreState). Crashes c new) is (crashes_same blocks inside new before kept same)
+
+-- a further session
+pub kept_session : (blocks : ℕ) (c : CoreState) → IsKept blocks c → IsKept blocks (record c { next = c.next + 1 })
+kept_session blocks c kept = record {
+  size = kept.size;
+  on_disk = kept.on_disk;
+  trusted = kept.trusted;
+  marked = kept.marked;
+  logged_to_cut = kept.logged_to_cut;
+  cut_to_count = kept.cut_to_count;
+  rest = kept.rest;
+  tied = kept.tied;
+  images = kept.images;
+  fresh = λ s le. kept.fresh s (omega (arith, le));
+}
+
+-- a true mark
+pub kept_marked : (blocks : ℕ) (c : CoreState) (n : ℕ) → IsKept blocks c → c.history ≢ [] → CanMark c n
+    → IsKept blocks (record c { history = c.history ++ stable n ∷ []; cut = n; logged = n })
+kept_marked blocks c n kept some can = ⊎_elim
+    (λ (is : n ≡ c.cut). subst
+    (λ (k : ℕ). IsKept blocks (record c { history = c.history ++ stable k ∷ []; cut = k; logged = k })) (sym is)
+    (subst (λ (l : ℕ). IsKept blocks (record c { history = c.history ++ stable c.cut ∷ []; cut = c.cut; logged = l })) (kept.rest can.fine can.steps)
+    (kept_mark blocks c kept some (kept.rest can.fine can.steps))))
+    (λ (is : (n ≡ count c.history) × (tail_length c.objects ≡ 0)). subst
+    (λ (k : ℕ). IsKept blocks (record c { history = c.history ++ stable k ∷ []; cut = k; logged = k })) (sym is.0)
+    (kept_mark_all blocks c kept some is.1 can.rest))
+    can.which
+
+-- a mark is no commit
+pub tallied_mark : (pairs : Pairs) (history : List Entry) (n : ℕ) → IsTallied pairs history → IsTallied pairs (history ++ stable n ∷ [])
+tallied_mark pairs history n tallied s =
+    tallied s ∙ sym (ap (λ (ts : List Transaction). length (filter (λ (t : Transaction). t.session == s) ts)) (commits-mark history n))

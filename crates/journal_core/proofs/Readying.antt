@@ -1,0 +1,104 @@
+-- Why writes are not made ready, as the core's.
+use Rattle.std.proofs.Common.{◌≡◌, ◌⊎◌, inr, ⊎_elim, ◌<◌, ◌≤◌, ◌+◌, ◌^◌, ◌∷◌, [], ℕ, Bool, ◌&&◌, false, IsTrue, List, length, Result, Ok, Err, IfOk, IfErr, OnOk, refl, sym, ap, subst, ◌∙◌, arith}
+use Rattle.std.proofs.lemmas.Bool.{false≢true, and_parts}
+use Rattle.journal_world.specs.declared.refusal.Refusal.{Refusal}
+use Rattle.journal_world.specs.declared.refusal.Refusal.TheVariants.{NoMemory, BadAddress, BadSize, TooLarge, Busy, DeviceFailed, BadLog, BadSuper, Stale, Stranger, Worn, Full, Closed, Fenced}
+use Rattle.journal_world.specs.Addresses.{is_valid, kind_of}
+use Rattle.journal_world.specs.Maps.{Pair, is_value_at, is_object, are_objects}
+use Rattle.journal_memlog.specs.Logs.{next_of}
+use Rattle.journal_wal.specs.Wal.{WalState, size_of}
+use Rattle.journal_objlog.specs.ObjectLogs.{IsLeft}
+use Rattle.journal_objlog.specs.Writes.{CanPrepare, IsWriteRefusal, IsLateRefusal, IsPrepareRefusal, are_valid, written_blocks, fresh_blocks}
+use Rattle.journal_history.specs.Tokens.{SessionState}
+use Rattle.journal_core.specs.Causes.{Told, raised_of}
+use Rattle.journal_core.specs.Cores.{CoreState}
+use Rattle.journal_core.specs.Commits.{IsPreparingRefusal}
+
+-- objects have valid addresses
+valid_of : (blocks : ℕ) (ps : List Pair) → IsTrue (are_objects blocks ps) → IsTrue (are_valid blocks ps)
+valid_of blocks [] objects = refl
+valid_of blocks (p ∷ later) objects =
+    let parts = and_parts (is_object blocks p) (are_objects blocks later) objects in
+    let own = and_parts (is_valid blocks p.0) (is_value_at (kind_of blocks p.0.block) p.1) parts.0 in
+    subst (λ (b : Bool). IsTrue (b && are_valid blocks later)) (sym own.0) (valid_of blocks later parts.1)
+
+module _ (blocks : ℕ) (c : CoreState) (writes : List Pair) (size : size_of c.objects ≡ blocks) (fine : c.objects.ring.faulted ≡ false)
+    (given : IsTrue (are_objects blocks writes)) where
+  objects : IsTrue (are_objects (size_of c.objects) writes)
+  objects = subst (λ (n : ℕ). IsTrue (are_objects n writes)) (sym size) given
+
+  -- what is known of a refusal but J4
+  early : (new : WalState) (refusal : Refusal Unit) → IsWriteRefusal c.objects writes refusal → (refusal ≡ TooLarge → ⊥) → written_blocks writes ≤ 128
+  early new (DeviceFailed cause) why other = absurd (false≢true (sym fine ∙ why))
+  early new BadAddress why other = absurd (false≢true (sym why.1 ∙ valid_of (size_of c.objects) writes objects))
+  early new BadSize why other = absurd (false≢true (sym why.2 ∙ objects))
+  early new TooLarge why other = absurd (other refl)
+  early new (Worn cause) why other = why.2
+  early new (Full cause) why other = why.2
+  early new NoMemory why other = absurd why
+  early new Busy why other = absurd why
+  early new BadLog why other = absurd why
+  early new BadSuper why other = absurd why
+  early new (Stale cause) why other = absurd why
+  early new (Stranger cause) why other = absurd why
+  early new (Closed cause) why other = absurd why
+  early new Fenced why other = absurd why
+
+  -- where it was not refused by J4, there are few blocks
+  pub few_blocks : {T : Type 0} (new : WalState) (answer : Result T (Refusal Unit)) → OnOk answer (CanPrepare c.objects writes)
+      → IfErr answer (IsPrepareRefusal c.objects writes new) → (answer ≡ Err TooLarge → ⊥) → written_blocks writes ≤ 128
+  few_blocks new (Ok value) can why other = can.few
+  few_blocks new (Err refusal) can why other = ⊎_elim
+      (λ first. early new refusal first (λ is. other (ap Err is)))
+      (λ late. late.0.few)
+      why
+
+  module _ (s : SessionState) (new : WalState) (room : length c.history + 1 < 2 ^ 62) (small : s.number < 2 ^ 62) where
+    first_of : (refusal : Refusal Unit) → IsWriteRefusal c.objects writes refusal → IsPreparingRefusal c s writes (record c { objects = new }) (raised_of refusal)
+    first_of (DeviceFailed cause) why = absurd (false≢true (sym fine ∙ why))
+    first_of BadAddress why = absurd (false≢true (sym why.1 ∙ valid_of (size_of c.objects) writes objects))
+    first_of BadSize why = absurd (false≢true (sym why.2 ∙ objects))
+    first_of TooLarge why = why.2
+    first_of (Worn cause) why = (why.2, inr (inr why.3))
+    first_of (Full cause) why = (
+      why.2,
+      λ worn. ⊎_elim
+          (λ (is : 2 ^ 62 ≤ length c.history + 1). absurd (omega (arith, is, room)))
+          (λ (other : (2 ^ 62 ≤ s.number) ⊎ (2 ^ 62 ≤ next_of c.objects.log + fresh_blocks c.objects writes)). ⊎_elim
+          (λ (is : 2 ^ 62 ≤ s.number). absurd (omega (arith, is, small)))
+          (λ (is : 2 ^ 62 ≤ next_of c.objects.log + fresh_blocks c.objects writes). absurd (omega (arith, is, why.3)))
+          other)
+          worn,
+      why.4,
+    )
+    first_of NoMemory why = absurd why
+    first_of Busy why = absurd why
+    first_of BadLog why = absurd why
+    first_of BadSuper why = absurd why
+    first_of (Stale cause) why = absurd why
+    first_of (Stranger cause) why = absurd why
+    first_of (Closed cause) why = absurd why
+    first_of Fenced why = absurd why
+
+    late_of : (refusal : Refusal Unit) → IsLeft c.objects new refusal → IsLateRefusal c.objects new refusal → IsPreparingRefusal c s writes (record c { objects = new }) (raised_of refusal)
+    late_of NoMemory left why = tt
+    late_of (DeviceFailed cause) left why = record { fault = inr why; faulted = left; others = refl }
+    late_of BadAddress left why = absurd why
+    late_of BadSize left why = absurd why
+    late_of TooLarge left why = absurd why
+    late_of (Worn cause) left why = absurd why
+    late_of (Full cause) left why = absurd why
+    late_of Busy left why = absurd why
+    late_of BadLog left why = absurd why
+    late_of BadSuper left why = absurd why
+    late_of (Stale cause) left why = absurd why
+    late_of (Stranger cause) left why = absurd why
+    late_of (Closed cause) left why = absurd why
+    late_of Fenced left why = absurd why
+
+    pub prepares_not : {T : Type 0} (answer : Result T (Refusal Unit)) (result : Result T (Refusal Told)) → IfOk answer (λ value. result ≡ Ok value)
+        → IfErr answer (λ refusal. result ≡ Err (raised_of refusal)) → IfErr answer (IsPrepareRefusal c.objects writes new) → IfErr answer (IsLeft c.objects new)
+        → IfErr result (IsPreparingRefusal c s writes (record c { objects = new }))
+    prepares_not (Ok value) result ok err why left = subst (λ r. IfErr r (IsPreparingRefusal c s writes (record c { objects = new }))) (sym ok) tt
+    prepares_not (Err refusal) result ok err why left = subst (λ r. IfErr r (IsPreparingRefusal c s writes (record c { objects = new }))) (sym err)
+        (⊎_elim (first_of refusal) (λ late. late_of refusal left late.1) why)

@@ -1,0 +1,176 @@
+-- The steps of the object log, as the core's.
+use Rattle.std.proofs.Common.{◌≡◌, ◌⊎◌, inl, inr, ⊎_elim, ◌<◌, ℕ, zero, suc, Bool, true, false, IsTrue, Result, Ok, Err, IsErr, OnOk, OnErr, IfOk, IfErr, refl, sym, ap, subst, ◌∙◌, arith}
+use Rattle.std.proofs.lemmas.Bool.{false≢true}
+use Rattle.journal_world.specs.declared.refusal.Refusal.{Refusal}
+use Rattle.journal_world.specs.declared.refusal.Refusal.TheVariants.{NoMemory, BadAddress, BadSize, TooLarge, Busy, DeviceFailed, BadLog, BadSuper, Stale, Stranger, Worn, Full, Closed, Fenced}
+use Rattle.journal_world.specs.declared.step.Step.{Step}
+use Rattle.journal_world.specs.declared.step.Step.TheVariants.{Idle, Moved}
+use Rattle.journal_world.specs.declared.address.Addr.{Addr}
+use Rattle.journal_world.specs.Addresses.{Value}
+use Rattle.journal_world.specs.Maps.{is_object}
+use Rattle.journal_objlog.specs.MapLaws.{map_of-blocks}
+use Rattle.journal_wal.specs.Wal.{WalState, size_of, blocks_now, log_steps, LogAnswers, LogMoves, InstallAnswers, IsInstallFault}
+use Rattle.journal_objlog.specs.ObjectLogs.{map_now, KeepsMaps, MayCrash, OnlyReads, IsLeft, LogsMaps, LogMovesMaps}
+use Rattle.journal_world.specs.Histories.{count}
+use Rattle.journal_memlog.specs.Logs.{LogState}
+use Rattle.journal_core.specs.Cores.{CoreState, Crashes, IsKept}
+use Rattle.journal_core.proofs.Keeping.{Rests, kept_on, kept_cut, kept_end, crashes_of}
+
+-- what holds of an error
+pub of_err : {T E P : Type 0} (r : Result T E) → IsErr r → OnErr r P → P
+of_err (Ok value) is holds = absurd (false≢true is)
+of_err (Err e) is holds = holds
+
+-- what holds of this answer
+pub of_ok : {T E : Type 0} (P : T → Type 0) (r : Result T E) (value : T) → r ≡ Ok value → IfOk r P → P value
+of_ok P r value is holds = subst (λ x. IfOk x P) is holds
+
+-- what holds of an answer holds of the same answer
+pub of_raised : {T E F : Type 0} (P : T → Type 0) (answer : Result T E) (result : Result T F) → IfOk result (λ value. answer ≡ Ok value)
+    → IfOk answer P → IfOk result P
+of_raised P answer (Ok value) is holds = of_ok P answer value is holds
+of_raised P answer (Err e) is holds = tt
+
+-- the map has the disk's number of blocks
+pub objects_of : (blocks : ℕ) (c : CoreState) → IsKept blocks c → (a : Addr) (r : Result Value (Refusal Unit))
+    → IfOk r (λ (value : Value). IsTrue (is_object (map_now c.objects).blocks (a, value))) → IfOk r (λ (value : Value). IsTrue (is_object blocks (a, value)))
+objects_of blocks c kept a r holds =
+    subst (λ (n : ℕ). IfOk r (λ (value : Value). IsTrue (is_object n (a, value)))) (map_of-blocks (size_of c.objects) (blocks_now c.objects) ∙ kept.size) holds
+
+-- a step, seen from outside
+pub crashes_step : (blocks : ℕ) (inside now new : CoreState) → IsKept blocks inside → inside ≡ now → IsKept blocks new
+    → MayCrash inside.objects new.objects → Crashes now new
+crashes_step blocks inside now new before is kept crash =
+    subst (λ (c : CoreState). Crashes c new) is (crashes_of blocks inside new before kept crash)
+
+module _ (blocks : ℕ) (c : CoreState) (kept : IsKept blocks c) (objects : WalState) (crash : MayCrash c.objects objects) where
+  -- a device call failed
+  pub kept_fault : (IsTrue c.objects.ring.disk.honest → KeepsMaps c.objects objects) → objects.ring.faulted ≡ true
+      → IsKept blocks (record c { objects = objects })
+  kept_fault maps faulted = kept_on blocks c kept objects crash maps (λ fine none. absurd (false≢true (sym fine ∙ faulted)))
+
+  -- a step of the group in flight that does not end it
+  pub flies_on : (n : ℕ) → log_steps c.objects ≡ n → 0 < n → LogMoves n c.objects objects
+      → (IsTrue c.objects.ring.disk.honest → LogMovesMaps n c.objects objects)
+      → c.objects.log.logged < c.objects.log.cut → objects.log.logged < objects.log.cut
+      → IsKept blocks (record c { objects = objects })
+  flies_on zero is some moves maps flew flies = absurd (omega (arith, some))
+  flies_on (suc zero) is some moves maps flew flies =
+      let end : objects.log.logged ≡ c.objects.log.cut = ap (λ (l : LogState). l.logged) moves.end in
+      let cut : objects.log.cut ≡ c.objects.log.cut = ap (λ (l : LogState). l.cut) moves.end in absurd (omega (arith, flies, end, cut))
+  flies_on (suc (suc left)) is some moves maps flew flies =
+      kept_on blocks c kept objects crash maps (λ fine none. absurd (omega (arith, moves.steps, is, none)))
+
+  -- the step that ends it
+  pub lands : (n : ℕ) → log_steps c.objects ≡ n → 0 < n → LogMoves n c.objects objects
+      → (IsTrue c.objects.ring.disk.honest → LogMovesMaps n c.objects objects)
+      → c.objects.log.logged < c.objects.log.cut → (objects.log.logged < objects.log.cut → ⊥)
+      → IsKept blocks (record c { objects = objects; logged = c.cut })
+  lands zero is some moves maps flew flies = absurd (omega (arith, some))
+  lands (suc zero) is some moves maps flew flies = kept_end blocks c kept objects crash maps
+  lands (suc (suc left)) is some moves maps flew flies =
+      let end : objects.log.logged ≡ c.objects.log.logged = ap (λ (l : LogState). l.logged) moves.log in
+      let cut : objects.log.cut ≡ c.objects.log.cut = ap (λ (l : LogState). l.cut) moves.log in absurd (flies (omega (arith, flew, end, cut)))
+
+  -- a step of the group in flight, by what it answers
+  pub stays_in_flight : (step : Step) → LogAnswers c.objects step objects → (IsTrue c.objects.ring.disk.honest → LogsMaps c.objects step objects)
+      → 0 < log_steps c.objects → c.objects.log.logged < c.objects.log.cut → objects.log.logged < objects.log.cut
+      → IsKept blocks (record c { objects = objects })
+  stays_in_flight Idle ok maps some flew flies = absurd (omega (arith, some, ok.0.steps))
+  stays_in_flight Moved ok maps some flew flies = flies_on (log_steps c.objects) refl some ok maps flew flies
+
+  pub has_landed : (step : Step) → LogAnswers c.objects step objects → (IsTrue c.objects.ring.disk.honest → LogsMaps c.objects step objects)
+      → 0 < log_steps c.objects → c.objects.log.logged < c.objects.log.cut → (objects.log.logged < objects.log.cut → ⊥)
+      → IsKept blocks (record c { objects = objects; logged = c.cut })
+  has_landed Idle ok maps some flew flies = absurd (omega (arith, some, ok.0.steps))
+  has_landed Moved ok maps some flew flies = lands (log_steps c.objects) refl some ok maps flew flies
+
+  -- the tail is cut
+  pub cuts : (n : ℕ) → n ≡ 0 → LogMoves n c.objects objects → (IsTrue c.objects.ring.disk.honest → LogMovesMaps n c.objects objects)
+      → IsKept blocks (record c { objects = objects; cut = count c.history })
+  cuts zero none moves maps = kept_cut blocks c kept objects crash maps (omega (arith, moves.steps))
+  cuts (suc n) none moves maps = absurd (omega (arith, none))
+
+  pub has_cut : (step : Step) → step ≡ Moved → log_steps c.objects ≡ 0 → LogAnswers c.objects step objects
+      → (IsTrue c.objects.ring.disk.honest → LogsMaps c.objects step objects)
+      → IsKept blocks (record c { objects = objects; cut = count c.history })
+  has_cut Idle moved none ok maps = absurd (cc (moved))
+  has_cut Moved moved none ok maps = cuts (log_steps c.objects) none ok maps
+
+  -- nothing to do
+  pub has_rested : (step : Step) → (step ≡ Moved → ⊥) → LogAnswers c.objects step objects → IsKept blocks (record c { objects = objects })
+  has_rested Idle idle ok = subst (λ (w : WalState). IsKept blocks (record c { objects = w })) (sym ok.1) kept
+  has_rested Moved idle ok = absurd (idle refl)
+
+-- where no group is in flight
+pub no_steps : {A : Type 0} (w : WalState) → IsTrue false ⊎ ((log_steps w ≡ 0) × A) → log_steps w ≡ 0
+no_steps w rest = ⊎_elim (λ no. absurd (false≢true no)) (λ yes. yes.0) rest
+
+-- where something was read, no group came or went
+pub rests_read : (old new : WalState) → OnlyReads old new → (IsTrue old.ring.faulted → new ≡ old) → Rests old new
+rests_read old new reads stays fine none = by old.ring.faulted refl
+  where
+    by : (b : Bool) → old.ring.faulted ≡ b → (old.ring.faulted ≡ false) × (log_steps old ≡ 0)
+    by true is = absurd (false≢true (sym fine ∙ ap (λ (w : WalState). w.ring.faulted) (stays is) ∙ is))
+    by false is = (is, sym (ap log_steps reads.same) ∙ none)
+
+-- what is left of the log after a read, whatever it answers
+pub rests_left : (old new : WalState) → OnlyReads old new ⊎ (new.ring.faulted ≡ true) → (IsTrue old.ring.faulted → new ≡ old) → Rests old new
+rests_left old new left stays = ⊎_elim
+    (λ (reads : OnlyReads old new). rests_read old new reads stays)
+    (λ (faulted : new.ring.faulted ≡ true). λ fine none. absurd (false≢true (sym fine ∙ faulted)))
+    left
+
+left_by : (old new : WalState) (refusal : Refusal Unit) → IsLeft old new refusal → OnlyReads old new ⊎ (new.ring.faulted ≡ true)
+left_by old new (DeviceFailed cause) left = inr left
+left_by old new NoMemory left = inl left
+left_by old new BadAddress left = inl left
+left_by old new BadSize left = inl left
+left_by old new TooLarge left = inl left
+left_by old new Busy left = inl left
+left_by old new BadLog left = inl left
+left_by old new BadSuper left = inl left
+left_by old new (Stale cause) left = inl left
+left_by old new (Stranger cause) left = inl left
+left_by old new (Worn cause) left = inl left
+left_by old new (Full cause) left = inl left
+left_by old new (Closed cause) left = inl left
+left_by old new Fenced left = inl left
+
+-- what such a call leaves, whatever it answers
+pub left_of : {T : Type 0} (old new : WalState) (r : Result T (Refusal Unit)) → OnOk r (OnlyReads old new) → IfErr r (IsLeft old new)
+    → OnlyReads old new ⊎ (new.ring.faulted ≡ true)
+left_of old new (Ok value) reads left = inl reads
+left_of old new (Err refusal) reads left = left_by old new refusal left
+
+-- a call that only reads leaves no group that was not there
+pub rests_call : {T : Type 0} (old new : WalState) (r : Result T (Refusal Unit)) → OnOk r (OnlyReads old new) → IfErr r (IsLeft old new)
+    → (IsTrue old.ring.faulted → IsErr r × (new ≡ old)) → Rests old new
+rests_call old new (Ok value) reads left stays = rests_read old new reads (λ faulted. (stays faulted).1)
+rests_call old new (Err refusal) reads left stays = rests_left old new (left_by old new refusal left) (λ faulted. (stays faulted).1)
+
+-- nor does a step of the installer
+pub rests_install : (old new : WalState) (r : Result Step (Refusal Unit)) → IfOk r (λ step. InstallAnswers old step new)
+    → IfErr r (IsInstallFault old new) → (IsTrue old.ring.faulted → IsErr r × (new ≡ old)) → Rests old new
+rests_install old new (Ok Idle) ok err stays = λ fine none.
+    (sym (ap (λ (w : WalState). w.ring.faulted) ok.1) ∙ fine, sym (ap log_steps ok.1) ∙ none)
+rests_install old new (Ok Moved) ok err stays = λ fine none. (by old.ring.faulted refl, sym ok.logging ∙ none)
+  where
+    by : (b : Bool) → old.ring.faulted ≡ b → old.ring.faulted ≡ false
+    by true is = absurd (false≢true (stays is).0)
+    by false is = is
+rests_install old new (Err NoMemory) ok err stays = λ fine none.
+    (sym (ap (λ (w : WalState). w.ring.faulted) err.1) ∙ fine, sym (ap log_steps err.1) ∙ none)
+rests_install old new (Err (DeviceFailed cause)) ok err stays = λ fine none. absurd (false≢true (sym fine ∙ err.1.faulted))
+rests_install old new (Err BadAddress) ok err stays = absurd err
+rests_install old new (Err BadSize) ok err stays = absurd err
+rests_install old new (Err TooLarge) ok err stays = absurd err
+rests_install old new (Err Busy) ok err stays = absurd err
+rests_install old new (Err BadLog) ok err stays = absurd err
+rests_install old new (Err BadSuper) ok err stays = absurd err
+rests_install old new (Err (Stale cause)) ok err stays = absurd err
+rests_install old new (Err (Stranger cause)) ok err stays = absurd err
+rests_install old new (Err (Worn cause)) ok err stays = absurd err
+rests_install old new (Err (Full cause)) ok err stays = absurd err
+rests_install old new (Err (Closed cause)) ok err stays = absurd err
+rests_install old new (Err Fenced) ok err stays = absurd err

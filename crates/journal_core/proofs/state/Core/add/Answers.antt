@@ -1,0 +1,43 @@
+use Rattle.std.proofs.Common.{ℕ, max, ◌<◌, ◌+◌, ◌^◌, IsTrue, List, length, refl, sym, ap, subst, ◌∙◌}
+use Rattle.journal_world.specs.Maps.{Agrees}
+use Rattle.journal_world.specs.Histories.{Entry, is_trusted, latest}
+use Rattle.journal_objlog.specs.Writes.{IsPrepared}
+use Rattle.journal_history.specs.Tokens.{next_of}
+use Rattle.journal_core.specs.Cores.{CoreState, IsKept}
+use Rattle.journal_core.proofs.Keeping.{crashes_seen}
+use Rattle.journal_core.proofs.Stepping.{crashes_step}
+use Rattle.journal_core.proofs.Committing.{ruled_then, few_commits, tallied_commit, kept_added}
+use Rattle.journal_core.proofs.state.Core.add.Goals as goal
+
+pub returns-in_err-reserve-clause-crash : goal.returns-in_err-reserve-clause-crash
+returns-in_err-reserve-clause-crash g c = crashes_seen g.J.Naming.blocks _ _ _ c.self.invariant.0 c.self.view_is c.self.invariant.0 refl
+
+pub commit-requires-clause-rule : goal.commit-requires-clause-rule
+commit-requires-clause-rule g c =
+    ruled_then g.J.Naming.blocks g.R.MapRule.statement c.self.inside.writer c.args.transaction.now.reads c.args.transaction.now.writes c.len-len.ensures.on_disk c.len-len.ensures.sound
+    c.requires.rule
+    (subst (λ (s : CoreState). IsTrue (is_trusted s.history) → Agrees (latest s.history) c.args.transaction.now.reads) (sym c.self.view_is) c.requires.agrees)
+
+pub returns-in-Err-clause-crash : goal.returns-in-Err-clause-crash
+returns-in-Err-clause-crash g c = crashes_seen g.J.Naming.blocks _ _ _ c.self.invariant.0 c.self.view_is
+    (subst (λ (h : List Entry). IsKept g.J.Naming.blocks (record { objects = c.self.inside.objects; history = h; cut = c.self.inside.cut; logged = c.self.inside.logged; next = c.self.inside.next }))
+    (sym c.in-Err.ensures.unchanged.0) c.self.invariant.0) refl
+
+pub count_one-requires-clause-small : goal.count_one-requires-clause-small
+count_one-requires-clause-small g c =
+    few_commits c.self.inside.tally c.reserve.new.self c.self.inside.writer c.number-number.result c.reserve.ensures.same c.self.invariant.1
+    (subst (λ (s : CoreState). length s.history + 1 < 2 ^ 62) (sym c.self.view_is) c.requires.room)
+
+pub invariant_of-self-2 : goal.invariant_of-self-2
+invariant_of-self-2 g c =
+    let t = next_of c.args.session.now c.args.transaction.now.reads c.args.transaction.now.writes in (
+      kept_added g.J.Naming.blocks (record { objects = c.self.inside.objects; history = c.self.inside.writer; cut = c.self.inside.cut; logged = c.self.inside.logged; next = c.self.inside.next }) c.self.invariant.0 c.len-len.ensures.begun
+          t c.args.prepared c.apply.new.self c.commit.new.self c.max-self-inside.result c.in-Ok.ensures.committed.added (c.max-self-inside.ensures ∙ ap (λ (n : ℕ). max c.self.inside.next (n + 1)) c.number-number.ensures)
+          (subst (λ (s : CoreState). IsPrepared s.objects c.args.prepared c.args.transaction.now.writes) (sym c.self.view_is) c.requires.prepared)
+          c.apply.ensures.log c.apply.ensures.crash c.apply.ensures.map c.apply.ensures.cut c.apply.ensures.logged,
+      tallied_commit c.self.inside.tally c.reserve.new.self c.count_one.new.self c.self.inside.writer c.commit.new.self t c.number-number.result
+          c.in-Ok.ensures.committed.added c.number-number.ensures c.reserve.ensures.same c.count_one.ensures c.self.invariant.1,
+    )
+
+pub returns-clause-crash : goal.returns-clause-crash
+returns-clause-crash g c = crashes_step g.J.Naming.blocks _ _ _ c.self.invariant.0 c.self.view_is (invariant_of-self-2 g c).0 c.apply.ensures.crash

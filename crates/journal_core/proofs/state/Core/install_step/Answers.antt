@@ -1,0 +1,14 @@
+use Rattle.journal_core.proofs.Keeping.{kept_on}
+use Rattle.journal_core.proofs.Stepping.{rests_install, crashes_step}
+use Rattle.journal_core.proofs.state.Core.install_step.Goals as goal
+
+pub invariant_of-self : goal.invariant_of-self
+invariant_of-self g c = (
+  kept_on g.J.Naming.blocks _ c.self.invariant.0 c.install_step.new.self c.install_step.ensures.crash c.install_step.ensures.maps
+      (rests_install c.self.inside.objects c.install_step.new.self c.install_step.result c.install_step.ensures.ok c.install_step.ensures.cause c.install_step.ensures.faulted),
+  c.self.invariant.1,
+)
+
+pub returns-clause-crash : goal.returns-clause-crash
+returns-clause-crash g c =
+    crashes_step g.J.Naming.blocks _ _ _ c.self.invariant.0 c.self.view_is (invariant_of-self g c).0 c.install_step.ensures.crash

@@ -1,0 +1,59 @@
+-- What contracts see of the core, what a crash may leave of it, and what its type keeps.
+use Rattle.std.specs.Prelude.{ℕ, ◌≡◌, ◌≤◌, false, IsTrue, List, []}
+use Rattle.journal_world.specs.Maps.{Map, SameMap}
+use Rattle.journal_world.specs.Histories.{Entry, opened, is_trusted, commits_of, count, floor, at, latest}
+use Rattle.journal_block.specs.Block.{Bytes}
+use Rattle.journal_disk.specs.Disks.{Keeps}
+use Rattle.journal_disk.specs.Images.{EveryImage}
+use Rattle.journal_disk.specs.Moments.{LeavesOnly}
+use Rattle.journal_wal.specs.Wal.{WalState, size_of, log_steps}
+use Rattle.journal_objlog.specs.Maps.{OpensAs}
+use Rattle.journal_objlog.specs.ObjectLogs.{map_now, map_cut, map_logged, MayOpenAs}
+
+pub record CoreState : Type 0 where
+  -- the map of objects, and the log that it is kept in
+  pub objects : WalState
+  -- all entries of the mount's history
+  pub history : List Entry
+  -- how many commits there were at the last cut, and at the cut of the last group whose cycle ended
+  pub cut : ℕ
+  pub logged : ℕ
+  -- the number of the next session
+  pub next : ℕ
+
+-- The image opens as the map after so many commits, no fewer than the greatest mark
+pub record Leaves (history : List Entry) (image : List Bytes) : Type 0 where
+  pub commits : ℕ
+  pub marked : floor history ≤ commits
+  pub made : commits ≤ count history
+  pub map : Map
+  pub opens : OpensAs map image
+  pub same : SameMap map (at history commits)
+
+-- What each step says of crashes: at every moment of it an image opens as the map after a front of the history that there
+-- was, and at its end after one of the history that there is
+pub record Crashes (old new : CoreState) : Type 0 where
+  pub keeps : Keeps old.objects.ring.disk new.objects.ring.disk
+  pub moments : IsTrue old.objects.ring.disk.honest → LeavesOnly old.objects.ring.disk.past new.objects.ring.disk.past (Leaves old.history)
+  pub images : IsTrue new.objects.ring.disk.honest → EveryImage new.objects.ring.disk.past (Leaves new.history)
+
+-- The map now is that of the history, the one at the last cut that after m commits, the one that is logged that after n
+pub record AreTied (objects : WalState) (history : List Entry) (m n : ℕ) : Type 0 where
+  pub now : SameMap (map_now objects) (latest history)
+  pub cut : SameMap (map_cut objects) (at history m)
+  pub logged : SameMap (map_logged objects) (at history n)
+
+-- What the core keeps, on a disk of so many blocks
+pub record IsKept (blocks : ℕ) (c : CoreState) : Type 0 where
+  pub size : size_of c.objects ≡ blocks
+  pub on_disk : (opened c.history).blocks ≡ blocks
+  pub trusted : is_trusted c.history ≡ c.objects.ring.disk.honest
+  pub marked : floor c.history ≤ c.logged
+  pub logged_to_cut : c.logged ≤ c.cut
+  pub cut_to_count : c.cut ≤ count c.history
+  -- where no group is in flight, what was cut is logged
+  pub rest : c.objects.ring.faulted ≡ false → log_steps c.objects ≡ 0 → c.logged ≡ c.cut
+  pub tied : IsTrue c.objects.ring.disk.honest → AreTied c.objects c.history c.cut c.logged
+  pub images : IsTrue c.objects.ring.disk.honest → EveryImage c.objects.ring.disk.past (MayOpenAs c.objects)
+  -- no session of a later number has committed
+  pub fresh : (s : ℕ) → c.next ≤ s → commits_of s c.history ≡ []

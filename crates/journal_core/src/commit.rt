@@ -1,0 +1,178 @@
+// A commit.
+ghost use Rattle.std.specs.Prelude.{◌≡◌, ◌⊎◌, ◌<◌, ◌≤◌, ◌+◌, ◌^◌, ◌↔◌, true, false, IsTrue, List, length, Err, IfOk, IfErr, OnOk, OnErr};
+ghost use Rattle.journal_world.specs.declared.refusal.Refusal.TheVariants.{TooLarge};
+ghost use Rattle.journal_world.specs.Maps.{Map, Agrees, are_objects, overwritten};
+ghost use Rattle.journal_world.specs.Histories.{is_trusted, commits_of, latest};
+ghost use Rattle.journal_objlog.specs.ObjectLogs.{OnlyReads};
+ghost use Rattle.journal_history.specs.Tokens.{made, next_of, OnlyExtends, IsReceiptFor};
+ghost use Rattle.journal_core.specs.Cores.{Crashes};
+ghost use Rattle.journal_objlog.specs.Writes.{IsPrepared};
+ghost use Rattle.journal_core.specs.Commits.{IsCommitted, IsAdded, IsCommitRefusal, IsSessionFault, IsComparedRefusal, IsPreparingRefusal, IsAddingRefusal};
+
+use crate::cause::{Cause, raise};
+use crate::state::{Core, LIMIT};
+use crate::transaction::Transaction;
+use journal_disk::BlockDisk;
+use journal_history::{Naming, Receipt, Session};
+use journal_objlog::Prepared;
+use journal_world::{MapRule, Objects, Refusal};
+
+impl<'b, D: BlockDisk, R: MapRule, J: Naming> Core<'b, D, R, J> {
+    /// Commits the session's next transaction: adds it to the history, which the session has then seen, and
+    /// overwrites the map by its writes, in memory. The receipt says where it stands. All memory and all reads
+    /// from the device come before the history grows.
+    ///
+    /// The first that applies of these refuses it: J6 `DeviceFailed` where the device failed before, J5 `Busy`
+    /// where a value that it read is no more what the map gives, J9 `Stale` where the history is longer than
+    /// the core's, J10 `Stranger` where the history has a commit under the session's number that the session
+    /// did not make, J4 `TooLarge` where more than 128 distinct blocks are written, J11 `Worn` where the
+    /// history's length, the session's number or a position of the log would reach 2^62, J12 `Full` where the
+    /// log's tail cannot take the blocks that do not stand in it, then J1 `NoMemory` where memory is refused, or
+    /// J6 where the device fails in this call. To compare what was read, values are read again, for which J1 and
+    /// a new J6 come before J4. The history, the map and the pending writes are then as they were.
+    pub fn commit_step(
+        &mut self,
+        session: &mut Session<'b, J, R>,
+        transaction: &Transaction,
+    ) -> Result<Receipt<'b, J, R>, Refusal<Cause<'b, J, R>>>
+        requires reads { IsTrue (are_objects J.blocks transaction.now.reads) }
+        requires writes { IsTrue (are_objects J.blocks transaction.now.writes) }
+        requires rule { (m : Map) → m.blocks ≡ J.blocks → R.statement m → Agrees m transaction.now.reads
+            → R.statement (overwritten m transaction.now.writes) }
+        ensures committed { OnOk result (IsCommitted transaction.now.reads transaction.now.writes session.old session.new self.old self.new) }
+        ensures receipt { IfOk result (IsReceiptFor (next_of session.old transaction.now.reads transaction.now.writes) self.new.history (length self.old.history)) }
+        ensures agrees { OnOk result (IsTrue (is_trusted self.old.history) → Agrees (latest self.old.history) transaction.now.reads) }
+        ensures refusal { IfErr result (IsCommitRefusal self.old session.old transaction.now.reads transaction.now.writes self.new) }
+        ensures same { OnErr result (self.new ≡ record self.old { objects = self.new.objects }) }
+        ensures left { OnErr result (OnlyReads self.old.objects self.new.objects ⊎ (self.new.objects.ring.faulted ≡ true)) }
+        ensures session { OnErr result (OnlyExtends session.old session.new) }
+        ensures crash { Crashes self.old self.new }
+    {
+        if self.objects.is_faulted() {
+            return Err(Refusal::DeviceFailed(Cause::none()));
+        }
+        let own = self.admit(session);
+        match self.compare(&transaction.reads) {
+            Err(Refusal::Busy) => return Err(Refusal::Busy),
+            compared => {
+                own?;
+                compared?;
+            }
+        }
+        let prepared = self.prepare(session, &transaction.writes)?;
+        self.add(session, transaction, prepared)
+    }
+
+    // Refuses by what is known of sessions: J9 and J10. The session has then seen the history as it is.
+    fn admit(&self, session: &mut Session<'b, J, R>) -> Result<(), Refusal<Cause<'b, J, R>>>
+        ensures own { OnOk result (length (commits_of session.old.number self.now.history) ≡ made session.old) }
+        ensures session { OnlyExtends session.old session.new }
+        ensures refusal { IfErr result (IsSessionFault self.now session.old) }
+    {
+        session.observe();
+        if let Err(front) = self.writer.show(session) {
+            return Err(Refusal::Stale(Cause::of(front)));
+        }
+        if self.tally.made(session.number()) != session.made() {
+            return Err(Refusal::Stranger(Cause::of(self.writer.front())));
+        }
+        Ok(())
+    }
+
+    // Refuses by J5 where a value that was read is no more what the map gives.
+    fn compare(&mut self, reads: &Objects) -> Result<(), Refusal<Cause<'b, J, R>>>
+        requires objects { IsTrue (are_objects J.blocks reads.now) }
+        requires fine { self.old.objects.ring.faulted ≡ false }
+        ensures agrees { OnOk result (IsTrue (is_trusted self.old.history) → Agrees (latest self.old.history) reads.now) }
+        ensures fine { OnOk result (self.new.objects.ring.faulted ≡ false) }
+        ensures refusal { IfErr result (IsComparedRefusal self.old reads.now self.new) }
+        ensures others { self.new ≡ record self.old { objects = self.new.objects } }
+        ensures reads { OnOk result (OnlyReads self.old.objects self.new.objects) }
+        ensures left { OnErr result (OnlyReads self.old.objects self.new.objects ⊎ (self.new.objects.ring.faulted ≡ true)) }
+        ensures crash { Crashes self.old self.new }
+    {
+        // It tells the proof what the core keeps.
+        let _ = &self.objects;
+        for (addr, value) in reads.iter() {
+            if self.read_step(*addr)?.bytes() != value.bytes() {
+                return Err(Refusal::Busy);
+            }
+        }
+        Ok(())
+    }
+
+    // Makes the writes ready, with all the memory and all the reads from the device that they take. Refuses by
+    // J4, J11 and J12, then J1 or a new J6.
+    fn prepare(
+        &mut self,
+        session: &Session<'b, J, R>,
+        writes: &Objects,
+    ) -> Result<Prepared, Refusal<Cause<'b, J, R>>>
+        requires objects { IsTrue (are_objects J.blocks writes.now) }
+        requires fine { self.old.objects.ring.faulted ≡ false }
+        ensures prepared { IfOk result (λ prepared. IsPrepared self.new.objects prepared writes.now) }
+        ensures room { OnOk result ((length self.old.history + 1 < 2 ^ 62) × (session.now.number < 2 ^ 62)) }
+        ensures fine { OnOk result (self.new.objects.ring.faulted ≡ false) }
+        ensures refusal { IfErr result (IsPreparingRefusal self.old session.now writes.now self.new) }
+        ensures others { self.new ≡ record self.old { objects = self.new.objects } }
+        ensures reads { OnOk result (OnlyReads self.old.objects self.new.objects) }
+        ensures left { OnErr result (OnlyReads self.old.objects self.new.objects ⊎ (self.new.objects.ring.faulted ≡ true)) }
+        ensures crash { Crashes self.old self.new }
+    {
+        let prepared = self.objects.prepare(writes);
+        if is_too_large(&prepared) {
+            return Err(Refusal::TooLarge);
+        }
+        if self.writer.len() >= LIMIT - 1 || session.number() >= LIMIT {
+            return Err(Refusal::Worn(Cause::none()));
+        }
+        raise(prepared)
+    }
+
+    // Adds the transaction to the history, and overwrites the map.
+    fn add(
+        &mut self,
+        session: &mut Session<'b, J, R>,
+        transaction: &Transaction,
+        prepared: Prepared,
+    ) -> Result<Receipt<'b, J, R>, Refusal<Cause<'b, J, R>>>
+        requires reads { IsTrue (are_objects J.blocks transaction.now.reads) }
+        requires writes { IsTrue (are_objects J.blocks transaction.now.writes) }
+        requires rule { (m : Map) → m.blocks ≡ J.blocks → R.statement m → Agrees m transaction.now.reads
+            → R.statement (overwritten m transaction.now.writes) }
+        requires agrees { IsTrue (is_trusted self.old.history) → Agrees (latest self.old.history) transaction.now.reads }
+        requires own { length (commits_of session.old.number self.old.history) ≡ made session.old }
+        requires room { length self.old.history + 1 < 2 ^ 62 }
+        requires small { session.old.number < 2 ^ 62 }
+        requires prepared { IsPrepared self.old.objects prepared transaction.now.writes }
+        ensures committed { OnOk result (IsAdded (next_of session.old transaction.now.reads transaction.now.writes) prepared session.old session.new self.old self.new) }
+        ensures receipt { IfOk result (IsReceiptFor (next_of session.old transaction.now.reads transaction.now.writes) self.new.history (length self.old.history)) }
+        ensures refusal { IfErr result (IsAddingRefusal self.old) }
+        ensures same { OnErr result ((self.new ≡ self.old) × (session.new ≡ session.old)) }
+        ensures crash { Crashes self.old self.new }
+    {
+        // It tells the proof that the history is sound.
+        let _len = self.writer.len();
+        let number = session.number();
+        self.tally.reserve(number)?;
+        let receipt = match self.writer.commit(session, transaction) {
+            Ok(receipt) => receipt,
+            Err(front) => return Err(Refusal::Stale(Cause::of(front))),
+        };
+        // Nothing fails from here on.
+        self.objects.apply(prepared);
+        self.tally.count_one(number);
+        self.next = self.next.max(number + 1);
+        Ok(receipt)
+    }
+}
+
+// Whether it is refused by J4.
+fn is_too_large<T>(answer: &Result<T, Refusal<()>>) -> bool
+    ensures { IsTrue result ↔ (answer.now ≡ Err TooLarge) }
+{
+    match answer {
+        Ok(_) => false,
+        Err(refusal) => matches!(refusal, Refusal::TooLarge),
+    }
+}

@@ -1,0 +1,26 @@
+// A step of the installer.
+ghost use Rattle.std.specs.Prelude.{ℕ, ◌≡◌, true, IsTrue, IsErr, IfOk, IfErr};
+ghost use Rattle.journal_core.specs.Cores.{Crashes};
+ghost use Rattle.journal_core.specs.Steps.{InstallAnswers, IsInstallRefusal};
+
+use crate::cause::{Cause, raise};
+use crate::state::Core;
+use journal_disk::BlockDisk;
+use journal_history::Naming;
+use journal_world::{MapRule, Refusal, Step};
+
+impl<'b, D: BlockDisk, R: MapRule, J: Naming> Core<'b, D, R, J> {
+    /// Does the next thing of the installer, with at most one device call that changes the disk: writes one
+    /// home block; makes a barrier; writes block 1; makes a barrier, after which the positions are free. It is
+    /// idle where nothing is logged that is not at home. The history stays.
+    ///
+    /// Answers J6 `DeviceFailed` where the device failed in this call or before, and J1 `NoMemory` where memory
+    /// for the list of addresses is refused, at the first of these steps.
+    pub fn install_step(&mut self) -> Result<Step, Refusal<Cause<'b, J, R>>>
+        ensures ok { IfOk result (λ step. InstallAnswers self.old step self.new) }
+        ensures refusal { IfErr result (IsInstallRefusal self.old self.new) }
+        ensures crash { Crashes self.old self.new }
+    {
+        raise(self.objects.install_step())
+    }
+}

@@ -1,0 +1,65 @@
+// A step of the logger, or a mark.
+ghost use Rattle.std.specs.Prelude.{ℕ, ◌≡◌, ◌≤◌, ◌<◌, false, true, IsTrue, IsErr, IfOk, IfErr, OnOk, OnErr};
+ghost use Rattle.journal_world.specs.Histories.{count, floor};
+ghost use Rattle.journal_core.specs.Cores.{Crashes};
+ghost use Rattle.journal_core.specs.Steps.{LogAnswers, Marks, IsLogRefusal, IsMarkRefusal, CanMark};
+
+use crate::cause::{Cause, raise};
+use crate::state::{Core, LIMIT};
+use journal_disk::BlockDisk;
+use journal_history::Naming;
+use journal_world::{MapRule, Refusal, Step};
+
+impl<'b, D: BlockDisk, R: MapRule, J: Naming> Core<'b, D, R, J> {
+    /// Does the next thing of the logger, with at most one device call that changes the disk: the next step of
+    /// the group in flight; where its cycle ended, the mark of its commits; a cut; where nothing awaits logging,
+    /// the mark of commits that wrote nothing. It is idle where there is none of these.
+    pub fn log_step(&mut self) -> Result<Step, Refusal<Cause<'b, J, R>>>
+        ensures ok { IfOk result (λ step. LogAnswers self.old step self.new) }
+        ensures refusal { IfErr result (IsLogRefusal self.old self.new) }
+        ensures crash { Crashes self.old self.new }
+    {
+        if self.objects.is_faulted() {
+            return Err(Refusal::DeviceFailed(Cause::none()));
+        }
+        if self.objects.is_logging() {
+            raise(self.objects.log_step())?;
+            if !self.objects.is_logging() {
+                self.logged = self.cut;
+            }
+            return Ok(Step::Moved);
+        }
+        if self.writer.floor() < self.cut {
+            return self.mark(self.cut);
+        }
+        if let Step::Moved = raise(self.objects.log_step())? {
+            self.cut = self.writer.count();
+            return Ok(Step::Moved);
+        }
+        let commits = self.writer.count();
+        if self.objects.tail_len() == 0 && self.writer.floor() < commits {
+            return self.mark(commits);
+        }
+        Ok(Step::Idle)
+    }
+
+    // Marks that n commits are stable, and tells it.
+    fn mark(&mut self, n: u64) -> Result<Step, Refusal<Cause<'b, J, R>>>
+        requires can { CanMark self.old n }
+        ensures ok { OnOk result (Marks n self.old self.new) }
+        ensures moved { IfOk result (λ step. step ≡ Step.Moved) }
+        ensures refusal { IfErr result (IsMarkRefusal self.old self.new) }
+        ensures crash { Crashes self.old self.new }
+    {
+        if self.writer.len() >= LIMIT - 1 {
+            return Err(Refusal::Worn(Cause::none()));
+        }
+        if let Err(front) = self.writer.mark(n) {
+            return Err(Refusal::Stale(Cause::of(front)));
+        }
+        self.writer.tell();
+        self.cut = n;
+        self.logged = n;
+        Ok(Step::Moved)
+    }
+}

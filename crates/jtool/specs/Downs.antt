@@ -1,0 +1,38 @@
+-- What a command does to a disk that is down, and what it is answered.
+use Rattle.std.specs.Prelude.{ℕ, ◌≡◌, ◌≢◌, ◌<◌, ◌+◌, List, slice_range}
+use Rattle.journal_world.specs.declared.refusal.Refusal.TheVariants.{NoMemory, DeviceFailed}
+use Rattle.journal_block.specs.Block.{Bytes, with_bytes}
+use Rattle.journal_disk.specs.Disks.{Past, read_of}
+use Rattle.jtool.specs.declared.command.Command.{Command}
+use Rattle.jtool.specs.declared.command.Command.TheVariants as commands
+use Rattle.jtool.specs.declared.answer.Answer.{Answer}
+use Rattle.jtool.specs.declared.answer.Answer.TheVariants as answers
+
+-- The disk has as many blocks as it had
+pub record SameSize (old new : Past) : Type 0 where
+  pub size : new.size ≡ old.size
+
+-- These bytes of the block were overwritten, and each other block reads as it did
+pub record IsPoked (block at : ℕ) (bytes : Bytes) (old new : Past) : Type 0 where
+  pub size : new.size ≡ old.size
+  pub here : read_of new block ≡ with_bytes (read_of old block) at bytes
+  pub others : (b : ℕ) → b < old.size → b ≢ block → read_of new b ≡ read_of old b
+
+-- bytes of a block are shown
+abbrev pub Shows : Past → ℕ → ℕ → ℕ → Answer Unit → Type 0
+Shows p block at len (answers.Value v) = v ≡ slice_range (read_of p block) at (at + len)
+Shows p block at len (answers.Refused why) = why ≡ NoMemory
+Shows p block at len answers.BadLine = block < p.size → ⊥
+Shows p block at len _ = ⊥
+
+-- bytes of a block are overwritten
+abbrev pub Pokes : Past → ℕ → ℕ → Bytes → Answer Unit → Past → Type 0
+Pokes old block at bytes answers.Done new = (block < old.size) × IsPoked block at bytes old new
+Pokes old block at bytes (answers.Refused why) new = SameSize old new
+Pokes old block at bytes answers.BadLine new = (block < old.size → ⊥) × (new ≡ old)
+Pokes old block at bytes _ new = ⊥
+
+abbrev pub ObeysDown : Past → Command → Answer Unit → Past → Type 0
+ObeysDown old (commands.Disk block at len) answer new = Shows old block at len answer × (new ≡ old)
+ObeysDown old (commands.Poke block at v) answer new = Pokes old block at v.now answer new
+ObeysDown old _ answer new = (answer ≡ answers.Down) × (new ≡ old)

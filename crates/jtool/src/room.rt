@@ -1,0 +1,23 @@
+// Memory for what a line spells.
+use crate::choices::ChoiceRoom;
+use crate::values::ValueRoom;
+use std::alloc::{AllocError, Global};
+
+/// Room for what one line spells, a value or a choice, taken once and used for one line after another.
+#[derive(Drop)]
+pub struct Room {
+    /// For the bytes of a value.
+    pub value: ValueRoom,
+    /// For the numbers of a choice.
+    pub choice: ChoiceRoom,
+}
+
+impl Room {
+    /// Takes the memory.
+    pub fn new(alloc: Global) -> Result<Room, AllocError> {
+        Ok(Room {
+            value: ValueRoom::new(alloc)?,
+            choice: ChoiceRoom::new(alloc)?,
+        })
+    }
+}

@@ -1,0 +1,137 @@
+// A device that fails at each of its calls, and a crash there.
+
+use super::{Run, run_with};
+use std::alloc::{AllocError, Global};
+use std::io;
+use std::io::Write;
+use std::test::Fail;
+
+/// Lines, each with its answer where no device call fails. Once one failed, no line has its answer any more,
+/// but for a `put`.
+const LINES: &[(&str, &[u8])] = &[
+    ("put 515 0 01*128", b"ok"),
+    ("put 531 0 aa*4096", b"ok"),
+    ("get 532 0", b"= 00*4096"),
+    ("commit", b"committed 1"),
+    ("log", b"log 7"),
+    ("put 515 1024 02*128", b"ok"),
+    ("commit", b"committed 2"),
+    ("log", b"log 6"),
+    ("install", b"install 5"),
+    ("get 515 0", b"= 01*128"),
+    ("commit", b"committed 3"),
+    ("get 515 1024", b"= 02*128"),
+    ("get 531 0", b"= aa*4096"),
+    ("log", b"log 1"),
+];
+
+/// A run of these lines whose so-manyth device call fails.
+fn run_failing(alloc: Global, call: u64) -> io::Result<Run> {
+    let mut script = Vec::new(alloc);
+    writeln!(script, "fail {call}")?;
+    for (line, _) in LINES {
+        writeln!(script, "{line}")?;
+    }
+    Ok(run_with(alloc, &["script", "600"], &script)?)
+}
+
+/// How many lines have another answer, or `None` where one has an answer that it may not have.
+fn count_faults(run: &Run) -> Option<u64> {
+    let mut answers = run.output.split(|byte| *byte == b'\n').skip(1);
+    let mut faults: u64 = 0;
+    for (_, whole) in LINES {
+        let answer = answers.next()?;
+        match answer {
+            b"refused J6 DeviceFailed" => faults = faults.saturating_add(1),
+            b"ok" | b"no transaction" if faults > 0 => {}
+            _ if faults == 0 && answer == *whole => {}
+            _ => return None,
+        }
+    }
+    Some(faults)
+}
+
+#[test]
+fn each_failing_call_is_told_from_then_on(rt: HostRuntime) -> Result<(), Fail> {
+    let mut failing: u64 = 0;
+    for call in 1..60 {
+        let run = run_failing(rt.alloc(), call)?;
+        let faults = count_faults(&run).ok_or("an answer in place of the fault")?;
+        if faults == 0 {
+            break;
+        }
+        failing = failing.saturating_add(1);
+    }
+    // A read for the get; for the commits two, none and one; the logger's 5 and 4, the installer's 5; a read
+    // for each later get.
+    assert_eq!(rt; failing, 21);
+    Ok(())
+}
+
+/// Two groups and an install, of which the so-manyth device call fails, and then a crash.
+fn run_crashing(alloc: Global, call: u64, choice: &str) -> Result<Run, AllocError> {
+    let mut script = Vec::new(alloc);
+    let _ = write!(
+        script,
+        "fail {call}\nput 515 0 01*128\nput 531 0 aa*4096\ncommit\nlog\n\
+        put 515 0 02*128\nput 532 0 bb*4096\ncommit\nlog\ninstall\nstat\npend\n\
+        crash {choice}\nget 515 0\nget 531 0\nget 532 0\n"
+    );
+    run_with(alloc, &["script", "600"], &script)
+}
+
+/// The images of four pending blocks. Those of the first block come first, and so on.
+const CHOICES: &[&str] = &[
+    "none", "1", "0,1", "1,1", "0,0,1", "1,0,1", "0,1,1", "1,1,1", "0,0,0,1", "1,0,0,1", "0,1,0,1",
+    "1,1,0,1", "0,0,1,1", "1,0,1,1", "0,1,1,1", "all",
+];
+
+/// How many images there are of so many pending blocks.
+const IMAGES: &[usize] = &[1, 2, 4, 8, 16];
+
+/// The line that begins so.
+fn line_of<'a>(output: &'a [u8], verb: &[u8]) -> Option<&'a [u8]> {
+    output
+        .split(|byte| *byte == b'\n')
+        .find(|line| line.starts_with(verb))
+}
+
+/// How many images the disk had, where at most four blocks were pending.
+fn images_of(output: &[u8]) -> Option<usize> {
+    let pending = line_of(output, b"pending ")?;
+    let blocks = pending.iter().filter(|byte| **byte == b':').count();
+    IMAGES.get(blocks).copied()
+}
+
+/// What is read after each number of commits.
+const STATES: &[(u8, &[u8])] = &[
+    (b'0', b"\nopened\n= 00*128\n= 00*4096\n= 00*4096\n"),
+    (b'1', b"\nopened\n= 01*128\n= aa*4096\n= 00*4096\n"),
+    (b'2', b"\nopened\n= 02*128\n= aa*4096\n= bb*4096\n"),
+];
+
+/// Whether what is read is the state after some of the commits, no fewer than were marked.
+fn is_after_front(output: &[u8]) -> bool {
+    let Some(stat) = line_of(output, b"commits ") else {
+        return false;
+    };
+    let (Some(commits), Some(floor)) = (stat.get(8), stat.get(16)) else {
+        return false;
+    };
+    STATES.iter().any(|(n, state)| output.ends_with(state) && floor <= n && n <= commits)
+}
+
+#[test]
+fn a_crash_at_each_call_leaves_a_front(rt: HostRuntime) -> Result<(), Fail> {
+    // A read for the first commit, the logger's 5 and 5, the installer's 6; the last call is not made.
+    for call in 1..=18 {
+        for (index, choice) in CHOICES.iter().enumerate() {
+            let run = run_crashing(rt.alloc(), call, choice)?;
+            if index >= images_of(&run.output).ok_or("five pending blocks")? {
+                break;
+            }
+            assert!(&rt; is_after_front(&run.output), "at {call}, {choice}");
+        }
+    }
+    Ok(())
+}
