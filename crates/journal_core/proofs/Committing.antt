@@ -16,7 +16,7 @@ use Rattle.journal_memlog.specs.Logs.{next_of, appended}
 use Rattle.journal_wal.specs.Wal.{WalState, log_steps, tail_length, Appends}
 use Rattle.journal_objlog.specs.ObjectLogs.{map_now, map_cut, map_logged, MayCrash, OnlyReads}
 use Rattle.journal_objlog.specs.Writes.{IsPrepared, fresh_blocks}
-use Rattle.journal_objlog.proofs.Openings.{OnlyReads-trans}
+use Rattle.journal_objlog.proofs.Openings.{failed_after, OnlyReads-trans}
 use Rattle.journal_history.specs.Tokens.{SessionState, made, OnlyExtends, Commits, next_of as numbered}
 use Rattle.journal_history.specs.Soundness.{IsSound}
 use Rattle.journal_core.specs.Tallies.{Pairs, made_among, SameTally, CountsOne, IsTallied}
@@ -24,7 +24,6 @@ use Rattle.journal_core.specs.Causes.{Told}
 use Rattle.journal_core.specs.Cores.{CoreState, IsKept}
 use Rattle.journal_core.specs.Commits.{Logs, IsCommitted, IsAdded, IsStrange, IsWorn, MayCommit, IsPreparingRefusal, IsCommitRefusal}
 use Rattle.journal_core.proofs.Keeping.{commits_of-other, Rests, kept_commit}
-use Rattle.journal_core.proofs.Comparing.{failed_after}
 
 -- a longer history has no fewer commits of a session
 fewer_commits : (s : ℕ) (history longer : List Entry) → IsPrefix history longer → length (commits_of s history) ≤ length (commits_of s longer)
@@ -141,15 +140,17 @@ module _ (old mid : CoreState) (s seen : SessionState) (reads writes : List Pair
   pub refuses_writes : (new : CoreState) → MayCommit old s reads → (refusal : Refusal Told) → IsPreparingRefusal mid seen writes new refusal
       → IsCommitRefusal old s reads writes new refusal
   refuses_writes new may TooLarge why = (may, why)
-  refuses_writes new may (Worn cause) why = (may, why.0, worn_before why.1)
+  refuses_writes new may (Worn cause) why = (may, why.0, worn_before why.1, why.2)
   refuses_writes new may (Full cause) why = (
     may,
     why.0,
     λ worn. why.1 (worn_after worn),
     subst (λ (n : ℕ). 255 < n) (ap (λ (w : WalState). tail_length w + fresh_blocks w writes) only.same) why.2,
+    why.3,
   )
   refuses_writes new may NoMemory why = (may.fine, may.own)
   refuses_writes new may (DeviceFailed cause) why = record {
+    unexplained = why.unexplained;
     fault = ⊎_elim
         (λ was. absurd (false≢true (sym still ∙ was)))
         (λ failed. inr (failed_after old.objects.ring.disk mid.objects.ring.disk new.objects.ring.disk only.keeps failed))

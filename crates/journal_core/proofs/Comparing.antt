@@ -1,5 +1,5 @@
 -- What was read is compared with what the map gives.
-use Rattle.std.proofs.Common.{◌≡◌, ◌⊎◌, inl, inr, ⊎_elim, ◌∷◌, [], ℕ, Bool, true, false, not, nat_eq, IsTrue, List, refl, sym, ap, subst, ◌∙◌, arith}
+use Rattle.std.proofs.Common.{◌≡◌, inr, ⊎_elim, ◌∷◌, [], ℕ, Bool, true, false, not, nat_eq, IsTrue, List, refl, sym, ap, subst, ◌∙◌, arith}
 use Rattle.std.proofs.lemmas.Bool.{false≢true, and_parts}
 use lib.Pointwise.{pointwise}
 use Rattle.std.specs.Cmp.Lexicographic.{same_text, other_text}
@@ -10,9 +10,8 @@ use Rattle.journal_world.specs.Addresses.{Value, is_valid}
 use Rattle.journal_world.specs.Maps.{Pair, value_at, is_value_at, is_object, are_objects, Agrees}
 use Rattle.journal_world.specs.Addresses.{kind_of}
 use Rattle.journal_world.specs.Histories.{Entry, is_trusted, latest}
-use Rattle.journal_disk.specs.Disks.{DiskState, Keeps, HasFailed}
 use Rattle.journal_objlog.specs.ObjectLogs.{OnlyReads}
-use Rattle.journal_objlog.proofs.Openings.{OnlyReads-refl, OnlyReads-trans}
+use Rattle.journal_objlog.proofs.Openings.{failed_after, OnlyReads-refl, OnlyReads-trans}
 use Rattle.journal_core.specs.Causes.{Told}
 use Rattle.journal_core.specs.Cores.{CoreState, Crashes}
 use Rattle.journal_core.specs.Steps.{IsReadRefusal}
@@ -57,11 +56,6 @@ told_other differ xs ys told is = other_text xs ys (by (pointwise nat_eq xs ys) 
     by true is_true = absurd (false≢true is_true)
     by false is_true = refl
 
--- a failure after reads is one
-pub failed_after : (a b c : DiskState) → Keeps a b → HasFailed b c → HasFailed a c
-failed_after a b c keeps (inl rose) = inl (omega (arith, rose, keeps.failures))
-failed_after a b c keeps (inr most) = inr most
-
 module _ (blocks : ℕ) (reads left rest : List Pair) (p : Pair) (is : left ≡ p ∷ rest) (old mid new : CoreState)
     (before : HasCompared blocks reads left old mid) where
   same_history : mid.history ≡ old.history
@@ -82,6 +76,7 @@ module _ (blocks : ℕ) (reads left rest : List Pair) (p : Pair) (is : left ≡ 
   -- the next value could not be read
   pub refuses_then : (refusal : Refusal Told) → IsReadRefusal blocks mid p.0 new refusal → IsComparedRefusal old reads new refusal
   refuses_then (DeviceFailed cause) why = record {
+    unexplained = why.unexplained;
     fault = ⊎_elim
         (λ was. absurd (false≢true (sym before.fine ∙ was)))
         (λ failed. inr (failed_after old.objects.ring.disk mid.objects.ring.disk new.objects.ring.disk before.only.keeps failed))
@@ -103,22 +98,8 @@ module _ (blocks : ℕ) (reads left rest : List Pair) (p : Pair) (is : left ≡ 
   refuses_then (Closed cause) why = absurd why
   refuses_then Fenced why = absurd why
 
-  -- what it leaves
-  pub leaves_then : (refusal : Refusal Told) → IsReadRefusal blocks mid p.0 new refusal → OnlyReads old.objects new.objects ⊎ (new.objects.ring.faulted ≡ true)
-  leaves_then (DeviceFailed cause) why = inr why.faulted
-  leaves_then BadAddress why = inl (OnlyReads-trans old.objects mid.objects new.objects before.only why.2)
-  leaves_then NoMemory why = inl (OnlyReads-trans old.objects mid.objects new.objects before.only why.2)
-  leaves_then BadSize why = absurd why
-  leaves_then TooLarge why = absurd why
-  leaves_then Busy why = absurd why
-  leaves_then BadLog why = absurd why
-  leaves_then BadSuper why = absurd why
-  leaves_then (Stale cause) why = absurd why
-  leaves_then (Stranger cause) why = absurd why
-  leaves_then (Worn cause) why = absurd why
-  leaves_then (Full cause) why = absurd why
-  leaves_then (Closed cause) why = absurd why
-  leaves_then Fenced why = absurd why
+  pub reads_then : OnlyReads mid.objects new.objects → OnlyReads old.objects new.objects
+  reads_then only = OnlyReads-trans old.objects mid.objects new.objects before.only only
 
   module _ (value : Value) (gives : IsTrue (is_trusted mid.history) → value ≡ value_at (latest mid.history) p.0) where
     given : IsTrue (is_trusted old.history) → value_at (latest old.history) p.0 ≡ value
@@ -136,7 +117,7 @@ module _ (blocks : ℕ) (reads left rest : List Pair) (p : Pair) (is : left ≡ 
         → Crashes mid new → value ≡ p.1 → HasCompared blocks reads rest old new
     compared_next others only fine crash same = record {
       others = others_then others;
-      only = OnlyReads-trans old.objects mid.objects new.objects before.only only;
+      only = reads_then only;
       fine = fine;
       crash = crashes_then crash;
       objects = object.1;

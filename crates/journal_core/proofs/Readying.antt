@@ -59,7 +59,7 @@ module _ (blocks : ℕ) (c : CoreState) (writes : List Pair) (size : size_of c.o
     first_of BadAddress why = absurd (false≢true (sym why.1 ∙ valid_of (size_of c.objects) writes objects))
     first_of BadSize why = absurd (false≢true (sym why.2 ∙ objects))
     first_of TooLarge why = why.2
-    first_of (Worn cause) why = (why.2, inr (inr why.3))
+    first_of (Worn cause) why = (why.2, inr (inr why.3), refl)
     first_of (Full cause) why = (
       why.2,
       λ worn. ⊎_elim
@@ -70,6 +70,7 @@ module _ (blocks : ℕ) (c : CoreState) (writes : List Pair) (size : size_of c.o
           other)
           worn,
       why.4,
+      refl,
     )
     first_of NoMemory why = absurd why
     first_of Busy why = absurd why
@@ -80,9 +81,9 @@ module _ (blocks : ℕ) (c : CoreState) (writes : List Pair) (size : size_of c.o
     first_of (Closed cause) why = absurd why
     first_of Fenced why = absurd why
 
-    late_of : (refusal : Refusal Unit) → IsLeft c.objects new refusal → IsLateRefusal c.objects new refusal → IsPreparingRefusal c s writes (record c { objects = new }) (raised_of refusal)
+    late_of : (refusal : Refusal Unit) → IsLeft new refusal → IsLateRefusal c.objects new refusal → IsPreparingRefusal c s writes (record c { objects = new }) (raised_of refusal)
     late_of NoMemory left why = tt
-    late_of (DeviceFailed cause) left why = record { fault = inr why; faulted = left; others = refl }
+    late_of (DeviceFailed cause) left why = record { unexplained = refl; fault = inr why; faulted = left; others = refl }
     late_of BadAddress left why = absurd why
     late_of BadSize left why = absurd why
     late_of TooLarge left why = absurd why
@@ -97,7 +98,7 @@ module _ (blocks : ℕ) (c : CoreState) (writes : List Pair) (size : size_of c.o
     late_of Fenced left why = absurd why
 
     pub prepares_not : {T : Type 0} (answer : Result T (Refusal Unit)) (result : Result T (Refusal Told)) → IfOk answer (λ value. result ≡ Ok value)
-        → IfErr answer (λ refusal. result ≡ Err (raised_of refusal)) → IfErr answer (IsPrepareRefusal c.objects writes new) → IfErr answer (IsLeft c.objects new)
+        → IfErr answer (λ refusal. result ≡ Err (raised_of refusal)) → IfErr answer (IsPrepareRefusal c.objects writes new) → IfErr answer (IsLeft new)
         → IfErr result (IsPreparingRefusal c s writes (record c { objects = new }))
     prepares_not (Ok value) result ok err why left = subst (λ r. IfErr r (IsPreparingRefusal c s writes (record c { objects = new }))) (sym ok) tt
     prepares_not (Err refusal) result ok err why left = subst (λ r. IfErr r (IsPreparingRefusal c s writes (record c { objects = new }))) (sym err)

@@ -1,5 +1,5 @@
 -- The steps of the object log, as the core's.
-use Rattle.std.proofs.Common.{◌≡◌, ◌⊎◌, inl, inr, ⊎_elim, ◌<◌, ℕ, zero, suc, Bool, true, false, IsTrue, Result, Ok, Err, IsErr, OnOk, OnErr, IfOk, IfErr, refl, sym, ap, subst, ◌∙◌, arith}
+use Rattle.std.proofs.Common.{◌≡◌, ◌⊎◌, ⊎_elim, ◌<◌, ℕ, zero, suc, Bool, true, false, IsTrue, Result, Ok, Err, IsErr, OnErr, IfOk, IfErr, refl, sym, ap, subst, ◌∙◌, arith}
 use Rattle.std.proofs.lemmas.Bool.{false≢true}
 use Rattle.journal_world.specs.declared.refusal.Refusal.{Refusal}
 use Rattle.journal_world.specs.declared.refusal.Refusal.TheVariants.{NoMemory, BadAddress, BadSize, TooLarge, Busy, DeviceFailed, BadLog, BadSuper, Stale, Stranger, Worn, Full, Closed, Fenced}
@@ -10,7 +10,7 @@ use Rattle.journal_world.specs.Addresses.{Value}
 use Rattle.journal_world.specs.Maps.{is_object}
 use Rattle.journal_objlog.specs.MapLaws.{map_of-blocks}
 use Rattle.journal_wal.specs.Wal.{WalState, size_of, blocks_now, log_steps, LogAnswers, LogMoves, InstallAnswers, IsInstallFault}
-use Rattle.journal_objlog.specs.ObjectLogs.{map_now, KeepsMaps, MayCrash, OnlyReads, IsLeft, LogsMaps, LogMovesMaps}
+use Rattle.journal_objlog.specs.ObjectLogs.{map_now, KeepsMaps, MayCrash, OnlyReads, LogsMaps, LogMovesMaps}
 use Rattle.journal_world.specs.Histories.{count}
 use Rattle.journal_memlog.specs.Logs.{LogState}
 use Rattle.journal_core.specs.Cores.{CoreState, Crashes, IsKept}
@@ -114,40 +114,10 @@ rests_read old new reads stays fine none = by old.ring.faulted refl
     by true is = absurd (false≢true (sym fine ∙ ap (λ (w : WalState). w.ring.faulted) (stays is) ∙ is))
     by false is = (is, sym (ap log_steps reads.same) ∙ none)
 
--- what is left of the log after a read, whatever it answers
-pub rests_left : (old new : WalState) → OnlyReads old new ⊎ (new.ring.faulted ≡ true) → (IsTrue old.ring.faulted → new ≡ old) → Rests old new
-rests_left old new left stays = ⊎_elim
-    (λ (reads : OnlyReads old new). rests_read old new reads stays)
-    (λ (faulted : new.ring.faulted ≡ true). λ fine none. absurd (false≢true (sym fine ∙ faulted)))
-    left
-
-left_by : (old new : WalState) (refusal : Refusal Unit) → IsLeft old new refusal → OnlyReads old new ⊎ (new.ring.faulted ≡ true)
-left_by old new (DeviceFailed cause) left = inr left
-left_by old new NoMemory left = inl left
-left_by old new BadAddress left = inl left
-left_by old new BadSize left = inl left
-left_by old new TooLarge left = inl left
-left_by old new Busy left = inl left
-left_by old new BadLog left = inl left
-left_by old new BadSuper left = inl left
-left_by old new (Stale cause) left = inl left
-left_by old new (Stranger cause) left = inl left
-left_by old new (Worn cause) left = inl left
-left_by old new (Full cause) left = inl left
-left_by old new (Closed cause) left = inl left
-left_by old new Fenced left = inl left
-
--- what such a call leaves, whatever it answers
-pub left_of : {T : Type 0} (old new : WalState) (r : Result T (Refusal Unit)) → OnOk r (OnlyReads old new) → IfErr r (IsLeft old new)
-    → OnlyReads old new ⊎ (new.ring.faulted ≡ true)
-left_of old new (Ok value) reads left = inl reads
-left_of old new (Err refusal) reads left = left_by old new refusal left
-
 -- a call that only reads leaves no group that was not there
-pub rests_call : {T : Type 0} (old new : WalState) (r : Result T (Refusal Unit)) → OnOk r (OnlyReads old new) → IfErr r (IsLeft old new)
+pub rests_call : {T : Type 0} (old new : WalState) (r : Result T (Refusal Unit)) → OnlyReads old new
     → (IsTrue old.ring.faulted → IsErr r × (new ≡ old)) → Rests old new
-rests_call old new (Ok value) reads left stays = rests_read old new reads (λ faulted. (stays faulted).1)
-rests_call old new (Err refusal) reads left stays = rests_left old new (left_by old new refusal left) (λ faulted. (stays faulted).1)
+rests_call old new r reads stays = rests_read old new reads (λ faulted. (stays faulted).1)
 
 -- nor does a step of the installer
 pub rests_install : (old new : WalState) (r : Result Step (Refusal Unit)) → IfOk r (λ step. InstallAnswers old step new)

@@ -9,7 +9,7 @@ use Rattle.journal_memlog.specs.Logs.{next_of, appended}
 use Rattle.journal_wal.specs.Wal.{WalState, Appends, tail_length}
 use Rattle.journal_objlog.specs.Writes.{written_blocks, fresh_blocks}
 use Rattle.journal_history.specs.Tokens.{SessionState, made, next_of as numbered, Commits}
-use Rattle.journal_core.specs.Causes.{Told}
+use Rattle.journal_core.specs.Causes.{Told, IsUnexplained}
 use Rattle.journal_core.specs.Cores.{CoreState}
 use Rattle.journal_core.specs.Steps.{IsFaulted, IsStale}
 
@@ -44,15 +44,15 @@ pub record MayCommit (c : CoreState) (s : SessionState) (reads : List Pair) : Ty
 
 -- Why a commit is refused: the first of these that holds
 abbrev pub IsCommitRefusal : CoreState → SessionState → List Pair → List Pair → CoreState → Refusal Told → Type 0
-IsCommitRefusal old s reads writes new (DeviceFailed cause) = IsFaulted old new
+IsCommitRefusal old s reads writes new (DeviceFailed cause) = IsFaulted old new cause
 IsCommitRefusal old s reads writes new Busy = (old.objects.ring.faulted ≡ false) × (IsTrue (is_trusted old.history) → Agrees (latest old.history) reads → ⊥)
 IsCommitRefusal old s reads writes new (Stale cause) =
     (old.objects.ring.faulted ≡ false) × IsStale old cause
 IsCommitRefusal old s reads writes new (Stranger cause) = (old.objects.ring.faulted ≡ false) × (cause ≡ Some old.history) × IsStrange old s
 IsCommitRefusal old s reads writes new TooLarge = MayCommit old s reads × (128 < written_blocks writes)
-IsCommitRefusal old s reads writes new (Worn cause) = MayCommit old s reads × (written_blocks writes ≤ 128) × IsWorn old s writes
+IsCommitRefusal old s reads writes new (Worn cause) = MayCommit old s reads × (written_blocks writes ≤ 128) × IsWorn old s writes × IsUnexplained cause
 IsCommitRefusal old s reads writes new (Full cause) = MayCommit old s reads × (written_blocks writes ≤ 128) × (IsWorn old s writes → ⊥)
-    × (255 < tail_length old.objects + fresh_blocks old.objects writes)
+    × (255 < tail_length old.objects + fresh_blocks old.objects writes) × IsUnexplained cause
 IsCommitRefusal old s reads writes new NoMemory = (old.objects.ring.faulted ≡ false) × (length (commits_of s.number old.history) ≡ made s)
 IsCommitRefusal old s reads writes new other = ⊥
 
@@ -66,17 +66,17 @@ IsSessionFault c s other = ⊥
 abbrev pub IsComparedRefusal : CoreState → List Pair → CoreState → Refusal Told → Type 0
 IsComparedRefusal old reads new Busy = IsTrue (is_trusted old.history) → Agrees (latest old.history) reads → ⊥
 IsComparedRefusal old reads new NoMemory = Unit {0}
-IsComparedRefusal old reads new (DeviceFailed cause) = IsFaulted old new
+IsComparedRefusal old reads new (DeviceFailed cause) = IsFaulted old new cause
 IsComparedRefusal old reads new other = ⊥
 
 -- Why writes are not made ready
 abbrev pub IsPreparingRefusal : CoreState → SessionState → List Pair → CoreState → Refusal Told → Type 0
 IsPreparingRefusal old s writes new TooLarge = 128 < written_blocks writes
-IsPreparingRefusal old s writes new (Worn cause) = (written_blocks writes ≤ 128) × IsWorn old s writes
+IsPreparingRefusal old s writes new (Worn cause) = (written_blocks writes ≤ 128) × IsWorn old s writes × IsUnexplained cause
 IsPreparingRefusal old s writes new (Full cause) = (written_blocks writes ≤ 128) × (IsWorn old s writes → ⊥)
-    × (255 < tail_length old.objects + fresh_blocks old.objects writes)
+    × (255 < tail_length old.objects + fresh_blocks old.objects writes) × IsUnexplained cause
 IsPreparingRefusal old s writes new NoMemory = Unit {0}
-IsPreparingRefusal old s writes new (DeviceFailed cause) = IsFaulted old new
+IsPreparingRefusal old s writes new (DeviceFailed cause) = IsFaulted old new cause
 IsPreparingRefusal old s writes new other = ⊥
 
 -- Why what is ready is not added

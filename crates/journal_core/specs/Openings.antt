@@ -6,14 +6,13 @@ use Rattle.journal_world.specs.declared.layout.TheConstants.{MIN_BLOCKS, MAX_BLO
 use Rattle.journal_world.specs.Maps.{Map, are_objects}
 use Rattle.journal_world.specs.Histories.{Entry}
 use Rattle.journal_world.specs.Histories.Entry.{opening}
-use Rattle.journal_disk.specs.Disks.{DiskState, Keeps}
+use Rattle.journal_disk.specs.Disks.{DiskState, Keeps, HasFailed}
 use Rattle.journal_disk.specs.Images.{EveryImage, reading}
-use Rattle.journal_disk.specs.Moments.{LeavesOnly}
 use Rattle.journal_circ.specs.Log.{IsWellFormed}
 use Rattle.journal_wal.specs.Wal.{WalState, IsOpened as AtRest}
 use Rattle.journal_objlog.specs.ObjectLogs.{map_now}
 use Rattle.journal_objlog.specs.Maps.{OpensAs}
-use Rattle.journal_core.specs.Causes.{Told, raised_of}
+use Rattle.journal_core.specs.Causes.{Told, IsUnexplained, raised_of}
 use Rattle.journal_core.specs.Cores.{CoreState}
 
 -- the disk is opened with this map: each image of it opens as the map
@@ -35,27 +34,34 @@ pub record Begins (rule : Map → Type 0) (disk : DiskState) (new : CoreState) :
   pub logged : new.logged ≡ 0
   pub next : new.next ≡ 0
 
--- Why a disk is not opened
+-- The number of blocks is one that a disk may have
+abbrev pub IsInRange : DiskState → Type 0
+IsInRange disk = (MIN_BLOCKS ≤ disk.past.size) × (disk.past.size ≤ MAX_BLOCKS)
+
+-- Why a disk is not opened. The number of blocks comes first, then the log, the rule and the book; J1 and J6 come as they are met
 abbrev pub IsOpenRefusal : (Map → Type 0) → DiskState → DiskState → Refusal Told → Type 0
-IsOpenRefusal rule old new NoMemory = Unit {0}
--- the device failed, or the rule said so
-IsOpenRefusal rule old new (DeviceFailed cause) = Unit {0}
-IsOpenRefusal rule old new BadLog = IsTrue old.honest → IsWellFormed (reading old.past) → ⊥
 IsOpenRefusal rule old new BadSuper =
-    ((MIN_BLOCKS ≤ old.past.size) × (old.past.size ≤ MAX_BLOCKS) → ⊥)
-    ⊎ (IsTrue old.honest → (m : Map) × HoldsMap old m × (rule m → ⊥))
-IsOpenRefusal rule old new (Stale cause) = (front : List Entry) × (cause ≡ Some front) × (front ≢ [])
+    (IsInRange old → ⊥)
+    ⊎ (IsInRange old × (IsTrue old.honest → (m : Map) × HoldsMap old m × (rule m → ⊥)))
+IsOpenRefusal rule old new BadLog = IsInRange old × (IsTrue old.honest → IsWellFormed (reading old.past) → ⊥)
+IsOpenRefusal rule old new (Stale cause) =
+    IsInRange old
+    × (IsTrue old.honest → (m : Map) × HoldsMap old m × rule m)
+    × ((front : List Entry) × (cause ≡ Some front) × (front ≢ []))
+IsOpenRefusal rule old new NoMemory = IsInRange old
+IsOpenRefusal rule old new (DeviceFailed cause) = IsInRange old × HasFailed old new × IsUnexplained cause
 IsOpenRefusal rule old new other = ⊥
 
--- What a disk that is not opened is handed back as: as it was, or, where a read of its map failed, as one that opens as
--- the same map at every moment
+-- A disk that is not opened is handed back as it was
 pub record IsHandedBack (old new : DiskState) : Type 0 where
   pub keeps : Keeps old new
-  pub past : IsTrue old.honest → (new.past ≡ old.past) ⊎ ((m : Map) × HoldsMap old m × LeavesOnly old.past new.past (OpensAs m))
+  pub past : IsTrue old.honest → new.past ≡ old.past
 
--- Why a history is not begun: the rule was not asked to its end, it does not hold, or there is a history
+-- Why a history is not begun: the rule was not asked to its end, it does not hold, or it does and there is a history
 abbrev pub IsBeginRefusal : (Map → Type 0) → WalState → Result Bool (Refusal Unit) → Refusal Told → Type 0
 IsBeginRefusal rule objects (Err refusal) why = why ≡ raised_of refusal
 IsBeginRefusal rule objects (Ok admitted) BadSuper = IsTrue objects.ring.disk.honest → rule (map_now objects) → ⊥
-IsBeginRefusal rule objects (Ok admitted) (Stale cause) = (front : List Entry) × (cause ≡ Some front) × (front ≢ [])
+IsBeginRefusal rule objects (Ok admitted) (Stale cause) =
+    (IsTrue objects.ring.disk.honest → rule (map_now objects))
+    × ((front : List Entry) × (cause ≡ Some front) × (front ≢ []))
 IsBeginRefusal rule objects (Ok admitted) other = ⊥

@@ -1,5 +1,5 @@
 -- What the steps of the logger and the installer do.
-use Rattle.std.specs.Prelude.{ℕ, zero, suc, ◌≡◌, ◌⊎◌, ◌<◌, ◌≤◌, ◌+◌, ◌^◌, ◌++◌, ◌∷◌, [], List, IsTrue, true, false, length, Some, None}
+use Rattle.std.specs.Prelude.{ℕ, zero, suc, ◌≡◌, ◌⊎◌, ◌<◌, ◌≤◌, ◌+◌, ◌^◌, ◌++◌, ◌∷◌, [], List, IsTrue, true, false, length, Some}
 use Rattle.journal_world.specs.declared.address.Addr.{Addr}
 use Rattle.journal_world.specs.declared.refusal.Refusal.{Refusal}
 use Rattle.journal_world.specs.declared.refusal.Refusal.TheVariants.{NoMemory, BadAddress, DeviceFailed, Stale, Worn}
@@ -10,9 +10,8 @@ use Rattle.journal_world.specs.declared.step.Step.TheVariants.{Idle, Moved}
 use Rattle.journal_world.specs.Histories.{Entry, count, floor}
 use Rattle.journal_world.specs.Histories.Entry.{stable}
 use Rattle.journal_wal.specs.Wal.{log_steps, install_steps, tail_length, free_positions, Cuts, EndsGroup, LogsOn, InstallAnswers as WalInstalls}
-use Rattle.journal_objlog.specs.ObjectLogs.{OnlyReads as Reads}
 use Rattle.journal_history.specs.Soundness.{IsLonger}
-use Rattle.journal_core.specs.Causes.{Told}
+use Rattle.journal_core.specs.Causes.{Told, IsUnexplained}
 use Rattle.journal_core.specs.Cores.{CoreState}
 
 -- A step of the group in flight was made, and its cycle goes on
@@ -65,8 +64,9 @@ abbrev pub LogAnswers : CoreState → Step → CoreState → Type 0
 LogAnswers old Idle new = IsLogIdle old × (new ≡ old)
 LogAnswers old Moved new = LogMoves (log_steps old.objects) old new
 
--- A device call failed, in the step or before
-pub record IsFaulted (old new : CoreState) : Type 0 where
+-- J6: a device call failed, in the step or before
+pub record IsFaulted (old new : CoreState) (cause : Told) : Type 0 where
+  pub unexplained : IsUnexplained cause
   pub fault : IsTrue old.objects.ring.faulted ⊎ HasFailed old.objects.ring.disk new.objects.ring.disk
   pub faulted : new.objects.ring.faulted ≡ true
   pub others : new ≡ record old { objects = new.objects }
@@ -77,13 +77,13 @@ IsStale c cause = (longer : List Entry) × (cause ≡ Some longer) × IsLonger c
 
 -- why a mark is refused, and what is left
 abbrev pub IsMarkRefusal : CoreState → CoreState → Refusal Told → Type 0
-IsMarkRefusal old new (Worn cause) = (2 ^ 62 ≤ length old.history + 1) × (new ≡ old)
+IsMarkRefusal old new (Worn cause) = (2 ^ 62 ≤ length old.history + 1) × (new ≡ old) × IsUnexplained cause
 IsMarkRefusal old new (Stale cause) = IsStale old cause × (new ≡ old)
 IsMarkRefusal old new other = ⊥
 
 -- why a step of the logger is refused, and what is left
 abbrev pub IsLogRefusal : CoreState → CoreState → Refusal Told → Type 0
-IsLogRefusal old new (DeviceFailed cause) = IsFaulted old new
+IsLogRefusal old new (DeviceFailed cause) = IsFaulted old new cause
 IsLogRefusal old new refusal = (old.objects.ring.faulted ≡ false) × (log_steps old.objects ≡ 0) × IsMarkRefusal old new refusal
 
 -- what a step of the installer answers, and does
@@ -92,19 +92,17 @@ InstallAnswers old step new = WalInstalls old.objects step new.objects × (new �
 
 abbrev pub IsInstallRefusal : CoreState → CoreState → Refusal Told → Type 0
 IsInstallRefusal old new NoMemory = (install_steps old.objects ≡ 0) × (old.objects.log.start < old.objects.log.logged) × (new ≡ old)
-IsInstallRefusal old new (DeviceFailed cause) = IsFaulted old new
+IsInstallRefusal old new (DeviceFailed cause) = IsFaulted old new cause
 IsInstallRefusal old new other = ⊥
 
 -- why an object is not read: the first of these that holds, then J1 or a new J6
 abbrev pub IsReadRefusal : ℕ → CoreState → Addr → CoreState → Refusal Told → Type 0
-IsReadRefusal blocks old addr new (DeviceFailed cause) = IsFaulted old new
-IsReadRefusal blocks old addr new BadAddress =
-    (old.objects.ring.faulted ≡ false) × (is_valid blocks addr ≡ false) × Reads old.objects new.objects
-IsReadRefusal blocks old addr new NoMemory =
-    (old.objects.ring.faulted ≡ false) × IsTrue (is_valid blocks addr) × Reads old.objects new.objects
+IsReadRefusal blocks old addr new (DeviceFailed cause) = IsFaulted old new cause
+IsReadRefusal blocks old addr new BadAddress = (old.objects.ring.faulted ≡ false) × (is_valid blocks addr ≡ false)
+IsReadRefusal blocks old addr new NoMemory = (old.objects.ring.faulted ≡ false) × IsTrue (is_valid blocks addr)
 IsReadRefusal blocks old addr new other = ⊥
 
 -- why there is no further session
 abbrev pub IsSessionRefusal : CoreState → Refusal Told → Type 0
-IsSessionRefusal c (Worn cause) = (2 ^ 62 ≤ c.next) × (cause ≡ None)
+IsSessionRefusal c (Worn cause) = (2 ^ 62 ≤ c.next) × IsUnexplained cause
 IsSessionRefusal c other = ⊥

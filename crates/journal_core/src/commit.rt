@@ -1,5 +1,5 @@
 // A commit.
-ghost use Rattle.std.specs.Prelude.{◌≡◌, ◌⊎◌, ◌<◌, ◌≤◌, ◌+◌, ◌^◌, ◌↔◌, true, false, IsTrue, List, length, Err, IfOk, IfErr, OnOk, OnErr};
+ghost use Rattle.std.specs.Prelude.{◌≡◌, ◌<◌, ◌≤◌, ◌+◌, ◌^◌, ◌↔◌, false, IsTrue, List, length, Err, IfOk, IfErr, OnOk, OnErr};
 ghost use Rattle.journal_world.specs.declared.refusal.Refusal.TheVariants.{TooLarge};
 ghost use Rattle.journal_world.specs.Maps.{Map, Agrees, are_objects, overwritten};
 ghost use Rattle.journal_world.specs.Histories.{is_trusted, commits_of, latest};
@@ -44,7 +44,7 @@ impl<'b, D: BlockDisk, R: MapRule, J: Naming> Core<'b, D, R, J> {
         ensures agrees { OnOk result (IsTrue (is_trusted self.old.history) → Agrees (latest self.old.history) transaction.now.reads) }
         ensures refusal { IfErr result (IsCommitRefusal self.old session.old transaction.now.reads transaction.now.writes self.new) }
         ensures same { OnErr result (self.new ≡ record self.old { objects = self.new.objects }) }
-        ensures left { OnErr result (OnlyReads self.old.objects self.new.objects ⊎ (self.new.objects.ring.faulted ≡ true)) }
+        ensures left { OnErr result (OnlyReads self.old.objects self.new.objects) }
         ensures session { OnErr result (OnlyExtends session.old session.new) }
         ensures crash { Crashes self.old self.new }
     {
@@ -87,8 +87,7 @@ impl<'b, D: BlockDisk, R: MapRule, J: Naming> Core<'b, D, R, J> {
         ensures fine { OnOk result (self.new.objects.ring.faulted ≡ false) }
         ensures refusal { IfErr result (IsComparedRefusal self.old reads.now self.new) }
         ensures others { self.new ≡ record self.old { objects = self.new.objects } }
-        ensures reads { OnOk result (OnlyReads self.old.objects self.new.objects) }
-        ensures left { OnErr result (OnlyReads self.old.objects self.new.objects ⊎ (self.new.objects.ring.faulted ≡ true)) }
+        ensures reads { OnlyReads self.old.objects self.new.objects }
         ensures crash { Crashes self.old self.new }
     {
         // It tells the proof what the core keeps.
@@ -115,8 +114,7 @@ impl<'b, D: BlockDisk, R: MapRule, J: Naming> Core<'b, D, R, J> {
         ensures fine { OnOk result (self.new.objects.ring.faulted ≡ false) }
         ensures refusal { IfErr result (IsPreparingRefusal self.old session.now writes.now self.new) }
         ensures others { self.new ≡ record self.old { objects = self.new.objects } }
-        ensures reads { OnOk result (OnlyReads self.old.objects self.new.objects) }
-        ensures left { OnErr result (OnlyReads self.old.objects self.new.objects ⊎ (self.new.objects.ring.faulted ≡ true)) }
+        ensures reads { OnlyReads self.old.objects self.new.objects }
         ensures crash { Crashes self.old self.new }
     {
         let prepared = self.objects.prepare(writes);

@@ -36,8 +36,7 @@ impl<'b, D: BlockDisk, R: MapRule, J: Naming> Core<'b, D, R, J> {
     /// The first that applies of these refuses it: J8 `BadSuper` where the number of blocks is out of range, J7
     /// `BadLog` where the disk's log is not well formed, J8 where the rule does not hold of the map, J9 `Stale`
     /// where the book has a history already. J1 `NoMemory` where memory is refused, and J6 `DeviceFailed` where
-    /// the device fails or the rule says so, come where they are met. A refusal hands the disk back, with nothing
-    /// written.
+    /// the device fails in this call, come where they are met. A refusal hands the disk back as it was.
     pub fn open_step(
         alloc: Global,
         book: &'b Book<R>,

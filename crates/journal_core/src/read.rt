@@ -25,7 +25,7 @@ impl<'b, D: BlockDisk, R: MapRule, J: Naming> Core<'b, D, R, J> {
         ensures fine { OnOk result (self.new.objects.ring.faulted ≡ false) }
         ensures refusal { IfErr result (IsReadRefusal J.blocks self.old addr self.new) }
         ensures others { self.new ≡ record self.old { objects = self.new.objects } }
-        ensures reads { OnOk result (OnlyReads self.old.objects self.new.objects) }
+        ensures reads { OnlyReads self.old.objects self.new.objects }
         ensures crash { Crashes self.old self.new }
     {
         raise(self.objects.read(addr))

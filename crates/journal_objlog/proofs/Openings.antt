@@ -1,9 +1,10 @@
 -- What an image opens as, by what it stands for.
 use Rattle.std.proofs.Common.{◌≡◌, inl, inr, ⊎_elim, ◌<◌, ◌≤◌, ℕ, IsTrue, List, refl, sym, ap, subst, ◌∙◌, arith}
+use Rattle.std.proofs.lemmas.Bool.{cases_lt}
 use Rattle.journal_world.specs.Maps.{Map, SameMap}
 use Rattle.journal_block.specs.Block.{Bytes}
 use Rattle.journal_block.specs.Updates.{Content}
-use Rattle.journal_disk.specs.Disks.{Past}
+use Rattle.journal_disk.specs.Disks.{Past, DiskState, Keeps, HasFailed}
 use Rattle.journal_disk.specs.Images.{EveryImage}
 use Rattle.journal_disk.specs.Moments.{LeavesOnly}
 use Rattle.journal_disk.specs.Laws.{leaves_none, leaves_also}
@@ -80,7 +81,26 @@ module _ (old new : WalState) (reads : OnlyReads old new) (honest : IsTrue old.r
       opens
 
 pub OnlyReads-refl : (w : WalState) → OnlyReads w w
-OnlyReads-refl w = record { same = refl; keeps = record { size = refl; honest = refl; failures = omega arith }; past = λ honest. refl }
+OnlyReads-refl w = record {
+  same = refl;
+  keeps = record { size = refl; honest = refl; failures = omega arith };
+  past = λ honest. refl;
+  fault = λ faulted. inl faulted;
+}
+
+-- a failure is one of a longer time
+pub failed_before : (a b c : DiskState) → Keeps a b → Keeps b c → HasFailed a b → HasFailed a c
+failed_before a b c first second (inl rose) = inl (omega (arith, rose, second.failures))
+failed_before a b c first second (inr most) = ⊎_elim
+    (λ (rose : a.failures < c.failures). inl rose)
+    (λ (stays : c.failures ≤ a.failures).
+    let same : c.failures ≡ b.failures = omega (arith, stays, first.failures, second.failures) in
+    inr (same ∙ most))
+    (cases_lt a.failures c.failures)
+
+pub failed_after : (a b c : DiskState) → Keeps a b → HasFailed b c → HasFailed a c
+failed_after a b c first (inl rose) = inl (omega (arith, rose, first.failures))
+failed_after a b c first (inr most) = inr most
 
 pub OnlyReads-trans : (a b c : WalState) → OnlyReads a b → OnlyReads b c → OnlyReads a c
 OnlyReads-trans a b c first second = record {
@@ -94,6 +114,10 @@ OnlyReads-trans a b c first second = record {
     failures = omega (arith, first.keeps.failures, second.keeps.failures);
   };
   past = λ honest. second.past (subst IsTrue (sym first.keeps.honest) honest) ∙ first.past honest;
+  fault = λ faulted. ⊎_elim
+      (λ was. ⊎_elim (λ before. inl before) (λ failed. inr (failed_before a.ring.disk b.ring.disk c.ring.disk first.keeps second.keeps failed)) (first.fault was))
+      (λ failed. inr (failed_after a.ring.disk b.ring.disk c.ring.disk first.keeps failed))
+      (second.fault faulted);
 }
 
 -- reads leave what a crash left before
@@ -133,4 +157,5 @@ OnlyReads-from old new reads = record {
   });
   keeps = reads.keeps;
   past = reads.past;
+  fault = reads.fault;
 }

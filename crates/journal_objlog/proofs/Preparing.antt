@@ -1,5 +1,5 @@
 -- What is prepared, and what refuses it.
-use Rattle.std.proofs.Common.{◌≡◌, ⊎_elim, ℕ, false, IsTrue, List, length, refl, sym, ap, subst, ◌∙◌, arith}
+use Rattle.std.proofs.Common.{◌≡◌, inl, ⊎_elim, ℕ, false, IsTrue, List, length, refl, sym, ap, subst, ◌∙◌, arith}
 use Rattle.journal_world.specs.declared.refusal.Refusal.{Refusal}
 use Rattle.journal_world.specs.declared.refusal.Refusal.TheVariants.{NoMemory, BadAddress, BadSize, TooLarge, Busy, DeviceFailed, BadLog, BadSuper, Stale, Stranger, Worn, Full, Closed, Fenced}
 use Rattle.journal_world.specs.Maps.{Pair, SameMap, are_objects, overwritten}
@@ -14,7 +14,7 @@ use Rattle.journal_objlog.specs.Writes.{written_blocks, fresh_blocks, CanPrepare
 use Rattle.journal_objlog.specs.Soundness.{IsSound}
 use Rattle.journal_objlog.specs.Staging.{IsStaged}
 use Rattle.journal_objlog.proofs.MapsOfBlocks.{map_of-is}
-use Rattle.journal_objlog.proofs.Openings.{law_of, low_of, OnlyReads-refl}
+use Rattle.journal_objlog.proofs.Openings.{law_of, low_of}
 
 -- what lacks room
 pub shortage : (w : WalState) (writes : List Pair) (blocks fresh : ℕ) → blocks ≡ written_blocks writes → fresh ≡ fresh_blocks w writes
@@ -45,22 +45,22 @@ can_prepare w writes blocks fresh number places objects has = record {
   tail = omega (arith, has.tail, places);
 }
 
--- an early refusal leaves all as it was
-pub left_early : (w : WalState) (writes : List Pair) (refusal : Refusal Unit) → IsWriteRefusal w writes refusal → IsLeft w w refusal
+-- an early refusal leaves the log as it was, faulted at J6 alone
+pub left_early : (w : WalState) (writes : List Pair) (refusal : Refusal Unit) → IsWriteRefusal w writes refusal → IsLeft w refusal
 left_early w writes (DeviceFailed cause) is = is
-left_early w writes NoMemory is = OnlyReads-refl w
-left_early w writes BadAddress is = OnlyReads-refl w
-left_early w writes BadSize is = OnlyReads-refl w
-left_early w writes TooLarge is = OnlyReads-refl w
-left_early w writes Busy is = OnlyReads-refl w
-left_early w writes BadLog is = OnlyReads-refl w
-left_early w writes BadSuper is = OnlyReads-refl w
-left_early w writes (Stale cause) is = OnlyReads-refl w
-left_early w writes (Stranger cause) is = OnlyReads-refl w
-left_early w writes (Worn cause) is = OnlyReads-refl w
-left_early w writes (Full cause) is = OnlyReads-refl w
-left_early w writes (Closed cause) is = OnlyReads-refl w
-left_early w writes Fenced is = OnlyReads-refl w
+left_early w writes BadAddress is = is.0
+left_early w writes BadSize is = is.0
+left_early w writes TooLarge is = is.0
+left_early w writes (Worn cause) is = is.0
+left_early w writes (Full cause) is = is.0
+left_early w writes NoMemory is = absurd is
+left_early w writes Busy is = absurd is
+left_early w writes BadLog is = absurd is
+left_early w writes BadSuper is = absurd is
+left_early w writes (Stale cause) is = absurd is
+left_early w writes (Stranger cause) is = absurd is
+left_early w writes (Closed cause) is = absurd is
+left_early w writes Fenced is = absurd is
 
 -- other room in memory
 pub OnlyReads-room : (w new : WalState) → new ≡ with_room w new.log.room → OnlyReads w new
@@ -75,6 +75,7 @@ OnlyReads-room w new is = record {
     failures = omega (arith, ap (λ (v : WalState). v.ring.disk.failures) is);
   };
   past = λ honest. ap (λ (v : WalState). v.ring.disk.past) is;
+  fault = λ faulted. inl (sym (ap (λ (v : WalState). v.ring.faulted) is) ∙ faulted);
 }
 
 -- what passed lacks no room

@@ -43,7 +43,8 @@ pub record MayCrash (old new : WalState) : Type 0 where
   pub moments : IsTrue old.ring.disk.honest → LeavesOnly old.ring.disk.past new.ring.disk.past (MayOpenAs old)
   pub images : IsTrue new.ring.disk.honest → EveryImage new.ring.disk.past (MayOpenAs new)
 
--- The disk was read, with or without a fault, and there may be other room in memory: all else is as before
+-- The disk was read, with or without a fault, and there may be other room in memory: all else is as before, and it is
+-- faulted only where it was or the device failed
 pub record OnlyReads (old new : WalState) : Type 0 where
   pub same : new ≡ record old {
     ring = record old.ring { disk = new.ring.disk; faulted = new.ring.faulted };
@@ -51,11 +52,12 @@ pub record OnlyReads (old new : WalState) : Type 0 where
   }
   pub keeps : Keeps old.ring.disk new.ring.disk
   pub past : IsTrue old.ring.disk.honest → new.ring.disk.past ≡ old.ring.disk.past
+  pub fault : IsTrue new.ring.faulted → IsTrue old.ring.faulted ⊎ HasFailed old.ring.disk new.ring.disk
 
--- what a refusal leaves: after J6 the device has failed, after any other all is as before
-abbrev pub IsLeft : WalState → WalState → Refusal Unit → Type 0
-IsLeft old new (DeviceFailed cause) = new.ring.faulted ≡ true
-IsLeft old new other = OnlyReads old new
+-- J6 leaves the log faulted, and no other refusal does
+abbrev pub IsLeft : WalState → Refusal Unit → Type 0
+IsLeft new (DeviceFailed cause) = new.ring.faulted ≡ true
+IsLeft new other = new.ring.faulted ≡ false
 
 -- Why an object is not read: the first of these that holds, then J1 or a new J6
 abbrev pub IsReadRefusal : WalState → Addr → WalState → Refusal Unit → Type 0

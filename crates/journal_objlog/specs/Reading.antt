@@ -1,11 +1,11 @@
 -- What reads leave of an object log, whatever order they come in and whatever asks for them.
-use Rattle.std.specs.Prelude.{◌≡◌, ◌⊎◌, true, false, IsTrue, []}
+use Rattle.std.specs.Prelude.{false, IsTrue, []}
 use Rattle.journal_wal.specs.Wal.{WalState, log_blocks, install_none}
 use Rattle.journal_objlog.specs.ObjectLogs.{KeepsMaps, MayCrash, OnlyReads}
 
--- The log was only read since this state of it, and once the device failed nothing more
+-- The log was only read since this state of it
 pub record IsRead (opened now : WalState) : Type 0 where
-  pub only : OnlyReads opened now ⊎ (now.ring.faulted ≡ true)
+  pub only : OnlyReads opened now
   pub maps : IsTrue opened.ring.disk.honest → KeepsMaps opened now
   pub crash : MayCrash opened now
 

@@ -66,6 +66,6 @@ pub record IsOpen (w : WalState) (writes : List Pair) (a : Addr) (updates : List
 -- What a refusal for want of memory, or by the device, is and leaves
 pub record RefusesLate (old new : WalState) (refusal : Refusal Unit) : Type 0 where
   pub reason : IsLateRefusal old new refusal
-  pub left : IsLeft old new refusal
+  pub left : IsLeft new refusal
   pub maps : IsTrue old.ring.disk.honest → KeepsMaps old new
   pub crash : MayCrash old new

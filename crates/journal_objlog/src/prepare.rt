@@ -37,15 +37,15 @@ impl<D: BlockDisk> ObjectLog<D> {
     /// `BadAddress` where an address is not valid, J3 `BadSize` where a value is not of its address's kind, J4
     /// `TooLarge` where more than 128 distinct blocks are written, J11 `Worn` where a position of the log would
     /// reach 2^62, J12 `Full` where the tail cannot take the blocks that do not stand in it, then J1 `NoMemory`
-    /// where memory is refused, or J6 where the device fails in this call. The maps are as they were, whatever it
-    /// answers.
+    /// where memory is refused, or J6 where the device fails in this call. The maps and what lies on the disk are
+    /// as they were, whatever it answers.
     pub fn prepare(&mut self, writes: &Objects) -> Result<Prepared, Refusal<()>>
         ensures prepared { IfOk result (λ prepared. IsPrepared self.new prepared writes.now) }
         ensures ok { OnOk result (CanPrepare self.old writes.now) }
         ensures refusal { IfErr result (IsPrepareRefusal self.old writes.now self.new) }
         ensures faulted { IsTrue self.old.ring.faulted → IsErr result × (self.new ≡ self.old) }
-        ensures reads { OnOk result (OnlyReads self.old self.new) }
-        ensures left { IfErr result (IsLeft self.old self.new) }
+        ensures reads { OnlyReads self.old self.new }
+        ensures left { IfErr result (IsLeft self.new) }
         ensures maps { IsTrue self.old.ring.disk.honest → KeepsMaps self.old self.new }
         ensures crash { MayCrash self.old self.new }
     {

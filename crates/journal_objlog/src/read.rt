@@ -18,15 +18,16 @@ impl<D: BlockDisk> ObjectLog<D> {
     ///
     /// The first that applies of these refuses it: J6 `DeviceFailed` where the device failed before, J2
     /// `BadAddress` where the address is not valid, then J1 `NoMemory` where memory for the value is refused, or
-    /// J6 where the device fails in this call. The maps are as they were, whatever it answers.
+    /// J6 where the device fails in this call. The maps and what lies on the disk are as they were, whatever it
+    /// answers.
     pub fn read(&mut self, addr: Addr) -> Result<Value, Refusal<()>>
         ensures value { IsTrue self.old.ring.disk.honest → IfOk result (λ value. value ≡ value_at (map_now self.old) addr) }
         ensures object { IfOk result (λ value. IsTrue (is_object (map_now self.old).blocks (addr, value))) }
         ensures fine { OnOk result ((self.old.ring.faulted ≡ false) × (self.new.ring.faulted ≡ false)) }
         ensures refusal { IfErr result (IsReadRefusal self.old addr self.new) }
         ensures faulted { IsTrue self.old.ring.faulted → IsErr result × (self.new ≡ self.old) }
-        ensures reads { OnOk result (OnlyReads self.old self.new) }
-        ensures left { IfErr result (IsLeft self.old self.new) }
+        ensures reads { OnlyReads self.old self.new }
+        ensures left { IfErr result (IsLeft self.new) }
         ensures maps { IsTrue self.old.ring.disk.honest → KeepsMaps self.old self.new }
         ensures crash { MayCrash self.old self.new }
     {

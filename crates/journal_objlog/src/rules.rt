@@ -1,7 +1,7 @@
 // Asking a rule about the map now.
-ghost use Rattle.std.specs.Prelude.{◌≡◌, ◌⊎◌, ◌↔◌, true, false, IsTrue, IsErr, OnOk, OnErr, IfOk, IfErr};
+ghost use Rattle.std.specs.Prelude.{◌≡◌, ◌↔◌, false, IsTrue, IsErr, OnOk, IfOk, IfErr};
 ghost use Rattle.journal_world.specs.Refusals.{IsOfReading};
-ghost use Rattle.journal_objlog.specs.ObjectLogs.{map_now, KeepsMaps, MayCrash, OnlyReads};
+ghost use Rattle.journal_objlog.specs.ObjectLogs.{map_now, KeepsMaps, MayCrash, OnlyReads, IsLeft};
 ghost use Rattle.journal_objlog.specs.Reading.{IsRead};
 
 use crate::object_log::ObjectLog;
@@ -47,6 +47,8 @@ impl<D: BlockDisk, O: Opening> ObjectReader for MapReader<D, O> {
 
     ghost trusted = { λ _. O.log.ring.disk.honest };
 
+    ghost failed = { λ r. r.ring.faulted };
+
     fn layout(&self) -> Layout {
         self.log.layout()
     }
@@ -59,17 +61,17 @@ impl<D: BlockDisk, O: Opening> ObjectReader for MapReader<D, O> {
 impl<D: BlockDisk> ObjectLog<D> {
     /// Asks the rule whether its statement holds of the map now. The log was only read, and is handed back.
     ///
-    /// Answers J6 `DeviceFailed` where the device failed before, or in this call, whatever the rule answered
-    /// then. It is refused otherwise where the rule refuses, for want of memory (J1) or by J6. The maps are as
-    /// they were, whatever it answers.
+    /// Answers J6 `DeviceFailed` where the device failed before or in this call, whatever the rule answered, and
+    /// nowhere else. It is refused otherwise where the rule refuses for want of memory (J1). The maps and what
+    /// lies on the disk are as they were, whatever it answers.
     pub fn admitted_by<R: MapRule>(self, rule: &R) -> (ObjectLog<D>, Result<bool, Refusal<()>>)
         ensures admitted { IsTrue self.ring.disk.honest →
             IfOk result.1 (λ admitted. IsTrue admitted ↔ R.statement (map_now self)) }
-        ensures refusal { IfErr result.1 IsOfReading }
+        ensures refusal { IfErr result.1 (IsOfReading result.0.ring.faulted) }
         ensures faulted { IsTrue self.ring.faulted → IsErr result.1 × (result.0 ≡ self) }
         ensures fine { OnOk result.1 ((self.ring.faulted ≡ false) × (result.0.ring.faulted ≡ false)) }
-        ensures reads { OnOk result.1 (OnlyReads self result.0) }
-        ensures left { OnErr result.1 (OnlyReads self result.0 ⊎ (result.0.ring.faulted ≡ true)) }
+        ensures reads { OnlyReads self result.0 }
+        ensures left { IfErr result.1 (IsLeft result.0) }
         ensures maps { IsTrue self.ring.disk.honest → KeepsMaps self result.0 }
         ensures crash { MayCrash self result.0 }
     {
@@ -99,7 +101,7 @@ fn read_by<O: Opening, D: BlockDisk, R: MapRule>(
     requires { log ≡ O.log }
     ensures admitted { IsTrue O.log.ring.disk.honest →
         IfOk result.1 (λ admitted. IsTrue admitted ↔ R.statement (map_now O.log)) }
-    ensures refusal { IfErr result.1 IsOfReading }
+    ensures refusal { IfErr result.1 (IsOfReading result.0.ring.faulted) }
     ensures read { IsRead O.log result.0 }
 {
     log.untouched();

@@ -89,7 +89,7 @@ impl<D: BlockDisk> ObjectLog<D> {
         requires objects { IsTrue (are_objects (size_of self.old) writes.now) }
         ensures staged { IfOk result (λ updates. IsStaged self.new writes.now updates.items) }
         ensures fine { OnOk result (self.new.ring.faulted ≡ false) }
-        ensures reads { OnOk result (OnlyReads self.old self.new) }
+        ensures reads { OnlyReads self.old self.new }
         ensures refusal { IfErr result (RefusesLate self.old self.new) }
     {
         let mut updates = Backwards::new(self.alloc);
@@ -108,7 +108,7 @@ impl<D: BlockDisk> ObjectLog<D> {
         ensures opened { OnOk result ((writes : List Pair) → IsStaged self.old writes updates.old
             → HasAscendingBlocks writes → IsBelow addr.block writes → IsOpen self.new writes addr updates.new) }
         ensures fine { OnOk result (self.new.ring.faulted ≡ false) }
-        ensures reads { OnOk result (OnlyReads self.old self.new) }
+        ensures reads { OnlyReads self.old self.new }
         ensures refusal { IfErr result (RefusesLate self.old self.new) }
     {
         if updates.has_first(addr.block) {
@@ -132,7 +132,7 @@ impl<D: BlockDisk> ObjectLog<D> {
         ensures block { IsTrue self.old.ring.disk.honest → IfOk result (λ block.
             (kind_of (size_of self.old) addr.block ≡ Some Kind.Block) ⊎ (block ≡ blocks_now self.old addr.block)) }
         ensures fine { OnOk result (self.new.ring.faulted ≡ false) }
-        ensures reads { OnOk result (OnlyReads self.old self.new) }
+        ensures reads { OnlyReads self.old self.new }
         ensures refusal { IfErr result (RefusesLate self.old self.new) }
     {
         let mut block = Block::try_new(self.alloc)?;

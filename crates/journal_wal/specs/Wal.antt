@@ -140,11 +140,12 @@ pub record Crashes (old new : WalState) : Type 0 where
   pub moments : IsTrue old.ring.disk.honest → LeavesOnly old.ring.disk.past new.ring.disk.past (IsCrash old)
   pub images : IsTrue new.ring.disk.honest → EveryImage new.ring.disk.past (IsCrash new)
 
--- A read changed nothing that lies on the disk
+-- The disk was read, with or without a fault: all else is as before, and it is faulted only where it was or the device failed
 pub record Reads (old new : WalState) : Type 0 where
-  pub same : new ≡ record old { ring = record old.ring { disk = new.ring.disk } }
+  pub same : new ≡ record old { ring = record old.ring { disk = new.ring.disk; faulted = new.ring.faulted } }
   pub keeps : Keeps old.ring.disk new.ring.disk
   pub past : IsTrue old.ring.disk.honest → new.ring.disk.past ≡ old.ring.disk.past
+  pub fault : IsTrue new.ring.faulted → IsTrue old.ring.faulted ⊎ HasFailed old.ring.disk new.ring.disk
 
 -- A device call failed
 pub record Fails (old new : WalState) : Type 0 where

@@ -1,8 +1,8 @@
 // The write-ahead log, and what it tells without a step.
-ghost use Rattle.std.specs.Prelude.{ℕ, ◌≡◌, ◌≤◌, ◌<◌, ◌↔◌, ◌⊎◌, false, is_some, IsTrue, OnOk, OnErr, IsErr, IfErr, IfSome};
+ghost use Rattle.std.specs.Prelude.{ℕ, ◌≡◌, ◌≤◌, ◌<◌, ◌↔◌, ◌⊎◌, true, false, is_some, IsTrue, OnOk, OnErr, IsErr, IfErr, IfSome};
 ghost use Rattle.journal_block.specs.Updates.{updates_block};
 ghost use Rattle.journal_circ.specs.Ring.{IsFault};
-ghost use Rattle.journal_wal.specs.Wal.{Reads, Fails, Crashes, size_of, tail_length, blocks_now, log_steps};
+ghost use Rattle.journal_wal.specs.Wal.{Reads, Crashes, size_of, tail_length, blocks_now, log_steps};
 
 use crate::disk_log::DiskLog;
 use journal_block::Block;
@@ -95,13 +95,15 @@ impl<D: BlockDisk> Wal<D> {
 
     /// Copies the block with all updates. It is read from the device only where it is not in memory.
     ///
-    /// Answers J6 `DeviceFailed` where the device failed now or before; what `into` then holds is not said.
+    /// Answers J6 `DeviceFailed` where the device failed now or before; what `into` then holds is not said. The
+    /// log and what lies on the disk are as they were, whatever it answers.
     pub fn read(&mut self, block: u64, into: &mut Block) -> Result<(), Refusal<()>>
         requires { block < size_of self.old }
         ensures cause { IfErr result (IsFault self.old.ring.faulted self.old.ring.disk self.new.ring.disk) }
         ensures faulted { IsTrue self.old.ring.faulted → IsErr result × (self.new ≡ self.old) }
-        ensures ok { OnOk result (Reads self.old self.new) }
-        ensures err { OnErr result (Fails self.old self.new) }
+        ensures reads { Reads self.old self.new }
+        ensures ok { OnOk result ((self.old.ring.faulted ≡ false) × (self.new.ring.faulted ≡ false)) }
+        ensures err { OnErr result (self.new.ring.faulted ≡ true) }
         ensures value { IsTrue self.old.ring.disk.honest → OnOk result (into.new ≡ blocks_now self.old block) }
         ensures crash { Crashes self.old self.new }
     {

@@ -1,9 +1,10 @@
 -- Which refusals a call answers.
+use Rattle.std.specs.Prelude.{Bool, IsTrue}
 use Rattle.journal_world.specs.declared.refusal.Refusal.{Refusal}
 use Rattle.journal_world.specs.declared.refusal.Refusal.TheVariants.{NoMemory, DeviceFailed}
 
--- for want of memory, or since the device failed: what only reads is refused for nothing else
-abbrev pub IsOfReading : {C : Type 0} → Refusal C → Type 0
-IsOfReading NoMemory = Unit {0}
-IsOfReading (DeviceFailed cause) = Unit {0}
-IsOfReading _ = ⊥
+-- Why what only reads is refused, where the flag says whether the device has failed: for want of memory, or by the device
+abbrev pub IsOfReading : {C : Type 0} → Bool → Refusal C → Type 0
+IsOfReading failed NoMemory = Unit {0}
+IsOfReading failed (DeviceFailed cause) = IsTrue failed
+IsOfReading failed other = ⊥

@@ -9,7 +9,8 @@ use crate::{Addr, Layout, Refusal, Value};
 /// Reads the objects of one map.
 ///
 /// Where the reader is trusted, as over a disk that is honest and settled, a read gives the map's value.
-/// Where it is not, a read gives some value of the address's kind.
+/// Where it is not, a read gives some value of the address's kind. The reader knows whether the device failed
+/// under it, and answers J6 nowhere else.
 pub trait ObjectReader {
     /// What the refusals of a read hold.
     type Cause;
@@ -18,18 +19,22 @@ pub trait ObjectReader {
 
     ghost trusted: { Self → Bool };
 
+    /// Whether the device failed under the reader, now or before.
+    ghost failed: { Self → Bool };
+
     /// The layout of the map's disk.
     fn layout(&self) -> Layout
         ensures { result.blocks ≡ (map self.now).blocks };
 
     /// The value of the address. The map stays.
     ///
-    /// Refused for want of memory (J1) and where the device fails (J6).
+    /// Refused for want of memory (J1), and where the device has failed then (J6). It stays failed.
     fn read(&mut self, addr: Addr) -> Result<Value, Refusal<Self::Cause>>
         requires valid { IsTrue (is_valid (map self.old).blocks addr) }
         ensures value { IsTrue (trusted self.old) → IfOk result (λ value. value ≡ value_at (map self.old) addr) }
         ensures object { IfOk result (λ value. IsTrue (is_object (map self.old).blocks (addr, value))) }
-        ensures refused { IfErr result IsOfReading }
+        ensures refused { IfErr result (IsOfReading (failed self.new)) }
+        ensures stays_failed { IsTrue (failed self.old) → IsTrue (failed self.new) }
         ensures same_map { map self.new ≡ map self.old }
         ensures same_trust { trusted self.new ≡ trusted self.old };
 }
@@ -41,10 +46,11 @@ pub trait MapRule {
 
     /// Whether the statement holds of the map that is read. The map stays.
     ///
-    /// Refused for want of memory (J1) and where the device fails (J6).
+    /// Refused for want of memory (J1), and where the device has failed then (J6). It stays failed.
     fn admit<O: ObjectReader>(&self, reader: &mut O) -> Result<bool, Refusal<O::Cause>>
         ensures admitted { IsTrue (O.trusted reader.old) → IfOk result (λ admitted. IsTrue admitted ↔ statement (O.map reader.old)) }
-        ensures refused { IfErr result IsOfReading }
+        ensures refused { IfErr result (IsOfReading (O.failed reader.new)) }
+        ensures stays_failed { IsTrue (O.failed reader.old) → IsTrue (O.failed reader.new) }
         ensures same_map { O.map reader.new ≡ O.map reader.old }
         ensures same_trust { O.trusted reader.new ≡ O.trusted reader.old };
 

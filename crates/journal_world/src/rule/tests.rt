@@ -12,13 +12,15 @@ struct Zeros {
 }
 
 impl ObjectReader for Zeros {
-    ghost use Rattle.std.specs.Prelude.{[], true};
+    ghost use Rattle.std.specs.Prelude.{[], true, false};
 
     type Cause = ();
 
     ghost map = { λ zeros. record { blocks = zeros.layout.blocks; pairs = [] } };
 
     ghost trusted = { λ zeros. true };
+
+    ghost failed = { λ zeros. false };
 
     fn layout(&self) -> Layout {
         self.layout
@@ -29,6 +31,34 @@ impl ObjectReader for Zeros {
             Some(kind) => Ok(kind.zeros(self.alloc)?),
             None => unreachable!(),
         }
+    }
+}
+
+// A reader whose device fails at the first read.
+#[derive(Drop)]
+struct Broken {
+    layout: Layout,
+    failed: bool,
+}
+
+impl ObjectReader for Broken {
+    ghost use Rattle.std.specs.Prelude.{[], true};
+
+    type Cause = ();
+
+    ghost map = { λ broken. record { blocks = broken.layout.blocks; pairs = [] } };
+
+    ghost trusted = { λ broken. true };
+
+    ghost failed = { λ broken. broken.failed };
+
+    fn layout(&self) -> Layout {
+        self.layout
+    }
+
+    fn read(&mut self, _addr: Addr) -> Result<Value, Refusal<()>> {
+        self.failed = true;
+        Err(Refusal::DeviceFailed(()))
     }
 }
 
@@ -64,4 +94,16 @@ fn admits<M: MapRule>(rt: &impl Abort, alloc: Global, rule: &M) -> Result<(), Fa
 fn rules_admit_the_map_of_zeros(rt: HostRuntime) -> Result<(), Fail> {
     admits(&rt, rt.alloc(), &AnyMap)?;
     admits(&rt, rt.alloc(), &FirstBit)
+}
+
+#[test]
+fn a_failed_read_refuses_the_rule_that_asked_for_it(rt: HostRuntime) -> Result<(), Fail> {
+    let layout = Layout::new(600).ok_or("600 blocks")?;
+    let mut reader = Broken {
+        layout,
+        failed: false,
+    };
+    assert_eq!(rt; AnyMap.admit(&mut reader), Ok(true));
+    assert_eq!(rt; FirstBit.admit(&mut reader), Err(Refusal::DeviceFailed(())));
+    Ok(())
 }

@@ -34,4 +34,4 @@ returns-clause-committed g c =
     on_ok c.add.result c.add.ensures.committed
     (λ added. committed_from c.args.transaction.now.reads c.args.transaction.now.writes c.args.session.now c.admit-own.new.session c.add.new.session
     c.args.self.now c.compare.new.self c.prepare.new.self c.add.new.self c.in_ok-prepared.prepared c.admit-own.ensures.session
-    c.compare.ensures.others reads c.prepare.ensures.others c.in_ok-prepared.ensures.reads fine c.in_ok-prepared.ensures.fine added)
+    c.compare.ensures.others reads c.prepare.ensures.others c.prepare.ensures.reads fine c.in_ok-prepared.ensures.fine added)

@@ -11,14 +11,14 @@ use Rattle.journal_core.proofs.state.Core.prepare.Goals as goal
 pub invariant_of-self-then-len : goal.invariant_of-self-then-len
 invariant_of-self-then-len g c = (
   kept_on g.J.Naming.blocks _ c.self.invariant.0 c.prepare-prepared.new.self c.prepare-prepared.ensures.crash c.prepare-prepared.ensures.maps
-      (rests_call c.self.inside.objects c.prepare-prepared.new.self c.prepare-prepared.result c.prepare-prepared.ensures.reads c.prepare-prepared.ensures.left c.prepare-prepared.ensures.faulted),
+      (rests_call c.self.inside.objects c.prepare-prepared.new.self c.prepare-prepared.result c.prepare-prepared.ensures.reads c.prepare-prepared.ensures.faulted),
   c.self.invariant.1,
 )
 
 pub invariant_of-self-2 : goal.invariant_of-self-2
 invariant_of-self-2 g c = (
   kept_on g.J.Naming.blocks _ c.self.invariant.0 c.prepare-prepared.new.self c.prepare-prepared.ensures.crash c.prepare-prepared.ensures.maps
-      (rests_call c.self.inside.objects c.prepare-prepared.new.self c.prepare-prepared.result c.prepare-prepared.ensures.reads c.prepare-prepared.ensures.left c.prepare-prepared.ensures.faulted),
+      (rests_call c.self.inside.objects c.prepare-prepared.new.self c.prepare-prepared.result c.prepare-prepared.ensures.reads c.prepare-prepared.ensures.faulted),
   c.self.invariant.1,
 )
 
@@ -26,7 +26,7 @@ pub returns-then-is_too_large-clause-crash : goal.returns-then-is_too_large-clau
 returns-then-is_too_large-clause-crash g c =
     crashes_step g.J.Naming.blocks _ _ _ c.self.invariant.0 c.self.view_is
     (kept_on g.J.Naming.blocks _ c.self.invariant.0 c.prepare-prepared.new.self c.prepare-prepared.ensures.crash c.prepare-prepared.ensures.maps
-    (rests_call c.self.inside.objects c.prepare-prepared.new.self c.prepare-prepared.result c.prepare-prepared.ensures.reads c.prepare-prepared.ensures.left c.prepare-prepared.ensures.faulted))
+    (rests_call c.self.inside.objects c.prepare-prepared.new.self c.prepare-prepared.result c.prepare-prepared.ensures.reads c.prepare-prepared.ensures.faulted))
     c.prepare-prepared.ensures.crash
 
 pub returns-then-len-clause-refusal : goal.returns-then-len-clause-refusal
@@ -40,6 +40,7 @@ returns-then-len-clause-refusal g c = (
         inl (omega (arith, h.true, c.len.ensures.length, same))
     | then-len-via-else-len+then-number-ge-LIMIT w ↦ let h = w.if-number-ge-LIMIT in inr (inl (omega (arith, h.true, w.number.ensures)))
   ],
+  c.none.ensures,
 )
 
 pub returns-then-len-clause-crash : goal.returns-then-len-clause-crash

@@ -8,7 +8,7 @@ use Rattle.journal_core.proofs.state.Core.read_step.Goals as goal
 pub invariant_of-self : goal.invariant_of-self
 invariant_of-self g c = (
   kept_on g.J.Naming.blocks _ c.self.invariant.0 c.read.new.self c.read.ensures.crash c.read.ensures.maps
-      (rests_call c.self.inside.objects c.read.new.self c.read.result c.read.ensures.reads c.read.ensures.left c.read.ensures.faulted),
+      (rests_call c.self.inside.objects c.read.new.self c.read.result c.read.ensures.reads c.read.ensures.faulted),
   c.self.invariant.1,
 )
 

@@ -14,13 +14,13 @@ pub returns-in_err-block-clause-refusal : goal.returns-in_err-block-clause-refus
 returns-in_err-block-clause-refusal g c =
     if_err c.from_residual.result _ (RefusesLate c.args.self.now c.args.self.now) c.from_residual.ensures.1
     (λ (e : Refusal Unit) is. subst (λ (r : Refusal Unit). RefusesLate c.args.self.now c.args.self.now r) (sym (is ∙ c.in_err-block.ensures.refusal))
-    (refuses_memory c.args.self.now c.args.self.now (OnlyReads-refl c.args.self.now)
+    (refuses_memory c.args.self.now c.args.self.now (OnlyReads-refl c.args.self.now) c.requires.fine
     (still c.self.inside.layout.blocks c.self.inside.wal c.args.self.now c.self.invariant c.self.view_is)))
 
 pub returns-in_err-read-clause-crash : goal.returns-in_err-read-clause-crash
 returns-in_err-read-clause-crash g c =
     subst (λ (w : WalState). MayCrash w c.read.new.self) c.self.view_is
-    (may_crash c.self.inside.layout.blocks c.self.inside.wal c.read.new.self c.self.invariant c.in_err-read.ensures.crash)
+    (may_crash c.self.inside.layout.blocks c.self.inside.wal c.read.new.self c.self.invariant c.read.ensures.crash)
 
 pub returns-in_err-read-clause-refusal : goal.returns-in_err-read-clause-refusal
 returns-in_err-read-clause-refusal g c =
@@ -29,12 +29,12 @@ returns-in_err-read-clause-refusal g c =
     (subst (λ (w : WalState). RefusesLate w c.read.new.self c.in_err-read.field-0.0) c.self.view_is
     (refuses_device c.self.inside.layout.blocks c.self.inside.wal c.read.new.self c.self.invariant
     (subst (λ (w : WalState). w.ring.faulted ≡ false) (sym c.self.view_is) c.requires.fine)
-    c.in_err-read.field-0.0 c.in_err-read.ensures.cause c.in_err-read.ensures.err c.in_err-read.ensures.crash)))
+    c.in_err-read.field-0.0 c.in_err-read.ensures.cause c.read.ensures.reads c.in_err-read.ensures.err c.read.ensures.crash)))
 
 pub returns-clause-crash : goal.returns-clause-crash
 returns-clause-crash g c =
     subst (λ (w : WalState). MayCrash w c.read.new.self) c.self.view_is
-    (may_crash c.self.inside.layout.blocks c.self.inside.wal c.read.new.self c.self.invariant c.in_ok-read.ensures.crash)
+    (may_crash c.self.inside.layout.blocks c.self.inside.wal c.read.new.self c.self.invariant c.read.ensures.crash)
 
 pub returns-then-eq-clause-crash : goal.returns-then-eq-clause-crash
 returns-then-eq-clause-crash g c = still c.self.inside.layout.blocks c.self.inside.wal c.args.self.now c.self.invariant c.self.view_is

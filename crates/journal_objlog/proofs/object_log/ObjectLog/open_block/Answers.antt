@@ -16,12 +16,12 @@ pub returns-in_err-put_first-clause-refusal : goal.returns-in_err-put_first-clau
 returns-in_err-put_first-clause-refusal g c =
     if_err c.from_residual-in_err-put_first.result _ (RefusesLate c.args.self.now c.block_before.new.self) c.from_residual-in_err-put_first.ensures.1
     (λ (e : Refusal Unit) is. subst (λ (r : Refusal Unit). RefusesLate c.args.self.now c.block_before.new.self r) (sym is)
-    (refuses_memory c.args.self.now c.block_before.new.self c.in_ok-bytes.ensures.reads c.in_ok-bytes.ensures.crash))
+    (refuses_memory c.args.self.now c.block_before.new.self c.block_before.ensures.reads c.in_ok-bytes.ensures.fine c.block_before.ensures.crash))
 
 pub returns-clause-opened : goal.returns-clause-opened
 returns-clause-opened g c = λ writes staged ascending below.
     let u : Update = record { block = c.args.addr.block; bytes = c.in_ok-bytes.bytes } in
-    open_read c.args.self.now c.block_before.new.self c.in_ok-bytes.ensures.reads writes c.args.addr c.put_first.new.self
+    open_read c.args.self.now c.block_before.new.self c.block_before.ensures.reads writes c.args.addr c.put_first.new.self
     (subst (λ (us : List Update). IsOpen c.args.self.now writes c.args.addr us) (sym c.in_ok-put_first.ensures.ok)
     (open_more c.args.self.now writes c.args.updates.now c.args.addr c.in_ok-bytes.bytes c.in_ok-bytes.ensures.low c.requires.valid
     staged ascending below

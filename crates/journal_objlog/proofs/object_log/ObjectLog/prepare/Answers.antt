@@ -14,7 +14,7 @@ pub returns-in_err-reserve-clause-refusal : goal.returns-in_err-reserve-clause-r
 returns-in_err-reserve-clause-refusal g c =
     let no_room : c.in_err-reserve.field-0.0 ≡ NoMemory =
     refused_room c.args.self.now c.stage.new.self c.args.writes.now c.in_ok-updates.updates.items c.in_ok-check.ensures.ok
-    c.in_ok-updates.ensures.reads c.in_ok-updates.ensures.fine c.in_ok-updates.ensures.staged c.in_err-reserve.field-0.0
+    c.stage.ensures.reads c.in_ok-updates.ensures.fine c.in_ok-updates.ensures.staged c.in_err-reserve.field-0.0
     (subst (λ (w : WalState). IsRefusal w c.in_ok-updates.updates.items c.in_err-reserve.field-0.0) c.self.view_is
     (subst (λ (us : List Update). IsRefusal c.self.inside.wal us c.in_err-reserve.field-0.0) c.deref.ensures.value c.in_err-reserve.ensures.refusal)) in
     if_err c.from_residual-in_err-reserve.result _ (IsPrepareRefusal c.args.self.now c.args.writes.now c.reserve.new.self) c.from_residual-in_err-reserve.ensures.1

@@ -3,7 +3,7 @@ use Rattle.journal_world.specs.Maps.{value_at, is_object}
 use Rattle.journal_wal.specs.Wal.{WalState, size_of, blocks_now}
 use Rattle.journal_objlog.specs.ObjectLogs.{map_now, KeepsMaps, MayCrash}
 use Rattle.journal_objlog.specs.MapLaws.{map_of-blocks}
-use Rattle.journal_objlog.proofs.Openings.{may_crash, keeps_maps, maps_read, OnlyReads-from}
+use Rattle.journal_objlog.proofs.Openings.{may_crash, maps_read, OnlyReads-from}
 use Rattle.journal_objlog.proofs.Refusing.{still}
 use Rattle.journal_objlog.proofs.StepsOfMaps.{read_value}
 use Rattle.journal_objlog.proofs.object_log.ObjectLog.read.Goals as goal
@@ -35,23 +35,23 @@ returns-in-Some-clause-crash g c = still c.self.inside.layout.blocks c.self.insi
 pub returns-in_err-read-clause-maps : goal.returns-in_err-read-clause-maps
 returns-in_err-read-clause-maps g c = λ honest.
     subst (λ (w : WalState). KeepsMaps w c.read.new.self) c.self.view_is
-    (keeps_maps c.self.inside.layout.blocks c.self.inside.wal c.read.new.self c.self.invariant c.in_err-read.ensures.crash.keeps.size
-    (c.in_err-read.ensures.err.blocks (subst (λ (w : WalState). IsTrue w.ring.disk.honest) (sym c.self.view_is) honest)))
+    (maps_read c.self.inside.wal c.read.new.self (OnlyReads-from c.self.inside.wal c.read.new.self c.read.ensures.reads)
+    (subst (λ (w : WalState). IsTrue w.ring.disk.honest) (sym c.self.view_is) honest))
 
 pub returns-in_err-read-clause-crash : goal.returns-in_err-read-clause-crash
 returns-in_err-read-clause-crash g c =
     subst (λ (w : WalState). MayCrash w c.read.new.self) c.self.view_is
-    (may_crash c.self.inside.layout.blocks c.self.inside.wal c.read.new.self c.self.invariant c.in_err-read.ensures.crash)
+    (may_crash c.self.inside.layout.blocks c.self.inside.wal c.read.new.self c.self.invariant c.read.ensures.crash)
 
 pub returns-in_err-object_in-2-clause-crash : goal.returns-in_err-object_in-2-clause-crash
 returns-in_err-object_in-2-clause-crash g c =
     subst (λ (w : WalState). MayCrash w c.read.new.self) c.self.view_is
-    (may_crash c.self.inside.layout.blocks c.self.inside.wal c.read.new.self c.self.invariant c.in_ok-read.ensures.crash)
+    (may_crash c.self.inside.layout.blocks c.self.inside.wal c.read.new.self c.self.invariant c.read.ensures.crash)
 
 pub returns-in_err-object_in-2-clause-maps : goal.returns-in_err-object_in-2-clause-maps
 returns-in_err-object_in-2-clause-maps g c = λ honest.
     subst (λ (w : WalState). KeepsMaps w c.read.new.self) c.self.view_is
-    (maps_read c.self.inside.wal c.read.new.self (OnlyReads-from c.self.inside.wal c.read.new.self c.in_ok-read.ensures.ok)
+    (maps_read c.self.inside.wal c.read.new.self (OnlyReads-from c.self.inside.wal c.read.new.self c.read.ensures.reads)
     (subst (λ (w : WalState). IsTrue w.ring.disk.honest) (sym c.self.view_is) honest))
 
 pub returns-clause-value : goal.returns-clause-value
@@ -70,10 +70,10 @@ returns-clause-object g c =
 pub returns-clause-maps : goal.returns-clause-maps
 returns-clause-maps g c = λ honest.
     subst (λ (w : WalState). KeepsMaps w c.read.new.self) c.self.view_is
-    (maps_read c.self.inside.wal c.read.new.self (OnlyReads-from c.self.inside.wal c.read.new.self c.in_ok-read.ensures.ok)
+    (maps_read c.self.inside.wal c.read.new.self (OnlyReads-from c.self.inside.wal c.read.new.self c.read.ensures.reads)
     (subst (λ (w : WalState). IsTrue w.ring.disk.honest) (sym c.self.view_is) honest))
 
 pub returns-clause-crash : goal.returns-clause-crash
 returns-clause-crash g c =
     subst (λ (w : WalState). MayCrash w c.read.new.self) c.self.view_is
-    (may_crash c.self.inside.layout.blocks c.self.inside.wal c.read.new.self c.self.invariant c.in_ok-read.ensures.crash)
+    (may_crash c.self.inside.layout.blocks c.self.inside.wal c.read.new.self c.self.invariant c.read.ensures.crash)

@@ -39,7 +39,7 @@ loop-addr-preserved g c =
       p ∷ c.loop-addr.invariant.0,
       staged_on c.args.self.now c.loop-addr.self c.args.writes.now (rev_source c.loop-addr.addr-iterator) (rev_source c.next.new.self) c.loop-addr.invariant.0 p
           c.loop-addr.updates c.iter.ensures.ascending c.in-Some.ensures.steps c.loop-addr.invariant.1
-          c.open_block.new.self c.in_ok-open_block.ensures.reads c.in_ok-open_block.ensures.fine c.open_block.new.updates c.store_first.new.self
+          c.open_block.new.self c.open_block.ensures.reads c.in_ok-open_block.ensures.fine c.open_block.new.updates c.store_first.new.self
           (c.in_ok-open_block.ensures.opened c.loop-addr.invariant.0 c.loop-addr.invariant.1.staged under.1 under.0)
           c.store_first.ensures.stored c.self-in-loop-addr.inside.layout.blocks
           (c.self-in-loop-addr.invariant.size ∙ ap size_of c.self-in-loop-addr.view_is)
