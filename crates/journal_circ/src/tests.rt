@@ -43,7 +43,24 @@ fn block_with(rt: &impl Abort, alloc: Global, at: usize, number: u64) -> Run<Blo
     Ok(block)
 }
 
-// A disk whose log goes from start to end. Each position has address 520, but the one whose word is given.
+// Block 0 of a log that goes up to end. Each position has address 520, but the one whose word is given.
+fn header_with(rt: &impl Abort, alloc: Global, end: u64, word: usize, address: u64) -> Run<Block> {
+    let mut header = block_with(rt, alloc, 0, end)?;
+    for other in 1..512 {
+        header.put_u64(8 * other, if other == word { address } else { 520 });
+    }
+    Ok(header)
+}
+
+// Makes blocks 0 and 1 stable.
+fn write_both(rt: &impl Abort, disk: &mut MemDisk, header: &Block, front: &Block) -> Run<()> {
+    assert!(rt; disk.size() == 600);
+    called(disk.write(0, header))?;
+    called(disk.write(1, front))?;
+    called(disk.barrier())
+}
+
+// A disk whose log goes from start to end, with such a block 0.
 fn disk_with(
     rt: &impl Abort,
     alloc: Global,
@@ -54,17 +71,13 @@ fn disk_with(
 ) -> Run<MemDisk>
     ensures { IfOk result (λ disk. IsSettled disk.past) }
 {
-    let mut disk = MemDisk::new(alloc, 600)?;
-    assert!(rt; disk.size() == 600);
     let front = block_with(rt, alloc, 0, start)?;
-    let mut header = block_with(rt, alloc, 0, end)?;
-    for other in 1..512 {
-        header.put_u64(8 * other, if other == word { address } else { 520 });
-    }
-    called(disk.write(0, &header))?;
-    called(disk.write(1, &front))?;
-    called(disk.barrier())?;
-    Ok(disk.crash(&[]))
+    let header = header_with(rt, alloc, end, word, address)?;
+    let mut disk = MemDisk::new(alloc, 600)?;
+    let wrote = write_both(rt, &mut disk, &header, &front);
+    let crashed = disk.crash(&[]);
+    wrote?;
+    Ok(crashed)
 }
 
 // Opens the log of a disk on which nothing is pending.
@@ -89,21 +102,35 @@ fn peeked(rt: &impl Abort, alloc: Global, disk: &MemDisk, block: u64, at: usize)
     Ok(bytes.get_u64(at))
 }
 
-// The number at the front of a block, as the disk stands for it.
-fn stands(rt: &impl Abort, alloc: Global, disk: MemDisk, block: u64) -> Run<u64>
-    requires { IsSettled disk.past }
+// The number at the front of a block with the updates of a log that was just opened.
+fn number_with_updates(
+    rt: &impl Abort,
+    circ: &mut Circ<MemDisk>,
+    block: u64,
+    bytes: &mut Block,
+) -> Run<u64>
+    requires next { circ.old.next ≡ circ.old.marks.end }
 {
-    let mut circ = open(rt, alloc, disk)?;
-    let mut bytes = Block::try_new(alloc)?;
     assert!(rt; block < circ.size());
-    circ.read(block, &mut bytes)?;
+    circ.read(block, bytes)?;
     let mut number = bytes.get_u64(0);
     for position in circ.start()..circ.end() {
-        if circ.read_logged(position, &mut bytes)? == block {
+        if circ.read_logged(position, bytes)? == block {
             number = bytes.get_u64(0);
         }
     }
     Ok(number)
+}
+
+// The number at the front of a block, as the disk stands for it.
+fn stands(rt: &impl Abort, alloc: Global, disk: MemDisk, block: u64) -> Run<u64>
+    requires { IsSettled disk.past }
+{
+    let mut bytes = Block::try_new(alloc)?;
+    let mut circ = open(rt, alloc, disk)?;
+    let number = number_with_updates(rt, &mut circ, block, &mut bytes);
+    let _ = circ.into_disk();
+    number
 }
 
 // Logs a group of one block, with a number at its front.
@@ -130,32 +157,47 @@ fn log_one(
     Ok(())
 }
 
+// Places of blocks, each with the number there as the disk reads.
+fn reads(rt: &impl Abort, alloc: Global, disk: &MemDisk, places: &[(u64, usize, u64)]) -> Run<()> {
+    for (block, at, number) in places {
+        assert_eq!(rt; peeked(rt, alloc, disk, *block, *at)?, *number);
+    }
+    Ok(())
+}
+
 // What changes on the disk where the positions come round.
-fn come_round(rt: &impl Abort, alloc: Global) -> Run<()> {
-    let mut circ = open(rt, alloc, disk_with(rt, alloc, 510, 510, 1, 521)?)?;
-    log_one(rt, alloc, &mut circ, 513, 7)?;
-    for (block, at, number) in [
+fn log_round(rt: &impl Abort, alloc: Global, circ: &mut Circ<MemDisk>) -> Run<()>
+    requires next { circ.old.next ≡ circ.old.marks.end }
+    requires coming { circ.old.marks.coming ≡ circ.old.marks.end }
+{
+    log_one(rt, alloc, circ, 513, 7)?;
+    let places = [
         (0, 0, 511),
         (0, 4088, 513),
         (0, 8, 521),
         (1, 0, 510),
         (512, 0, 7),
         (2, 0, 0),
-    ] {
-        assert_eq!(rt; peeked(rt, alloc, circ.disk(), block, at)?, number);
-    }
-    log_one(rt, alloc, &mut circ, 599, 8)?;
-    for (block, at, number) in [
+    ];
+    reads(rt, alloc, circ.disk(), &places)?;
+    log_one(rt, alloc, circ, 599, 8)?;
+    let places = [
         (0, 0, 512),
         (0, 4088, 513),
         (0, 8, 599),
         (1, 0, 510),
         (512, 0, 7),
         (2, 0, 8),
-    ] {
-        assert_eq!(rt; peeked(rt, alloc, circ.disk(), block, at)?, number);
-    }
-    assert_eq!(rt; circ.into_disk().pending::<()>()?.len(), 0);
+    ];
+    reads(rt, alloc, circ.disk(), &places)
+}
+
+fn come_round(rt: &impl Abort, alloc: Global) -> Run<()> {
+    let mut circ = open(rt, alloc, disk_with(rt, alloc, 510, 510, 1, 521)?)?;
+    let ran = log_round(rt, alloc, &mut circ);
+    let pending = circ.into_disk().pending::<()>();
+    ran?;
+    assert_eq!(rt; pending?.len(), 0);
     Ok(())
 }
 
@@ -267,14 +309,24 @@ fn install_with_crashes(
     crash(rt, alloc, circ, 7, 7)
 }
 
-fn cycles(rt: &impl Abort, alloc: Global) -> Run<()> {
-    let mut circ = open(rt, alloc, disk_with(rt, alloc, 8, 8, 1, 520)?)?;
-    let from = block_with(rt, alloc, 0, 7)?;
-    crash(rt, alloc, &circ, 0, 0)?;
-    log_with_crashes(rt, alloc, &mut circ, &from)?;
-    install_with_crashes(rt, alloc, &mut circ, &from)?;
+fn both_cycles(rt: &impl Abort, alloc: Global, circ: &mut Circ<MemDisk>, from: &Block) -> Run<()>
+    requires next { circ.old.next ≡ circ.old.marks.end }
+    requires coming { circ.old.marks.coming ≡ circ.old.marks.end }
+    requires freed { circ.old.marks.freed ≡ circ.old.marks.start }
+{
+    crash(rt, alloc, circ, 0, 0)?;
+    log_with_crashes(rt, alloc, circ, from)?;
+    install_with_crashes(rt, alloc, circ, from)?;
     assert_eq!(rt; (circ.start(), circ.end()), (9, 9));
     Ok(())
+}
+
+fn cycles(rt: &impl Abort, alloc: Global) -> Run<()> {
+    let from = block_with(rt, alloc, 0, 7)?;
+    let mut circ = open(rt, alloc, disk_with(rt, alloc, 8, 8, 1, 520)?)?;
+    let ran = both_cycles(rt, alloc, &mut circ, &from);
+    let _ = circ.into_disk();
+    ran
 }
 
 #[test]
@@ -294,19 +346,27 @@ fn refuse(rt: &impl Abort, circ: &mut Circ<MemDisk>, bytes: &mut Block) {
 }
 
 // A barrier that fails, and what follows.
-fn stay_faulted(rt: &impl Abort, alloc: Global) -> Run<()> {
-    let mut circ = open(rt, alloc, disk_with(rt, alloc, 8, 8, 1, 520)?)?;
-    let mut bytes = Block::try_new(alloc)?;
+fn break_down(rt: &impl Abort, circ: &mut Circ<MemDisk>, bytes: &mut Block) {
     circ.fail_in(1);
     let idle = circ.logger();
     assert!(rt; circ.sync_slots(idle).is_err());
     circ.fail_in(1);
-    refuse(rt, &mut circ, &mut bytes);
-    // The call that is to fail is still to come, so no call was made.
-    let mut disk = circ.into_disk();
+    refuse(rt, circ, bytes);
+}
+
+// The call that is to fail is still to come, so no call was made.
+fn fails_next(rt: &impl Abort, disk: &mut MemDisk, bytes: &mut Block) {
     assert_eq!(rt; disk.failures(), 1);
     assert!(rt; disk.size() == 600);
-    assert_eq!(rt; disk.read(513, &mut bytes), Err(DiskFault));
+    assert_eq!(rt; disk.read(513, bytes), Err(DiskFault));
+}
+
+fn stay_faulted(rt: &impl Abort, alloc: Global) -> Run<()> {
+    let mut bytes = Block::try_new(alloc)?;
+    let mut circ = open(rt, alloc, disk_with(rt, alloc, 8, 8, 1, 520)?)?;
+    break_down(rt, &mut circ, &mut bytes);
+    let mut disk = circ.into_disk();
+    fails_next(rt, &mut disk, &mut bytes);
     Ok(())
 }
 

@@ -1,5 +1,5 @@
 // A read.
-ghost use Rattle.std.specs.Prelude.{◌≡◌, false, IsTrue, IfOk, IfErr, OnOk};
+ghost use Rattle.std.specs.Prelude.{◌≡◌, true, false, IsTrue, None, IfOk, IfErr, OnOk};
 ghost use Rattle.journal_world.specs.Maps.{value_at, is_object};
 ghost use Rattle.journal_world.specs.Histories.{is_trusted, latest};
 ghost use Rattle.journal_core.specs.Cores.{Crashes};
@@ -29,5 +29,17 @@ impl<'b, D: BlockDisk, R: MapRule, J: Naming> Core<'b, D, R, J> {
         ensures crash { Crashes self.old self.new }
     {
         raise(self.objects.read(addr))
+    }
+
+    /// Answers J6 `DeviceFailed` where the device failed before, and nothing else: whoever answers from what
+    /// was read before asks this first. It is no device call.
+    pub fn check_fault(&self) -> Result<(), Refusal<Cause<'b, J, R>>>
+        ensures fine { OnOk result (self.now.objects.ring.faulted ≡ false) }
+        ensures refusal { IfErr result (λ why. (why ≡ Refusal.DeviceFailed None) × (self.now.objects.ring.faulted ≡ true)) }
+    {
+        if self.objects.is_faulted() {
+            return Err(Refusal::DeviceFailed(Cause::none()));
+        }
+        Ok(())
     }
 }

@@ -42,6 +42,23 @@ fn open_new(rt: &impl Abort, alloc: Global, blocks: u64) -> Run<Log> {
     open(rt, alloc, MemDisk::new(alloc, blocks)?)
 }
 
+// A run on the log of a new disk of so many blocks. It alone owns that log, for each way out of a function that does
+// is a proof that all of the log is let go.
+fn on_new<F: Fn(&mut Log) -> Run<()> + Drop>(
+    rt: &impl Abort,
+    alloc: Global,
+    blocks: u64,
+    run: F,
+) -> Run<()>
+    requires { F.IsAlwaysCallable run }
+{
+    let mut log = open_new(rt, alloc, blocks)?;
+    let ran = run(&mut log);
+    let lent = log.disk().failures();
+    assert_eq!(rt; log.into_disk().failures(), lent);
+    ran
+}
+
 // How many bytes an object of the block has.
 fn bytes_in(block: u64) -> usize {
     match block {
@@ -107,6 +124,16 @@ fn commits_on(rt: &impl Abort, log: &mut Log, maps: &[Objects]) -> Run<usize> {
     panic!(rt; "the map is not that after some commit")
 }
 
+// The same of a disk on which nothing is pending.
+fn commits_in(rt: &impl Abort, alloc: Global, disk: MemDisk, maps: &[Objects]) -> Run<usize>
+    requires { IsSettled disk.past }
+{
+    let mut log = open(rt, alloc, disk)?;
+    let commits = commits_on(rt, &mut log, maps);
+    let _ = log.into_disk();
+    commits
+}
+
 // The same of what a crash leaves where no pending write reaches the disk, and where all do.
 fn commits_left(
     rt: &impl Abort,
@@ -114,12 +141,9 @@ fn commits_left(
     disk: &MemDisk,
     maps: &[Objects],
 ) -> Run<(usize, usize)> {
-    let mut none = open(rt, alloc, disk.image(&[])?)?;
-    let mut all = open(rt, alloc, disk.image(&[u32::MAX; 16])?)?;
-    Ok((
-        commits_on(rt, &mut none, maps)?,
-        commits_on(rt, &mut all, maps)?,
-    ))
+    let none = commits_in(rt, alloc, disk.image(&[])?, maps)?;
+    let all = commits_in(rt, alloc, disk.image(&[u32::MAX; 16])?, maps)?;
+    Ok((none, all))
 }
 
 /// What comes next.
@@ -216,22 +240,24 @@ const TURNS: [(Turn, usize, (usize, usize)); 18] = [
     (Installer, 8, (4, 4)),
 ];
 
-fn crash(rt: &impl Abort, alloc: Global) -> Run<()> {
-    let mut log = open_new(rt, alloc, 600)?;
-    take_turns(rt, alloc, &mut log, &COMMITS, &TURNS)?;
+fn crash(rt: &impl Abort, alloc: Global, log: &mut Log) -> Run<()> {
+    take_turns(rt, alloc, log, &COMMITS, &TURNS)?;
     assert_eq!(rt;
         (log.log_step()?, log.install_step()?),
         (Step::Idle, Step::Idle)
     );
     assert_eq!(rt; (log.bounds(), log.is_logging()), ((9, 9), false));
-    assert_eq!(rt; (log.layout().blocks, log.into_disk().failures()), (600, 0));
+    assert_eq!(rt; (log.layout().blocks, log.disk().failures()), (600, 0));
     Ok(())
 }
 
 #[test]
 fn a_crash_leaves_whole_commits(rt: HostRuntime) {
     let alloc = rt.alloc();
-    ample(&rt, || crash(&rt, alloc));
+    ample(
+        &rt,
+        || on_new(&rt, alloc, 600, |log| crash(&rt, alloc, log)),
+    );
 }
 
 // Overwrites are refused so, or else for want of memory.
@@ -260,8 +286,7 @@ fn unread(rt: &impl Abort, log: &mut Log, block: u64, off: u32, want: Refusal<()
     Ok(())
 }
 
-fn read_once(rt: &impl Abort, alloc: Global) -> Run<()> {
-    let mut log = open_new(rt, alloc, 600)?;
+fn read_once(rt: &impl Abort, alloc: Global, log: &mut Log) -> Run<()> {
     log.fail_in(3);
     // These are reads of blocks 514 and 515.
     let fills = [
@@ -271,24 +296,22 @@ fn read_once(rt: &impl Abort, alloc: Global) -> Run<()> {
         (515, 1024, 1),
         (531, 0, 1),
     ];
-    overwrite(rt, alloc, &mut log, &fills)?;
+    overwrite(rt, alloc, log, &fills)?;
     // What is in memory is not read, nor what is overwritten whole.
     for (block, off) in [(514, 5), (515, 2048), (531, 0)] {
         log.read(Addr { block, off })?;
     }
-    overwrite(
-        rt,
-        alloc,
-        &mut log,
-        &[(514, 6, 1), (515, 0, 2), (532, 0, 2)],
-    )?;
-    unread(rt, &mut log, 516, 0, Refusal::DeviceFailed(()))
+    overwrite(rt, alloc, log, &[(514, 6, 1), (515, 0, 2), (532, 0, 2)])?;
+    unread(rt, log, 516, 0, Refusal::DeviceFailed(()))
 }
 
 #[test]
 fn a_block_is_read_once(rt: HostRuntime) {
     let alloc = rt.alloc();
-    ample(&rt, || read_once(&rt, alloc));
+    ample(
+        &rt,
+        || on_new(&rt, alloc, 600, |log| read_once(&rt, alloc, log)),
+    );
 }
 
 // Overwrites of whole blocks that follow each other.
@@ -343,17 +366,19 @@ fn fault(rt: &impl Abort, alloc: Global, log: &mut Log) -> Run<()> {
     Ok(())
 }
 
-fn refuse_all(rt: &impl Abort, alloc: Global) -> Run<()> {
-    let mut log = open_new(rt, alloc, 800)?;
-    refuse(rt, alloc, &mut log)?;
-    fill(rt, alloc, &mut log)?;
-    fault(rt, alloc, &mut log)
+fn refuse_all(rt: &impl Abort, alloc: Global, log: &mut Log) -> Run<()> {
+    refuse(rt, alloc, log)?;
+    fill(rt, alloc, log)?;
+    fault(rt, alloc, log)
 }
 
 #[test]
 fn each_refusal(rt: HostRuntime) {
     let alloc = rt.alloc();
-    ample(&rt, || refuse_all(&rt, alloc));
+    ample(
+        &rt,
+        || on_new(&rt, alloc, 800, |log| refuse_all(&rt, alloc, log)),
+    );
 }
 
 // Bit 0 is set.
@@ -374,13 +399,26 @@ impl MapRule for BitIsSet {
     }
 }
 
+// A log after these overwrites.
+fn overwritten(rt: &impl Abort, alloc: Global, fills: &[Fill]) -> Run<Log> {
+    let mut log = open_new(rt, alloc, 600)?;
+    match overwrite(rt, alloc, &mut log, fills) {
+        Ok(()) => Ok(log),
+        Err(refusal) => {
+            let _ = log.into_disk();
+            Err(refusal)
+        }
+    }
+}
+
 // Whether the log after these overwrites is admitted.
 fn is_admitted(rt: &impl Abort, alloc: Global, fills: &[Fill], fail_in: u64) -> Run<bool> {
-    let mut log = open_new(rt, alloc, 600)?;
-    overwrite(rt, alloc, &mut log, fills)?;
+    let mut log = overwritten(rt, alloc, fills)?;
     log.fail_in(fail_in);
     let (log, admitted) = log.admitted_by(&BitIsSet);
-    assert_eq!(rt; (log.tail_len(), log.is_faulted()), (1, admitted.is_err()));
+    let found = (log.tail_len(), log.is_faulted());
+    let _ = log.into_disk();
+    assert_eq!(rt; found, (1, admitted.is_err()));
     admitted
 }
 

@@ -15,16 +15,6 @@ use std::process::Abort;
 
 type Run<T> = Result<T, Refusal<()>>;
 
-// A run, made again where memory was refused in it, to itself or to the device.
-fn ample<F: Fn() -> Run<()> + Drop>(rt: &impl Abort, run: F)
-    requires { F.IsAlwaysCallable run }
-{
-    if let Err(refusal) = run() {
-        assert!(rt; refusal == Refusal::NoMemory || refusal == Refusal::DeviceFailed(()));
-        run().expect(rt, "memory is refused once");
-    }
-}
-
 // Opens the log of a disk on which nothing is pending.
 fn open(rt: &impl Abort, alloc: Global, disk: MemDisk) -> Run<Wal<MemDisk>>
     requires { IsSettled disk.past }
@@ -37,18 +27,33 @@ fn open(rt: &impl Abort, alloc: Global, disk: MemDisk) -> Run<Wal<MemDisk>>
 }
 
 // A run on the log of a new disk of so many blocks.
-fn on_new<F: Fn(&mut Wal<MemDisk>) -> Run<()> + Drop>(
+fn on_new<F: Fn(&mut Wal<MemDisk>) -> Run<()>>(
     rt: &impl Abort,
     alloc: Global,
     blocks: u64,
-    run: F,
+    run: &F,
 ) -> Run<()>
-    requires { F.IsAlwaysCallable run }
+    requires { F.IsAlwaysCallable run.now }
 {
     let mut wal = open(rt, alloc, MemDisk::new(alloc, blocks)?)?;
     let ran = run(&mut wal);
     let _ = wal.into_disk();
     ran
+}
+
+// Such a run, made again where memory was refused in it, to itself or to the device.
+fn ample<F: Fn(&mut Wal<MemDisk>) -> Run<()> + Drop>(
+    rt: &impl Abort,
+    alloc: Global,
+    blocks: u64,
+    run: F,
+)
+    requires { F.IsAlwaysCallable run }
+{
+    if let Err(refusal) = on_new(rt, alloc, blocks, &run) {
+        assert!(rt; refusal == Refusal::NoMemory || refusal == Refusal::DeviceFailed(()));
+        on_new(rt, alloc, blocks, &run).expect(rt, "memory is refused once");
+    }
 }
 
 // Updates of blocks that follow each other, each with a number at its front.
@@ -85,6 +90,20 @@ fn append(
     wal.append(updates)
 }
 
+// An append is refused so.
+fn refused(
+    rt: &impl Abort,
+    alloc: Global,
+    wal: &mut Wal<MemDisk>,
+    first: u64,
+    numbers: &[u64],
+    want: Refusal<()>,
+) -> Run<()> {
+    let updates = updates(rt, alloc, wal.size(), first, numbers)?;
+    assert_eq!(rt; wal.append(updates), Err(want));
+    Ok(())
+}
+
 // The number at the front of a block with all updates.
 fn read(rt: &impl Abort, alloc: Global, wal: &mut Wal<MemDisk>, block: u64) -> Run<u64> {
     let mut bytes = Block::try_new(alloc)?;
@@ -111,6 +130,12 @@ fn reopened(rt: &impl Abort, alloc: Global, disk: MemDisk) -> Run<(u64, u64)>
     numbers
 }
 
+// A step of the logger that moves.
+fn log_one(rt: &impl Abort, wal: &mut Wal<MemDisk>) -> Run<()> {
+    assert_eq!(rt; wal.log_step()?, Step::Moved);
+    Ok(())
+}
+
 // How many steps of the logger move.
 fn log_steps(wal: &mut Wal<MemDisk>) -> Run<u64> {
     for count in 0..1000 {
@@ -121,19 +146,31 @@ fn log_steps(wal: &mut Wal<MemDisk>) -> Run<u64> {
     Ok(1000)
 }
 
-fn absorb(rt: &impl Abort, alloc: Global, wal: &mut Wal<MemDisk>) -> Run<()> {
+// The group of two blocks that was cut is logged.
+fn log_group(rt: &impl Abort, wal: &mut Wal<MemDisk>) -> Run<()> {
+    for _ in 0..5 {
+        assert!(rt; wal.is_logging());
+        log_one(rt, wal)?;
+    }
+    assert!(rt; !wal.is_logging());
+    Ok(())
+}
+
+// Updates of one block, the last of them after a cut.
+fn overwrite(rt: &impl Abort, alloc: Global, wal: &mut Wal<MemDisk>) -> Run<()> {
     append(rt, alloc, wal, 531, &[11, 20])?;
     append(rt, alloc, wal, 531, &[12])?;
     assert_eq!(rt; wal.tail_len(), 2);
-    assert_eq!(rt; wal.log_step()?, Step::Moved);
+    log_one(rt, wal)?;
     append(rt, alloc, wal, 531, &[13])?;
     assert_eq!(rt; wal.tail_len(), 1);
+    Ok(())
+}
+
+fn absorb(rt: &impl Abort, alloc: Global, wal: &mut Wal<MemDisk>) -> Run<()> {
+    overwrite(rt, alloc, wal)?;
     assert_eq!(rt; wal.latest(531).map(|block| block.get_u64(0)), Some(13));
-    for _ in 0..5 {
-        assert!(rt; wal.is_logging());
-        assert_eq!(rt; wal.log_step()?, Step::Moved);
-    }
-    assert!(rt; !wal.is_logging());
+    log_group(rt, wal)?;
     let image = wal.disk().image(&[])?;
     assert_eq!(rt; reopened(rt, alloc, image)?, (12, 20));
     assert_eq!(rt; read_both(rt, alloc, wal)?, (13, 20));
@@ -143,19 +180,14 @@ fn absorb(rt: &impl Abort, alloc: Global, wal: &mut Wal<MemDisk>) -> Run<()> {
 #[test]
 fn a_block_stands_once_in_the_tail(rt: HostRuntime) {
     let alloc = rt.alloc();
-    ample(
-        &rt,
-        || on_new(&rt, alloc, 600, |wal| absorb(&rt, alloc, wal)),
-    );
+    ample(&rt, alloc, 600, |wal| absorb(&rt, alloc, wal));
 }
 
 fn fill(rt: &impl Abort, alloc: Global, wal: &mut Wal<MemDisk>) -> Run<()> {
     append(rt, alloc, wal, 513, &[7; 128])?;
     append(rt, alloc, wal, 641, &[7; 127])?;
-    let fresh = updates(rt, alloc, wal.size(), 768, &[7])?;
-    assert_eq!(rt; wal.append(fresh), Err(Refusal::Full(())));
-    let many = updates(rt, alloc, wal.size(), 513, &[7; 129])?;
-    assert_eq!(rt; wal.append(many), Err(Refusal::TooLarge));
+    refused(rt, alloc, wal, 768, &[7], Refusal::Full(()))?;
+    refused(rt, alloc, wal, 513, &[7; 129], Refusal::TooLarge)?;
     append(rt, alloc, wal, 767, &[8])?;
     assert_eq!(rt; wal.tail_len(), 255);
     assert_eq!(rt; log_steps(wal)?, 259);
@@ -166,7 +198,7 @@ fn fill(rt: &impl Abort, alloc: Global, wal: &mut Wal<MemDisk>) -> Run<()> {
 #[test]
 fn a_tail_that_is_full(rt: HostRuntime) {
     let alloc = rt.alloc();
-    ample(&rt, || on_new(&rt, alloc, 800, |wal| fill(&rt, alloc, wal)));
+    ample(&rt, alloc, 800, |wal| fill(&rt, alloc, wal));
 }
 
 // The numbers at the fronts of blocks 531 and 532, as the disk reads.
@@ -179,11 +211,31 @@ fn peeked(rt: &impl Abort, alloc: Global, disk: &MemDisk) -> Run<(u64, u64)> {
     Ok((first.get_u64(0), second.get_u64(0)))
 }
 
-fn install(rt: &impl Abort, alloc: Global, wal: &mut Wal<MemDisk>) -> Run<()> {
+// Two groups are logged, one after the other.
+fn log_two(rt: &impl Abort, alloc: Global, wal: &mut Wal<MemDisk>) -> Run<()> {
     append(rt, alloc, wal, 531, &[11, 20])?;
     assert_eq!(rt; log_steps(wal)?, 6);
     append(rt, alloc, wal, 531, &[12])?;
     assert_eq!(rt; log_steps(wal)?, 5);
+    Ok(())
+}
+
+// A step of the installer, after which the disk reads so and the log has these bounds.
+fn install_one(
+    rt: &impl Abort,
+    alloc: Global,
+    wal: &mut Wal<MemDisk>,
+    numbers: (u64, u64),
+    bounds: (u64, u64),
+) -> Run<()> {
+    assert_eq!(rt; wal.install_step()?, Step::Moved);
+    assert_eq!(rt; peeked(rt, alloc, wal.disk())?, numbers);
+    assert_eq!(rt; wal.bounds(), bounds);
+    Ok(())
+}
+
+fn install(rt: &impl Abort, alloc: Global, wal: &mut Wal<MemDisk>) -> Run<()> {
+    log_two(rt, alloc, wal)?;
     assert_eq!(rt; peeked(rt, alloc, wal.disk())?, (0, 0));
     for (numbers, bounds) in [
         ((12, 0), (0, 3)),
@@ -192,9 +244,7 @@ fn install(rt: &impl Abort, alloc: Global, wal: &mut Wal<MemDisk>) -> Run<()> {
         ((12, 20), (0, 3)),
         ((12, 20), (3, 3)),
     ] {
-        assert_eq!(rt; wal.install_step()?, Step::Moved);
-        assert_eq!(rt; peeked(rt, alloc, wal.disk())?, numbers);
-        assert_eq!(rt; wal.bounds(), bounds);
+        install_one(rt, alloc, wal, numbers, bounds)?;
     }
     assert_eq!(rt; wal.install_step()?, Step::Idle);
     Ok(())
@@ -203,10 +253,7 @@ fn install(rt: &impl Abort, alloc: Global, wal: &mut Wal<MemDisk>) -> Run<()> {
 #[test]
 fn the_last_logged_block_comes_home(rt: HostRuntime) {
     let alloc = rt.alloc();
-    ample(
-        &rt,
-        || on_new(&rt, alloc, 600, |wal| install(&rt, alloc, wal)),
-    );
+    ample(&rt, alloc, 600, |wal| install(&rt, alloc, wal));
 }
 
 /// Whose step is next.
@@ -290,28 +337,40 @@ fn crash(rt: &impl Abort, alloc: Global, wal: &mut Wal<MemDisk>) -> Run<()> {
 #[test]
 fn a_crash_leaves_whole_groups(rt: HostRuntime) {
     let alloc = rt.alloc();
-    ample(
-        &rt,
-        || on_new(&rt, alloc, 600, |wal| crash(&rt, alloc, wal)),
-    );
+    ample(&rt, alloc, 600, |wal| crash(&rt, alloc, wal));
+}
+
+// The second device call of the logger fails.
+fn break_down(rt: &impl Abort, alloc: Global, wal: &mut Wal<MemDisk>) -> Run<()> {
+    append(rt, alloc, wal, 531, &[11])?;
+    log_one(rt, wal)?;
+    wal.fail_in(2);
+    log_one(rt, wal)?;
+    Ok(())
+}
+
+// Each step of both cycles is then refused.
+fn steps_fail(rt: &impl Abort, wal: &mut Wal<MemDisk>) {
+    assert_eq!(rt; wal.log_step(), Err(Refusal::DeviceFailed(())));
+    assert_eq!(rt; wal.install_step(), Err(Refusal::DeviceFailed(())));
+}
+
+// So is each read, of a block in the log and of another one.
+fn reads_fail(rt: &impl Abort, wal: &mut Wal<MemDisk>, bytes: &mut Block) {
+    for block in [531, 532] {
+        assert!(rt; block < wal.size());
+        assert_eq!(rt; wal.read(block, bytes), Err(Refusal::DeviceFailed(())));
+    }
 }
 
 fn fail(rt: &impl Abort, alloc: Global, wal: &mut Wal<MemDisk>) -> Run<()> {
     let mut bytes = Block::try_new(alloc)?;
-    append(rt, alloc, wal, 531, &[11])?;
-    assert_eq!(rt; wal.log_step()?, Step::Moved);
-    wal.fail_in(2);
-    assert_eq!(rt; wal.log_step()?, Step::Moved);
+    break_down(rt, alloc, wal)?;
     for _ in 0..2 {
-        assert_eq!(rt; wal.log_step(), Err(Refusal::DeviceFailed(())));
-        assert_eq!(rt; wal.install_step(), Err(Refusal::DeviceFailed(())));
-        for block in [531, 532] {
-            assert!(rt; block < wal.size());
-            assert_eq!(rt; wal.read(block, &mut bytes), Err(Refusal::DeviceFailed(())));
-        }
+        steps_fail(rt, wal);
+        reads_fail(rt, wal, &mut bytes);
     }
-    let later = updates(rt, alloc, wal.size(), 532, &[20])?;
-    assert_eq!(rt; wal.append(later), Err(Refusal::DeviceFailed(())));
+    refused(rt, alloc, wal, 532, &[20], Refusal::DeviceFailed(()))?;
     assert_eq!(rt; (wal.bounds(), wal.disk().failures()), ((0, 0), 1));
     Ok(())
 }
@@ -319,5 +378,5 @@ fn fail(rt: &impl Abort, alloc: Global, wal: &mut Wal<MemDisk>) -> Run<()> {
 #[test]
 fn a_fault_stays(rt: HostRuntime) {
     let alloc = rt.alloc();
-    ample(&rt, || on_new(&rt, alloc, 600, |wal| fail(&rt, alloc, wal)));
+    ample(&rt, alloc, 600, |wal| fail(&rt, alloc, wal));
 }

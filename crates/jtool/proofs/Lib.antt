@@ -12,3 +12,4 @@ pub mod Listing
 pub mod Verbs
 pub mod Words
 pub mod Asked
+pub mod Knowing

@@ -1,16 +1,18 @@
 -- Runs of steps, and what they leave of the history.
-use Rattle.std.proofs.Common.{◌≡◌, ◌⊎◌, ⊎_elim, ℕ, zero, suc, ◌+◌, List, [], ◌∷◌, ◌++◌, refl, sym, ap, subst, ◌∙◌, map, append_assoc, append-nil}
+use Rattle.std.proofs.Common.{◌≡◌, inl, inr, ⊎_elim, ◌≤◌, arith, ℕ, zero, suc, List, [], ◌∷◌, ◌++◌, refl, sym, ap, subst, ◌∙◌, map, append_assoc, append-nil}
 use Rattle.journal_world.specs.declared.step.Step.{Step}
 use Rattle.journal_world.specs.declared.step.Step.TheVariants.{Idle, Moved}
 use Rattle.journal_world.specs.declared.refusal.Refusal.{Refusal}
-use Rattle.journal_world.specs.declared.refusal.Refusal.TheVariants.{NoMemory, BadAddress, BadSize, TooLarge, Busy, DeviceFailed, BadLog, BadSuper, Stale, Stranger, Worn, Full, Closed, Fenced}
+use Rattle.journal_world.specs.declared.refusal.Refusal.TheVariants.{NoMemory, DeviceFailed, Stale, Worn}
 use Rattle.journal_world.specs.Histories.{Entry}
 use Rattle.journal_world.specs.Histories.Entry.{stable}
-use Rattle.journal_wal.specs.Wal.{log_steps}
+use Rattle.journal_wal.specs.Wal.{WalState, log_steps}
 use Rattle.journal_core.specs.Causes.{Told}
 use Rattle.journal_core.specs.Cores.{CoreState}
 use Rattle.journal_core.specs.Steps.{LogMoves, LogAnswers, InstallAnswers, IsLogRefusal, IsInstallRefusal, IsMarkRefusal}
-use Rattle.jtool.specs.Journals.{JournalState, GainsMarks, OnlyMarks}
+use Rattle.jtool.specs.declared.actors.Actor.{Actor}
+use Rattle.jtool.specs.declared.actors.Actor.TheVariants.{Logger, Installer, Waiter}
+use Rattle.jtool.specs.Journals.{JournalState, GainsMarks, StepAnswers, IsStepRefusal, Run, RunsOn, Drives, RefusesStep}
 
 -- the history stays
 pub gains_none : (old new : List Entry) → new ≡ old → GainsMarks old new
@@ -33,12 +35,6 @@ gains_more a b c first second = (
       ∙ ap (λ (es : List Entry). a ++ es) (sym (map-join first.0 second.0)),
 )
 
-pub marks_more : (a b c : JournalState) → OnlyMarks a b → OnlyMarks b c → OnlyMarks a c
-marks_more a b c first second = record {
-  history = gains_more a.core.history b.core.history c.core.history first.history second.history;
-  session = second.session ∙ first.session;
-}
-
 -- what a step of the logger gains
 pub moves_gain : (n : ℕ) (old new : CoreState) → LogMoves n old new → GainsMarks old.history new.history
 moves_gain zero old new moves = ⊎_elim
@@ -58,51 +54,84 @@ log_gains Moved old new answers = moves_gain (log_steps old.objects) old new ans
 pub install_gains : (step : Step) (old new : CoreState) → InstallAnswers old step new → GainsMarks old.history new.history
 install_gains step old new answers = gains_none old.history new.history (ap (λ (c : CoreState). c.history) answers.1)
 
+pub step_gains : (actor : Actor) (step : Step) (old new : CoreState) → StepAnswers actor old step new → GainsMarks old.history new.history
+step_gains Logger step old new answers = log_gains step old new answers
+step_gains Installer step old new answers = install_gains step old new answers
+step_gains Waiter Idle old new answers = gains_none old.history new.history (ap (λ (c : CoreState). c.history) answers.1)
+step_gains Waiter Moved old new answers =
+    ⊎_elim (λ a. log_gains Moved old new a) (λ b. install_gains Moved old new b.1) answers.1
+
+-- steps that moved
+pub run_gains : (actor : Actor) (n : ℕ) (old new : CoreState) → Run actor n old new → GainsMarks old.history new.history
+run_gains actor zero old new run = gains_none old.history new.history (ap (λ (c : CoreState). c.history) run)
+run_gains actor (suc n) old new run = gains_more old.history run.0.history new.history
+    (run_gains actor n old run.0 run.1)
+    (step_gains actor Moved run.0 new run.2)
+
 -- a refused step gains nothing
 mark_refusal_gains : (old new : CoreState) (why : Refusal Told) → IsMarkRefusal old new why → GainsMarks old.history new.history
 mark_refusal_gains old new (Worn cause) is = gains_none old.history new.history (ap (λ (c : CoreState). c.history) is.1)
 mark_refusal_gains old new (Stale cause) is = gains_none old.history new.history (ap (λ (c : CoreState). c.history) is.1)
-mark_refusal_gains old new NoMemory is = absurd is
-mark_refusal_gains old new BadAddress is = absurd is
-mark_refusal_gains old new BadSize is = absurd is
-mark_refusal_gains old new TooLarge is = absurd is
-mark_refusal_gains old new Busy is = absurd is
-mark_refusal_gains old new (DeviceFailed cause) is = absurd is
-mark_refusal_gains old new BadLog is = absurd is
-mark_refusal_gains old new BadSuper is = absurd is
-mark_refusal_gains old new (Stranger cause) is = absurd is
-mark_refusal_gains old new (Full cause) is = absurd is
-mark_refusal_gains old new (Closed cause) is = absurd is
-mark_refusal_gains old new Fenced is = absurd is
+mark_refusal_gains old new why is = absurd is
 
-pub log_refusal_gains : (old new : CoreState) (why : Refusal Told) → IsLogRefusal old new why → GainsMarks old.history new.history
+log_refusal_gains : (old new : CoreState) (why : Refusal Told) → IsLogRefusal old new why → GainsMarks old.history new.history
 log_refusal_gains old new (DeviceFailed cause) is = gains_none old.history new.history (ap (λ (c : CoreState). c.history) is.others)
-log_refusal_gains old new NoMemory is = mark_refusal_gains old new NoMemory is.2
-log_refusal_gains old new BadAddress is = mark_refusal_gains old new BadAddress is.2
-log_refusal_gains old new BadSize is = mark_refusal_gains old new BadSize is.2
-log_refusal_gains old new TooLarge is = mark_refusal_gains old new TooLarge is.2
-log_refusal_gains old new Busy is = mark_refusal_gains old new Busy is.2
-log_refusal_gains old new BadLog is = mark_refusal_gains old new BadLog is.2
-log_refusal_gains old new BadSuper is = mark_refusal_gains old new BadSuper is.2
-log_refusal_gains old new (Stale cause) is = mark_refusal_gains old new (Stale cause) is.2
-log_refusal_gains old new (Stranger cause) is = mark_refusal_gains old new (Stranger cause) is.2
-log_refusal_gains old new (Worn cause) is = mark_refusal_gains old new (Worn cause) is.2
-log_refusal_gains old new (Full cause) is = mark_refusal_gains old new (Full cause) is.2
-log_refusal_gains old new (Closed cause) is = mark_refusal_gains old new (Closed cause) is.2
-log_refusal_gains old new Fenced is = mark_refusal_gains old new Fenced is.2
+log_refusal_gains old new why is = mark_refusal_gains old new why is.2
 
-pub install_refusal_gains : (old new : CoreState) (why : Refusal Told) → IsInstallRefusal old new why → GainsMarks old.history new.history
+install_refusal_gains : (old new : CoreState) (why : Refusal Told) → IsInstallRefusal old new why → GainsMarks old.history new.history
 install_refusal_gains old new (DeviceFailed cause) is = gains_none old.history new.history (ap (λ (c : CoreState). c.history) is.others)
 install_refusal_gains old new NoMemory is = gains_none old.history new.history (ap (λ (c : CoreState). c.history) is.2)
-install_refusal_gains old new BadAddress is = absurd is
-install_refusal_gains old new BadSize is = absurd is
-install_refusal_gains old new TooLarge is = absurd is
-install_refusal_gains old new Busy is = absurd is
-install_refusal_gains old new BadLog is = absurd is
-install_refusal_gains old new BadSuper is = absurd is
-install_refusal_gains old new (Stale cause) is = absurd is
-install_refusal_gains old new (Stranger cause) is = absurd is
-install_refusal_gains old new (Worn cause) is = absurd is
-install_refusal_gains old new (Full cause) is = absurd is
-install_refusal_gains old new (Closed cause) is = absurd is
-install_refusal_gains old new Fenced is = absurd is
+install_refusal_gains old new why is = absurd is
+
+pub refusal_gains : (actor : Actor) (old new : CoreState) (why : Refusal Told) → IsStepRefusal actor old new why → GainsMarks old.history new.history
+refusal_gains Logger old new why is = log_refusal_gains old new why is
+refusal_gains Installer old new why is = install_refusal_gains old new why is
+refusal_gains Waiter old new why is =
+    ⊎_elim (λ a. log_refusal_gains old new why a) (λ b. install_refusal_gains old new why b.1) is.1
+
+-- a step that is idle changes nothing
+idle_same : (actor : Actor) (old new : CoreState) → StepAnswers actor old Idle new → new ≡ old
+idle_same Logger old new answers = answers.1
+idle_same Installer old new answers = answers.1 ∙ ap (λ (o : WalState). record old { objects = o }) answers.0.1
+idle_same Waiter old new answers = answers.1
+
+-- steps that moved, and then one that is idle
+pub drives_idle : (actor : Actor) (most moved : ℕ) (old mid new : JournalState) → RunsOn actor moved old mid → moved ≤ most
+    → StepAnswers actor mid.core Idle new.core → new.session ≡ mid.session → Drives actor most old moved new
+drives_idle actor most moved old mid new runs few idle session =
+    let same : new.core ≡ mid.core = idle_same actor mid.core new.core idle in
+    let run : Run actor moved old.core new.core = subst (λ (c : CoreState). Run actor moved old.core c) (sym same) runs.run in
+    record {
+      run = run;
+      few = few;
+      ended = inr (subst (λ (c : CoreState). StepAnswers actor c Idle new.core) (sym same) idle);
+      history = run_gains actor moved old.core new.core run;
+      session = session ∙ runs.session;
+    }
+
+-- as many steps as may be made
+pub drives_most : (actor : Actor) (most moved : ℕ) (old new : JournalState) → RunsOn actor moved old new → moved ≡ most
+    → Drives actor most old most new
+drives_most actor most moved old new runs all =
+    let run : Run actor most old.core new.core = subst (λ (n : ℕ). Run actor n old.core new.core) all runs.run in
+    record {
+      run = run;
+      few = omega arith;
+      ended = inl refl;
+      history = run_gains actor most old.core new.core run;
+      session = runs.session;
+    }
+
+-- steps that moved, and then one that is refused
+pub refuses_step : (actor : Actor) (moved : ℕ) (old mid new : JournalState) (why : Refusal Told) → RunsOn actor moved old mid
+    → IsStepRefusal actor mid.core new.core why → new.session ≡ mid.session → RefusesStep actor old new why
+refuses_step actor moved old mid new why runs refusal session = record {
+  moved = moved;
+  before = mid.core;
+  run = runs.run;
+  refusal = refusal;
+  history = gains_more old.core.history mid.core.history new.core.history
+      (run_gains actor moved old.core mid.core runs.run)
+      (refusal_gains actor mid.core new.core why refusal);
+  session = session ∙ runs.session;
+}

@@ -1,7 +1,9 @@
 -- The lines that answers are printed as.
-use Rattle.std.specs.Prelude.{ℕ, List, [], ◌∷◌, ◌++◌, codes, Option, Some, None}
+use Rattle.std.specs.Prelude.{ℕ, ◌==◌, if◌then◌else◌, List, [], ◌∷◌, ◌++◌, length, codes, Option, Some, None}
 use Rattle.std.specs.List.{flat_map}
 use Rattle.std.specs.Fmt.{decimal}
+use Rattle.jtool.specs.declared.lines.Line.{Line}
+use Rattle.jtool.specs.declared.lines.Line.TheVariants.{Whole, TooLong}
 use Rattle.jtool.specs.declared.answer.Answer.{Answer}
 use Rattle.jtool.specs.declared.answer.Answer.TheVariants as answers
 use Rattle.journal_core.specs.declared.state.Stat.{Stat}
@@ -37,3 +39,9 @@ answer_line answers.Up = Some (codes "up" ++ 10 ∷ [])
 answer_line answers.Down = Some (codes "down" ++ 10 ∷ [])
 answer_line (answers.Refused why) = None
 answer_line answers.BadLine = Some (codes "bad line" ++ 10 ∷ [])
+answer_line answers.Nothing = Some []
+
+-- what a line is answered that says no command
+abbrev pub to_no_command : {C : Type 0} → Line → Answer C
+to_no_command (Whole line) = if length line.now == 0 then answers.Nothing else answers.BadLine
+to_no_command TooLong = answers.BadLine

@@ -7,6 +7,8 @@ use Rattle.jtool.specs.declared.command.Choice.{Choice}
 use Rattle.jtool.specs.declared.command.Choice.TheVariants as choices
 use Rattle.jtool.specs.declared.command.Command.{Command}
 use Rattle.jtool.specs.declared.command.Command.TheVariants as commands
+use Rattle.jtool.specs.declared.lines.Line.{Line}
+use Rattle.jtool.specs.declared.lines.Line.TheVariants.{Whole, TooLong}
 use Rattle.jtool.specs.declared.command.verb.Verb.{Verb}
 use Rattle.jtool.specs.declared.command.verb.Verb.TheVariants as verbs
 use Rattle.jtool.specs.Values.{Spells}
@@ -113,3 +115,14 @@ MayFollow verbs.Down ws = (choice : Choice) × IsChoice ws choice
 MayFollow verbs.Open ws = ws ≡ []
 MayFollow verbs.Crash ws = (choice : Choice) × IsChoice ws choice
 MayFollow verbs.Poke ws = (block : ℕ) × (at : ℕ) × (text : List ℕ) × (value : List ℕ) × IsNumber block × InBlock at (length value) × Spells text value × (ws ≡ decimal block ∷ decimal at ∷ text ∷ [])
+
+-- the line says the command, by its words
+abbrev pub LineSays : Line → Command → Type 0
+LineSays (Whole line) command = Says (words line.now) command
+LineSays TooLong command = ⊥
+
+-- the bytes that the command names lie in a block
+abbrev pub IsInside : Command → Type 0
+IsInside (commands.Disk block at len) = at + len ≤ 4096
+IsInside (commands.Poke block at v) = at + length v.now ≤ 4096
+IsInside _ = Unit {0}

@@ -1,18 +1,20 @@
 -- What contracts see of a mounted journal, and what its calls make of it.
-use Rattle.std.specs.Prelude.{ℕ, zero, suc, ◌≡◌, ◌⊎◌, ◌+◌, IsTrue, List, ◌++◌, map}
-use Rattle.journal_world.specs.declared.address.Addr.{Addr}
+use Rattle.std.specs.Prelude.{ℕ, zero, suc, ◌≡◌, ◌≢◌, ◌⊎◌, ◌+◌, ◌≤◌, IsTrue, List, ◌++◌, map}
 use Rattle.journal_world.specs.declared.refusal.Refusal.{Refusal}
-use Rattle.journal_world.specs.declared.refusal.Refusal.TheVariants.{NoMemory}
-use Rattle.journal_world.specs.declared.step.Step.TheVariants.{Moved}
-use Rattle.journal_world.specs.Histories.{Entry, is_trusted}
+use Rattle.journal_world.specs.declared.step.Step.{Step}
+use Rattle.journal_world.specs.declared.step.Step.TheVariants.{Idle, Moved}
+use Rattle.journal_world.specs.Histories.{Entry, is_trusted, count, floor}
 use Rattle.journal_world.specs.Histories.Entry.{stable}
 use Rattle.journal_disk.specs.Disks.{DiskState}
-use Rattle.journal_wal.specs.Wal.{log_steps, IsInstallIdle}
+use Rattle.journal_wal.specs.Wal.{IsInstallIdle}
 use Rattle.journal_history.specs.Tokens.{SessionState}
+use Rattle.journal_core.specs.declared.state.Stat.{Stat}
 use Rattle.journal_core.specs.Causes.{Told}
 use Rattle.journal_core.specs.Cores.{CoreState}
 use Rattle.journal_core.specs.Openings.{Begins}
-use Rattle.journal_core.specs.Steps.{IsLogIdle, LogMoves, IsLogRefusal, InstallAnswers, IsInstallRefusal, IsReadRefusal}
+use Rattle.journal_core.specs.Steps.{IsLogIdle, LogAnswers, IsLogRefusal, InstallAnswers, IsInstallRefusal}
+use Rattle.jtool.specs.declared.actors.Actor.{Actor}
+use Rattle.jtool.specs.declared.actors.Actor.TheVariants.{Logger, Installer, Waiter}
 
 -- The core, and the session in which all is committed
 pub record JournalState : Type 0 where
@@ -48,66 +50,64 @@ pub record OnlyLooks (old new : JournalState) : Type 0 where
   pub core : new.core ≡ record old.core { objects = new.core.objects }
   pub session : new.session ≡ old.session
 
--- Why an object is not read, by the core or for want of memory
-abbrev pub RefusesRead : JournalState → Addr → JournalState → Refusal Told → Type 0
-RefusesRead old a new NoMemory = Unit {0}
-RefusesRead old a new why = IsReadRefusal (blocks_of old) old.core a new.core why
+-- the numbers of the mount
+abbrev pub stat_of : JournalState → Stat
+stat_of j = record {
+  commits = count j.core.history;
+  floor = floor j.core.history;
+  start = j.core.objects.log.start;
+  end = j.core.objects.log.logged;
+}
 
--- So many steps of the logger moved, one after another
-abbrev pub LogRun : ℕ → CoreState → CoreState → Type 0
-LogRun zero old new = new ≡ old
-LogRun (suc n) old new = (mid : CoreState) × LogRun n old mid × LogMoves (log_steps mid.objects) mid new
+-- a wait is over: all commits are marked, or neither the logger nor the installer has anything to do
+abbrev pub IsWaitOver : CoreState → Type 0
+IsWaitOver c = (floor c.history ≡ count c.history) ⊎ (IsLogIdle c × IsInstallIdle c.objects)
 
--- Steps of the logger moved, and nothing else changed
-pub record LogsOn (moved : ℕ) (old new : JournalState) : Type 0 where
-  pub run : LogRun moved old.core new.core
+-- What a step of an actor answers, and does. One that waits makes none where all commits are marked, else one of the logger,
+-- or where that is idle one of the installer
+abbrev pub StepAnswers : Actor → CoreState → Step → CoreState → Type 0
+StepAnswers Logger old step new = LogAnswers old step new
+StepAnswers Installer old step new = InstallAnswers old step new
+StepAnswers Waiter old Idle new = IsWaitOver old × (new ≡ old)
+StepAnswers Waiter old Moved new =
+    (floor old.history ≢ count old.history) × (LogAnswers old Moved new ⊎ (IsLogIdle old × InstallAnswers old Moved new))
+
+-- why it is refused, and what is left
+abbrev pub IsStepRefusal : Actor → CoreState → CoreState → Refusal Told → Type 0
+IsStepRefusal Logger old new why = IsLogRefusal old new why
+IsStepRefusal Installer old new why = IsInstallRefusal old new why
+IsStepRefusal Waiter old new why =
+    (floor old.history ≢ count old.history) × (IsLogRefusal old new why ⊎ (IsLogIdle old × IsInstallRefusal old new why))
+
+-- so many steps of the actor moved, one after another
+abbrev pub Run : Actor → ℕ → CoreState → CoreState → Type 0
+Run actor zero old new = new ≡ old
+Run actor (suc n) old new = (mid : CoreState) × Run actor n old mid × StepAnswers actor mid Moved new
+
+-- Steps of the actor moved, and nothing else changed
+pub record RunsOn (actor : Actor) (moved : ℕ) (old new : JournalState) : Type 0 where
+  pub run : Run actor moved old.core new.core
   pub session : new.session ≡ old.session
   pub blocks : blocks_of new ≡ blocks_of old
 
--- Steps of the logger until it had nothing to do, at most so many: as many moved as is answered
-pub record Logs (most : ℕ) (old : JournalState) (moved : ℕ) (new : JournalState) : Type 0 where
-  pub run : LogRun moved old.core new.core
-  pub ended : (moved ≡ most) ⊎ IsLogIdle new.core
-  pub session : new.session ≡ old.session
-
--- A step of the logger was refused, after some that moved
-pub record RefusesLog (old new : JournalState) (why : Refusal Told) : Type 0 where
-  pub moved : ℕ
-  pub before : CoreState
-  pub run : LogRun moved old.core before
-  pub refusal : IsLogRefusal before new.core why
-  pub session : new.session ≡ old.session
-
--- So many steps of the installer moved, one after another
-abbrev pub InstallRun : ℕ → CoreState → CoreState → Type 0
-InstallRun zero old new = new ≡ old
-InstallRun (suc n) old new = (mid : CoreState) × InstallRun n old mid × InstallAnswers mid Moved new
-
--- Steps of the installer moved, and nothing else changed
-pub record InstallsOn (moved : ℕ) (old new : JournalState) : Type 0 where
-  pub run : InstallRun moved old.core new.core
-  pub session : new.session ≡ old.session
-  pub blocks : blocks_of new ≡ blocks_of old
-
--- Steps of the installer until it had nothing to do, at most so many: as many moved as is answered
-pub record Installs (most : ℕ) (old : JournalState) (moved : ℕ) (new : JournalState) : Type 0 where
-  pub run : InstallRun moved old.core new.core
-  pub ended : (moved ≡ most) ⊎ IsInstallIdle new.core.objects
-  pub session : new.session ≡ old.session
-
--- A step of the installer was refused, after some that moved
-pub record RefusesInstall (old new : JournalState) (why : Refusal Told) : Type 0 where
-  pub moved : ℕ
-  pub before : CoreState
-  pub run : InstallRun moved old.core before
-  pub refusal : IsInstallRefusal before new.core why
-  pub session : new.session ≡ old.session
-
--- The history gained marks and nothing else
+-- the history gained marks and nothing else
 abbrev pub GainsMarks : List Entry → List Entry → Type 0
 GainsMarks old new = (marks : List ℕ) × (new ≡ old ++ map stable marks)
 
--- Steps of the logger and the installer, of which the history gained marks alone
-pub record OnlyMarks (old new : JournalState) : Type 0 where
+-- The actor's steps were made until it was idle, at most so many: as many moved as is answered. The history gained marks
+-- alone
+pub record Drives (actor : Actor) (most : ℕ) (old : JournalState) (moved : ℕ) (new : JournalState) : Type 0 where
+  pub run : Run actor moved old.core new.core
+  pub few : moved ≤ most
+  pub ended : (moved ≡ most) ⊎ StepAnswers actor new.core Idle new.core
+  pub history : GainsMarks old.core.history new.core.history
+  pub session : new.session ≡ old.session
+
+-- A step of the actor was refused, after some that moved
+pub record RefusesStep (actor : Actor) (old new : JournalState) (why : Refusal Told) : Type 0 where
+  pub moved : ℕ
+  pub before : CoreState
+  pub run : Run actor moved old.core before
+  pub refusal : IsStepRefusal actor before new.core why
   pub history : GainsMarks old.core.history new.core.history
   pub session : new.session ≡ old.session

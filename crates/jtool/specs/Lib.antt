@@ -7,6 +7,5 @@ pub mod Lines
 pub mod Mounts
 pub mod Numbers
 pub mod Programs
-pub mod Ranges
 pub mod Shells
 pub mod Values

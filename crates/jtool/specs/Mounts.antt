@@ -1,7 +1,6 @@
 -- What a mount leaves.
 use Rattle.std.specs.Prelude.{ℕ, ◌≡◌}
 use Rattle.journal_disk.specs.Disks.{Past, IsSettled}
-use Rattle.journal_disk.specs.MemDisks.{MemState}
 use Rattle.jtool.specs.declared.mount.Left.{Left}
 use Rattle.jtool.specs.declared.mount.Left.TheVariants.{Down, Crashed, Ended, Refused}
 
@@ -16,10 +15,3 @@ LeavesAtRest blocks (Down disk) = IsAtRest blocks disk.past
 LeavesAtRest blocks (Crashed disk) = IsAtRest blocks disk.past
 LeavesAtRest blocks Ended = Unit {0}
 LeavesAtRest blocks Refused = Unit {0}
-
--- if the disk is down, it is this one
-abbrev pub LeavesDisk : MemState → Left → Type 0
-LeavesDisk disk (Down left) = left ≡ disk
-LeavesDisk disk (Crashed left) = left ≡ disk
-LeavesDisk disk Ended = Unit {0}
-LeavesDisk disk Refused = Unit {0}

@@ -1,26 +1,32 @@
 -- What a command does to a mounted journal with at most one transaction open, and what it is answered.
-use Rattle.std.specs.Prelude.{ℕ, ◌≡◌, ◌⊎◌, ◌<◌, ◌+◌, ◌-◌, ◌^◌, false, IsTrue, List, [], length, replicate, slice_range, Option, Some, None, Result, Ok, Err, unwrap_or, IsSome, MatchOption}
+use Rattle.std.specs.Prelude.{ℕ, ◌≡◌, ◌⊎◌, ◌<◌, ◌-◌, ◌^◌, false, IsTrue, List, [], length, replicate, Option, Some, None, Result, Ok, Err, unwrap_or, IsSome, MatchOption}
 use Rattle.journal_world.specs.declared.address.Addr.{Addr}
 use Rattle.journal_world.specs.declared.refusal.Refusal.{Refusal}
 use Rattle.journal_world.specs.declared.refusal.Refusal.TheVariants as refusals
 use Rattle.journal_world.specs.Addresses.{Value, is_valid, kind_of}
 use Rattle.journal_world.specs.Maps.{Agrees, is_value_at}
 use Rattle.journal_world.specs.Histories.{latest, count, floor}
-use Rattle.journal_disk.specs.Disks.{Past, read_of}
+use Rattle.journal_disk.specs.Disks.{Past}
 use Rattle.journal_disk.specs.MemDisks.{pending_blocks}
 use Rattle.journal_history.specs.Tokens.{OnlyExtends}
 use Rattle.journal_core.specs.Causes.{Told}
 use Rattle.journal_core.specs.Commits.{IsCommitted, IsCommitRefusal}
+use Rattle.journal_core.specs.Steps.{IsReadRefusal}
 use Rattle.jtool.specs.declared.command.Command.{Command}
 use Rattle.jtool.specs.declared.command.Command.TheVariants as commands
 use Rattle.jtool.specs.declared.command.Choice.{Choice}
 use Rattle.jtool.specs.declared.command.Choice.TheVariants as choices
 use Rattle.jtool.specs.declared.answer.Answer.{Answer}
 use Rattle.jtool.specs.declared.answer.Answer.TheVariants as answers
+use Rattle.jtool.specs.Answers.{to_no_command}
 use Rattle.jtool.specs.declared.shell.Reply.{Reply}
 use Rattle.jtool.specs.declared.shell.Reply.TheVariants as replies
+use Rattle.jtool.specs.Downs.{Shows}
 use Rattle.jtool.specs.Drafts.{Draft, empty, told, Remembers, Overwrites}
-use Rattle.jtool.specs.Journals.{JournalState, history_of, disk_of, blocks_of, OnlyLooks, RefusesRead, Logs, RefusesLog, Installs, RefusesInstall, OnlyMarks}
+use Rattle.jtool.specs.declared.lines.Line.{Line}
+use Rattle.jtool.specs.Commands.{LineSays}
+use Rattle.jtool.specs.declared.actors.Actor.TheVariants.{Logger, Installer, Waiter}
+use Rattle.jtool.specs.Journals.{JournalState, history_of, disk_of, blocks_of, stat_of, OnlyLooks, Drives, RefusesStep}
 
 -- The journal, and the transaction that is open
 pub record State : Type 0 where
@@ -42,8 +48,10 @@ pub record Puts (old : State) (a : Addr) (v : Value) (new : State) : Type 0 wher
   pub is_open : new.draft ≡ Some draft
   pub overwrites : Overwrites (begun_draft old) a v draft
 
--- The transaction is told the value
+-- The transaction is told the value, by a core that no fault ended
 pub record Gets (old : State) (a : Addr) (v : Value) (new : State) : Type 0 where
+  pub fine : old.journal.core.objects.ring.faulted ≡ false
+  pub valid : IsTrue (is_valid (blocks_of old.journal) a)
   pub journal : OnlyLooks old.journal new.journal
   pub draft : Draft
   pub is_open : new.draft ≡ Some draft
@@ -61,7 +69,7 @@ RefusesPut s a v _ = ⊥
 pub record RefusesGet (old : State) (a : Addr) (why : Refusal Told) (new : State) : Type 0 where
   pub journal : OnlyLooks old.journal new.journal
   pub draft : new.draft ≡ Some (begun_draft old)
-  pub refused : RefusesRead old.journal a new.journal why
+  pub refused : IsReadRefusal (blocks_of old.journal) old.journal.core a new.journal.core why
 
 -- The transaction is committed, and there are so many commits now
 pub record CommitsDraft (old : State) (d : Draft) (n : ℕ) (new : State) : Type 0 where
@@ -104,20 +112,21 @@ ObeysAbort old answers.Done new = IsSome old.draft × (new ≡ with_draft old No
 ObeysAbort old answers.NoTransaction new = (old.draft ≡ None) × (new ≡ old)
 ObeysAbort old _ new = ⊥
 
+-- Steps until all commits are marked or both actors are idle: the answer is the greatest mark
 abbrev pub ObeysWait : State → Answer Told → State → Type 0
 ObeysWait old (answers.Stable n) new =
-    OnlyMarks old.journal new.journal × (n ≡ floor (history_of new.journal)) × (new.draft ≡ old.draft)
-ObeysWait old (answers.Refused why) new = OnlyMarks old.journal new.journal × (new.draft ≡ old.draft)
+    ((moved : ℕ) × Drives Waiter (2 ^ 64 - 1) old.journal moved new.journal) × (n ≡ floor (history_of new.journal)) × (new.draft ≡ old.draft)
+ObeysWait old (answers.Refused why) new = RefusesStep Waiter old.journal new.journal why × (new.draft ≡ old.draft)
 ObeysWait old _ new = ⊥
 
 abbrev pub ObeysLog : State → ℕ → Answer Told → State → Type 0
-ObeysLog old most (answers.Logged moved) new = Logs most old.journal moved new.journal × (new.draft ≡ old.draft)
-ObeysLog old most (answers.Refused why) new = RefusesLog old.journal new.journal why × (new.draft ≡ old.draft)
+ObeysLog old most (answers.Logged moved) new = Drives Logger most old.journal moved new.journal × (new.draft ≡ old.draft)
+ObeysLog old most (answers.Refused why) new = RefusesStep Logger old.journal new.journal why × (new.draft ≡ old.draft)
 ObeysLog old most _ new = ⊥
 
 abbrev pub ObeysInstall : State → ℕ → Answer Told → State → Type 0
-ObeysInstall old most (answers.Installed moved) new = Installs most old.journal moved new.journal × (new.draft ≡ old.draft)
-ObeysInstall old most (answers.Refused why) new = RefusesInstall old.journal new.journal why × (new.draft ≡ old.draft)
+ObeysInstall old most (answers.Installed moved) new = Drives Installer most old.journal moved new.journal × (new.draft ≡ old.draft)
+ObeysInstall old most (answers.Refused why) new = RefusesStep Installer old.journal new.journal why × (new.draft ≡ old.draft)
 ObeysInstall old most _ new = ⊥
 
 -- a poke is for a disk that is down
@@ -128,17 +137,10 @@ Pokes s block _ = ⊥
 
 -- what is told of a state that stays
 abbrev pub Tells : State → Command → Answer Told → Type 0
-Tells s commands.Stat (answers.Stat stat) = stat ≡ record {
-  commits = count (history_of s.journal);
-  floor = floor (history_of s.journal);
-  start = s.journal.core.objects.log.start;
-  end = s.journal.core.objects.log.logged;
-}
+Tells s commands.Stat (answers.Stat stat) = stat ≡ stat_of s.journal
 Tells s commands.Pend (answers.Pending pending) = pending.items ≡ pending_blocks (disk_of s.journal).past
 Tells s commands.Pend (answers.Refused why) = why ≡ refusals.NoMemory
-Tells s (commands.Disk block at len) (answers.Value v) = v ≡ slice_range (read_of (disk_of s.journal).past block) at (at + len)
-Tells s (commands.Disk block at len) (answers.Refused why) = why ≡ refusals.NoMemory
-Tells s (commands.Disk block at len) answers.BadLine = block < blocks_of s.journal → ⊥
+Tells s (commands.Disk block at len) answer = Shows (disk_of s.journal).past block at len answer
 Tells s (commands.Fail call) answers.Done = Unit {0}
 Tells s (commands.Poke block at v) answer = Pokes s block answer
 Tells s commands.Open answers.Up = Unit {0}
@@ -173,3 +175,9 @@ Replies old command (replies.Answer answer) new = Obeys old command answer new
 Replies old (commands.Down choice) (replies.Down numbers) new = (numbers.items ≡ numbers_of choice (disk_of old.journal).past) × (new ≡ old)
 Replies old (commands.Crash choice) (replies.Crash numbers) new = (numbers.items ≡ numbers_of choice (disk_of old.journal).past) × (new ≡ old)
 Replies old command reply new = ⊥
+
+-- The line says a command, which is replied to so; or it says none, which changes nothing
+abbrev pub Answers : State → Line → Reply Told → State → Type 0
+Answers old line reply new =
+    ((command : Command) × LineSays line command × Replies old command reply new)
+    ⊎ (((command : Command) → LineSays line command → ⊥) × (reply ≡ replies.Answer (to_no_command line)) × (new ≡ old))

@@ -1,68 +1,65 @@
 // The logger and the installer, driven step by step.
 ghost use Rattle.std.specs.Prelude.{◌≡◌, IfOk, IfErr};
-ghost use Rattle.journal_world.specs.Histories.{floor};
-ghost use Rattle.jtool.specs.Journals.{blocks_of, Logs, RefusesLog, Installs, RefusesInstall, OnlyMarks};
+ghost use Rattle.jtool.specs.declared.actors.Actor.TheVariants.{Waiter};
+ghost use Rattle.jtool.specs.Journals.{blocks_of, Drives, RefusesStep, StepAnswers, IsStepRefusal};
 
 use crate::journal::{Journal, Why};
 use journal_history::Naming;
 use journal_world::Step;
 
+/// Who makes steps.
+#[derive(Clone, Copy)]
+pub enum Actor {
+    Logger,
+    Installer,
+    /// The logger, or the installer where that one is idle, until all commits are marked as stable.
+    Waiter,
+}
+
 impl<'b, J: Naming> Journal<'b, J> {
-    /// Steps of the logger until it has nothing to do, at most so many. Answers how many moved.
-    pub fn log(&mut self, most: u64) -> Result<u64, Why<'b, J>>
-        ensures logs { IfOk result (λ moved. Logs most self.old moved self.new) }
-        ensures refusal { IfErr result (RefusesLog self.old self.new) }
+    /// Steps of the actor until it has nothing to do, at most so many. Answers how many moved.
+    pub fn drive(&mut self, actor: Actor, most: u64) -> Result<u64, Why<'b, J>>
+        ensures drives { IfOk result (λ moved. Drives actor most self.old moved self.new) }
+        ensures refusal { IfErr result (RefusesStep actor self.old self.new) }
         ensures blocks { blocks_of self.new ≡ blocks_of self.old }
     {
         for moved in 0..most {
-            if let Step::Idle = self.log_step()? {
+            if let Step::Idle = self.step(actor)? {
                 return Ok(moved);
             }
         }
         Ok(most)
     }
 
-    /// Steps of the installer until it has nothing to do, at most so many. Answers how many moved.
-    pub fn install(&mut self, most: u64) -> Result<u64, Why<'b, J>>
-        ensures installs { IfOk result (λ moved. Installs most self.old moved self.new) }
-        ensures refusal { IfErr result (RefusesInstall self.old self.new) }
+    // The actor's next step.
+    fn step(&mut self, actor: Actor) -> Result<Step, Why<'b, J>>
+        ensures ok { IfOk result (λ step. StepAnswers actor self.old.core step self.new.core) }
+        ensures refusal { IfErr result (IsStepRefusal actor self.old.core self.new.core) }
+        ensures session { self.new.session ≡ self.old.session }
         ensures blocks { blocks_of self.new ≡ blocks_of self.old }
     {
-        for moved in 0..most {
-            if let Step::Idle = self.install_step()? {
-                return Ok(moved);
-            }
+        match actor {
+            Actor::Logger => self.core.log_step(),
+            Actor::Installer => self.core.install_step(),
+            Actor::Waiter => self.wait_step(),
         }
-        Ok(most)
     }
 
-    /// Steps of the logger, and of the installer where that one waits for a place in the log, until all
-    /// commits are marked as stable or both have nothing to do. Answers the greatest mark.
-    pub fn wait(&mut self) -> Result<u64, Why<'b, J>>
-        ensures marks { OnlyMarks self.old self.new }
-        ensures floor { IfOk result (λ n. n ≡ floor self.new.core.history) }
+    // The logger's next step where not all commits are marked, or the installer's where that one waits for a
+    // place in the log.
+    fn wait_step(&mut self) -> Result<Step, Why<'b, J>>
+        ensures ok { IfOk result (λ step. StepAnswers Waiter self.old.core step self.new.core) }
+        ensures refusal { IfErr result (IsStepRefusal Waiter self.old.core self.new.core) }
+        ensures session { self.new.session ≡ self.old.session }
         ensures blocks { blocks_of self.new ≡ blocks_of self.old }
     {
-        for _ in 0..u64::MAX {
-            let stat = self.stat();
-            if stat.floor == stat.commits {
-                return Ok(stat.floor);
-            }
-            if !self.step()? {
-                return Ok(self.stat().floor);
-            }
+        let stat = self.core.stat();
+        if stat.floor == stat.commits {
+            return Ok(Step::Idle);
         }
-        Ok(self.stat().floor)
-    }
-
-    // A step of the logger, or of the installer where that one is idle. Whether it moved.
-    fn step(&mut self) -> Result<bool, Why<'b, J>>
-        ensures marks { OnlyMarks self.old self.new }
-        ensures blocks { blocks_of self.new ≡ blocks_of self.old }
-    {
-        if let Step::Moved = self.log_step()? {
-            return Ok(true);
+        match self.core.log_step()? {
+            Step::Moved => Ok(Step::Moved),
+            Step::Idle => self.core.install_step(),
         }
-        Ok(matches!(self.install_step()?, Step::Moved))
     }
 }

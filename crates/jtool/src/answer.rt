@@ -2,9 +2,10 @@
 ghost use Rattle.std.specs.Prelude.{◌≡◌, ◌++◌, ◌∷◌, [], codes, IfSome, OnOk};
 ghost use Rattle.std.specs.List.{flat_map};
 ghost use Rattle.std.specs.Io.KnownBytes.{Appends};
-ghost use Rattle.jtool.specs.Answers.{answer_line, stat_text, pair_text, pending_text};
+ghost use Rattle.jtool.specs.Answers.{answer_line, to_no_command, stat_text, pair_text, pending_text};
 ghost use Rattle.jtool.specs.Values.{text_of};
 
+use crate::lines::Line;
 use crate::values;
 use journal_core::Stat;
 use journal_world::{Refusal, Value};
@@ -42,9 +43,21 @@ pub enum Answer<C> {
     Refused(Refusal<C>),
     /// It is no line of a script.
     BadLine,
+    /// It is empty, for which no line is printed.
+    Nothing,
 }
 
 impl<C> Answer<C> {
+    /// What a line is answered that says no command.
+    pub fn to_no_command(line: Line<'_>) -> Answer<C>
+        ensures { result ≡ to_no_command line.entry }
+    {
+        match line {
+            Line::Whole([]) => Answer::Nothing,
+            _ => Answer::BadLine,
+        }
+    }
+
     /// Prints the answer's line.
     pub fn print<O: Write>(&self, output: &mut O) -> io::Result<()>
         ensures { OnOk result (IfSome (answer_line self.now)
@@ -65,6 +78,7 @@ impl<C> Answer<C> {
             Answer::Down => writeln!(output, "down"),
             Answer::Refused(why) => writeln!(output, "refused {why}"),
             Answer::BadLine => writeln!(output, "bad line"),
+            Answer::Nothing => Ok(()),
         }
     }
 }

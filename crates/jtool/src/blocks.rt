@@ -1,15 +1,31 @@
 // Bytes of a disk's blocks.
-ghost use Rattle.std.specs.Prelude.{◌≡◌, ◌<◌, ◌≤◌, ◌+◌, IfOk, IsOkUnless, OnOk, slice_range, length};
+ghost use Rattle.std.specs.Prelude.{◌≡◌, ◌⊎◌, ◌<◌, ◌≤◌, ◌+◌, IfOk, IfErr, IsOkUnless, OnOk, OnErr, slice_range, length};
 ghost use Rattle.journal_block.specs.Block.{with_bytes};
-ghost use Rattle.journal_disk.specs.Disks.{read_of, IsSettled, past_after, write as written, barrier};
+ghost use Rattle.journal_disk.specs.Disks.{read_of, IsSettled, past_after, MayHaveHappened, write as written, barrier};
+ghost use Rattle.jtool.specs.Downs.{Shows};
 
+use crate::answer::Answer;
 use journal_block::Block;
 use journal_disk::{BlockDisk, MemDisk};
 use journal_world::{Refusal, Value};
 use std::alloc::Global;
 
-/// Some bytes of a block, as a read of the disk gives them. It is no device call.
-pub fn bytes_of<C>(
+/// Shows bytes of a block, as a read of the disk gives them. It is no device call.
+pub fn show<C>(alloc: Global, disk: &MemDisk, block: u32, at: u32, len: u32) -> Answer<C>
+    requires inside { at + len ≤ 4096 }
+    ensures { Shows disk.now.past block at len result }
+{
+    if u64::from(block) >= disk.size() {
+        return Answer::BadLine;
+    }
+    match bytes_of(alloc, disk, u64::from(block), at as usize, len as usize) {
+        Ok(bytes) => Answer::Value(bytes),
+        Err(why) => Answer::Refused(why),
+    }
+}
+
+// Bytes of a block.
+fn bytes_of<C>(
     alloc: Global,
     disk: &MemDisk,
     block: u64,
@@ -40,6 +56,8 @@ pub fn overwrite(
     ensures size { disk.new.past.size ≡ disk.old.past.size }
     ensures poked { OnOk result (disk.new.past ≡ past_after barrier
         (past_after (written block (with_bytes (read_of disk.old.past block) at bytes.now)) disk.old.past)) }
+    ensures left { OnErr result (MayHaveHappened (written block (with_bytes (read_of disk.old.past block) at bytes.now)) disk.old.past disk.new.past) }
+    ensures refusal { IfErr result (λ why. (why ≡ Refusal.NoMemory) ⊎ (why ≡ Refusal.DeviceFailed tt)) }
 {
     let mut copy = Block::try_new(alloc)?;
     disk.peek(block, &mut copy);
@@ -53,6 +71,7 @@ pub fn write(disk: &mut MemDisk, block: u64, bytes: &Block) -> Result<(), Refusa
     requires block { block < disk.old.past.size }
     ensures size { disk.new.past.size ≡ disk.old.past.size }
     ensures written { OnOk result (disk.new.past ≡ past_after (written block bytes.now) disk.old.past) }
+    ensures left { OnErr result (MayHaveHappened (written block bytes.now) disk.old.past disk.new.past) }
     ensures refusal { IsOkUnless result (Refusal.DeviceFailed tt) }
 {
     match disk.write(block, bytes) {
@@ -65,6 +84,7 @@ pub fn write(disk: &mut MemDisk, block: u64, bytes: &Block) -> Result<(), Refusa
 pub fn sync(disk: &mut MemDisk) -> Result<(), Refusal<()>>
     ensures size { disk.new.past.size ≡ disk.old.past.size }
     ensures synced { OnOk result (disk.new.past ≡ past_after barrier disk.old.past) }
+    ensures left { OnErr result (disk.new.past ≡ disk.old.past) }
     ensures settled { OnOk result (IsSettled disk.new.past) }
     ensures refusal { IsOkUnless result (Refusal.DeviceFailed tt) }
 {

@@ -3,11 +3,12 @@ ghost use Rattle.std.specs.Prelude.{◌≡◌, ◌≢◌, ℕ, ◌+◌, ◌&&◌
 ghost use Rattle.journal_world.specs.declared.address.Addr.{Addr as Address};
 ghost use Rattle.jtool.specs.declared.command.Choice.{Choice as Chosen};
 ghost use Rattle.jtool.specs.declared.command.Command.{Command as Asked};
-ghost use Rattle.jtool.specs.Commands.{words as words_of, verb_text, AddrThen, AtMost, IsChoice, Says, MayFollow};
+ghost use Rattle.jtool.specs.Commands.{words as words_of, verb_text, AddrThen, AtMost, IsChoice, Says, LineSays, MayFollow};
 
 mod verb;
 mod words;
 
+use crate::lines::Line;
 use crate::room::Room;
 use journal_world::Addr;
 use verb::Verb;
@@ -88,14 +89,25 @@ pub enum Choice<'a> {
 impl<'a> Command<'a> {
     /// The command that the line says, or `None` where it says none. The room takes the bytes of a value and
     /// the numbers of a choice.
-    pub fn read(line: &[u8], room: &'a mut Room) -> Option<Command<'a>>
-        ensures found { IfSome result (Says (words_of line.now)) }
-        ensures none { IfNone result ((command : Asked) → Says (words_of line.now) command → ⊥) }
+    pub fn read(line: Line<'_>, room: &'a mut Room) -> Option<Command<'a>>
+        ensures found { IfSome result (LineSays line.entry) }
+        ensures none { IfNone result ((command : Asked) → LineSays line.entry command → ⊥) }
     {
-        let mut words = Words::new(line);
-        let verb = Verb::read(words.word()?)?;
-        read_behind(verb, &mut words, room)
+        match line {
+            Line::Whole(line) => read_words(line, room),
+            Line::TooLong => None,
+        }
     }
+}
+
+// The command that the words of a line say.
+fn read_words<'a>(line: &[u8], room: &'a mut Room) -> Option<Command<'a>>
+    ensures found { IfSome result (Says (words_of line.now)) }
+    ensures none { IfNone result ((command : Asked) → Says (words_of line.now) command → ⊥) }
+{
+    let mut words = Words::new(line);
+    let verb = Verb::read(words.word()?)?;
+    read_behind(verb, &mut words, room)
 }
 
 // The command that the words behind a verb say.

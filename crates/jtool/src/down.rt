@@ -1,17 +1,38 @@
-// Commands to a disk that is down.
+// Lines to a disk that is down.
 ghost use Rattle.std.specs.Prelude.{◌≡◌, ◌≤◌, ◌+◌, length};
 ghost use Rattle.journal_disk.specs.Disks.{IsSettled};
-ghost use Rattle.jtool.specs.Ranges.{IsInside};
-ghost use Rattle.jtool.specs.Downs.{ObeysDown, Shows, Pokes};
+ghost use Rattle.jtool.specs.Commands.{IsInside};
+ghost use Rattle.jtool.specs.Downs.{AnswersDown, ObeysDown, Pokes};
 
 use crate::answer::Answer;
-use crate::blocks::{bytes_of, overwrite};
+use crate::blocks::{overwrite, show};
 use crate::command::Command;
+use crate::lines::Line;
+use crate::room::Room;
 use journal_disk::{BlockDisk, MemDisk};
 use std::alloc::Global;
 
-/// Does what the command says to the disk, on which nothing is pending, and answers it.
-pub fn obey(alloc: Global, disk: MemDisk, command: Command<'_>) -> (MemDisk, Answer<()>)
+/// Does what the line says to the disk, on which nothing is pending, and answers it. `None` says that the line
+/// opens the disk.
+pub fn answer(
+    alloc: Global,
+    disk: MemDisk,
+    line: Line<'_>,
+    room: &mut Room,
+) -> (MemDisk, Option<Answer<()>>)
+    requires settled { IsSettled disk.past }
+    ensures size { result.0.past.size ≡ disk.past.size }
+    ensures settled { IsSettled result.0.past }
+    ensures answered { AnswersDown disk.past line.entry result.1 result.0.past }
+{
+    match Command::read(line, room) {
+        Some(command) => obey(alloc, disk, command),
+        None => (disk, Some(Answer::to_no_command(line))),
+    }
+}
+
+// Does what the command says, likewise.
+fn obey(alloc: Global, disk: MemDisk, command: Command<'_>) -> (MemDisk, Option<Answer<()>>)
     requires inside { IsInside command }
     requires settled { IsSettled disk.past }
     ensures size { result.0.past.size ≡ disk.past.size }
@@ -20,26 +41,15 @@ pub fn obey(alloc: Global, disk: MemDisk, command: Command<'_>) -> (MemDisk, Ans
 {
     match command {
         Command::Disk { block, at, len } => {
-            let answer = show(alloc, &disk, u64::from(block), at as usize, len as usize);
-            (disk, answer)
+            let answer = show(alloc, &disk, block, at, len);
+            (disk, Some(answer))
         }
         Command::Poke { block, at, value } => {
-            poke(alloc, disk, u64::from(block), at as usize, value)
+            let (disk, answer) = poke(alloc, disk, u64::from(block), at as usize, value);
+            (disk, Some(answer))
         }
-        _ => (disk, Answer::Down),
-    }
-}
-
-fn show(alloc: Global, disk: &MemDisk, block: u64, at: usize, len: usize) -> Answer<()>
-    requires inside { at + len ≤ 4096 }
-    ensures { Shows disk.now.past block at len result }
-{
-    if block >= disk.size() {
-        return Answer::BadLine;
-    }
-    match bytes_of(alloc, disk, block, at, len) {
-        Ok(bytes) => Answer::Value(bytes),
-        Err(why) => Answer::Refused(why),
+        Command::Open => (disk, None),
+        _ => (disk, Some(Answer::Down)),
     }
 }
 

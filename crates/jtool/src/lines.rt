@@ -27,6 +27,7 @@ impl<I> Model for Lines<I> {
 }
 
 /// A line, without its newline.
+#[derive(Clone, Copy)]
 pub enum Line<'a> {
     Whole(&'a [u8]),
     /// It has too many bytes, and was not kept.

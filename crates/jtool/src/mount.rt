@@ -1,9 +1,9 @@
 // One mount of a disk, from its opening until it is down.
 ghost use Rattle.std.specs.Prelude.{◌≡◌, IfOk};
-ghost use Rattle.jtool.specs.Mounts.{IsAtRest, LeavesAtRest, LeavesDisk};
+ghost use Rattle.jtool.specs.Mounts.{IsAtRest, LeavesAtRest};
 
 use crate::answer::Answer;
-use crate::console::{Asked, Console};
+use crate::console::Console;
 use crate::shell::{Reply, Shell};
 use journal_disk::MemDisk;
 use journal_history::{Book, Naming};
@@ -78,9 +78,17 @@ fn up<J: Naming, I: BufRead + Drop, O: Write + Drop, E: Write + Drop>(
     let mut shell = match Shell::<J>::open(alloc, book, layout, disk) {
         Ok(shell) => shell,
         Err(Refused { refusal, disk }) => {
-            // A read that failed may have left the disk otherwise than it was.
-            let disk = disk.crash(&[]);
-            return refuse(disk, opening, console, &Answer::Refused(refusal));
+            let answer = Answer::Refused(refusal);
+            return match opening {
+                Opening::First => {
+                    console.report(&answer);
+                    Ok(Left::Refused)
+                }
+                Opening::Asked => {
+                    console.answer(&answer)?;
+                    Ok(Left::Down(disk))
+                }
+            };
         }
     };
     let ending = answer_lines(&mut shell, opening, console);
@@ -90,27 +98,6 @@ fn up<J: Naming, I: BufRead + Drop, O: Write + Drop, E: Write + Drop>(
         Ending::Down(numbers) => Left::Down(disk.crash(&numbers)),
         Ending::Crash(numbers) => Left::Crashed(disk.crash(&numbers)),
     })
-}
-
-// Tells why the disk is not mounted.
-fn refuse<C: Drop, I: BufRead + Drop, O: Write + Drop, E: Write + Drop>(
-    disk: MemDisk,
-    opening: Opening,
-    console: &mut Console<I, O, E>,
-    answer: &Answer<C>,
-) -> io::Result<Left>
-    ensures { IfOk result (LeavesDisk disk) }
-{
-    match opening {
-        Opening::First => {
-            console.report(answer);
-            Ok(Left::Refused)
-        }
-        Opening::Asked => {
-            console.answer(answer)?;
-            Ok(Left::Down(disk))
-        }
-    }
 }
 
 // Answers line after line, until one ends the mount.
@@ -123,12 +110,10 @@ fn answer_lines<'b, J: Naming, I: BufRead + Drop, O: Write + Drop, E: Write + Dr
         console.answer(&Answer::<()>::Opened)?;
     }
     for _ in 0..u64::MAX {
-        let reply = match console.ask()? {
-            None => break,
-            Some(Asked::Nothing) => Reply::Answer(Answer::BadLine),
-            Some(Asked::Command(command)) => shell.obey(command),
+        let Some(line) = console.lines.next_line()? else {
+            break;
         };
-        match reply {
+        match shell.answer(line, &mut console.room) {
             Reply::Answer(answer) => console.answer(&answer)?,
             Reply::Down(numbers) => {
                 console.answer(&Answer::<()>::Done)?;

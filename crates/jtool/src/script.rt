@@ -1,11 +1,9 @@
 // A script: lines that are read, obeyed and answered one after another, over one disk.
-ghost use Rattle.std.specs.Prelude.{◌≡◌, ◌⊎◌, IfErr, IfOk, IfSome};
+ghost use Rattle.std.specs.Prelude.{IfErr, IfOk, IfSome};
 ghost use Rattle.jtool.specs.Mounts.{IsAtRest};
 ghost use Rattle.jtool.specs.Programs.{IsOfMemory};
 
-use crate::answer::Answer;
-use crate::command::Command;
-use crate::console::{Asked, Console};
+use crate::console::Console;
 use crate::down;
 use crate::fault::Fault;
 use crate::format::format;
@@ -118,17 +116,15 @@ fn answer_down<I: BufRead + Drop, O: Write + Drop, E: Write + Drop>(
 {
     let mut disk = disk;
     for _ in 0..u64::MAX {
-        let answer = match console.ask()? {
-            None => return Ok(None),
-            Some(Asked::Nothing) => Answer::BadLine,
-            Some(Asked::Command(Command::Open)) => return Ok(Some(disk)),
-            Some(Asked::Command(command)) => {
-                let (left, answer) = down::obey(alloc, disk, command);
-                disk = left;
-                answer
-            }
+        let Some(line) = console.lines.next_line()? else {
+            break;
         };
-        console.answer(&answer)?;
+        let (left, answer) = down::answer(alloc, disk, line, &mut console.room);
+        disk = left;
+        match answer {
+            Some(answer) => console.answer(&answer)?,
+            None => return Ok(Some(disk)),
+        }
     }
     Ok(None)
 }

@@ -3,15 +3,20 @@ ghost use Rattle.std.specs.Prelude.{◌≡◌, None, Some, IsNone, ◌+◌, ◌�
 ghost use Rattle.journal_disk.specs.Disks.{IsSettled};
 ghost use Rattle.journal_disk.specs.MemDisks.{state_of};
 ghost use Rattle.jtool.specs.Journals.{blocks_of, disk_of, IsMounted};
-ghost use Rattle.jtool.specs.Ranges.{IsInside};
-ghost use Rattle.jtool.specs.Shells.{State, begun_draft, with_draft, answered, most_of, numbers_of, Replies, Pokes, ObeysPut, ObeysGet, ObeysCommit, ObeysAbort, ObeysWait, ObeysLog, ObeysInstall, Tells};
+ghost use Rattle.jtool.specs.Commands.{IsInside};
+ghost use Rattle.jtool.specs.Downs.{Shows};
+ghost use Rattle.jtool.specs.Shells.{State, begun_draft, with_draft, answered, most_of, numbers_of, Answers, Replies, Pokes, ObeysPut, ObeysGet, ObeysCommit, ObeysAbort, ObeysWait, ObeysLog, ObeysInstall, Tells};
 
+use crate::actors::Actor;
 use crate::answer::Answer;
+use crate::blocks::show;
 use crate::command::{Choice, Command};
 use crate::journal::{Journal, Why};
+use crate::lines::Line;
+use crate::room::Room;
 use crate::txn::Txn;
 use journal_core::Cause;
-use journal_disk::MemDisk;
+use journal_disk::{BlockDisk, MemDisk};
 use journal_history::{Book, Naming};
 use journal_world::{Addr, AnyMap, Layout, Refusal, Refused};
 use std::alloc::Global;
@@ -64,7 +69,7 @@ impl<'b, J: Naming> Shell<'b, J> {
         requires settled { IsSettled disk.past }
         ensures mounted { IfOk result (λ shell. IsMounted (state_of disk) shell.journal) }
         ensures nothing { IfOk result (λ shell. shell.draft ≡ None) }
-        ensures left { IfErr result (λ refused. refused.disk.past.size ≡ disk.past.size) }
+        ensures left { IfErr result (λ refused. refused.disk.past ≡ disk.past) }
     {
         Ok(Shell {
             journal: Journal::open(alloc, book, layout, disk)?,
@@ -72,8 +77,18 @@ impl<'b, J: Naming> Shell<'b, J> {
         })
     }
 
-    /// Does what the command says, and answers it, or tells how the mount is to end.
-    pub fn obey(&mut self, command: Command<'_>) -> Reply<Cause<'b, J, AnyMap>>
+    /// Does what the line says, and answers it, or tells how the mount is to end.
+    pub fn answer(&mut self, line: Line<'_>, room: &mut Room) -> Reply<Cause<'b, J, AnyMap>>
+        ensures { Answers self.old line.entry result self.new }
+    {
+        match Command::read(line, room) {
+            Some(command) => self.obey(command),
+            None => Reply::Answer(Answer::to_no_command(line)),
+        }
+    }
+
+    // Does what the command says, likewise.
+    fn obey(&mut self, command: Command<'_>) -> Reply<Cause<'b, J, AnyMap>>
         requires inside { IsInside command }
         ensures { Replies self.old command.entry result self.new }
     {
@@ -87,7 +102,7 @@ impl<'b, J: Naming> Shell<'b, J> {
             Command::Install { most } => self.install(steps_of(most)),
             Command::Stat => Ok(Answer::Stat(self.journal.stat())),
             Command::Pend => self.pend(),
-            Command::Disk { block, at, len } => self.disk(block, at, len),
+            Command::Disk { block, at, len } => Ok(self.disk(block, at, len)),
             Command::Fail { call } => Ok(self.fail(call)),
             Command::Poke { block, .. } => Ok(self.poke(block)),
             Command::Open => Ok(Answer::Up),
@@ -156,38 +171,33 @@ impl<'b, J: Naming> Shell<'b, J> {
     fn wait(&mut self) -> Answered<'b, J>
         ensures { ObeysWait self.old (answered result) self.new }
     {
-        Ok(Answer::Stable(self.journal.wait()?))
+        self.journal.drive(Actor::Waiter, u64::MAX)?;
+        Ok(Answer::Stable(self.journal.stat().floor))
     }
 
     fn log(&mut self, most: u64) -> Answered<'b, J>
         ensures { ObeysLog self.old most (answered result) self.new }
     {
-        Ok(Answer::Logged(self.journal.log(most)?))
+        Ok(Answer::Logged(self.journal.drive(Actor::Logger, most)?))
     }
 
     fn install(&mut self, most: u64) -> Answered<'b, J>
         ensures { ObeysInstall self.old most (answered result) self.new }
     {
-        Ok(Answer::Installed(self.journal.install(most)?))
+        Ok(Answer::Installed(self.journal.drive(Actor::Installer, most)?))
     }
 
     fn pend(&self) -> Answered<'b, J>
         ensures { Tells self.now Command.Pend (answered result) }
     {
-        Ok(Answer::Pending(self.journal.pending()?))
+        Ok(Answer::Pending(self.journal.disk().pending()?))
     }
 
-    fn disk(&self, block: u32, at: u32, len: u32) -> Answered<'b, J>
+    fn disk(&self, block: u32, at: u32, len: u32) -> Answer<Cause<'b, J, AnyMap>>
         requires { at + len ≤ 4096 }
-        ensures { Tells self.now (Command.Disk block at len) (answered result) }
+        ensures { Shows (disk_of self.now.journal).past block at len result }
     {
-        if !self.journal.has_block(u64::from(block)) {
-            return Ok(Answer::BadLine);
-        }
-        let bytes = self
-            .journal
-            .bytes(u64::from(block), at as usize, len as usize)?;
-        Ok(Answer::Value(bytes))
+        show(self.journal.alloc(), self.journal.disk(), block, at, len)
     }
 
     fn fail(&mut self, call: u32) -> Answer<Cause<'b, J, AnyMap>>
@@ -201,7 +211,7 @@ impl<'b, J: Naming> Shell<'b, J> {
     fn poke(&self, block: u32) -> Answer<Cause<'b, J, AnyMap>>
         ensures { Pokes self.now block result }
     {
-        if self.journal.has_block(u64::from(block)) {
+        if u64::from(block) < self.journal.disk().size() {
             Answer::Up
         } else {
             Answer::BadLine
@@ -216,7 +226,7 @@ impl<'b, J: Naming> Shell<'b, J> {
         let alloc = self.journal.alloc();
         match choice {
             Choice::Stable => Ok(Vec::new(alloc)),
-            Choice::Last => Ok(vec![in alloc; u32::MAX; self.journal.pending()?.len()]?),
+            Choice::Last => Ok(vec![in alloc; u32::MAX; self.journal.disk().pending()?.len()]?),
             Choice::Listed(numbers) => Ok(numbers.to_vec(alloc)?),
         }
     }

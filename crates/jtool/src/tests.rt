@@ -1,5 +1,6 @@
 // The program from end to end: scripts, and what they are answered.
 mod crashes;
+mod refusals;
 mod rows;
 mod side_by_side;
 mod streams;
@@ -41,6 +42,16 @@ fn run_with(alloc: Global, words: &[&str], mut input: &[u8]) -> Result<Run, Allo
     })
 }
 
+/// Wants this output of the run, nothing said of faults, and that status.
+fn wants(rt: &impl Abort, run: &Run, script: &[u8], output: &[u8], status: u8) {
+    assert_eq!(rt; run.output.as_slice(), output, "at {script:?}");
+    assert_eq!(rt;
+        (run.faults.len(), run.status),
+        (0, status),
+        "at {script:?}"
+    );
+}
+
 /// Runs the script on a disk of 600 blocks, and wants this output and that status.
 fn check(
     rt: &impl Abort,
@@ -50,9 +61,7 @@ fn check(
     status: u8,
 ) -> Result<(), Fail> {
     let run = run_with(alloc, &["script", "600"], script)?;
-    assert_eq!(rt; run.output.as_slice(), output, "at {script:?}");
-    assert_eq!(rt; run.faults.len(), 0, "at {script:?}");
-    assert_eq!(rt; run.status, status, "at {script:?}");
+    wants(rt, &run, script, output, status);
     Ok(())
 }
 
@@ -191,22 +200,33 @@ fn longest_line(alloc: Global) -> Result<Vec<u8>, AllocError> {
     Ok(line)
 }
 
+/// The longest line, one of one byte more, and then one of very many.
+fn put_lines(script: &mut Vec<u8>, longest: &[u8]) -> Result<(), AllocError> {
+    script.extend_from_slice(longest)?;
+    script.extend_from_slice(b"\ncommit\n")?;
+    script.extend_from_slice(longest)?;
+    script.extend_from_slice(b"0\ncommit\n")?;
+    for _ in 0..3 {
+        script.extend_from_slice(longest)?;
+    }
+    script.extend_from_slice(b"\nget 531 0\n")?;
+    script.extend_from_slice(longest)
+}
+
 #[test]
 fn longer_lines_are_bad(rt: HostRuntime) -> Result<(), Fail> {
     let longest = longest_line(rt.alloc())?;
     assert_eq!(&rt; longest.len(), LONGEST);
-    let mut script = longest.clone()?;
-    // One byte more, and then very many.
-    script.extend_from_slice(b"\ncommit\n")?;
-    script.extend_from_slice(&longest)?;
-    script.extend_from_slice(b"0\ncommit\n")?;
-    for _ in 0..3 {
-        script.extend_from_slice(&longest)?;
-    }
-    script.extend_from_slice(b"\nget 531 0\n")?;
-    script.extend_from_slice(&longest)?;
+    let mut script = Vec::new(rt.alloc());
+    put_lines(&mut script, &longest)?;
     let answers = b"ok\ncommitted 1\nbad line\nno transaction\nbad line\n= 00*4096\nok\n";
     check(&rt, rt.alloc(), &script, answers, 2)
+}
+
+/// Wants that of a run of these words on no lines.
+fn begins(rt: &impl Abort, run: &Run, words: &[&str], faults: &str, status: u8) {
+    assert_eq!(rt; run.faults.as_slice(), faults.as_bytes(), "at {words:?}");
+    assert_eq!(rt; (run.output.len(), run.status), (0, status), "at {words:?}");
 }
 
 #[test]
@@ -231,9 +251,7 @@ fn words_are_checked(rt: HostRuntime) -> Result<(), Fail> {
     ];
     for (words, faults, status) in table {
         let run = run_with(rt.alloc(), words, b"")?;
-        assert_eq!(&rt; run.output.len(), 0, "at {words:?}");
-        assert_eq!(&rt; run.faults.as_slice(), faults.as_bytes(), "at {words:?}");
-        assert_eq!(&rt; run.status, *status, "at {words:?}");
+        begins(&rt, &run, words, faults, *status);
     }
     Ok(())
 }
@@ -243,27 +261,44 @@ const SCRIPT: &[u8] =
 
 const ANSWERS: &[u8] = b"ok\n= 01*128\ncommitted 1\nbad line\n= 01*128\nrefused J3 BadSize\nok\n";
 
+/// What a run answered whose input or output may fail, and whether it did.
+fn ended(rt: &impl Abort, status: u8, output: &[u8], has_failed: bool, at: usize) {
+    let want = if has_failed { 1 } else { 2 };
+    assert_eq!(rt; status, want, "at {at}");
+    assert!(rt; ANSWERS.starts_with(output), "at {at}");
+    assert!(rt; has_failed || output.len() == ANSWERS.len(), "at {at}");
+}
+
+/// A run whose input fails once it was read so often; whether it did.
+fn fails_to_read(rt: &impl Abort, alloc: Global, words: &[String], reads: usize) -> bool {
+    let mut input = BrokenReader::new(SCRIPT, reads);
+    let mut output = Vec::new(alloc);
+    let mut faults = Vec::new(alloc);
+    let status = run(alloc, words, &mut input, &mut output, &mut faults);
+    ended(rt, status, &output, input.has_failed(), reads);
+    assert!(rt; output.is_empty() || output.ends_with(b"\n"), "at {reads}");
+    input.has_failed()
+}
+
 #[test]
 fn a_failing_read_ends_the_run(rt: HostRuntime) -> Result<(), Fail> {
     let words = words_of(rt.alloc(), &["script", "600"])?;
     let mut some_whole = false;
     for reads in 0..20 {
-        let mut input = BrokenReader::new(SCRIPT, reads);
-        let mut output = Vec::new(rt.alloc());
-        let mut faults = Vec::new(rt.alloc());
-        let status = run(rt.alloc(), &words, &mut input, &mut output, &mut faults);
-        if input.has_failed() {
-            assert_eq!(&rt; status, 1, "at {reads}");
-            assert!(&rt; ANSWERS.starts_with(&output), "at {reads}");
-            assert!(&rt; output.is_empty() || output.ends_with(b"\n"), "at {reads}");
-        } else {
-            assert_eq!(&rt; status, 2, "at {reads}");
-            assert_eq!(&rt; output.as_slice(), ANSWERS, "at {reads}");
-            some_whole = true;
-        }
+        some_whole = !fails_to_read(&rt, rt.alloc(), &words, reads) || some_whole;
     }
     assert!(&rt; some_whole);
     Ok(())
+}
+
+/// A run whose output fails once it was written to so often; whether it did.
+fn fails_to_write(rt: &impl Abort, alloc: Global, words: &[String], writes: usize) -> bool {
+    let mut input = SCRIPT;
+    let mut output = BrokenWriter::new(alloc, writes);
+    let mut faults = Vec::new(alloc);
+    let status = run(alloc, words, &mut input, &mut output, &mut faults);
+    ended(rt, status, output.written(), output.has_failed(), writes);
+    output.has_failed()
 }
 
 #[test]
@@ -271,18 +306,7 @@ fn a_failing_write_ends_the_run(rt: HostRuntime) -> Result<(), Fail> {
     let words = words_of(rt.alloc(), &["script", "600"])?;
     let mut some_whole = false;
     for writes in 0..40 {
-        let mut input = SCRIPT;
-        let mut output = BrokenWriter::new(rt.alloc(), writes);
-        let mut faults = Vec::new(rt.alloc());
-        let status = run(rt.alloc(), &words, &mut input, &mut output, &mut faults);
-        if output.has_failed() {
-            assert_eq!(&rt; status, 1, "at {writes}");
-            assert!(&rt; ANSWERS.starts_with(output.written()), "at {writes}");
-        } else {
-            assert_eq!(&rt; status, 2, "at {writes}");
-            assert_eq!(&rt; output.written(), ANSWERS, "at {writes}");
-            some_whole = true;
-        }
+        some_whole = !fails_to_write(&rt, rt.alloc(), &words, writes) || some_whole;
     }
     assert!(&rt; some_whole);
     Ok(())

@@ -5,8 +5,9 @@ ghost use Rattle.journal_world.specs.Maps.{Agrees, is_value_at, is_object, are_o
 ghost use Rattle.journal_world.specs.Histories.{latest, count};
 ghost use Rattle.journal_history.specs.Tokens.{OnlyExtends};
 ghost use Rattle.journal_core.specs.Commits.{IsCommitted, IsCommitRefusal};
+ghost use Rattle.journal_core.specs.Steps.{IsReadRefusal};
 ghost use Rattle.jtool.specs.Drafts.{empty, told, Remembers, Overwrites, Reads};
-ghost use Rattle.jtool.specs.Journals.{blocks_of, OnlyLooks, RefusesRead};
+ghost use Rattle.jtool.specs.Journals.{blocks_of, OnlyLooks};
 
 use crate::journal::{Journal, Why};
 use journal_core::Transaction;
@@ -49,8 +50,9 @@ impl Txn {
     /// The address's value: the transaction's own, where it has overwritten it, else the journal's, which is
     /// the same each time that the transaction asks.
     ///
-    /// Refused for want of memory (J1), and where the journal refuses the read; then the transaction is as it
-    /// was.
+    /// Refused where the device failed before (J6), also where the value is known, where the address is not
+    /// valid (J2), then for want of memory (J1) or where the device fails now (J6); then the transaction is as
+    /// it was.
     pub fn read<'b, J: Naming>(
         &mut self,
         journal: &mut Journal<'b, J>,
@@ -59,18 +61,21 @@ impl Txn {
         requires { self.old.blocks ≡ blocks_of journal.old }
         ensures value { IfOk result (λ value. value ≡ told self.old journal.old.core.history addr) }
         ensures remembers { IfOk result (λ value. Remembers self.old addr value self.new) }
-        ensures refused { IfErr result (RefusesRead journal.old addr journal.new) }
+        ensures fine { OnOk result (journal.old.core.objects.ring.faulted ≡ false) }
+        ensures valid { OnOk result (IsTrue (is_valid self.old.blocks addr)) }
+        ensures refused { IfErr result (IsReadRefusal self.old.blocks journal.old.core addr journal.new.core) }
         ensures err { OnErr result (self.new ≡ self.old) }
         ensures looks { OnlyLooks journal.old journal.new }
         ensures blocks { blocks_of journal.new ≡ blocks_of journal.old }
     {
+        journal.core.check_fault()?;
         if let Some(own) = self.writes.get(addr) {
             return Ok(own.clone()?);
         }
         if let Some(known) = self.reads.get(addr) {
             return Ok(known.clone()?);
         }
-        let value = journal.read(addr)?;
+        let value = journal.core.read_step(addr)?;
         self.remember(addr, &value)?;
         Ok(value)
     }
@@ -143,7 +148,10 @@ impl Txn {
         ensures blocks { blocks_of journal.new ≡ blocks_of journal.old }
     {
         let transaction = self.into_transaction();
-        journal.commit(&transaction)
+        let receipt = journal
+            .core
+            .commit_step(&mut journal.session, &transaction)?;
+        Ok(receipt.count())
     }
 
     // What it has done.

@@ -35,18 +35,30 @@ fn run_failing(alloc: Global, call: u64) -> io::Result<Run> {
     Ok(run_with(alloc, &["script", "600"], &script)?)
 }
 
+/// What a line answers once a call failed.
+const FAULT: &[u8] = b"refused J6 DeviceFailed";
+
+/// What a `put` may answer then, and a `commit`.
+const WITHOUT_DEVICE: &[&[u8]] = &[b"ok", b"no transaction"];
+
+/// How many faults there are after an answer, of a line that has the other answer where no device call fails.
+fn count_fault(answer: &[u8], whole: &[u8], faults: u64) -> Option<u64> {
+    if answer == FAULT {
+        return Some(faults.saturating_add(1));
+    }
+    let may_be = match faults {
+        0 => answer == whole,
+        _ => WITHOUT_DEVICE.iter().any(|other| answer == *other),
+    };
+    may_be.then_some(faults)
+}
+
 /// How many lines have another answer, or `None` where one has an answer that it may not have.
 fn count_faults(run: &Run) -> Option<u64> {
     let mut answers = run.output.split(|byte| *byte == b'\n').skip(1);
     let mut faults: u64 = 0;
     for (_, whole) in LINES {
-        let answer = answers.next()?;
-        match answer {
-            b"refused J6 DeviceFailed" => faults = faults.saturating_add(1),
-            b"ok" | b"no transaction" if faults > 0 => {}
-            _ if faults == 0 && answer == *whole => {}
-            _ => return None,
-        }
+        faults = count_fault(answers.next()?, whole, faults)?;
     }
     Some(faults)
 }

@@ -1,6 +1,6 @@
 // Commits, the logger, the installer and crashes, on disks of a few blocks.
 
-use super::{Run, check, run_with};
+use super::{check, run_with, wants};
 use std::alloc::{AllocError, Global};
 use std::io;
 use std::io::Write;
@@ -48,6 +48,21 @@ fn what_was_not_logged_is_gone(rt: HostRuntime) -> Result<(), Fail> {
     answers(&rt, rt.alloc(), script, printed)
 }
 
+/// A crash of this choice, once block 0 is written and nothing after it, leaves this value.
+fn crashes_to(rt: &impl Abort, alloc: Global, choice: &str, value: &str) -> Result<(), Fail> {
+    let mut script = Vec::new(alloc);
+    write!(
+        script,
+        "put 515 0 01+00*127\ncommit\nlog 4\npend\ncrash {choice}\nget 515 0\n"
+    )?;
+    let mut printed = Vec::new(alloc);
+    write!(
+        printed,
+        "ok\ncommitted 1\nlog 4\npending 0:1\nopened\n{value}\n"
+    )?;
+    check(rt, alloc, &script, &printed, 0)
+}
+
 #[test]
 fn a_group_is_whole_or_absent(rt: HostRuntime) -> Result<(), Fail> {
     let table = &[
@@ -58,11 +73,7 @@ fn a_group_is_whole_or_absent(rt: HostRuntime) -> Result<(), Fail> {
         ("7,1", "= 01+00*127"),
     ];
     for (choice, value) in table {
-        let mut script = b"put 515 0 01+00*127\ncommit\nlog 4\npend\ncrash ".to_vec(rt.alloc())?;
-        writeln!(script, "{choice}\nget 515 0")?;
-        let mut printed = b"ok\ncommitted 1\nlog 4\npending 0:1\nopened\n".to_vec(rt.alloc())?;
-        writeln!(printed, "{value}")?;
-        check(&rt, rt.alloc(), &script, &printed, 0)?;
+        crashes_to(&rt, rt.alloc(), choice, value)?;
     }
     Ok(())
 }
@@ -99,22 +110,29 @@ fn answers_on(
     script: &[u8],
     printed: &[u8],
 ) -> Result<(), Fail> {
-    let run: Run = run_with(alloc, &["script", blocks], script)?;
-    assert_eq!(rt; run.output.as_slice(), printed);
-    assert_eq!(rt; run.status, 0);
+    let run = run_with(alloc, &["script", blocks], script)?;
+    wants(rt, &run, script, printed, 0);
     Ok(())
+}
+
+fn put_128_and_129(script: &mut Vec<u8>) -> io::Result<()> {
+    put_all(script, 531..=658, "aa")?;
+    put_all(script, 531..=659, "bb")?;
+    writeln!(script, "get 531 0\nget 659 0")
+}
+
+fn print_128_and_129(printed: &mut Vec<u8>) -> io::Result<()> {
+    print_all(printed, 531..=658, "committed 1")?;
+    print_all(printed, 531..=659, "refused J4 TooLarge")?;
+    writeln!(printed, "= aa*4096\n= 00*4096")
 }
 
 #[test]
 fn a_commit_of_129_blocks_is_too_large(rt: HostRuntime) -> Result<(), Fail> {
     let mut script = Vec::new(rt.alloc());
-    put_all(&mut script, 531..=658, "aa")?;
-    put_all(&mut script, 531..=659, "bb")?;
-    script.extend_from_slice(b"get 531 0\nget 659 0\n")?;
+    put_128_and_129(&mut script)?;
     let mut printed = Vec::new(rt.alloc());
-    print_all(&mut printed, 531..=658, "committed 1")?;
-    print_all(&mut printed, 531..=659, "refused J4 TooLarge")?;
-    printed.extend_from_slice(b"= aa*4096\n= 00*4096\n")?;
+    print_128_and_129(&mut printed)?;
     answers_on(&rt, rt.alloc(), "700", &script, &printed)
 }
 
@@ -148,20 +166,28 @@ fn a_fault_stays_until_the_disk_is_mounted_again(rt: HostRuntime) -> Result<(), 
     answers(&rt, rt.alloc(), script, printed)
 }
 
+fn put_full_tail(script: &mut Vec<u8>) -> io::Result<()> {
+    put_all(script, 531..=658, "01")?;
+    put_all(script, 659..=785, "01")?;
+    put_all(script, 786..=786, "01")?;
+    put_all(script, 531..=531, "02")?;
+    writeln!(script, "log\nstat")
+}
+
+fn print_full_tail(printed: &mut Vec<u8>) -> io::Result<()> {
+    print_all(printed, 531..=658, "committed 1")?;
+    print_all(printed, 659..=785, "committed 2")?;
+    print_all(printed, 786..=786, "refused J12 Full")?;
+    print_all(printed, 531..=531, "committed 3")?;
+    writeln!(printed, "log 260\ncommits 3 floor 3 start 0 end 255")
+}
+
 #[test]
 fn a_full_tail_takes_what_stands_in_it(rt: HostRuntime) -> Result<(), Fail> {
     let mut script = Vec::new(rt.alloc());
-    put_all(&mut script, 531..=658, "01")?;
-    put_all(&mut script, 659..=785, "01")?;
-    put_all(&mut script, 786..=786, "01")?;
-    put_all(&mut script, 531..=531, "02")?;
-    script.extend_from_slice(b"log\nstat\n")?;
+    put_full_tail(&mut script)?;
     let mut printed = Vec::new(rt.alloc());
-    print_all(&mut printed, 531..=658, "committed 1")?;
-    print_all(&mut printed, 659..=785, "committed 2")?;
-    print_all(&mut printed, 786..=786, "refused J12 Full")?;
-    print_all(&mut printed, 531..=531, "committed 3")?;
-    printed.extend_from_slice(b"log 260\ncommits 3 floor 3 start 0 end 255\n")?;
+    print_full_tail(&mut printed)?;
     answers_on(&rt, rt.alloc(), "800", &script, &printed)
 }
 

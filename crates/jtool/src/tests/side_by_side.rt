@@ -34,8 +34,31 @@ fn overwriting<'b, J: Naming>(
     Ok(txn)
 }
 
+/// Commits two transactions that have read and overwritten the same address.
+fn commit_each<J: Naming>(rt: &impl Abort, journal: &mut Journal<J>, first: Txn, second: Txn)
+    requires first { first.blocks ≡ blocks_of journal.old }
+    requires second { second.blocks ≡ blocks_of journal.old }
+{
+    let first = first.try_commit(journal);
+    let second = second.try_commit(journal);
+    assert!(rt; matches!(first, Ok(1)));
+    assert!(rt; matches!(second, Err(Refusal::Busy)));
+}
+
 /// Commits two transactions that were begun side by side.
-fn commit_both<J: Naming>(
+fn commit_both<J: Naming>(rt: &impl Abort, journal: &mut Journal<J>) -> Result<(), Fail> {
+    let inode = Addr { block: 515, off: 0 };
+    let first = overwriting(journal, inode, &[1; 128]).ok().ok_or("first")?;
+    let Ok(second) = overwriting(journal, inode, &[2; 128]) else {
+        first.abort();
+        return Ok(assert!(rt; false));
+    };
+    commit_each(rt, journal, first, second);
+    Ok(())
+}
+
+/// The same on a disk that is mounted for it.
+fn commit_on<J: Naming>(
     rt: &impl Abort,
     alloc: Global,
     book: &Book<AnyMap>,
@@ -49,19 +72,9 @@ fn commit_both<J: Naming>(
 {
     let journal = Journal::<J>::open(alloc, book, layout, disk);
     let mut journal = journal.ok().ok_or("opened")?;
-    let inode = Addr { block: 515, off: 0 };
-    let first = overwriting(&mut journal, inode, &[1; 128])
-        .ok()
-        .ok_or("first")?;
-    let Ok(second) = overwriting(&mut journal, inode, &[2; 128]) else {
-        first.abort();
-        return Ok(assert!(rt; false));
-    };
-    let first = first.try_commit(&mut journal);
-    let second = second.try_commit(&mut journal);
-    assert!(rt; matches!(first, Ok(1)));
-    assert!(rt; matches!(second, Err(Refusal::Busy)));
-    Ok(())
+    let ended = commit_both(rt, &mut journal);
+    let _ = journal.into_disk();
+    ended
 }
 
 #[test]
@@ -69,5 +82,5 @@ fn the_second_of_two_is_busy(rt: HostRuntime) -> Result<(), Fail> {
     let layout = Layout::new(600).ok_or("600 blocks")?;
     let book: Book<AnyMap> = Book::open::<()>()?;
     let disk = MemDisk::new::<()>(rt.alloc(), 600)?;
-    commit_both::<Brand>(&rt, rt.alloc(), &book, layout, disk)
+    commit_on::<Brand>(&rt, rt.alloc(), &book, layout, disk)
 }

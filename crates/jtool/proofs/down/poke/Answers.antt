@@ -1,5 +1,5 @@
-use Rattle.std.proofs.Common.{arith, subst, ◌<◌}
-use Rattle.jtool.proofs.Poking.{poked}
+use Rattle.std.proofs.Common.{arith, ◌<◌}
+use Rattle.jtool.proofs.Poking.{poked, reads_kept}
 use Rattle.jtool.proofs.down.poke.Goals as goal
 
 pub returns-in-Ok-clause-poked : goal.returns-in-Ok-clause-poked
@@ -9,3 +9,11 @@ returns-in-Ok-clause-poked c =
       poked c.args.disk.past c.overwrite.new.disk.past c.crash.result c.args.block c.args.at c.args.value.now _ lt
           c.in-Ok.ensures.poked c.crash.ensures.image c.crash.ensures.disk,
     )
+
+pub returns-in-Err-clause-poked : goal.returns-in-Err-clause-poked
+returns-in-Err-clause-poked c = (
+  omega (arith, c.size.ensures, c.if-block-size.false),
+  c.in-Err.ensures.refusal,
+  reads_kept c.args.disk.past c.overwrite.new.disk.past c.crash-in-Err.result c.args.block _ c.requires.settled
+      c.in-Err.ensures.left c.crash-in-Err.ensures.disk,
+)

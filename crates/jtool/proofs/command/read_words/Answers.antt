@@ -1,7 +1,7 @@
 use Rattle.std.proofs.Common.{◌≡◌, ◌∷◌}
 use Rattle.jtool.specs.Commands.{words as words_of}
 use Rattle.jtool.proofs.Verbs.{says_none-no_verb, says_none-read}
-use Rattle.jtool.proofs.command.Command.read.Goals as goal
+use Rattle.jtool.proofs.command.read_words.Goals as goal
 
 pub returns-in_err-verb-clause-none : goal.returns-in_err-verb-clause-none
 returns-in_err-verb-clause-none c =
