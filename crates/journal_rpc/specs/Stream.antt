@@ -1,0 +1,61 @@
+-- Records on a stream, byte by byte (RFC 5531, section 11).
+use Rattle.std.specs.Prelude.{◌≡◌, ℕ, ◌+◌, ◌-◌, ◌^◌, ◌%◌, ◌==◌, nat_lt, nat_le, Bool, true, false, if◌then◌else◌, List, [], ◌∷◌, ◌++◌, length}
+use Rattle.std.specs.Int.{w32, from_be_bytes}
+use Rattle.journal_rpc.specs.declared.part.Part.{Part}
+use Rattle.journal_rpc.specs.declared.part.Part.TheVariants.{Start, First, Second, Third, Body, TooLong}
+
+-- What has come of a stream: the records that are complete and not yet taken, the bytes of the record that
+-- is begun, and what comes next
+pub record Stream : Type 0 where
+  pub records : List (List ℕ)
+  pub begun : List ℕ
+  pub part : Part
+
+-- the most bytes of a record, its fragments together
+abbrev pub record_limit : ℕ
+record_limit = 16384
+
+-- a stream of which nothing has come
+abbrev pub fresh : Stream
+fresh = record { records = []; begun = []; part = Start }
+
+-- a fragment is at its end
+abbrev pub ended : List (List ℕ) → List ℕ → Bool → Stream
+ended records begun true = record { records = records ++ begun ∷ []; begun = []; part = Start }
+ended records begun false = record { records = records; begun = begun; part = Start }
+
+-- a fragment of so many bytes begins
+abbrev pub begins : List (List ℕ) → List ℕ → Bool → ℕ → Stream
+begins records begun last size =
+    if nat_lt record_limit (length begun + size) then record { records = records; begun = begun; part = TooLong }
+    else (if size == 0 then ended records begun last else record { records = records; begun = begun; part = Body last size })
+
+-- a header: its top bit marks the last fragment, the others give the length
+abbrev pub opened : List (List ℕ) → List ℕ → ℕ → Stream
+opened records begun header = begins records begun (nat_le (2 ^ 31) header) (header % 2 ^ 31)
+
+-- a byte comes
+abbrev pub byte_came : List (List ℕ) → List ℕ → Part → ℕ → Stream
+byte_came records begun Start b = record { records = records; begun = begun; part = First b }
+byte_came records begun (First x) b = record { records = records; begun = begun; part = Second x b }
+byte_came records begun (Second x y) b = record { records = records; begun = begun; part = Third x y b }
+byte_came records begun (Third x y z) b = opened records begun (from_be_bytes w32 (x ∷ y ∷ z ∷ b ∷ []))
+byte_came records begun (Body last left) b =
+    if left == 1 then ended records (begun ++ b ∷ []) last else record { records = records; begun = begun ++ b ∷ []; part = Body last (left - 1) }
+byte_came records begun TooLong b = record { records = records; begun = begun; part = TooLong }
+
+-- the stream after some bytes
+unfoldable pub after : Stream → List ℕ → Stream
+after s [] = s
+after s (b ∷ bs) = after (byte_came s.records s.begun s.part b) bs
+
+-- The new stream has all that the old one had, and perhaps more: the record that was begun has grown, or it
+-- is complete with what came of it
+pub data Extends (old new : Stream) : Type 0 where
+  Grown : (extra : List ℕ) → new.records ≡ old.records → new.begun ≡ old.begun ++ extra → Extends old new
+  Completed : (extra : List ℕ) → (more : List (List ℕ)) → new.records ≡ old.records ++ (old.begun ++ extra) ∷ more → Extends old new
+
+-- nothing has come of the next record
+pub record IsBetween (s : Stream) : Type 0 where
+  pub begun : s.begun ≡ []
+  pub part : s.part ≡ Start

@@ -1,0 +1,236 @@
+// Records out of pieces of a stream.
+ghost use Rattle.std.specs.Prelude.{◌≡◌, ◌≢◌, ℕ, ◌+◌, ◌<◌, ◌≤◌, List, [], ◌∷◌, ◌++◌, length, take, OnOk, OnErr, IfOk, MatchOption, MatchBool, IsErrOf};
+ghost use Rattle.journal_rpc.specs.Stream.{fresh, after, ended, opened, Stream, Extends, IsBetween};
+ghost use Rattle.journal_rpc.specs.Cuts.{Spells};
+ghost use Rattle.journal_rpc.specs.Parts.{HasMore};
+ghost use Rattle.journal_rpc.specs.declared.part.Part.TheVariants.{Body, TooLong};
+
+use crate::part::Part;
+use crate::protocol::{LAST_FRAGMENT, RECORD_BYTES};
+use std::alloc::{AllocError, Global};
+use std::collections::VecDeque;
+use std::marker::Model;
+use std::mem;
+use thiserror::Error;
+
+/// A record: the bytes of its fragments, in one piece.
+#[derive(Debug, Drop)]
+pub struct Record {
+    bytes: Vec<u8>,
+}
+
+impl Model for Record {
+    ghost use Rattle.std.specs.Prelude.{ℕ, List};
+
+    ghost Value = { List ℕ };
+
+    ghost view = { λ piece. piece.bytes.items };
+}
+
+impl Record {
+    /// Its bytes, lent.
+    pub fn as_bytes(&self) -> &[u8]
+        ensures { result.now ≡ self.now }
+    {
+        &self.bytes
+    }
+}
+
+/// Why a piece of a stream was refused.
+#[derive(Clone, Copy, Debug, PartialEq, Eq, Error)]
+pub enum FeedRefused {
+    /// A growth was refused. Nothing has changed, and the piece may be fed again.
+    #[error("no memory")]
+    NoMemory,
+    /// A header took a record above `RECORD_BYTES`. The records before it stand, and no further piece
+    /// changes anything: each is refused so.
+    #[error("a record is too long")]
+    TooLong,
+}
+
+/// The records of a stream that comes in pieces (RFC 5531, section 11). Contracts see what has come of it:
+/// the records that are complete, and what has come of the next.
+#[derive(Drop)]
+pub struct Records {
+    alloc: Global,
+    waiting: VecDeque<Record>,
+    begun: Vec<u8>,
+    part: Part,
+}
+
+impl Model for Records {
+    ghost use Rattle.std.specs.Prelude.{ℕ, List};
+    ghost use Rattle.journal_rpc.specs.Stream.{Stream};
+    ghost use Rattle.journal_rpc.specs.Parts.{HasMore};
+
+    ghost Value = { Stream };
+
+    ghost view = { λ stream. record { records = stream.waiting.items; begun = stream.begun.items; part = stream.part } };
+
+    ghost invariant = { λ stream. HasMore stream.part };
+}
+
+impl Records {
+    /// A stream of which nothing has come. It takes no memory.
+    pub fn new(alloc: Global) -> Records
+        ensures { result ≡ fresh }
+    {
+        Records {
+            alloc,
+            waiting: VecDeque::new(alloc),
+            begun: Vec::new(alloc),
+            part: Part::Start,
+        }
+    }
+
+    /// Takes the next record, or answers `None` where none is complete.
+    pub fn next(&mut self) -> Option<Record>
+        ensures { MatchOption result ((self.old.records ≡ []) × (self.new ≡ self.old))
+            (λ first. self.old ≡ record self.new { records = first ∷ self.new.records }) }
+    {
+        self.waiting.pop_front()
+    }
+
+    /// Whether nothing has come of a record that is not complete: the stream may end here.
+    pub fn is_between(&self) -> bool
+        ensures { MatchBool result (IsBetween self.now) (IsBetween self.now → ⊥) }
+    {
+        match self.part {
+            Part::Start => self.begun.is_empty(),
+            _ => false,
+        }
+    }
+
+    /// Takes the next piece of the stream. What has come is then what would have come in one piece.
+    ///
+    /// Where growing is refused nothing has changed. Where a header takes a record above `RECORD_BYTES`
+    /// the records before it have come, and it stays so.
+    pub fn feed(&mut self, piece: &[u8]) -> Result<(), FeedRefused>
+        ensures ok { OnOk result ((self.new ≡ after self.old piece.now) × (self.new.part ≢ TooLong)) }
+        ensures no_memory { IsErrOf result FeedRefused.NoMemory → self.new ≡ self.old }
+        ensures too_long { IsErrOf result FeedRefused.TooLong
+            → (self.new ≡ after self.old piece.now) × (self.new.part ≡ TooLong) }
+
+        // Where the bytes so far were the spellings of what had come, they are with the piece too.
+        ensures spelled { result ≢ Err FeedRefused.NoMemory → (bytes : List ℕ) → Spells bytes self.old
+            → Spells (bytes ++ piece.now) self.new }
+    {
+        let (records, bytes, part) = (self.waiting.len(), self.begun.len(), self.part);
+        if self.take_in(piece).is_err() {
+            self.go_back(records, bytes, part);
+            return Err(FeedRefused::NoMemory);
+        }
+        match self.part {
+            Part::TooLong => Err(FeedRefused::TooLong),
+            _ => Ok(()),
+        }
+    }
+
+    // Takes all of the piece.
+    fn take_in(&mut self, piece: &[u8]) -> Result<(), AllocError>
+        ensures ok { OnOk result (self.new ≡ after self.old piece.now) }
+        ensures err { OnErr result (Extends self.old self.new) }
+    {
+        let mut rest = piece;
+        while !rest.is_empty() {
+            let (_, more) = rest.split_at(self.take_front(rest)?);
+            rest = more;
+        }
+        Ok(())
+    }
+
+    // Takes some bytes at the front, as many as go together, and answers how many.
+    fn take_front(&mut self, bytes: &[u8]) -> Result<usize, AllocError>
+        requires { 0 < length bytes.now }
+        ensures ok { IfOk result (λ n. (0 < n) × (n ≤ length bytes.now)
+            × (self.new ≡ after self.old (take n bytes.now))) }
+        ensures err { OnErr result (Extends self.old self.new) }
+    {
+        let byte = bytes[0];
+        match self.part {
+            Part::Start => self.part = Part::First(byte),
+            Part::First(a) => self.part = Part::Second(a, byte),
+            Part::Second(a, b) => self.part = Part::Third(a, b, byte),
+            Part::Third(a, b, c) => self.open_fragment(u32::from_be_bytes([a, b, c, byte]))?,
+            Part::Body { last, left } => {
+                let count = left.min(bytes.len());
+                self.take_body(last, left, &bytes[..count])?;
+                return Ok(count);
+            }
+            Part::TooLong => return Ok(bytes.len()),
+        }
+        Ok(1)
+    }
+
+    // Takes bytes of a body.
+    fn take_body(&mut self, last: bool, left: usize, bytes: &[u8]) -> Result<(), AllocError>
+        requires some { 0 < length bytes.now }
+        requires within { length bytes.now ≤ left }
+        requires here { self.old.part ≡ Body last left }
+        ensures ok { OnOk result (self.new ≡ after self.old bytes.now) }
+        ensures err { OnErr result (Extends self.old self.new) }
+    {
+        self.begun.extend_from_slice(bytes)?;
+        if bytes.len() == left {
+            return self.end_fragment(last);
+        }
+        self.part = Part::Body {
+            last,
+            left: left - bytes.len(),
+        };
+        Ok(())
+    }
+
+    // A header has come.
+    fn open_fragment(&mut self, header: u32) -> Result<(), AllocError>
+        ensures ok { OnOk result (self.new ≡ opened self.old.records self.old.begun header) }
+        ensures err { OnErr result (self.new ≡ self.old) }
+    {
+        let last = header >= LAST_FRAGMENT;
+        let left = (header % LAST_FRAGMENT) as usize;
+        if self.begun.len() + left > RECORD_BYTES {
+            self.part = Part::TooLong;
+        } else if left == 0 {
+            self.end_fragment(last)?;
+        } else {
+            // All that may come of the record gets room at once, so that no byte is copied again.
+            let room = if last {
+                left
+            } else {
+                RECORD_BYTES - self.begun.len()
+            };
+            self.begun.reserve(room)?;
+            self.part = Part::Body { last, left };
+        }
+        Ok(())
+    }
+
+    // A fragment is at its end.
+    fn end_fragment(&mut self, last: bool) -> Result<(), AllocError>
+        ensures ok { OnOk result (self.new ≡ ended self.old.records self.old.begun last) }
+        ensures err { OnErr result (self.new ≡ self.old) }
+    {
+        if last {
+            self.waiting.reserve(1)?;
+            let bytes = mem::replace(&mut self.begun, Vec::new(self.alloc));
+            self.waiting.push_back_reserved(Record { bytes });
+        }
+        self.part = Part::Start;
+        Ok(())
+    }
+
+    // Takes what has come since back.
+    fn go_back(&mut self, records: usize, bytes: usize, part: Part)
+        requires { HasMore part }
+        ensures { (old : Stream) → length old.records ≡ records → length old.begun ≡ bytes → old.part ≡ part
+            → Extends old self.old → self.new ≡ old }
+    {
+        while self.waiting.len() > records {
+            if let Some(record) = self.waiting.pop_back() {
+                self.begun = record.bytes;
+            }
+        }
+        self.begun.truncate(bytes);
+        self.part = part;
+    }
+}

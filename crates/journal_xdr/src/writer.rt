@@ -1,0 +1,152 @@
+// Writing items behind some bytes.
+ghost use Rattle.std.specs.Prelude.{◌≡◌, ◌<◌, ◌≤◌, ◌^◌, List, ℕ, [], ◌++◌, length, drop, IfOk, OnOk, OnErr};
+ghost use Rattle.journal_xdr.specs.Items.{Writes, Adds};
+ghost use Rattle.journal_xdr.specs.Basic.{word, hyper, boolean, enumeration, fixed, opaque, string};
+
+use crate::enumeration::Enumeration;
+use crate::padding::padding;
+use byteorder::{BigEndian, ByteOrder};
+use std::alloc::{AllocError, Global};
+use std::marker::Model;
+
+/// Writes items one behind another. Contracts see the bytes written so far.
+///
+/// Room is reserved once, where the writer is made: within it no call takes memory. A call that would
+/// need more grows the buffer, and where that is refused it leaves the bytes written so far as they were.
+#[derive(Drop)]
+pub struct Writer {
+    bytes: Vec<u8>,
+}
+
+impl Model for Writer {
+    ghost use Rattle.std.specs.Prelude.{ℕ, List};
+
+    ghost Value = { List ℕ };
+
+    ghost view = { λ writer. writer.bytes.items };
+}
+
+impl Writer {
+    /// A writer with room for so many bytes.
+    pub fn with_capacity(alloc: Global, room: usize) -> Result<Writer, AllocError>
+        ensures { IfOk result (λ writer. writer ≡ []) }
+    {
+        Ok(Writer {
+            bytes: Vec::with_capacity(alloc, room)?,
+        })
+    }
+
+    /// How many bytes are written.
+    pub fn len(&self) -> usize
+        ensures { result ≡ length self.now }
+    {
+        self.bytes.len()
+    }
+
+    /// The bytes written. It takes no memory.
+    pub fn into_bytes(self) -> Vec<u8>
+        ensures { result.items ≡ self }
+    {
+        self.bytes
+    }
+
+    /// Writes an unsigned integer (RFC 4506, section 4.2).
+    #[tactic(auto, unfolding(crate::specs::Basic::word))]
+    pub fn word(&mut self, number: u32) -> Result<(), AllocError>
+        ensures ok { OnOk result (Writes word number self.old self.new) }
+        ensures grammar { OnOk result (Adds word number self.old self.new) }
+        ensures err { OnErr result (self.new ≡ self.old) }
+    {
+        let mut bytes = [0; 4];
+        BigEndian::write_u32(&mut bytes, number);
+        Ok(self.bytes.extend_from_slice(&bytes)?)
+    }
+
+    /// Writes an unsigned hyper integer (RFC 4506, section 4.5).
+    #[tactic(auto, unfolding(crate::specs::Basic::hyper))]
+    pub fn hyper(&mut self, number: u64) -> Result<(), AllocError>
+        ensures ok { OnOk result (Writes hyper number self.old self.new) }
+        ensures grammar { OnOk result (Adds hyper number self.old self.new) }
+        ensures err { OnErr result (self.new ≡ self.old) }
+    {
+        let mut bytes = [0; 8];
+        BigEndian::write_u64(&mut bytes, number);
+        Ok(self.bytes.extend_from_slice(&bytes)?)
+    }
+
+    /// Writes a boolean (RFC 4506, section 4.4).
+    #[tactic(auto, unfolding(crate::specs::Basic::boolean))]
+    pub fn boolean(&mut self, truth: bool) -> Result<(), AllocError>
+        ensures ok { OnOk result (Writes boolean truth self.old self.new) }
+        ensures grammar { OnOk result (Adds boolean truth self.old self.new) }
+        ensures err { OnErr result (self.new ≡ self.old) }
+    {
+        self.enumeration(truth)
+    }
+
+    /// Writes a value of an enumeration (RFC 4506, section 4.3).
+    pub fn enumeration<E: Enumeration>(&mut self, value: E) -> Result<(), AllocError>
+        ensures ok { OnOk result (Writes (enumeration E.meaning E.code) value self.old self.new) }
+        ensures grammar { OnOk result (Adds (enumeration E.meaning E.code) value self.old self.new) }
+        ensures err { OnErr result (self.new ≡ self.old) }
+    {
+        self.word(value.number())
+    }
+
+    /// Writes fixed-length opaque data (RFC 4506, section 4.9).
+    #[tactic(auto, unfolding(crate::specs::Basic::fixed))]
+    pub fn fixed(&mut self, bytes: &[u8]) -> Result<(), AllocError>
+        ensures ok { OnOk result (Writes (fixed (length bytes.now)) bytes.now self.old self.new) }
+        ensures grammar { OnOk result (Adds (fixed (length bytes.now)) bytes.now self.old self.new) }
+        ensures err { OnErr result (self.new ≡ self.old) }
+    {
+        let written = self.bytes.len();
+        self.bytes.extend_from_slice(bytes)?;
+        let padded = self
+            .bytes
+            .resize(self.bytes.len() + padding(bytes.len()), 0);
+        if padded.is_err() {
+            self.bytes.truncate(written);
+        }
+        padded
+    }
+
+    /// Writes variable-length opaque data (RFC 4506, section 4.10).
+    #[tactic(auto, unfolding(crate::specs::Basic::opaque))]
+    pub fn opaque(&mut self, bytes: &[u8]) -> Result<(), AllocError>
+        requires { length bytes.now < 2 ^ 32 }
+        ensures ok { OnOk result ((limit : ℕ) → Writes (opaque limit) bytes.now self.old self.new) }
+        ensures grammar { OnOk result ((limit : ℕ) → length bytes.now ≤ limit
+            → Adds (opaque limit) bytes.now self.old self.new) }
+        ensures err { OnErr result (self.new ≡ self.old) }
+    {
+        let written = self.bytes.len();
+        self.word(bytes.len() as u32)?;
+        let done = self.fixed(bytes);
+        if done.is_err() {
+            self.bytes.truncate(written);
+        }
+        done
+    }
+
+    /// Writes a string (RFC 4506, section 4.11).
+    #[tactic(auto, unfolding(crate::specs::Basic::string))]
+    pub fn string(&mut self, bytes: &[u8]) -> Result<(), AllocError>
+        requires { length bytes.now < 2 ^ 32 }
+        ensures ok { OnOk result ((limit : ℕ) → Writes (string limit) bytes.now self.old self.new) }
+        ensures grammar { OnOk result ((limit : ℕ) → length bytes.now ≤ limit
+            → Adds (string limit) bytes.now self.old self.new) }
+        ensures err { OnErr result (self.new ≡ self.old) }
+    {
+        self.opaque(bytes)
+    }
+
+    /// Writes an unsigned integer over the first four bytes.
+    #[tactic(auto, unfolding(crate::specs::Basic::word))]
+    pub fn replace_first(&mut self, number: u32)
+        requires { 4 ≤ length self.old }
+        ensures { self.new ≡ word.spelling number ++ drop 4 self.old }
+    {
+        BigEndian::write_u32(&mut self.bytes, number);
+    }
+}
