@@ -1,6 +1,6 @@
 -- What commits need, and what they leave.
-use Rattle.std.proofs.Common.{inl, inr, ◌⊎◌, ⊎_elim, Result, Ok, Err, OnOk, ◌≡◌, ◌≢◌, ◌<◌, ◌≤◌, ◌+◌, ◌==◌, ℕ, ◌^◌, Bool, true, false, cond, max, IsTrue, List, [], ◌∷◌, ◌++◌, length, length-append, refl, sym, ap, subst, ◌∙◌, arith}
-use Rattle.std.proofs.lemmas.Bool.{false≢true, eqb-true, eqb-false}
+use Rattle.std.proofs.Common.{◌⊎◌, inl, inr, ⊎_elim, Result, Ok, Err, OnOk, OnErr, ◌≡◌, ◌≢◌, ◌<◌, ◌≤◌, ◌+◌, ◌==◌, ℕ, ◌^◌, Bool, true, false, cond, max, IsTrue, List, [], ◌∷◌, ◌++◌, length, length-append, refl, sym, ap, subst, ◌∙◌, arith}
+use Rattle.std.proofs.lemmas.Bool.{eqb-true, eqb-false}
 use mathlib.Core.List.{IsPrefix}
 use Rattle.journal_world.specs.declared.refusal.Refusal.{Refusal}
 use Rattle.journal_world.specs.declared.refusal.Refusal.TheVariants.{NoMemory, BadAddress, BadSize, TooLarge, Busy, DeviceFailed, BadLog, BadSuper, Stale, Stranger, Worn, Full, Closed, Fenced}
@@ -11,19 +11,20 @@ use Rattle.journal_world.proofs.Prefixes.{IsPrefix-trans}
 use Rattle.journal_world.proofs.SessionCommits.{commits_of-append, length-commits_of-le}
 use Rattle.journal_world.proofs.LongerHistories.{commits_of-commit, after-blocks, at-count}
 use Rattle.journal_block.specs.declared.update.Update.{Update}
-use Rattle.journal_circ.specs.Ring.{Ring}
-use Rattle.journal_memlog.specs.Logs.{next_of, appended}
-use Rattle.journal_wal.specs.Wal.{WalState, log_steps, tail_length, Appends}
+use Rattle.journal_memlog.specs.Logs.{next_of}
+use Rattle.journal_wal.specs.Wal.{WalState, log_steps, Appends}
 use Rattle.journal_objlog.specs.ObjectLogs.{map_now, map_cut, map_logged, MayCrash, OnlyReads}
 use Rattle.journal_objlog.specs.Writes.{IsPrepared, fresh_blocks}
-use Rattle.journal_objlog.proofs.Openings.{failed_after, OnlyReads-trans}
 use Rattle.journal_history.specs.Tokens.{SessionState, made, OnlyExtends, Commits, next_of as numbered}
 use Rattle.journal_history.specs.Soundness.{IsSound}
 use Rattle.journal_core.specs.Tallies.{Pairs, made_among, SameTally, CountsOne, IsTallied}
 use Rattle.journal_core.specs.Causes.{Told}
 use Rattle.journal_core.specs.Cores.{CoreState, IsKept}
-use Rattle.journal_core.specs.Commits.{Logs, IsCommitted, IsAdded, IsStrange, IsWorn, MayCommit, IsPreparingRefusal, IsCommitRefusal}
+use Rattle.journal_core.specs.Transactions.{TransactionState}
+use Rattle.journal_core.specs.Commits.{IsCommitted, IsAdded, HasSeen, IsStrange, IsWorn, MayCommit, CanPrepare, CanCommit, IsPreparingRefusal, IsCommitRefusal}
 use Rattle.journal_core.proofs.Keeping.{commits_of-other, Rests, kept_commit}
+use Rattle.journal_core.specs.Cores.{disk_of}
+use Rattle.journal_objlog.specs.ObjectLogs.{is_faulted as is_log_faulted}
 
 -- a longer history has no fewer commits of a session
 fewer_commits : (s : ℕ) (history longer : List Entry) → IsPrefix history longer → length (commits_of s history) ≤ length (commits_of s longer)
@@ -33,26 +34,39 @@ fewer_commits s history longer begins = omega (
   length-append (commits_of s history) (commits_of s begins.0),
 )
 
+-- what a session has seen only grows, time and again
+pub extends_on : (a b c : SessionState) → OnlyExtends a b → OnlyExtends b c → OnlyExtends a c
+extends_on a b c first second = record {
+  number = second.number ∙ first.number;
+  mine = second.mine ∙ first.mine;
+  seen = IsPrefix-trans a.seen b.seen c.seen first.seen second.seen;
+}
+
+-- where a session was shown all, it and the transaction had seen no more
+pub has_seen : (c : CoreState) (t : TransactionState) (old first second shown : SessionState) → OnlyExtends old first → OnlyExtends first second
+    → IsPrefix t.seen second.seen → OnlyExtends second shown → shown.seen ≡ c.history → HasSeen c old t
+has_seen c t old first second shown one two read three whole = record {
+  shown = subst (IsPrefix old.seen) whole (extends_on old first shown one (extends_on first second shown two three)).seen;
+  later = subst (IsPrefix t.seen) whole (IsPrefix-trans t.seen second.seen shown.seen read three.seen);
+}
+
 -- a session that has seen the history made no more commits than it has, so that where they are not as many there is a strange one
-pub is_strange : (c : CoreState) (old seen shown : SessionState) (tally : Pairs) (number has own : ℕ) → OnlyExtends old seen → OnlyExtends seen shown
+pub is_strange : (c : CoreState) (old shown : SessionState) (tally : Pairs) (number has own : ℕ) → OnlyExtends old shown
     → shown.seen ≡ c.history → IsPrefix shown.mine shown.seen → IsTallied tally c.history → number ≡ shown.number
     → has ≡ made_among tally number → own ≡ made shown → has ≢ own → IsStrange c old
-is_strange c old seen shown tally number has own first second all prefix tallied is counted told differs =
+is_strange c old shown tally number has own extends all prefix tallied is counted told differs =
     subst (λ (n : ℕ). n < length (commits_of old.number c.history)) same_made
     (omega (arith, fewer, here, told, differs))
   where
-    same_number : shown.number ≡ old.number
-    same_number = second.number ∙ first.number
-
     same_made : made shown ≡ made old
-    same_made = (λ i. length (commits_of (same_number i) ((second.mine ∙ first.mine) i)))
+    same_made = (λ i. length (commits_of (extends.number i) (extends.mine i)))
 
     fewer : made shown ≤ length (commits_of old.number c.history)
     fewer = subst (λ (h : List Entry). made shown ≤ length (commits_of old.number h)) all
-        (subst (λ (n : ℕ). made shown ≤ length (commits_of n shown.seen)) same_number (fewer_commits shown.number shown.mine shown.seen prefix))
+        (subst (λ (n : ℕ). made shown ≤ length (commits_of n shown.seen)) extends.number (fewer_commits shown.number shown.mine shown.seen prefix))
 
     here : has ≡ length (commits_of old.number c.history)
-    here = counted ∙ tallied number ∙ ap (λ (n : ℕ). length (commits_of n c.history)) (is ∙ same_number)
+    here = counted ∙ tallied number ∙ ap (λ (n : ℕ). length (commits_of n c.history)) (is ∙ extends.number)
 
 -- the map after all commits keeps the rule once it is overwritten
 pub ruled_then : (blocks : ℕ) (rule : Map → Type 0) (history : List Entry) (reads writes : List Pair) → (opened history).blocks ≡ blocks → IsSound rule history
@@ -95,14 +109,14 @@ tallied_commit old mid new history later t session added is same counts tallied 
 -- an append moves no group
 pub rests_append : (old : WalState) (updates : List Update) (new : WalState) → Appends old updates new → Rests old new
 rests_append old updates new appends fine none =
-    (sym (ap (λ (w : WalState). w.ring.faulted) appends.log) ∙ fine, sym (ap log_steps appends.log) ∙ none)
+    (sym (ap is_log_faulted appends.log) ∙ fine, sym (ap log_steps appends.log) ∙ none)
 
 module _ (blocks : ℕ) (c : CoreState) (kept : IsKept blocks c) (begun : c.history ≢ []) where
   -- the transaction was added, and its writes appended
   pub kept_added : (t : Transaction) (prepared : List Update) (objects : WalState) (history : List Entry) (next : ℕ)
       → history ≡ c.history ++ commit t ∷ [] → next ≡ max c.next (t.session + 1) → IsPrepared c.objects prepared t.writes
       → Appends c.objects prepared objects → MayCrash c.objects objects
-      → (IsTrue c.objects.ring.disk.honest → (writes : List Pair) → IsPrepared c.objects prepared writes → SameMap (map_now objects) (overwritten (map_now c.objects) writes))
+      → (IsTrue (disk_of c).honest → (writes : List Pair) → IsPrepared c.objects prepared writes → SameMap (map_now objects) (overwritten (map_now c.objects) writes))
       → SameMap (map_cut objects) (map_cut c.objects) → SameMap (map_logged objects) (map_logged c.objects)
       → IsKept blocks (record { objects = objects; history = history; cut = c.cut; logged = c.logged; next = next })
   kept_added t prepared objects history next added raised ready appends crash now cut logged =
@@ -110,53 +124,35 @@ module _ (blocks : ℕ) (c : CoreState) (kept : IsKept blocks c) (begun : c.hist
       (subst (λ (h : List Entry). IsKept blocks (record { objects = objects; history = h; cut = c.cut; logged = c.logged; next = max c.next (t.session + 1) })) (sym added)
       (kept_commit blocks c kept begun t objects crash (λ honest. now honest t.writes ready) cut logged (rests_append c.objects prepared objects appends)))
 
--- Once what was read is compared and the writes are ready, the core was only read
+-- a session that has seen more is worn as before
+worn_before : (c : CoreState) (s seen : SessionState) (writes : List Pair) → OnlyExtends s seen → IsWorn c seen writes → IsWorn c s writes
+worn_before c s seen writes extends worn =
+    subst (λ (n : ℕ). (2 ^ 62 ≤ length c.history + 1) ⊎ (2 ^ 62 ≤ n) ⊎ (2 ^ 62 ≤ next_of c.objects.log + fresh_blocks c.objects writes)) extends.number worn
 
--- numbers that are as before are worn as before
-worn_as : (a b d a' b' d' : ℕ) → a ≡ a' → b ≡ b' → d ≡ d' → (2 ^ 62 ≤ a) ⊎ (2 ^ 62 ≤ b) ⊎ (2 ^ 62 ≤ d) → (2 ^ 62 ≤ a') ⊎ (2 ^ 62 ≤ b') ⊎ (2 ^ 62 ≤ d')
-worn_as a b d a' b' d' first second third worn =
-    subst (λ (n : ℕ). (2 ^ 62 ≤ n) ⊎ (2 ^ 62 ≤ b') ⊎ (2 ^ 62 ≤ d')) first
-    (subst (λ (n : ℕ). (2 ^ 62 ≤ a) ⊎ (2 ^ 62 ≤ n) ⊎ (2 ^ 62 ≤ d')) second
-    (subst (λ (n : ℕ). (2 ^ 62 ≤ a) ⊎ (2 ^ 62 ≤ b) ⊎ (2 ^ 62 ≤ n)) third worn))
+worn_after : (c : CoreState) (s seen : SessionState) (writes : List Pair) → OnlyExtends s seen → IsWorn c s writes → IsWorn c seen writes
+worn_after c s seen writes extends worn =
+    subst (λ (n : ℕ). (2 ^ 62 ≤ length c.history + 1) ⊎ (2 ^ 62 ≤ n) ⊎ (2 ^ 62 ≤ next_of c.objects.log + fresh_blocks c.objects writes)) (sym extends.number) worn
 
-module _ (old mid : CoreState) (s seen : SessionState) (reads writes : List Pair) (extends : OnlyExtends s seen)
-    (others : mid ≡ record old { objects = mid.objects }) (only : OnlyReads old.objects mid.objects) (still : mid.objects.ring.faulted ≡ false) where
-  same_length : length mid.history + 1 ≡ length old.history + 1
-  same_length = ap (λ (c : CoreState). length c.history + 1) others
+-- nor is more worn or fuller
+can_after : (c : CoreState) (s seen : SessionState) (t : TransactionState) → OnlyExtends s seen → MayCommit c s t → CanPrepare c seen t.writes → CanCommit c s t
+can_after c s seen t extends may can = record {
+  may = may;
+  writes = record { few = can.few; unworn = λ worn. can.unworn (worn_after c s seen t.writes extends worn); room = can.room };
+}
 
-  same_position : next_of mid.objects.log + fresh_blocks mid.objects writes ≡ next_of old.objects.log + fresh_blocks old.objects writes
-  same_position = ap (λ (w : WalState). next_of w.log + fresh_blocks w writes) only.same
-
-  worn_before : IsWorn mid seen writes → IsWorn old s writes
-  worn_before worn = worn_as (length mid.history + 1) seen.number (next_of mid.objects.log + fresh_blocks mid.objects writes)
-      (length old.history + 1) s.number (next_of old.objects.log + fresh_blocks old.objects writes) same_length extends.number same_position worn
-
-  worn_after : IsWorn old s writes → IsWorn mid seen writes
-  worn_after worn = worn_as (length old.history + 1) s.number (next_of old.objects.log + fresh_blocks old.objects writes)
-      (length mid.history + 1) seen.number (next_of mid.objects.log + fresh_blocks mid.objects writes)
-      (sym same_length) (sym extends.number) (sym same_position) worn
-
+module _ (old : CoreState) (s seen : SessionState) (t : TransactionState) (extends : OnlyExtends s seen) where
   -- the writes are not made ready
-  pub refuses_writes : (new : CoreState) → MayCommit old s reads → (refusal : Refusal Told) → IsPreparingRefusal mid seen writes new refusal
-      → IsCommitRefusal old s reads writes new refusal
+  pub refuses_writes : (new : CoreState) → MayCommit old s t → (refusal : Refusal Told) → IsPreparingRefusal old seen t.writes new refusal
+      → IsCommitRefusal old s t new refusal
   refuses_writes new may TooLarge why = (may, why)
-  refuses_writes new may (Worn cause) why = (may, why.0, worn_before why.1, why.2)
-  refuses_writes new may (Full cause) why = (
-    may,
-    why.0,
-    λ worn. why.1 (worn_after worn),
-    subst (λ (n : ℕ). 255 < n) (ap (λ (w : WalState). tail_length w + fresh_blocks w writes) only.same) why.2,
-    why.3,
-  )
-  refuses_writes new may NoMemory why = (may.fine, may.own)
+  refuses_writes new may (Worn cause) why = (may, why.0, worn_before old s seen t.writes extends why.1, why.2)
+  refuses_writes new may (Full cause) why = (may, why.0, λ worn. why.1 (worn_after old s seen t.writes extends worn), why.2, why.3)
+  refuses_writes new may NoMemory why = can_after old s seen t extends may why
   refuses_writes new may (DeviceFailed cause) why = record {
     unexplained = why.unexplained;
-    fault = ⊎_elim
-        (λ was. absurd (false≢true (sym still ∙ was)))
-        (λ failed. inr (failed_after old.objects.ring.disk mid.objects.ring.disk new.objects.ring.disk only.keeps failed))
-        why.fault;
+    fault = ⊎_elim (λ was. inl was) (λ failed. inr (can_after old s seen t extends may failed.0, failed.1)) why.fault;
     faulted = why.faulted;
-    others = why.others ∙ ap (λ (c : CoreState). record c { objects = new.objects }) others;
+    others = why.others;
   }
   refuses_writes new may BadAddress why = absurd why
   refuses_writes new may BadSize why = absurd why
@@ -167,6 +163,10 @@ module _ (old mid : CoreState) (s seen : SessionState) (reads writes : List Pair
   refuses_writes new may (Stranger cause) why = absurd why
   refuses_writes new may (Closed cause) why = absurd why
   refuses_writes new may Fenced why = absurd why
+
+  -- nothing but memory and the device can refuse it
+  pub can_commit : MayCommit old s t → CanPrepare old seen t.writes → CanCommit old s t
+  can_commit may can = can_after old s seen t extends may can
 
 -- a session that has seen more commits the same
 commits_from : (reads writes : List Pair) (s seen after : SessionState) (before longer : List Entry) → OnlyExtends s seen
@@ -182,46 +182,29 @@ commits_from reads writes s seen after before longer extends was = record {
     same : numbered seen reads writes ≡ numbered s reads writes
     same = (λ i. record { session = extends.number i; number = length (commits_of (extends.number i) (extends.mine i)); reads = reads; writes = writes })
 
--- what was appended after reads
-logs_from : (old mid new : WalState) (updates : List Update) → OnlyReads old mid → old.ring.faulted ≡ false → mid.ring.faulted ≡ false
-    → Appends mid updates new → Logs old new
-logs_from old mid new updates only fine still appends = record {
-  updates = updates;
-  log = ap (λ (w : WalState). w.log) appends.log
-      ∙ ap (λ (w : WalState). record (appended w.log updates) { room = new.log.room }) only.same;
-  ring = ring ∙ ap (λ (w : WalState). w.ring) only.same
-      ∙ (λ i. record old.ring { disk = sym (ap (λ (r : Ring). r.disk) ring) i; faulted = (still ∙ sym fine) i });
-  past = λ honest. ap (λ (r : Ring). r.disk.past) ring ∙ only.past honest;
-  logging = ap (λ (w : WalState). w.logging) appends.log ∙ ap (λ (w : WalState). w.logging) only.same;
-  installing = ap (λ (w : WalState). w.installing) appends.log ∙ ap (λ (w : WalState). w.installing) only.same;
-}
-  where
-    ring : new.ring ≡ mid.ring
-    ring = ap (λ (w : WalState). w.ring) appends.log
-
 -- the transaction was added after reads
-pub committed_from : (reads writes : List Pair) (s seen after : SessionState) (old mid ready new : CoreState) (prepared : List Update) → OnlyExtends s seen
-    → mid ≡ record old { objects = mid.objects } → OnlyReads old.objects mid.objects
-    → ready ≡ record mid { objects = ready.objects } → OnlyReads mid.objects ready.objects
-    → old.objects.ring.faulted ≡ false → ready.objects.ring.faulted ≡ false
+pub committed_from : (reads writes : List Pair) (s seen after : SessionState) (old ready new : CoreState) (prepared : List Update) → OnlyExtends s seen
+    → ready ≡ record old { objects = ready.objects } → OnlyReads old.objects ready.objects → IsPrepared ready.objects prepared writes
     → IsAdded (numbered seen reads writes) prepared seen after ready new → IsCommitted reads writes s after old new
-committed_from reads writes s seen after old mid ready new prepared extends first compared second readied fine still added = record {
+committed_from reads writes s seen after old ready new prepared extends same readied is_ready added = record {
   committed = subst (λ (h : List Entry). Commits (numbered s reads writes) s after h new.history) (ap (λ (c : CoreState). c.history) same)
       (commits_from reads writes s seen after ready.history new.history extends added.committed);
-  logs = logs_from old.objects ready.objects new.objects prepared (OnlyReads-trans old.objects mid.objects ready.objects compared readied) fine still added.appends;
+  logs = record {
+    updates = prepared;
+    named = is_ready.named;
+    number = is_ready.number;
+    read = ready.objects;
+    reads = readied;
+    appends = added.appends;
+  };
   others = added.others
       ∙ (λ i. record (same i) { objects = new.objects; history = new.history; next = max (same i).next (extends.number i + 1) });
 }
-  where
-    same : ready ≡ record old { objects = ready.objects }
-    same = second ∙ ap (λ (c : CoreState). record c { objects = ready.objects }) first
 
--- what is left after reads, whatever else was done
-pub left_after : (old mid new : WalState) → OnlyReads old mid → OnlyReads mid new ⊎ (new.ring.faulted ≡ true) → OnlyReads old new ⊎ (new.ring.faulted ≡ true)
-left_after old mid new first left = ⊎_elim
-    (λ (second : OnlyReads mid new). inl (OnlyReads-trans old mid new first second))
-    (λ (faulted : new.ring.faulted ≡ true). inr faulted)
-    left
+-- a refused call only extends what was only extended before
+pub err_extends : {T E : Type 0} (r : Result T E) (a b c : SessionState) → OnlyExtends a b → OnErr r (OnlyExtends b c) → OnErr r (OnlyExtends a c)
+err_extends (Ok value) a b c first second = tt
+err_extends (Err e) a b c first second = extends_on a b c first second
 
 -- what follows of an answer
 pub on_ok : {T E P Q : Type 0} (r : Result T E) → OnOk r P → (P → Q) → OnOk r Q

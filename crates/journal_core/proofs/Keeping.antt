@@ -1,6 +1,6 @@
 -- Each step keeps what the core keeps, and leaves of its disk only fronts of its history.
-use Rattle.std.proofs.Common.{false, ◌==◌, Bool, cond, max, ◌≡◌, ◌≢◌, inr, ⊎_elim, ◌<◌, ◌≤◌, ◌+◌, ◌-◌, ℕ, List, [], ◌∷◌, ◌++◌, take, length, length-drop, IsTrue, refl, sym, ap, subst, ◌∙◌, arith}
-use Rattle.std.proofs.lemmas.List.{take_all, take-append-le, append-nil}
+use Rattle.std.proofs.Common.{false, ◌==◌, Bool, cond, max, ◌≡◌, ◌≢◌, inr, ⊎_elim, ◌<◌, ◌≤◌, ◌+◌, ℕ, List, [], ◌∷◌, ◌++◌, take, length, IsTrue, refl, sym, ap, subst, ◌∙◌, arith}
+use Rattle.std.proofs.lemmas.List.{take-append-le, append-nil}
 use Rattle.std.proofs.lemmas.Bool.{ne_eqb}
 use Rattle.std.specs.List.{filter}
 use Rattle.journal_world.proofs.SessionCommits.{commits_of-append}
@@ -11,20 +11,20 @@ use Rattle.journal_world.proofs.SameMaps.{SameMap-trans, overwritten-same}
 use Rattle.journal_world.proofs.LongerHistories.{commits-commit, count-commit, opened-append, latest-commit, at-count}
 use Rattle.journal_world.proofs.MapsOfHistories.{is_trusted-append}
 use Rattle.journal_world.proofs.Marks.{floor-mark, floor-commit, commits-mark, count-mark}
-use Rattle.journal_block.specs.declared.update.Update.{Update}
 use Rattle.journal_block.specs.Block.{Bytes}
-use Rattle.journal_block.specs.Updates.{updated}
 use Rattle.journal_disk.specs.Images.{EveryImage}
 use Rattle.journal_disk.specs.Laws.{leaves_also, leaves_none}
-use Rattle.journal_disk.specs.Disks.{Keeps, Past}
+use Rattle.journal_disk.specs.Disks.{DiskState, Keeps, Past}
 use Rattle.journal_disk.specs.Moments.{LeavesOnly}
-use Rattle.journal_circ.specs.Ring.{home_of}
 use Rattle.journal_wal.specs.Wal.{WalState, size_of, log_steps, tail_length}
-use Rattle.journal_objlog.specs.Maps.{map_of, OpensAs}
+use Rattle.journal_objlog.specs.Maps.{OpensAs}
+use Rattle.journal_objlog.specs.CutLaws.{cut_is_now, logged_is_cut}
 use Rattle.journal_objlog.specs.ObjectLogs.{map_now, map_cut, map_logged, MayOpenAs, MayCrash, KeepsMaps, CutsMap, EndsMap, OnlyReads}
 use Rattle.journal_core.specs.Tallies.{Pairs, IsTallied}
 use Rattle.journal_core.specs.Steps.{CanMark}
 use Rattle.journal_core.specs.Cores.{CoreState, Leaves, Crashes, IsKept}
+use Rattle.journal_core.specs.Cores.{disk_of}
+use Rattle.journal_objlog.specs.ObjectLogs.{is_faulted as is_log_faulted, disk_of as log_disk}
 
 -- another session has no more commits
 pub commits_of-other : (history : List Entry) (t : Transaction) (s : ℕ) → t.session ≢ s
@@ -35,7 +35,7 @@ commits_of-other history t s other =
     ∙ append-nil (commits_of s history)
 
 -- what a crash may leave is the map after a front
-leaves_of : (blocks : ℕ) (c : CoreState) → IsKept blocks c → IsTrue c.objects.ring.disk.honest → (image : List Bytes)
+leaves_of : (blocks : ℕ) (c : CoreState) → IsKept blocks c → IsTrue (disk_of c).honest → (image : List Bytes)
     → MayOpenAs c.objects image → Leaves c.history image
 leaves_of blocks c kept honest image may = ⊎_elim
     (λ (opens : OpensAs (map_logged c.objects) image). record {
@@ -61,19 +61,19 @@ pub crashes_of : (blocks : ℕ) (old new : CoreState) → IsKept blocks old → 
     → Crashes old new
 crashes_of blocks old new before kept crash = record {
   keeps = crash.keeps;
-  moments = λ honest. leaves_also old.objects.ring.disk.past new.objects.ring.disk.past (MayOpenAs old.objects) (Leaves old.history)
+  moments = λ honest. leaves_also (disk_of old).past (disk_of new).past (MayOpenAs old.objects) (Leaves old.history)
       (crash.moments honest) (λ image may. leaves_of blocks old before honest image may);
   images = λ honest image one. leaves_of blocks new kept honest image (crash.images honest image one);
 }
 
 -- where no group is in flight now, none was
 abbrev pub Rests : WalState → WalState → Type 0
-Rests old new = new.ring.faulted ≡ false → log_steps new ≡ 0 → (old.ring.faulted ≡ false) × (log_steps old ≡ 0)
+Rests old new = is_log_faulted new ≡ false → log_steps new ≡ 0 → (is_log_faulted old ≡ false) × (log_steps old ≡ 0)
 
 module _ (blocks : ℕ) (c : CoreState) (kept : IsKept blocks c) where
   -- the maps stay
   pub kept_on : (objects : WalState) → MayCrash c.objects objects
-      → (IsTrue c.objects.ring.disk.honest → KeepsMaps c.objects objects)
+      → (IsTrue (disk_of c).honest → KeepsMaps c.objects objects)
       → Rests c.objects objects
       → IsKept blocks (record c { objects = objects })
   kept_on objects crash maps rest = record {
@@ -84,7 +84,7 @@ module _ (blocks : ℕ) (c : CoreState) (kept : IsKept blocks c) where
     logged_to_cut = kept.logged_to_cut;
     cut_to_count = kept.cut_to_count;
     rest = λ fine none. let was = rest fine none in kept.rest was.0 was.1;
-    tied = λ honest. let was : IsTrue c.objects.ring.disk.honest = subst IsTrue crash.keeps.honest honest in record {
+    tied = λ honest. let was : IsTrue (disk_of c).honest = subst IsTrue crash.keeps.honest honest in record {
       now = SameMap-trans (map_now objects) (map_now c.objects) (latest c.history) (maps was).now (kept.tied was).now;
       cut = SameMap-trans (map_cut objects) (map_cut c.objects) (at c.history c.cut) (maps was).cut (kept.tied was).cut;
       logged = SameMap-trans (map_logged objects) (map_logged c.objects) (at c.history c.logged) (maps was).logged (kept.tied was).logged;
@@ -95,7 +95,7 @@ module _ (blocks : ℕ) (c : CoreState) (kept : IsKept blocks c) where
 
   -- the tail is cut
   pub kept_cut : (objects : WalState) → MayCrash c.objects objects
-      → (IsTrue c.objects.ring.disk.honest → CutsMap c.objects objects) → 0 < log_steps objects
+      → (IsTrue (disk_of c).honest → CutsMap c.objects objects) → 0 < log_steps objects
       → IsKept blocks (record c { objects = objects; cut = count c.history })
   kept_cut objects crash maps flies = record {
     size = crash.keeps.size ∙ kept.size;
@@ -105,7 +105,7 @@ module _ (blocks : ℕ) (c : CoreState) (kept : IsKept blocks c) where
     logged_to_cut = omega (arith, kept.logged_to_cut, kept.cut_to_count);
     cut_to_count = omega arith;
     rest = λ fine none. absurd (omega (arith, flies, none));
-    tied = λ honest. let was : IsTrue c.objects.ring.disk.honest = subst IsTrue crash.keeps.honest honest in record {
+    tied = λ honest. let was : IsTrue (disk_of c).honest = subst IsTrue crash.keeps.honest honest in record {
       now = SameMap-trans (map_now objects) (map_now c.objects) (latest c.history) (maps was).now (kept.tied was).now;
       cut = subst (λ (m : Map). SameMap (map_cut objects) m) (sym (at-count c.history))
           (SameMap-trans (map_cut objects) (map_now c.objects) (latest c.history) (maps was).cut (kept.tied was).now);
@@ -117,7 +117,7 @@ module _ (blocks : ℕ) (c : CoreState) (kept : IsKept blocks c) where
 
   -- the cycle of the group in flight ends
   pub kept_end : (objects : WalState) → MayCrash c.objects objects
-      → (IsTrue c.objects.ring.disk.honest → EndsMap c.objects objects)
+      → (IsTrue (disk_of c).honest → EndsMap c.objects objects)
       → IsKept blocks (record c { objects = objects; logged = c.cut })
   kept_end objects crash maps = record {
     size = crash.keeps.size ∙ kept.size;
@@ -127,7 +127,7 @@ module _ (blocks : ℕ) (c : CoreState) (kept : IsKept blocks c) where
     logged_to_cut = omega arith;
     cut_to_count = kept.cut_to_count;
     rest = λ fine none. refl;
-    tied = λ honest. let was : IsTrue c.objects.ring.disk.honest = subst IsTrue crash.keeps.honest honest in record {
+    tied = λ honest. let was : IsTrue (disk_of c).honest = subst IsTrue crash.keeps.honest honest in record {
       now = SameMap-trans (map_now objects) (map_now c.objects) (latest c.history) (maps was).now (kept.tied was).now;
       cut = SameMap-trans (map_cut objects) (map_cut c.objects) (at c.history c.cut) (maps was).cut (kept.tied was).cut;
       logged = SameMap-trans (map_logged objects) (map_cut c.objects) (at c.history c.cut) (maps was).logged (kept.tied was).cut;
@@ -166,19 +166,6 @@ module _ (blocks : ℕ) (c : CoreState) (kept : IsKept blocks c) where
     fresh = λ s le. same_sessions c.cut s ∙ kept.fresh s le;
   }
 
-  -- where the tail is empty, the map at the last cut is the map now
-  cut_is_now : tail_length c.objects ≡ 0 → map_cut c.objects ≡ map_now c.objects
-  cut_is_now empty = ap (λ (us : List Update). map_of (size_of c.objects) (λ b. updated us b (home_of c.objects.ring b))) whole
-    where
-      whole : take (c.objects.log.cut - c.objects.log.start) c.objects.log.updates ≡ c.objects.log.updates
-      whole = take_all (c.objects.log.cut - c.objects.log.start) c.objects.log.updates
-          (omega (arith, empty, length-drop (c.objects.log.cut - c.objects.log.start) c.objects.log.updates))
-
-  -- where no group is in flight, the two maps that a crash may leave are one
-  logged_is_cut : c.objects.log.logged ≡ c.objects.log.cut → map_logged c.objects ≡ map_cut c.objects
-  logged_is_cut none = λ i. map_of (size_of c.objects)
-      (λ b. updated (take (none i - c.objects.log.start) c.objects.log.updates) b (home_of c.objects.ring b))
-
   -- commits that wrote nothing are marked
   pub kept_mark_all : c.history ≢ [] → tail_length c.objects ≡ 0 → c.objects.log.logged ≡ c.objects.log.cut
       → IsKept blocks (record c { history = c.history ++ stable (count c.history) ∷ []; cut = count c.history; logged = count c.history })
@@ -192,8 +179,8 @@ module _ (blocks : ℕ) (c : CoreState) (kept : IsKept blocks c) where
     rest = λ fine none. refl;
     tied = λ honest. record {
       now = now honest;
-      cut = subst (λ (m : Map). SameMap m (at later (count c.history))) (sym (cut_is_now empty)) (at_all honest);
-      logged = subst (λ (m : Map). SameMap m (at later (count c.history))) (sym (logged_is_cut none ∙ cut_is_now empty)) (at_all honest);
+      cut = subst (λ (m : Map). SameMap m (at later (count c.history))) (sym (cut_is_now c.objects empty)) (at_all honest);
+      logged = subst (λ (m : Map). SameMap m (at later (count c.history))) (sym (logged_is_cut c.objects none ∙ cut_is_now c.objects empty)) (at_all honest);
     };
     images = kept.images;
     fresh = λ s le. same_sessions (count c.history) s ∙ kept.fresh s le;
@@ -202,16 +189,16 @@ module _ (blocks : ℕ) (c : CoreState) (kept : IsKept blocks c) where
       later : List Entry
       later = c.history ++ stable (count c.history) ∷ []
 
-      now : IsTrue c.objects.ring.disk.honest → SameMap (map_now c.objects) (latest (c.history ++ stable (count c.history) ∷ []))
+      now : IsTrue (disk_of c).honest → SameMap (map_now c.objects) (latest (c.history ++ stable (count c.history) ∷ []))
       now honest = subst (λ (m : Map). SameMap (map_now c.objects) m) (sym (latest-mark (count c.history) some)) (kept.tied honest).now
 
-      at_all : IsTrue c.objects.ring.disk.honest → SameMap (map_now c.objects) (at (c.history ++ stable (count c.history) ∷ []) (count c.history))
+      at_all : IsTrue (disk_of c).honest → SameMap (map_now c.objects) (at (c.history ++ stable (count c.history) ∷ []) (count c.history))
       at_all honest = subst (λ (m : Map). SameMap (map_now c.objects) m) (sym (at-mark (count c.history) (count c.history) some ∙ at-count c.history))
           (kept.tied honest).now
 
   -- a commit
   pub kept_commit : c.history ≢ [] → (t : Transaction) → (objects : WalState) → MayCrash c.objects objects
-      → (IsTrue c.objects.ring.disk.honest → SameMap (map_now objects) (overwritten (map_now c.objects) t.writes))
+      → (IsTrue (disk_of c).honest → SameMap (map_now objects) (overwritten (map_now c.objects) t.writes))
       → SameMap (map_cut objects) (map_cut c.objects) → SameMap (map_logged objects) (map_logged c.objects)
       → Rests c.objects objects
       → IsKept blocks (record c { objects = objects; history = c.history ++ commit t ∷ []; next = max c.next (t.session + 1) })
@@ -223,7 +210,7 @@ module _ (blocks : ℕ) (c : CoreState) (kept : IsKept blocks c) where
     logged_to_cut = kept.logged_to_cut;
     cut_to_count = omega (arith, count-commit c.history t, kept.cut_to_count);
     rest = λ fine none. let was = rests fine none in kept.rest was.0 was.1;
-    tied = λ honest. let was : IsTrue c.objects.ring.disk.honest = subst IsTrue crash.keeps.honest honest in record {
+    tied = λ honest. let was : IsTrue (disk_of c).honest = subst IsTrue crash.keeps.honest honest in record {
       now = subst (λ (m : Map). SameMap (map_now objects) m) (sym (latest-commit c.history t some))
           (SameMap-trans (map_now objects) (overwritten (map_now c.objects) t.writes) (overwritten (latest c.history) t.writes) (now was)
           (overwritten-same (map_now c.objects) (latest c.history) t.writes (kept.tied was).now));
@@ -245,8 +232,8 @@ module _ (blocks : ℕ) (c : CoreState) (kept : IsKept blocks c) where
 -- what was opened is kept
 pub kept_opened : (blocks : ℕ) (objects : WalState) (m : Map) → size_of objects ≡ blocks → SameMap (map_now objects) m → m.blocks ≡ blocks
     → objects.log.logged ≡ objects.log.cut → tail_length objects ≡ 0
-    → (IsTrue objects.ring.disk.honest → EveryImage objects.ring.disk.past (OpensAs (map_now objects)))
-    → IsKept blocks (record { objects = objects; history = opening m objects.ring.disk.honest ∷ []; cut = 0; logged = 0; next = 0 })
+    → (IsTrue (log_disk objects).honest → EveryImage (log_disk objects).past (OpensAs (map_now objects)))
+    → IsKept blocks (record { objects = objects; history = opening m (log_disk objects).honest ∷ []; cut = 0; logged = 0; next = 0 })
 kept_opened blocks objects m size same on_disk none empty images = record {
   size = size;
   on_disk = on_disk;
@@ -257,26 +244,18 @@ kept_opened blocks objects m size same on_disk none empty images = record {
   rest = λ fine none. refl;
   tied = λ honest. record {
     now = same;
-    cut = subst (λ (l : Map). SameMap l m) (sym cut) same;
-    logged = subst (λ (l : Map). SameMap l m) (sym (logged ∙ cut)) same;
+    cut = subst (λ (l : Map). SameMap l m) (sym (cut_is_now objects empty)) same;
+    logged = subst (λ (l : Map). SameMap l m) (sym (logged_is_cut objects none ∙ cut_is_now objects empty)) same;
   };
-  images = λ honest image one. inr (subst (λ (l : Map). OpensAs l image) (sym cut) (images honest image one));
+  images = λ honest image one. inr (subst (λ (l : Map). OpensAs l image) (sym (cut_is_now objects empty)) (images honest image one));
   fresh = λ n le. refl;
 }
-  where
-    cut : map_cut objects ≡ map_now objects
-    cut = ap (λ (us : List Update). map_of (size_of objects) (λ b. updated us b (home_of objects.ring b)))
-        (take_all (objects.log.cut - objects.log.start) objects.log.updates
-        (omega (arith, empty, length-drop (objects.log.cut - objects.log.start) objects.log.updates)))
-
-    logged : map_logged objects ≡ map_cut objects
-    logged = λ i. map_of (size_of objects) (λ b. updated (take (none i - objects.log.start) objects.log.updates) b (home_of objects.ring b))
 
 -- a step without a device call
 pub crashes_same : (blocks : ℕ) (old new : CoreState) → IsKept blocks old → IsKept blocks new → new.objects ≡ old.objects → Crashes old new
 crashes_same blocks old new before kept same = record {
-  keeps = subst (λ (w : WalState). Keeps old.objects.ring.disk w.ring.disk) (sym same) (record { size = refl; honest = refl; failures = omega arith });
-  moments = λ honest. leaves_none old.objects.ring.disk.past new.objects.ring.disk.past (Leaves old.history) (ap (λ (w : WalState). w.ring.disk.past) same)
+  keeps = subst (λ (w : WalState). Keeps (disk_of old) (log_disk w)) (sym same) (record { size = refl; honest = refl; failures = omega arith });
+  moments = λ honest. leaves_none (disk_of old).past (disk_of new).past (Leaves old.history) (ap (λ (w : WalState). (log_disk w).past) same)
       (λ image one. leaves_of blocks old before honest image (before.images honest image one));
   images = λ honest image one. leaves_of blocks new kept honest image (kept.images honest image one);
 }
@@ -294,8 +273,8 @@ crashes_after old mid new reads same crash = record {
     failures = omega (arith, crash.keeps.failures, reads.keeps.failures);
   };
   moments = λ honest.
-      subst (λ (p : Past). LeavesOnly p new.objects.ring.disk.past (Leaves old.history)) (reads.past honest)
-      (subst (λ (h : List Entry). LeavesOnly mid.objects.ring.disk.past new.objects.ring.disk.past (Leaves h)) same
+      subst (λ (p : Past). LeavesOnly p (disk_of new).past (Leaves old.history)) (reads.past honest)
+      (subst (λ (h : List Entry). LeavesOnly (disk_of mid).past (disk_of new).past (Leaves h)) same
       (crash.moments (subst IsTrue (sym reads.keeps.honest) honest)));
   images = crash.images;
 }
@@ -338,3 +317,10 @@ kept_marked blocks c n kept some can = ⊎_elim
 pub tallied_mark : (pairs : Pairs) (history : List Entry) (n : ℕ) → IsTallied pairs history → IsTallied pairs (history ++ stable n ∷ [])
 tallied_mark pairs history n tallied s =
     tallied s ∙ sym (ap (λ (ts : List Transaction). length (filter (λ (t : Transaction). t.session == s) ts)) (commits-mark history n))
+
+-- what is left of the disk that is given up
+pub leaves_closed : (blocks : ℕ) (inside now : CoreState) (disk : DiskState) → IsKept blocks inside → inside ≡ now → disk ≡ (disk_of inside)
+    → IsTrue disk.honest → EveryImage disk.past (Leaves now.history)
+leaves_closed blocks inside now disk kept is same =
+    subst (λ (d : DiskState). IsTrue d.honest → EveryImage d.past (Leaves now.history)) (sym same)
+    (λ honest image one. subst (λ (c : CoreState). Leaves c.history image) is (leaves_of blocks inside kept honest image (kept.images honest image one)))

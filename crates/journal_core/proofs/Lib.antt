@@ -1,7 +1,13 @@
 pub mod Keeping
 pub mod Stepping
 pub mod Committing
-pub mod Comparing
 pub mod Readying
 pub mod Opening
+pub mod SlotCounting
+pub mod Remembering
+pub mod Reading
+pub mod Counting
+pub mod Holding
 pub mod Running
+pub mod Events
+mod Examples

@@ -1,10 +1,9 @@
 -- What is opened is kept, and what is not opened is handed back.
-use Rattle.std.proofs.Common.{◌≡◌, inr, ⊎_elim, ◌≤◌, ℕ, Bool, false, IsTrue, List, [], ◌∷◌, Result, Ok, Err, OnOk, IfErr, refl, sym, ap, subst, ◌∙◌, arith}
+use Rattle.std.proofs.Common.{◌≡◌, inr, ⊎_elim, ℕ, Bool, false, IsTrue, List, [], ◌∷◌, Result, Ok, Err, OnOk, IfErr, refl, sym, ap, subst, ◌∙◌, arith}
 use Rattle.std.proofs.lemmas.Bool.{false≢true}
 use Rattle.journal_world.specs.declared.refusal.Refusal.{Refusal}
 use Rattle.journal_world.specs.declared.refusal.Refusal.TheVariants.{NoMemory, BadAddress, BadSize, TooLarge, Busy, DeviceFailed, BadLog, BadSuper, Stale, Stranger, Worn, Full, Closed, Fenced}
 use Rattle.journal_world.specs.Refusals.{IsOfReading}
-use Rattle.journal_world.specs.declared.layout.TheConstants.{MIN_BLOCKS}
 use Rattle.journal_world.specs.Maps.{Map, are_objects}
 use Rattle.journal_world.specs.Histories.{Entry}
 use Rattle.journal_world.specs.Histories.Entry.{opening}
@@ -23,13 +22,14 @@ use Rattle.journal_core.specs.Cores.{IsKept}
 use Rattle.journal_core.specs.Tallies.{IsTallied}
 use Rattle.journal_core.specs.Openings.{HoldsMap, Begins, IsInRange, IsBeginRefusal, IsOpenRefusal, IsHandedBack}
 use Rattle.journal_core.proofs.Keeping.{kept_opened}
+use Rattle.journal_objlog.specs.ObjectLogs.{is_faulted as is_log_faulted, disk_of as log_disk}
 
 -- what holds of a good answer
 pub on_ok : {T E P : Type 0} (r : Result T E) (value : T) → r ≡ Ok value → OnOk r P → P
 on_ok {T} {E} {P} r value is holds = subst (λ (x : Result T E). OnOk x P) is holds
 
 -- nothing is in flight still, where the log was only read
-rests_still : (old new : WalState) → OnlyReads old new → new.ring.faulted ≡ false → AtRest old → AtRest new
+rests_still : (old new : WalState) → OnlyReads old new → is_log_faulted new ≡ false → AtRest old → AtRest new
 rests_still old new reads fine rest = record {
   fine = fine;
   logging = ap log_steps reads.same ∙ rest.logging;
@@ -39,23 +39,23 @@ rests_still old new reads fine rest = record {
 }
 
 -- A disk was opened, and its map was read
-module _ (disk : DiskState) (opened objects : WalState) (keeps : Keeps disk opened.ring.disk)
-    (same : IsTrue disk.honest → opened.ring.disk.past ≡ disk.past) (rest : AtRest opened)
-    (images : IsTrue disk.honest → EveryImage opened.ring.disk.past (OpensAs (map_now opened))) (reads : OnlyReads opened objects) where
-  honest_is : objects.ring.disk.honest ≡ disk.honest
+module _ (disk : DiskState) (opened objects : WalState) (keeps : Keeps disk (log_disk opened))
+    (same : IsTrue disk.honest → (log_disk opened).past ≡ disk.past) (rest : AtRest opened)
+    (images : IsTrue disk.honest → EveryImage (log_disk opened).past (OpensAs (map_now opened))) (reads : OnlyReads opened objects) where
+  honest_is : (log_disk objects).honest ≡ disk.honest
   honest_is = reads.keeps.honest ∙ keeps.honest
 
-  keeps_both : Keeps disk objects.ring.disk
+  keeps_both : Keeps disk (log_disk objects)
   keeps_both = record {
     size = reads.keeps.size ∙ keeps.size;
     honest = honest_is;
     failures = omega (arith, reads.keeps.failures, keeps.failures);
   }
 
-  opened_honest : IsTrue disk.honest → IsTrue opened.ring.disk.honest
+  opened_honest : IsTrue disk.honest → IsTrue (log_disk opened).honest
   opened_honest honest = subst IsTrue (sym keeps.honest) honest
 
-  past_both : IsTrue disk.honest → objects.ring.disk.past ≡ disk.past
+  past_both : IsTrue disk.honest → (log_disk objects).past ≡ disk.past
   past_both honest = reads.past (opened_honest honest) ∙ same honest
 
   holds_now : IsTrue disk.honest → HoldsMap disk (map_now objects)
@@ -63,22 +63,23 @@ module _ (disk : DiskState) (opened objects : WalState) (keeps : Keeps disk open
       (subst (λ (p : Past). EveryImage p (OpensAs (map_now opened))) (same honest) (images honest))
 
   -- it is faulted only where the device failed since
-  failed_since : IsTrue objects.ring.faulted → HasFailed disk objects.ring.disk
+  failed_since : IsTrue (is_log_faulted objects) → HasFailed disk (log_disk objects)
   failed_since faulted = ⊎_elim
       (λ was. absurd (false≢true (sym rest.fine ∙ was)))
-      (λ failed. failed_after disk opened.ring.disk objects.ring.disk keeps failed)
+      (λ failed. failed_after disk (log_disk opened) (log_disk objects) keeps failed)
       (reads.fault faulted)
 
-  pub handed_back : IsHandedBack disk objects.ring.disk
+  pub handed_back : IsHandedBack disk (log_disk objects)
   handed_back = record { keeps = keeps_both; past = past_both }
 
-  module _ (rule : Map → Type 0) (fine : objects.ring.faulted ≡ false) where
-    pub begins : MIN_BLOCKS ≤ disk.past.size → (history : List Entry) → history ≡ opening (map_now objects) objects.ring.disk.honest ∷ []
-        → (IsTrue objects.ring.disk.honest → rule (map_now objects))
+  module _ (rule : Map → Type 0) (fine : is_log_faulted objects ≡ false) where
+    pub begins : IsInRange disk → (history : List Entry) → history ≡ opening (map_now objects) (log_disk objects).honest ∷ []
+        → (IsTrue (log_disk objects).honest → rule (map_now objects))
         → Begins rule disk (record { objects = objects; history = history; cut = 0; logged = 0; next = 0 })
-    begins large history is ruled = record {
+    begins range history is ruled = record {
       map = map_now objects;
-      large = large;
+      range = range;
+      size = map_of-blocks (size_of objects) (blocks_now objects) ∙ keeps_both.size;
       objects = subst (λ (n : ℕ). IsTrue (are_objects n (map_now objects).pairs)) (sym (map_of-blocks (size_of objects) (blocks_now objects)))
           (map_of-objects (size_of objects) (blocks_now objects));
       holds = holds_now;
@@ -92,7 +93,7 @@ module _ (disk : DiskState) (opened objects : WalState) (keeps : Keeps disk open
       next = refl;
     }
 
-    pub kept_begun : (blocks : ℕ) (history : List Entry) → history ≡ opening (map_now objects) objects.ring.disk.honest ∷ [] → size_of objects ≡ blocks
+    pub kept_begun : (blocks : ℕ) (history : List Entry) → history ≡ opening (map_now objects) (log_disk objects).honest ∷ [] → size_of objects ≡ blocks
         → IsKept blocks (record { objects = objects; history = history; cut = 0; logged = 0; next = 0 })
     kept_begun blocks history is size =
         let now : AtRest objects = rests_still opened objects reads fine rest in
@@ -103,7 +104,7 @@ module _ (disk : DiskState) (opened objects : WalState) (keeps : Keeps disk open
 
   module _ (rule : Map → Type 0) (range : IsInRange disk) where
     -- what the rule's refusal is
-    raised_rule : (refusal : Refusal Unit) → IsOfReading objects.ring.faulted refusal → IsOpenRefusal rule disk objects.ring.disk (raised_of refusal)
+    raised_rule : (refusal : Refusal Unit) → IsOfReading (is_log_faulted objects) refusal → IsOpenRefusal rule disk (log_disk objects) (raised_of refusal)
     raised_rule NoMemory is = range
     raised_rule (DeviceFailed cause) is = (range, failed_since is, refl)
     raised_rule BadAddress is = absurd is
@@ -120,10 +121,10 @@ module _ (disk : DiskState) (opened objects : WalState) (keeps : Keeps disk open
     raised_rule Fenced is = absurd is
 
     -- why the history was not begun, seen from outside
-    pub refuses_begin : (admitted : Result Bool (Refusal Unit)) (why : Refusal Told) → IfErr admitted (IsOfReading objects.ring.faulted)
-        → IsBeginRefusal rule objects admitted why → IsOpenRefusal rule disk objects.ring.disk why
+    pub refuses_begin : (admitted : Result Bool (Refusal Unit)) (why : Refusal Told) → IfErr admitted (IsOfReading (is_log_faulted objects))
+        → IsBeginRefusal rule objects admitted why → IsOpenRefusal rule disk (log_disk objects) why
     refuses_begin (Err refusal) why is because =
-        subst (IsOpenRefusal rule disk objects.ring.disk) (sym because) (raised_rule refusal is)
+        subst (IsOpenRefusal rule disk (log_disk objects)) (sym because) (raised_rule refusal is)
     refuses_begin (Ok admitted) BadSuper is because =
         inr (range, λ honest. (map_now objects, holds_now honest, because (subst IsTrue (sym honest_is) honest)))
     refuses_begin (Ok admitted) (Stale cause) is because =

@@ -13,6 +13,8 @@ use Rattle.journal_history.specs.Tokens.{SessionState}
 use Rattle.journal_core.specs.Causes.{Told, raised_of}
 use Rattle.journal_core.specs.Cores.{CoreState}
 use Rattle.journal_core.specs.Commits.{IsPreparingRefusal}
+use Rattle.journal_core.specs.Commits.{CanPrepare as CanPrepareWrites}
+use Rattle.journal_core.specs.Cores.{is_faulted}
 
 -- objects have valid addresses
 valid_of : (blocks : ℕ) (ps : List Pair) → IsTrue (are_objects blocks ps) → IsTrue (are_valid blocks ps)
@@ -22,7 +24,7 @@ valid_of blocks (p ∷ later) objects =
     let own = and_parts (is_valid blocks p.0) (is_value_at (kind_of blocks p.0.block) p.1) parts.0 in
     subst (λ (b : Bool). IsTrue (b && are_valid blocks later)) (sym own.0) (valid_of blocks later parts.1)
 
-module _ (blocks : ℕ) (c : CoreState) (writes : List Pair) (size : size_of c.objects ≡ blocks) (fine : c.objects.ring.faulted ≡ false)
+module _ (blocks : ℕ) (c : CoreState) (writes : List Pair) (size : size_of c.objects ≡ blocks) (fine : is_faulted c ≡ false)
     (given : IsTrue (are_objects blocks writes)) where
   objects : IsTrue (are_objects (size_of c.objects) writes)
   objects = subst (λ (n : ℕ). IsTrue (are_objects n writes)) (sym size) given
@@ -81,25 +83,39 @@ module _ (blocks : ℕ) (c : CoreState) (writes : List Pair) (size : size_of c.o
     first_of (Closed cause) why = absurd why
     first_of Fenced why = absurd why
 
-    late_of : (refusal : Refusal Unit) → IsLeft new refusal → IsLateRefusal c.objects new refusal → IsPreparingRefusal c s writes (record c { objects = new }) (raised_of refusal)
-    late_of NoMemory left why = tt
-    late_of (DeviceFailed cause) left why = record { unexplained = refl; fault = inr why; faulted = left; others = refl }
-    late_of BadAddress left why = absurd why
-    late_of BadSize left why = absurd why
-    late_of TooLarge left why = absurd why
-    late_of (Worn cause) left why = absurd why
-    late_of (Full cause) left why = absurd why
-    late_of Busy left why = absurd why
-    late_of BadLog left why = absurd why
-    late_of BadSuper left why = absurd why
-    late_of (Stale cause) left why = absurd why
-    late_of (Stranger cause) left why = absurd why
-    late_of (Closed cause) left why = absurd why
-    late_of Fenced left why = absurd why
+    -- what may be made ready here, as the core says it
+    pub can_prepare : CanPrepare c.objects writes → CanPrepareWrites c s writes
+    can_prepare can = record {
+      few = can.few;
+      unworn = λ worn. ⊎_elim
+          (λ (is : 2 ^ 62 ≤ length c.history + 1). omega (arith, is, room))
+          (λ (other : (2 ^ 62 ≤ s.number) ⊎ (2 ^ 62 ≤ next_of c.objects.log + fresh_blocks c.objects writes)). ⊎_elim
+          (λ (is : 2 ^ 62 ≤ s.number). omega (arith, is, small))
+          (λ (is : 2 ^ 62 ≤ next_of c.objects.log + fresh_blocks c.objects writes). omega (arith, is, can.small))
+          other)
+          worn;
+      room = λ full. omega (arith, full, can.tail);
+    }
+
+    late_of : (refusal : Refusal Unit) → CanPrepare c.objects writes → IsLeft new refusal → IsLateRefusal c.objects new refusal → IsPreparingRefusal c s writes (record c { objects = new }) (raised_of refusal)
+    late_of NoMemory can left why = can_prepare can
+    late_of (DeviceFailed cause) can left why = record { unexplained = refl; fault = inr (can_prepare can, why); faulted = left; others = refl }
+    late_of BadAddress can left why = absurd why
+    late_of BadSize can left why = absurd why
+    late_of TooLarge can left why = absurd why
+    late_of (Worn cause) can left why = absurd why
+    late_of (Full cause) can left why = absurd why
+    late_of Busy can left why = absurd why
+    late_of BadLog can left why = absurd why
+    late_of BadSuper can left why = absurd why
+    late_of (Stale cause) can left why = absurd why
+    late_of (Stranger cause) can left why = absurd why
+    late_of (Closed cause) can left why = absurd why
+    late_of Fenced can left why = absurd why
 
     pub prepares_not : {T : Type 0} (answer : Result T (Refusal Unit)) (result : Result T (Refusal Told)) → IfOk answer (λ value. result ≡ Ok value)
         → IfErr answer (λ refusal. result ≡ Err (raised_of refusal)) → IfErr answer (IsPrepareRefusal c.objects writes new) → IfErr answer (IsLeft new)
         → IfErr result (IsPreparingRefusal c s writes (record c { objects = new }))
     prepares_not (Ok value) result ok err why left = subst (λ r. IfErr r (IsPreparingRefusal c s writes (record c { objects = new }))) (sym ok) tt
     prepares_not (Err refusal) result ok err why left = subst (λ r. IfErr r (IsPreparingRefusal c s writes (record c { objects = new }))) (sym err)
-        (⊎_elim (first_of refusal) (λ late. late_of refusal left late.1) why)
+        (⊎_elim (first_of refusal) (λ late. late_of refusal late.0 left late.1) why)

@@ -1,17 +1,19 @@
 -- Whole runs tell how the history came to be, and keep it legal.
-use Rattle.std.proofs.Common.{◌≡◌, ◌≢◌, ⊎_elim, ◌≤◌, ℕ, ◌==◌, Bool, true, false, cond, IsTrue, List, [], ◌∷◌, ◌++◌, length, length-append, Option, Some, None, refl, sym, ap, subst, ◌∙◌, arith}
-use Rattle.std.proofs.lemmas.Bool.{and_from}
+use Rattle.std.proofs.Common.{◌≡◌, ◌≢◌, ⊎_elim, ◌≤◌, ℕ, ◌==◌, Bool, true, false, cond, IsTrue, List, [], ◌∷◌, ◌++◌, length, length-append, Option, Some, None, Result, Ok, Err, refl, sym, ap, subst, ◌∙◌, arith}
+use Rattle.std.proofs.lemmas.Bool.{eqb-true, eqb-false}
 use Rattle.std.proofs.lemmas.Option.{same_Some, none-some}
 use Rattle.journal_world.specs.declared.address.Addr.{Addr}
 use Rattle.journal_world.specs.declared.layout.TheConstants.{MIN_BLOCKS}
 use Rattle.journal_world.specs.declared.refusal.Refusal.{Refusal}
 use Rattle.journal_world.specs.declared.refusal.Refusal.TheVariants.{NoMemory, BadAddress, BadSize, TooLarge, Busy, DeviceFailed, BadLog, BadSuper, Stale, Stranger, Worn, Full, Closed, Fenced}
 use Rattle.journal_world.specs.declared.step.Step.{Step}
-use Rattle.journal_world.specs.Maps.{Map, Pair, Transaction, SameMap, value_at, is_object, are_objects, IsLegalAt}
-use Rattle.journal_world.specs.Histories.{Entry, opened, is_trusted, latest, commits, commits_of, at, count, floor, Follows, IsTrueTo, IsLegal}
+use Rattle.journal_world.specs.Addresses.{slot_of}
+use Rattle.journal_world.specs.Maps.{Map, Pair, Transaction, SameMap, value_at}
+use Rattle.journal_world.specs.Histories.{Entry, is_trusted, latest, commits_of, at, Follows, IsTrueTo, IsLegal}
 use Rattle.journal_world.specs.Histories.Entry.{opening, commit, stable}
+use Rattle.journal_world.proofs.Prefixes.{IsPrefix-length}
 use Rattle.journal_world.proofs.SameMaps.{SameMap-refl}
-use Rattle.journal_world.proofs.LongerHistories.{Each-nil, Each-snoc, opened-append, after-blocks, commits_of-commit, IsLegal-commit}
+use Rattle.journal_world.proofs.LongerHistories.{Each-nil, Each-snoc, commits_of-commit}
 use Rattle.journal_world.proofs.MapsOfHistories.{is_trusted-append}
 use Rattle.journal_block.specs.Block.{Bytes}
 use Rattle.journal_disk.specs.Disks.{DiskState, Past}
@@ -21,31 +23,29 @@ use Rattle.journal_objlog.proofs.MapsOfBlocks.{same_objects}
 use Rattle.journal_history.specs.Tokens.{SessionState, made, next_of, Commits}
 use Rattle.journal_core.specs.Causes.{Told}
 use Rattle.journal_core.specs.Cores.{CoreState, Leaves, Crashes}
-use Rattle.journal_core.specs.Steps.{Marks, InstallAnswers, IsInstallRefusal}
+use Rattle.journal_core.specs.Transactions.{TransactionState, begun}
+use Rattle.journal_core.specs.Steps.{Marks, IsInstallRefusal}
 use Rattle.journal_core.specs.Openings.{Begins}
-use Rattle.journal_core.specs.Interleavings.{Event, Answer, Tells, TellsAll, Draft, no_draft, Mount, Machine, mounted, with_draft, with_core, ReadsValue, CommitsDraft, InstallsStep, HoldsImage, BeginsDraft, Reads, Overwrites, Finishes, Logs, HappensUp, HappensDown, Happens, Run, HasHistory}
-use Rattle.journal_core.specs.Interleavings.Event.{begins, reads, overwrites, aborts, logs, installs, crashes, opens}
+use Rattle.journal_core.specs.Interleavings.{Event, Answer, Tells, TellsAll, Mount, Machine, mounted, holds, with_core, with_draft, with_slot, ended, blocks_of, ReadsValue, CommitsDraft, RefusesCommit, LogsStep, AnswersLog, AnswersInstall, AnswersSession, HoldsImage, Ignores, BeginsDraft, TakesSlot, ReadsDraft, OverwritesDraft, Finishes, Logs, HappensUp, HappensDown, Happens, Run, HasHistory, IsUndisturbed}
+use Rattle.journal_core.specs.Interleavings.Event.{begins, takes, reads, overwrites, aborts, joins, logs, installs, crashes, opens}
 use Rattle.journal_core.specs.Interleavings.Event.{commits as finishes}
 use Rattle.journal_core.specs.Interleavings.Answer.{nothing, value, committed, marked, crashed, reopened}
 use Rattle.journal_core.specs.Interleavings.Machine.{up, down}
-
--- what an open transaction has read and overwritten are objects
-pub record IsSound (blocks : ℕ) (d : Draft) : Type 0 where
-  pub reads : IsTrue (are_objects blocks d.reads)
-  pub writes : IsTrue (are_objects blocks d.writes)
+use Rattle.journal_core.proofs.Holding.{IsSound, begun_sound, sound_held, keeps_taken, keeps_given, sound_marked, sound_committed, sound_read, sound_overwritten, is_holder}
+use Rattle.journal_core.specs.Cores.{disk_of}
 
 -- What holds of every core that runs
 pub record IsRunning (rule : Map → Type 0) (c : CoreState) : Type 0 where
-  pub honest : IsTrue c.objects.ring.disk.honest
+  pub honest : IsTrue (disk_of c).honest
   pub trusted : IsTrue (is_trusted c.history)
-  pub images : EveryImage c.objects.ring.disk.past (Leaves c.history)
+  pub images : EveryImage (disk_of c).past (Leaves c.history)
   pub legal : IsLegal rule c.history
   pub some : c.history ≢ []
 
 -- and of every mount
 pub record IsUp (rule : Map → Type 0) (m : Mount) : Type 0 where
   pub runs : IsRunning rule m.core
-  pub sound : (actor : ℕ) (d : Draft) → m.drafts actor ≡ Some d → IsSound (opened m.core.history).blocks d
+  pub sound : (actor : ℕ) (t : TransactionState) → m.drafts actor ≡ Some t → IsSound m.core.history m.holders actor t
 
 abbrev pub Holds : (Map → Type 0) → Machine → List Entry → Type 0
 Holds rule (up m) history = (m.core.history ≡ history) × IsUp rule m
@@ -54,7 +54,7 @@ Holds rule (down image) history = (m : Map) × OpensAs m image × (history ≡ o
 -- the answer tells what became of the history, and all holds on
 pub record Goes (rule : Map → Type 0) (old : List Entry) (answer : Answer) (new : Machine) : Type 0 where
   pub history : List Entry
-  pub tells : Tells old answer history
+  pub tells : Tells rule old answer history
   pub holds : Holds rule new history
 
 not_empty : (history : List Entry) (e : Entry) → history ++ e ∷ [] ≢ []
@@ -64,7 +64,7 @@ module _ (rule : Map → Type 0) where
   -- the core goes on with the same history
   core_on : (old new : CoreState) → IsRunning rule old → Crashes old new → new.history ≡ old.history → IsRunning rule new
   core_on old new runs crash same =
-      let honest : IsTrue new.objects.ring.disk.honest = subst IsTrue (sym crash.keeps.honest) runs.honest in
+      let honest : IsTrue (disk_of new).honest = subst IsTrue (sym crash.keeps.honest) runs.honest in
       record {
         honest = honest;
         trusted = subst (λ (h : List Entry). IsTrue (is_trusted h)) (sym same) runs.trusted;
@@ -77,7 +77,7 @@ module _ (rule : Map → Type 0) where
   core_adds : (old new : CoreState) (e : Entry) → IsRunning rule old → Crashes old new → new.history ≡ old.history ++ e ∷ []
       → IsLegal rule (old.history ++ e ∷ []) → IsRunning rule new
   core_adds old new e runs crash is legal =
-      let honest : IsTrue new.objects.ring.disk.honest = subst IsTrue (sym crash.keeps.honest) runs.honest in
+      let honest : IsTrue (disk_of new).honest = subst IsTrue (sym crash.keeps.honest) runs.honest in
       record {
         honest = honest;
         trusted = subst (λ (h : List Entry). IsTrue (is_trusted h)) (sym is)
@@ -87,52 +87,61 @@ module _ (rule : Map → Type 0) where
         some = λ empty. not_empty old.history e (sym is ∙ empty);
       }
 
-  -- an allowed mark keeps the history legal
-  legal_mark : (history : List Entry) (n : ℕ) → IsLegal rule history → history ≢ [] → floor history ≤ n → n ≤ count history
-      → IsLegal rule (history ++ stable n ∷ [])
-  legal_mark history n legal some rises made = record {
-    follows = Each-snoc Follows history (stable n) legal.follows (some, rises, made);
-    agrees = Each-snoc (IsTrueTo rule) history (stable n) legal.agrees tt;
+  -- one more entry that may follow keeps the history legal
+  legal_adds : (history : List Entry) (e : Entry) → IsLegal rule history → Follows history e → IsTrueTo rule history e → IsLegal rule (history ++ e ∷ [])
+  legal_adds history e legal follows true_to = record {
+    follows = Each-snoc Follows history e legal.follows follows;
+    agrees = Each-snoc (IsTrueTo rule) history e legal.agrees true_to;
   }
-
-  -- drafts of the same disk stay sound
-  drafts_on : (m : Mount) (core : CoreState) → (opened core.history).blocks ≡ (opened m.core.history).blocks
-      → ((actor : ℕ) (d : Draft) → m.drafts actor ≡ Some d → IsSound (opened m.core.history).blocks d)
-      → (actor : ℕ) (d : Draft) → m.drafts actor ≡ Some d → IsSound (opened core.history).blocks d
-  drafts_on m core same sound actor d is = subst (λ (n : ℕ). IsSound n d) (sym same) (sound actor d is)
 
   up_on : (m : Mount) (core : CoreState) → IsUp rule m → Crashes m.core core → core.history ≡ m.core.history → IsUp rule (with_core m core)
   up_on m core is crash same = record {
     runs = core_on m.core core is.runs crash same;
-    sound = drafts_on m core (ap (λ (h : List Entry). (opened h).blocks) same) is.sound;
+    sound = λ actor t at. subst (λ (h : List Entry). IsSound h m.holders actor t) (sym same) (is.sound actor t at);
   }
 
-  up_adds : (m : Mount) (core : CoreState) (e : Entry) → IsUp rule m → Crashes m.core core → core.history ≡ m.core.history ++ e ∷ []
-      → IsLegal rule (m.core.history ++ e ∷ []) → IsUp rule (with_core m core)
-  up_adds m core e is crash added legal = record {
-    runs = core_adds m.core core e is.runs crash added legal;
-    sound = drafts_on m core
-        (ap (λ (h : List Entry). (opened h).blocks) added ∙ ap (λ (o : Map). o.blocks) (opened-append m.core.history (e ∷ []) is.runs.some)) is.sound;
+  up_marked : (m : Mount) (core : CoreState) (n : ℕ) → IsUp rule m → Crashes m.core core → core.history ≡ m.core.history ++ stable n ∷ []
+      → IsLegal rule (m.core.history ++ stable n ∷ []) → IsUp rule (with_core m core)
+  up_marked m core n is crash added legal = record {
+    runs = core_adds m.core core (stable n) is.runs crash added legal;
+    sound = λ actor t at. subst (λ (h : List Entry). IsSound h m.holders actor t) (sym added)
+        (sound_marked m.core.history n m.holders actor t is.runs.some (is.sound actor t at));
   }
 
-  -- an actor's new transaction is to be sound
-  draft_kept : (m : Mount) (actor : ℕ) (draft : Option Draft) → IsUp rule m
-      → ((d : Draft) → draft ≡ Some d → IsSound (opened m.core.history).blocks d) → IsUp rule (with_draft m actor draft)
-  draft_kept m actor draft is sound = record { runs = is.runs; sound = λ other d at_other. by_test (other == actor) other d at_other (is.sound other d) }
+  -- an actor's transaction is another one
+  draft_kept : (m : Mount) (actor : ℕ) (draft : TransactionState) → IsUp rule m → IsSound m.core.history m.holders actor draft
+      → IsUp rule (with_draft m actor (Some draft))
+  draft_kept m actor draft is sound = record { runs = is.runs; sound = λ other t at. by_test other t (other == actor) refl at (is.sound other t) }
     where
-      by_test : (b : Bool) (other : ℕ) (d : Draft) → cond b draft (m.drafts other) ≡ Some d
-          → (m.drafts other ≡ Some d → IsSound (opened m.core.history).blocks d) → IsSound (opened m.core.history).blocks d
-      by_test true other d at_other others = sound d at_other
-      by_test false other d at_other others = others at_other
+      by_test : (other : ℕ) (t : TransactionState) (b : Bool) → (other == actor) ≡ b → cond b (Some draft) (m.drafts other) ≡ Some t
+          → (m.drafts other ≡ Some t → IsSound m.core.history m.holders other t) → IsSound m.core.history m.holders other t
+      by_test other t true same at others =
+          subst (λ (n : ℕ). IsSound m.core.history m.holders n t) (sym (eqb-true other actor same))
+          (subst (IsSound m.core.history m.holders actor) (same_Some draft t at) sound)
+      by_test other t false differ at others = others at
 
-  none_sound : (blocks : ℕ) (d : Draft) → ◌≡◌ {A = Option Draft} None (Some d) → IsSound blocks d
-  none_sound blocks d is = absurd (none-some d is)
+  slot_taken : (m : Mount) (actor slot : ℕ) → m.holders slot ≡ None → IsUp rule m → IsUp rule (with_slot m actor slot)
+  slot_taken m actor slot free is = record {
+    runs = is.runs;
+    sound = λ other t at. sound_held m.core.history m.holders (with_slot m actor slot).holders other t (is.sound other t at)
+        (λ held. keeps_taken m.holders actor slot other held free);
+  }
 
-  one_sound : (blocks : ℕ) (d e : Draft) → IsSound blocks d → Some d ≡ Some e → IsSound blocks e
-  one_sound blocks d e sound is = subst (IsSound blocks) (same_Some d e is) sound
+  -- where all transactions but one are kept, that one is ended
+  ended_up : (m : Mount) (actor : ℕ) → IsRunning rule m.core
+      → ((other : ℕ) (t : TransactionState) → other ≢ actor → m.drafts other ≡ Some t → IsSound m.core.history m.holders other t) → IsUp rule (ended m actor)
+  ended_up m actor runs others = record { runs = runs; sound = λ other t at. by_test other t (other == actor) refl at }
+    where
+      by_test : (other : ℕ) (t : TransactionState) (b : Bool) → (other == actor) ≡ b → cond b None (m.drafts other) ≡ Some t
+          → IsSound m.core.history (ended m actor).holders other t
+      by_test other t true same at = absurd (none-some t at)
+      by_test other t false differ at =
+          let apart : other ≢ actor = eqb-false other actor differ in
+          sound_held m.core.history m.holders (ended m actor).holders other t (others other t apart at)
+          (λ slot held. keeps_given m.holders actor other slot apart held)
 
-  ended : (m : Mount) (actor : ℕ) → IsUp rule m → IsUp rule (with_draft m actor None)
-  ended m actor is = draft_kept m actor None is (λ d at. none_sound (opened m.core.history).blocks d at)
+  has_ended : (m : Mount) (actor : ℕ) → IsUp rule m → IsUp rule (ended m actor)
+  has_ended m actor is = ended_up m actor is.runs (λ other t apart at. is.sound other t at)
 
   -- nothing is told
   silent : (old : List Entry) (next : Mount) (answer : Answer) (new : Machine) → answer ≡ nothing → new ≡ up next → next.core.history ≡ old
@@ -141,56 +150,62 @@ module _ (rule : Map → Type 0) where
       subst (λ (a : Answer). Goes rule old a new) (sym no_answer)
       (subst (λ (s : Machine). Goes rule old nothing s) (sym is) (record { history = old; tells = refl; holds = (same, kept) }))
 
-  goes-begins : (m : Mount) (actor : ℕ) (draft : Option Draft) (answer : Answer) (new : Machine) → BeginsDraft m actor draft answer new → IsUp rule m
+  ignored : (m : Mount) (answer : Answer) (new : Machine) → Ignores m answer new → IsUp rule m → Goes rule m.core.history answer new
+  ignored m answer new it is = silent m.core.history m answer new it.0 it.1 refl is
+
+  goes-begins : (m : Mount) (actor : ℕ) (draft : Option TransactionState) (answer : Answer) (new : Machine) → BeginsDraft m actor draft answer new → IsUp rule m
       → Goes rule m.core.history answer new
   goes-begins m actor None answer new it is =
-      silent m.core.history (with_draft m actor (Some no_draft)) answer new it.0 it.1 refl
-      (draft_kept m actor (Some no_draft) is (λ d at. one_sound (opened m.core.history).blocks no_draft d (record { reads = refl; writes = refl }) at))
-  goes-begins m actor (Some d) answer new it is = silent m.core.history m answer new it.0 it.1 refl is
+      silent m.core.history (with_draft m actor (Some (begun it.1.0))) answer new it.0 it.1.2 refl
+      (draft_kept m actor (begun it.1.0) is (begun_sound m.core.history it.1.0 m.holders actor it.1.1))
+  goes-begins m actor (Some t) answer new it is = ignored m answer new it is
 
-  goes-reads : (m : Mount) (actor : ℕ) (a : Addr) (draft : Option Draft) (answer : Answer) (new : Machine) → Reads m actor a draft answer new → IsUp rule m
-      → m.drafts actor ≡ draft → Goes rule m.core.history answer new
-  goes-reads m actor a None answer new it is at = silent m.core.history m answer new it.0 it.1 refl is
-  goes-reads m actor a (Some d) nothing new it is at =
-      let core : CoreState = it.0 in
-      let same : core.history ≡ m.core.history = ap (λ (c : CoreState). c.history) it.1.others in
-      silent m.core.history (with_core m core) nothing new refl it.2 same (up_on m core is it.1.crash same)
-  goes-reads m actor a (Some d) (value b v) new it is at =
+  goes-takes : (m : Mount) (actor slot : ℕ) (draft : Option TransactionState) (holder : Option ℕ) (answer : Answer) (new : Machine)
+      → TakesSlot m actor slot draft holder answer new → IsUp rule m → m.holders slot ≡ holder → Goes rule m.core.history answer new
+  goes-takes m actor slot None holder answer new it is free = ignored m answer new it is
+  goes-takes m actor slot (Some t) (Some holder) answer new it is free = ignored m answer new it is
+  goes-takes m actor slot (Some t) None answer new it is free =
+      silent m.core.history (with_slot m actor slot) answer new it.0 it.1 refl (slot_taken m actor slot free is)
+
+  goes-reads : (m : Mount) (actor : ℕ) (a : Addr) (draft : Option TransactionState) (held : Bool) (answer : Answer) (new : Machine)
+      → ReadsDraft m actor a draft held answer new → IsUp rule m → m.drafts actor ≡ draft → holds m actor a ≡ held → Goes rule m.core.history answer new
+  goes-reads m actor a None held answer new it is at holder = ignored m answer new it is
+  goes-reads m actor a (Some t) false answer new it is at holder = ignored m answer new it is
+  goes-reads m actor a (Some t) true nothing new it is at holder =
       let core : CoreState = it.1.0 in
-      let read : ReadsValue m.core a v core = it.1.1 in
+      let same : core.history ≡ m.core.history = ap (λ (c : CoreState). c.history) it.1.1.others in
+      silent m.core.history (with_core m core) nothing new refl it.1.2 same (up_on m core is it.1.1.crash same)
+  goes-reads m actor a (Some t) true (value b v) new it is at holder =
+      let core : CoreState = it.1.0 in
+      let after : TransactionState = it.1.1.0 in
+      let read : ReadsValue (blocks_of m) m.core t a v core after = it.1.1.1 in
       let same : core.history ≡ m.core.history = ap (λ (c : CoreState). c.history) read.others in
-      let sound = is.sound actor d at in
-      let blocks = (opened m.core.history).blocks in
-      let e : Draft = record { reads = (a, v) ∷ d.reads; writes = d.writes } in
-      let more : IsSound blocks e = record {
-        reads = and_from (is_object blocks (a, v)) (are_objects blocks d.reads) read.object sound.reads;
-        writes = sound.writes;
-      } in
-      subst (λ (s : Machine). Goes rule m.core.history (value b v) s) (sym it.1.2) (record {
+      let sound : IsSound m.core.history m.holders actor after =
+      sound_read m.core.history m.holders actor t after a v read.remembers read.object (read.value is.runs.trusted)
+      (is_holder (m.holders (slot_of a)) actor holder) (is.sound actor t at) in
+      subst (λ (s : Machine). Goes rule m.core.history (value b v) s) (sym it.1.1.2) (record {
         history = m.core.history;
         tells = (read.value is.runs.trusted ∙ ap (value_at (latest m.core.history)) (sym it.0), refl);
         holds = (
           same,
-          draft_kept (with_core m core) actor (Some e) (up_on m core is read.crash same)
-              (λ f at_f. one_sound (opened core.history).blocks e f (subst (λ (n : ℕ). IsSound n e) (sym (ap (λ (h : List Entry). (opened h).blocks) same)) more) at_f),
+          draft_kept (with_core m core) actor after (up_on m core is read.crash same)
+              (subst (λ (h : List Entry). IsSound h m.holders actor after) (sym same) sound),
         );
       })
-  goes-reads m actor a (Some d) (committed t) new it is at = absurd it
-  goes-reads m actor a (Some d) (marked n) new it is at = absurd it
-  goes-reads m actor a (Some d) crashed new it is at = absurd it
-  goes-reads m actor a (Some d) reopened new it is at = absurd it
+  goes-reads m actor a (Some t) true (committed u) new it is at holder = absurd it
+  goes-reads m actor a (Some t) true (marked n) new it is at holder = absurd it
+  goes-reads m actor a (Some t) true crashed new it is at holder = absurd it
+  goes-reads m actor a (Some t) true reopened new it is at holder = absurd it
 
-  goes-overwrites : (m : Mount) (actor : ℕ) (p : Pair) (draft : Option Draft) (answer : Answer) (new : Machine) → Overwrites m actor p draft answer new
-      → IsUp rule m → m.drafts actor ≡ draft → Goes rule m.core.history answer new
-  goes-overwrites m actor p None answer new it is at = silent m.core.history m answer new it.0 it.1 refl is
-  goes-overwrites m actor p (Some d) answer new it is at =
-      let blocks = (opened m.core.history).blocks in
-      let e : Draft = record { reads = d.reads; writes = p ∷ d.writes } in
-      let sound = is.sound actor d at in
+  goes-overwrites : (m : Mount) (actor : ℕ) (p : Pair) (draft : Option TransactionState) (held : Bool) (answer : Answer) (new : Machine)
+      → OverwritesDraft m actor p draft held answer new → IsUp rule m → m.drafts actor ≡ draft → holds m actor p.0 ≡ held → Goes rule m.core.history answer new
+  goes-overwrites m actor p None held answer new it is at holder = ignored m answer new it is
+  goes-overwrites m actor p (Some t) false answer new it is at holder = ignored m answer new it is
+  goes-overwrites m actor p (Some t) true answer new it is at holder =
       ⊎_elim (λ same. silent m.core.history m answer new it.0 same refl is)
-      (λ more. silent m.core.history (with_draft m actor (Some e)) answer new it.0 more.1 refl
-      (draft_kept m actor (Some e) is (λ f at_f. one_sound blocks e f
-      (record { reads = sound.reads; writes = and_from (is_object blocks p) (are_objects blocks d.writes) more.0 sound.writes }) at_f)))
+      (λ more. silent m.core.history (with_draft m actor (Some more.1.0)) answer new it.0 more.1.2 refl
+      (draft_kept m actor more.1.0 is (sound_overwritten m.core.history m.holders actor t more.1.0 p more.1.1 more.0
+      (is_holder (m.holders (slot_of p.0)) actor holder) (is.sound actor t at))))
       it.1
 
   -- the number of a session's next commit is how many it has
@@ -202,49 +217,58 @@ module _ (rule : Map → Type 0) where
       sym (commits_of-commit old t) ∙ ap (commits_of session.number) (sym it.added) ∙ it.one_more in
       omega (arith, ap length there, length-append (commits_of session.number old) (t ∷ []), length-append (commits_of session.number session.mine) (t ∷ []))
 
-  goes-finishes : (m : Mount) (actor : ℕ) (draft : Option Draft) (answer : Answer) (new : Machine) → Finishes m actor draft answer new → IsUp rule m
+  goes-finishes : (m : Mount) (actor : ℕ) (draft : Option TransactionState) (answer : Answer) (new : Machine) → Finishes m actor draft answer new → IsUp rule m
       → m.drafts actor ≡ draft → Goes rule m.core.history answer new
-  goes-finishes m actor None answer new it is at = silent m.core.history m answer new it.0 it.1 refl is
+  goes-finishes m actor None answer new it is at = ignored m answer new it is
   goes-finishes m actor (Some d) nothing new it is at =
-      let core : CoreState = it.0 in
-      let same : core.history ≡ m.core.history = ap (λ (c : CoreState). c.history) it.1.others in
-      silent m.core.history (with_draft (with_core m core) actor None) nothing new refl it.2 same (ended (with_core m core) actor (up_on m core is it.1.crash same))
+      let core : CoreState = it.1.1.0 in
+      let refused : RefusesCommit m.core it.0 d it.1.0 core = it.1.1.1 in
+      let same : core.history ≡ m.core.history = ap (λ (c : CoreState). c.history) refused.others in
+      silent m.core.history (ended (with_core m core) actor) nothing new refl it.1.1.2 same (has_ended (with_core m core) actor (up_on m core is refused.crash same))
   goes-finishes m actor (Some d) (committed t) new it is at =
-      let core : CoreState = it.0 in
-      let done : CommitsDraft m.core d t core = it.1 in
-      let u : Transaction = next_of done.session d.reads d.writes in
+      let session : SessionState = it.0 in
+      let core : CoreState = it.1.1.0 in
+      let done : CommitsDraft m.core session d core it.1.0 = it.1.1.2 in
+      let u : Transaction = next_of session d.reads d.writes in
       let sound = is.sound actor d at in
-      let same = after-blocks (opened m.core.history) (commits m.core.history) in
-      let number = numbered done.session done.after d.reads d.writes m.core.history core.history done.committed.committed in
-      let legal : IsLegalAt (latest m.core.history) u = record {
-        reads = subst (λ (n : ℕ). IsTrue (are_objects n d.reads)) (sym same) sound.reads;
-        writes = subst (λ (n : ℕ). IsTrue (are_objects n d.writes)) (sym same) sound.writes;
-        agrees = done.agrees is.runs.trusted;
-      } in
+      let number = numbered session it.1.0 d.reads d.writes m.core.history core.history done.committed.committed in
+      let follows : Follows m.core.history (commit u) = (is.runs.some, sound.reads, sound.writes, number) in
       let added : core.history ≡ m.core.history ++ commit u ∷ [] = done.committed.committed.added in
-      let longer = IsLegal-commit rule m.core.history u is.runs.legal is.runs.some legal number in
-      subst (λ (s : Machine). Goes rule m.core.history (committed t) s) (sym it.2)
-      (subst (λ (w : Transaction). Goes rule m.core.history (committed w) (up (with_draft (with_core m core) actor None))) (sym done.is) (record {
+      let longer : IsLegal rule (m.core.history ++ commit u ∷ []) = legal_adds m.core.history (commit u) is.runs.legal follows (done.agrees is.runs.trusted) in
+      subst (λ (s : Machine). Goes rule m.core.history (committed t) s) (sym it.1.1.3)
+      (subst (λ (w : Transaction). Goes rule m.core.history (committed w) (up (ended (with_core m core) actor))) (sym it.1.1.1) (record {
         history = m.core.history ++ commit u ∷ [];
-        tells = (legal, number, refl);
-        holds = (added, ended (with_core m core) actor (up_adds m core (commit u) is done.crash added longer));
+        tells = (follows, done.agrees is.runs.trusted, refl);
+        holds = (
+          added,
+          ended_up (with_core m core) actor (core_adds m.core core (commit u) is.runs done.crash added longer)
+              (λ other e apart at_other. subst (λ (h : List Entry). IsSound h m.holders other e) (sym added)
+              (sound_committed m.core.history u m.holders actor other e is.runs.some apart sound.writes_held (is.sound other e at_other))),
+        );
       }))
   goes-finishes m actor (Some d) (value a v) new it is at = absurd it
   goes-finishes m actor (Some d) (marked n) new it is at = absurd it
   goes-finishes m actor (Some d) crashed new it is at = absurd it
   goes-finishes m actor (Some d) reopened new it is at = absurd it
 
+  log_crash : (old : CoreState) (result : Result Step (Refusal Told)) (new : CoreState) → AnswersLog old result new → Crashes old new
+  log_crash old (Ok step) new it = it.crash
+  log_crash old (Err why) new it = it.crash
+
   goes-logs : (m : Mount) (answer : Answer) (new : Machine) → Logs m answer new → IsUp rule m → Goes rule m.core.history answer new
   goes-logs m nothing new it is =
-      silent m.core.history (with_core m it.0) nothing new refl it.3 it.2 (up_on m it.0 is it.1.crash it.2)
+      let core : CoreState = it.1.0 in
+      silent m.core.history (with_core m core) nothing new refl it.1.3 it.1.2 (up_on m core is (log_crash m.core it.0 core it.1.1) it.1.2)
   goes-logs m (marked n) new it is =
-      let core : CoreState = it.0 in
-      let marks : Marks n m.core core = it.2 in
+      let core : CoreState = it.1.0 in
+      let step : LogsStep m.core it.0 core = it.1.1 in
+      let marks : Marks n m.core core = it.1.2 in
       let added : core.history ≡ m.core.history ++ stable n ∷ [] = ap (λ (c : CoreState). c.history) marks.marked in
-      subst (λ (s : Machine). Goes rule m.core.history (marked n) s) (sym it.3) (record {
+      let follows : Follows m.core.history (stable n) = (is.runs.some, marks.rises, marks.made) in
+      subst (λ (s : Machine). Goes rule m.core.history (marked n) s) (sym it.1.3) (record {
         history = m.core.history ++ stable n ∷ [];
-        tells = (marks.rises, marks.made, refl);
-        holds = (added, up_adds m core (stable n) is it.1.crash added (legal_mark m.core.history n is.runs.legal is.runs.some marks.rises marks.made));
+        tells = (follows, tt, refl);
+        holds = (added, up_marked m core n is step.crash added (legal_adds m.core.history (stable n) is.runs.legal follows tt));
       })
   goes-logs m (value a v) new it is = absurd it
   goes-logs m (committed t) new it is = absurd it
@@ -253,7 +277,7 @@ module _ (rule : Map → Type 0) where
 
 -- the installer leaves the history
 refused_install : (old new : CoreState) (refusal : Refusal Told) → IsInstallRefusal old new refusal → new.history ≡ old.history
-refused_install old new NoMemory why = ap (λ (c : CoreState). c.history) why.2
+refused_install old new NoMemory why = ap (λ (c : CoreState). c.history) why.3
 refused_install old new (DeviceFailed cause) why = ap (λ (c : CoreState). c.history) why.others
 refused_install old new BadAddress why = absurd why
 refused_install old new BadSize why = absurd why
@@ -268,11 +292,22 @@ refused_install old new (Full cause) why = absurd why
 refused_install old new (Closed cause) why = absurd why
 refused_install old new Fenced why = absurd why
 
-installs_same : (old new : CoreState) → InstallsStep old new → new.history ≡ old.history
-installs_same old new it = ⊎_elim
-    (λ (done : (step : Step) × InstallAnswers old step new). ap (λ (c : CoreState). c.history) done.1.1)
-    (λ (refused : (refusal : Refusal Told) × IsInstallRefusal old new refusal). refused_install old new refused.0 refused.1)
-    it.how
+installs_same : (old : CoreState) (result : Result Step (Refusal Told)) (new : CoreState) → AnswersInstall old result new → new.history ≡ old.history
+installs_same old (Ok step) new it = ap (λ (c : CoreState). c.history) it.did.1
+installs_same old (Err why) new it = refused_install old new why it.refusal
+
+install_crash : (old : CoreState) (result : Result Step (Refusal Told)) (new : CoreState) → AnswersInstall old result new → Crashes old new
+install_crash old (Ok step) new it = it.crash
+install_crash old (Err why) new it = it.crash
+
+-- nor does a new session change it
+joins_same : (old : CoreState) (result : Result SessionState (Refusal Told)) (new : CoreState) → AnswersSession old result new → new.history ≡ old.history
+joins_same old (Ok session) new it = ap (λ (c : CoreState). c.history) it.begins.others
+joins_same old (Err why) new it = ap (λ (c : CoreState). c.history) it.same
+
+joins_crash : (old : CoreState) (result : Result SessionState (Refusal Told)) (new : CoreState) → AnswersSession old result new → Crashes old new
+joins_crash old (Ok session) new it = it.crash
+joins_crash old (Err why) new it = it.crash
 
 -- an image opens as one map
 opens_same : (m k : Map) (image : List Bytes) → MIN_BLOCKS ≤ length image → OpensAs m image → OpensAs k image → SameMap m k
@@ -283,8 +318,8 @@ opens_same m k image large first second =
     (λ b above below. sym (first.stands.each b above below) ∙ second.stands.each b above (omega (arith, below, blocks)))
 
 -- a mount begins with a legal history
-begun : (rule : Map → Type 0) (disk : DiskState) (core : CoreState) → IsTrue disk.honest → Begins rule disk core → IsRunning rule core
-begun rule disk core trusted begin =
+running : (rule : Map → Type 0) (disk : DiskState) (core : CoreState) → IsTrue disk.honest → Begins rule disk core → IsRunning rule core
+running rule disk core trusted begin =
     let is : core.history ≡ opening begin.map true ∷ [] = begin.history ∙ ap (λ (b : Bool). opening begin.map b ∷ []) trusted in
     record {
       honest = subst IsTrue (sym begin.keeps.honest) trusted;
@@ -305,22 +340,28 @@ begun rule disk core trusted begin =
     }
 
 module _ (rule : Map → Type 0) where
-  begun_up : (disk : DiskState) (core : CoreState) → IsTrue disk.honest → Begins rule disk core → IsUp rule (record { core = core; drafts = λ actor. None })
+  begun_up : (disk : DiskState) (core : CoreState) → IsTrue disk.honest → Begins rule disk core → IsUp rule (record { core = core; drafts = λ actor. None; holders = λ slot. None })
   begun_up disk core trusted begin = record {
-    runs = begun rule disk core trusted begin;
+    runs = running rule disk core trusted begin;
     sound = λ actor d is. absurd (none-some d is);
   }
 
   goes-up : (m : Mount) (event : Event) (answer : Answer) (new : Machine) → HappensUp m event answer new → IsUp rule m → Goes rule m.core.history answer new
   goes-up m (begins actor) answer new it is = goes-begins rule m actor (m.drafts actor) answer new it is
-  goes-up m (reads actor a) answer new it is = goes-reads rule m actor a (m.drafts actor) answer new it is refl
-  goes-up m (overwrites actor a v) answer new it is = goes-overwrites rule m actor (a, v) (m.drafts actor) answer new it is refl
-  goes-up m (aborts actor) answer new it is = silent rule m.core.history (with_draft m actor None) answer new it.0 it.1 refl (ended rule m actor is)
+  goes-up m (takes actor slot) answer new it is = goes-takes rule m actor slot (m.drafts actor) (m.holders slot) answer new it is refl
+  goes-up m (reads actor a) answer new it is = goes-reads rule m actor a (m.drafts actor) (holds m actor a) answer new it is refl refl
+  goes-up m (overwrites actor a v) answer new it is = goes-overwrites rule m actor (a, v) (m.drafts actor) (holds m actor a) answer new it is refl refl
+  goes-up m (aborts actor) answer new it is = silent rule m.core.history (ended m actor) answer new it.0 it.1 refl (has_ended rule m actor is)
   goes-up m (finishes actor) answer new it is = goes-finishes rule m actor (m.drafts actor) answer new it is refl
   goes-up m logs answer new it is = goes-logs rule m answer new it is
+  goes-up m joins answer new it is =
+      let same = joins_same m.core it.1.0 it.1.1.0 it.1.1.1 in
+      silent rule m.core.history (with_core m it.1.1.0) answer new it.0 it.1.1.2 same
+      (up_on rule m it.1.1.0 is (joins_crash m.core it.1.0 it.1.1.0 it.1.1.1) same)
   goes-up m installs answer new it is =
-      let same = installs_same m.core it.1.0 it.1.1 in
-      silent rule m.core.history (with_core m it.1.0) answer new it.0 it.1.2 same (up_on rule m it.1.0 is it.1.1.crash same)
+      let same = installs_same m.core it.1.0 it.1.1.0 it.1.1.1 in
+      silent rule m.core.history (with_core m it.1.1.0) answer new it.0 it.1.1.2 same
+      (up_on rule m it.1.1.0 is (install_crash m.core it.1.0 it.1.1.0 it.1.1.1) same)
   goes-up m (crashes image) answer new it is =
       let between = it.1.2 in
       let left : Leaves m.core.history image = (it.1.1.moments is.runs.honest).each between.moment between.since between.until image between.is_image in
@@ -346,7 +387,7 @@ module _ (rule : Map → Type 0) where
       let held : HoldsImage disk image = it.1 in
       let core : CoreState = it.2.0 in
       let begin : Begins rule disk core = it.2.1 in
-      let large : MIN_BLOCKS ≤ length image = omega (arith, begin.large, held.is_image.size) in
+      let large : MIN_BLOCKS ≤ length image = omega (arith, begin.range.0, held.is_image.size) in
       subst (λ (s : Machine). Goes rule (opening m true ∷ []) reopened s) (sym it.2.2) (record {
         history = opening begin.map true ∷ [];
         tells = (begin.map, opens_same begin.map m image large (begin.holds held.honest image held.is_image) holds, refl);
@@ -362,10 +403,12 @@ module _ (rule : Map → Type 0) where
       → Goes rule (opening m true ∷ []) answer new
   goes-down image m opens answer new it holds = goes-opens image m answer new it holds
   goes-down image m (begins actor) answer new it holds = stays-down image m answer new holds it.0 it.1
+  goes-down image m (takes actor slot) answer new it holds = stays-down image m answer new holds it.0 it.1
   goes-down image m (reads actor a) answer new it holds = stays-down image m answer new holds it.0 it.1
   goes-down image m (overwrites actor a v) answer new it holds = stays-down image m answer new holds it.0 it.1
   goes-down image m (aborts actor) answer new it holds = stays-down image m answer new holds it.0 it.1
   goes-down image m (finishes actor) answer new it holds = stays-down image m answer new holds it.0 it.1
+  goes-down image m joins answer new it holds = stays-down image m answer new holds it.0 it.1
   goes-down image m logs answer new it holds = stays-down image m answer new holds it.0 it.1
   goes-down image m installs answer new it holds = stays-down image m answer new holds it.0 it.1
   goes-down image m (crashes other) answer new it holds = stays-down image m answer new holds it.0 it.1
@@ -378,7 +421,7 @@ module _ (rule : Map → Type 0) where
 
   -- a run tells what became of the history
   pub runs : (old : Machine) (history : List Entry) (events : List Event) (answers : List Answer) (new : Machine) → Run rule old events answers new
-      → Holds rule old history → (last : List Entry) × Holds rule new last × TellsAll history answers last
+      → Holds rule old history → (last : List Entry) × Holds rule new last × TellsAll rule history answers last
   runs old history [] [] new run holds = (history, subst (λ (s : Machine). Holds rule s history) (sym run) holds, refl)
   runs old history [] (answer ∷ answers) new run holds = absurd run
   runs old history (event ∷ events) [] new run holds = absurd run
@@ -393,3 +436,13 @@ module _ (rule : Map → Type 0) where
 
   pub first_holds : (disk : DiskState) (core : CoreState) → IsTrue disk.honest → Begins rule disk core → Holds rule (mounted core) core.history
   first_holds disk core trusted begin = (refl, begun_up disk core trusted begin)
+
+-- what holds of an open transaction keeps it from being refused for what others did
+pub undisturbed : (c : CoreState) (holders : ℕ → Option ℕ) (actor : ℕ) (t : TransactionState) → IsSound c.history holders actor t → IsUndisturbed c t
+undisturbed c holders actor t sound = record {
+  later = sound.later;
+  unmoved = sound.unmoved;
+  agrees = sound.agrees;
+  never_behind = λ cause behind. let fewer : length t.seen ≤ length c.history = IsPrefix-length t.seen c.history sound.later in omega (arith, fewer, behind.1.1);
+  never_moved = λ cause moved. moved.2 sound.unmoved;
+}

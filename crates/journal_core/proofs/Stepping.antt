@@ -15,6 +15,8 @@ use Rattle.journal_world.specs.Histories.{count}
 use Rattle.journal_memlog.specs.Logs.{LogState}
 use Rattle.journal_core.specs.Cores.{CoreState, Crashes, IsKept}
 use Rattle.journal_core.proofs.Keeping.{Rests, kept_on, kept_cut, kept_end, crashes_of}
+use Rattle.journal_core.specs.Cores.{disk_of}
+use Rattle.journal_objlog.specs.ObjectLogs.{is_faulted as is_log_faulted}
 
 -- what holds of an error
 pub of_err : {T E P : Type 0} (r : Result T E) → IsErr r → OnErr r P → P
@@ -45,13 +47,13 @@ crashes_step blocks inside now new before is kept crash =
 
 module _ (blocks : ℕ) (c : CoreState) (kept : IsKept blocks c) (objects : WalState) (crash : MayCrash c.objects objects) where
   -- a device call failed
-  pub kept_fault : (IsTrue c.objects.ring.disk.honest → KeepsMaps c.objects objects) → objects.ring.faulted ≡ true
+  pub kept_fault : (IsTrue (disk_of c).honest → KeepsMaps c.objects objects) → is_log_faulted objects ≡ true
       → IsKept blocks (record c { objects = objects })
   kept_fault maps faulted = kept_on blocks c kept objects crash maps (λ fine none. absurd (false≢true (sym fine ∙ faulted)))
 
   -- a step of the group in flight that does not end it
   pub flies_on : (n : ℕ) → log_steps c.objects ≡ n → 0 < n → LogMoves n c.objects objects
-      → (IsTrue c.objects.ring.disk.honest → LogMovesMaps n c.objects objects)
+      → (IsTrue (disk_of c).honest → LogMovesMaps n c.objects objects)
       → c.objects.log.logged < c.objects.log.cut → objects.log.logged < objects.log.cut
       → IsKept blocks (record c { objects = objects })
   flies_on zero is some moves maps flew flies = absurd (omega (arith, some))
@@ -63,7 +65,7 @@ module _ (blocks : ℕ) (c : CoreState) (kept : IsKept blocks c) (objects : WalS
 
   -- the step that ends it
   pub lands : (n : ℕ) → log_steps c.objects ≡ n → 0 < n → LogMoves n c.objects objects
-      → (IsTrue c.objects.ring.disk.honest → LogMovesMaps n c.objects objects)
+      → (IsTrue (disk_of c).honest → LogMovesMaps n c.objects objects)
       → c.objects.log.logged < c.objects.log.cut → (objects.log.logged < objects.log.cut → ⊥)
       → IsKept blocks (record c { objects = objects; logged = c.cut })
   lands zero is some moves maps flew flies = absurd (omega (arith, some))
@@ -73,26 +75,26 @@ module _ (blocks : ℕ) (c : CoreState) (kept : IsKept blocks c) (objects : WalS
       let cut : objects.log.cut ≡ c.objects.log.cut = ap (λ (l : LogState). l.cut) moves.log in absurd (flies (omega (arith, flew, end, cut)))
 
   -- a step of the group in flight, by what it answers
-  pub stays_in_flight : (step : Step) → LogAnswers c.objects step objects → (IsTrue c.objects.ring.disk.honest → LogsMaps c.objects step objects)
+  pub stays_in_flight : (step : Step) → LogAnswers c.objects step objects → (IsTrue (disk_of c).honest → LogsMaps c.objects step objects)
       → 0 < log_steps c.objects → c.objects.log.logged < c.objects.log.cut → objects.log.logged < objects.log.cut
       → IsKept blocks (record c { objects = objects })
   stays_in_flight Idle ok maps some flew flies = absurd (omega (arith, some, ok.0.steps))
   stays_in_flight Moved ok maps some flew flies = flies_on (log_steps c.objects) refl some ok maps flew flies
 
-  pub has_landed : (step : Step) → LogAnswers c.objects step objects → (IsTrue c.objects.ring.disk.honest → LogsMaps c.objects step objects)
+  pub has_landed : (step : Step) → LogAnswers c.objects step objects → (IsTrue (disk_of c).honest → LogsMaps c.objects step objects)
       → 0 < log_steps c.objects → c.objects.log.logged < c.objects.log.cut → (objects.log.logged < objects.log.cut → ⊥)
       → IsKept blocks (record c { objects = objects; logged = c.cut })
   has_landed Idle ok maps some flew flies = absurd (omega (arith, some, ok.0.steps))
   has_landed Moved ok maps some flew flies = lands (log_steps c.objects) refl some ok maps flew flies
 
   -- the tail is cut
-  pub cuts : (n : ℕ) → n ≡ 0 → LogMoves n c.objects objects → (IsTrue c.objects.ring.disk.honest → LogMovesMaps n c.objects objects)
+  pub cuts : (n : ℕ) → n ≡ 0 → LogMoves n c.objects objects → (IsTrue (disk_of c).honest → LogMovesMaps n c.objects objects)
       → IsKept blocks (record c { objects = objects; cut = count c.history })
   cuts zero none moves maps = kept_cut blocks c kept objects crash maps (omega (arith, moves.steps))
   cuts (suc n) none moves maps = absurd (omega (arith, none))
 
   pub has_cut : (step : Step) → step ≡ Moved → log_steps c.objects ≡ 0 → LogAnswers c.objects step objects
-      → (IsTrue c.objects.ring.disk.honest → LogsMaps c.objects step objects)
+      → (IsTrue (disk_of c).honest → LogsMaps c.objects step objects)
       → IsKept blocks (record c { objects = objects; cut = count c.history })
   has_cut Idle moved none ok maps = absurd (cc (moved))
   has_cut Moved moved none ok maps = cuts (log_steps c.objects) none ok maps
@@ -107,30 +109,30 @@ pub no_steps : {A : Type 0} (w : WalState) → IsTrue false ⊎ ((log_steps w �
 no_steps w rest = ⊎_elim (λ no. absurd (false≢true no)) (λ yes. yes.0) rest
 
 -- where something was read, no group came or went
-pub rests_read : (old new : WalState) → OnlyReads old new → (IsTrue old.ring.faulted → new ≡ old) → Rests old new
-rests_read old new reads stays fine none = by old.ring.faulted refl
+pub rests_read : (old new : WalState) → OnlyReads old new → (IsTrue (is_log_faulted old) → new ≡ old) → Rests old new
+rests_read old new reads stays fine none = by (is_log_faulted old) refl
   where
-    by : (b : Bool) → old.ring.faulted ≡ b → (old.ring.faulted ≡ false) × (log_steps old ≡ 0)
-    by true is = absurd (false≢true (sym fine ∙ ap (λ (w : WalState). w.ring.faulted) (stays is) ∙ is))
+    by : (b : Bool) → is_log_faulted old ≡ b → (is_log_faulted old ≡ false) × (log_steps old ≡ 0)
+    by true is = absurd (false≢true (sym fine ∙ ap is_log_faulted (stays is) ∙ is))
     by false is = (is, sym (ap log_steps reads.same) ∙ none)
 
 -- a call that only reads leaves no group that was not there
 pub rests_call : {T : Type 0} (old new : WalState) (r : Result T (Refusal Unit)) → OnlyReads old new
-    → (IsTrue old.ring.faulted → IsErr r × (new ≡ old)) → Rests old new
+    → (IsTrue (is_log_faulted old) → IsErr r × (new ≡ old)) → Rests old new
 rests_call old new r reads stays = rests_read old new reads (λ faulted. (stays faulted).1)
 
 -- nor does a step of the installer
 pub rests_install : (old new : WalState) (r : Result Step (Refusal Unit)) → IfOk r (λ step. InstallAnswers old step new)
-    → IfErr r (IsInstallFault old new) → (IsTrue old.ring.faulted → IsErr r × (new ≡ old)) → Rests old new
+    → IfErr r (IsInstallFault old new) → (IsTrue (is_log_faulted old) → IsErr r × (new ≡ old)) → Rests old new
 rests_install old new (Ok Idle) ok err stays = λ fine none.
-    (sym (ap (λ (w : WalState). w.ring.faulted) ok.1) ∙ fine, sym (ap log_steps ok.1) ∙ none)
-rests_install old new (Ok Moved) ok err stays = λ fine none. (by old.ring.faulted refl, sym ok.logging ∙ none)
+    (sym (ap is_log_faulted ok.1) ∙ fine, sym (ap log_steps ok.1) ∙ none)
+rests_install old new (Ok Moved) ok err stays = λ fine none. (by (is_log_faulted old) refl, sym ok.logging ∙ none)
   where
-    by : (b : Bool) → old.ring.faulted ≡ b → old.ring.faulted ≡ false
+    by : (b : Bool) → is_log_faulted old ≡ b → is_log_faulted old ≡ false
     by true is = absurd (false≢true (stays is).0)
     by false is = is
 rests_install old new (Err NoMemory) ok err stays = λ fine none.
-    (sym (ap (λ (w : WalState). w.ring.faulted) err.1) ∙ fine, sym (ap log_steps err.1) ∙ none)
+    (sym (ap is_log_faulted err.1) ∙ fine, sym (ap log_steps err.1) ∙ none)
 rests_install old new (Err (DeviceFailed cause)) ok err stays = λ fine none. absurd (false≢true (sym fine ∙ err.1.faulted))
 rests_install old new (Err BadAddress) ok err stays = absurd err
 rests_install old new (Err BadSize) ok err stays = absurd err

@@ -1,82 +1,118 @@
 -- What a commit is, and why one is refused.
-use Rattle.std.specs.Prelude.{◌≡◌, ◌⊎◌, ◌<◌, ◌≤◌, ◌+◌, ◌^◌, max, false, IsTrue, List, length, Some}
+use Rattle.std.specs.Prelude.{ℕ, ◌≡◌, ◌⊎◌, ◌<◌, ◌≤◌, ◌+◌, ◌^◌, max, false, List, length, Some}
+use mathlib.Core.List.{IsPrefix}
 use Rattle.journal_world.specs.declared.refusal.Refusal.{Refusal}
-use Rattle.journal_world.specs.declared.refusal.Refusal.TheVariants.{NoMemory, TooLarge, Busy, DeviceFailed, Stale, Stranger, Worn, Full}
-use Rattle.journal_world.specs.Maps.{Pair, Transaction, Agrees}
-use Rattle.journal_world.specs.Histories.{is_trusted, commits_of, latest}
+use Rattle.journal_world.specs.declared.refusal.Refusal.TheVariants.{NoMemory, TooLarge, DeviceFailed, Stale, Stranger, Worn, Full}
+use Rattle.journal_world.specs.Maps.{Pair, Transaction}
+use Rattle.journal_world.specs.Histories.{commits_of}
 use Rattle.journal_block.specs.declared.update.Update.{Update}
-use Rattle.journal_memlog.specs.Logs.{next_of, appended}
+use Rattle.journal_block.specs.Updates.{updates_block}
+use Rattle.journal_memlog.specs.Logs.{next_of}
 use Rattle.journal_wal.specs.Wal.{WalState, Appends, tail_length}
-use Rattle.journal_objlog.specs.Writes.{written_blocks, fresh_blocks}
+use Rattle.journal_objlog.specs.ObjectLogs.{OnlyReads}
+use Rattle.journal_objlog.specs.Writes.{writes_block, written_blocks, fresh_blocks}
+use Rattle.journal_history.specs.Soundness.{IsLonger}
 use Rattle.journal_history.specs.Tokens.{SessionState, made, next_of as numbered, Commits}
 use Rattle.journal_core.specs.Causes.{Told, IsUnexplained}
-use Rattle.journal_core.specs.Cores.{CoreState}
-use Rattle.journal_core.specs.Steps.{IsFaulted, IsStale}
+use Rattle.journal_core.specs.Cores.{CoreState, is_faulted}
+use Rattle.journal_core.specs.Transactions.{TransactionState, AreUnmoved}
+use Rattle.journal_core.specs.Steps.{IsFaulted, IsStale, IsMoved}
 
--- What is written was appended to the log in memory; the disk was only read
-pub record Logs (old new : WalState) : Type 0 where
+-- The log was only read, and then one update of each block that is written was appended to its tail, and no other
+pub record Logs (old new : WalState) (writes : List Pair) : Type 0 where
   pub updates : List Update
-  pub log : new.log ≡ record (appended old.log updates) { room = new.log.room }
-  pub ring : new.ring ≡ record old.ring { disk = new.ring.disk }
-  pub past : IsTrue old.ring.disk.honest → new.ring.disk.past ≡ old.ring.disk.past
-  pub logging : new.logging ≡ old.logging
-  pub installing : new.installing ≡ old.installing
+  pub named : (b : ℕ) → updates_block updates b ≡ writes_block writes b
+  pub number : length updates ≡ written_blocks writes
+  pub read : WalState
+  pub reads : OnlyReads old read
+  pub appends : Appends read updates new
 
 -- The session's transaction was committed, and nothing else was done
 pub record IsCommitted (reads writes : List Pair) (session after : SessionState) (old new : CoreState) : Type 0 where
   pub committed : Commits (numbered session reads writes) session after old.history new.history
-  pub logs : Logs old.objects new.objects
+  pub logs : Logs old.objects new.objects writes
   pub others : new ≡ record old { objects = new.objects; history = new.history; next = max old.next (session.number + 1) }
+
+-- Neither the session nor the transaction has seen more of the history than the core
+pub record HasSeen (c : CoreState) (s : SessionState) (t : TransactionState) : Type 0 where
+  pub shown : IsPrefix s.seen c.history
+  pub later : IsPrefix t.seen c.history
 
 -- The history has a commit under the session's number that the session did not make
 abbrev pub IsStrange : CoreState → SessionState → Type 0
 IsStrange c s = made s < length (commits_of s.number c.history)
 
+-- The history has a commit that the session or the transaction does not know to be there
+abbrev pub IsUnknown : CoreState → SessionState → TransactionState → Told → Type 0
+IsUnknown c s t cause = ((cause ≡ Some c.history) × IsStrange c s) ⊎ IsMoved c t cause
+
 -- The history's length, the session's number or a position of the log would reach 2^62
 abbrev pub IsWorn : CoreState → SessionState → List Pair → Type 0
 IsWorn c s writes = (2 ^ 62 ≤ length c.history + 1) ⊎ (2 ^ 62 ≤ s.number) ⊎ (2 ^ 62 ≤ next_of c.objects.log + fresh_blocks c.objects writes)
 
+-- The log's tail cannot take the blocks that do not stand in it
+abbrev pub IsFull : CoreState → List Pair → Type 0
+IsFull c writes = 255 < tail_length c.objects + fresh_blocks c.objects writes
+
 -- Nothing that is known before the writes are looked at refuses the session's commit
-pub record MayCommit (c : CoreState) (s : SessionState) (reads : List Pair) : Type 0 where
-  pub fine : c.objects.ring.faulted ≡ false
-  pub agrees : IsTrue (is_trusted c.history) → Agrees (latest c.history) reads
+pub record MayCommit (c : CoreState) (s : SessionState) (t : TransactionState) : Type 0 where
+  pub fine : is_faulted c ≡ false
+  pub seen : HasSeen c s t
   pub own : length (commits_of s.number c.history) ≡ made s
+  pub unmoved : AreUnmoved c.history t
 
--- Why a commit is refused: the first of these that holds
-abbrev pub IsCommitRefusal : CoreState → SessionState → List Pair → List Pair → CoreState → Refusal Told → Type 0
-IsCommitRefusal old s reads writes new (DeviceFailed cause) = IsFaulted old new cause
-IsCommitRefusal old s reads writes new Busy = (old.objects.ring.faulted ≡ false) × (IsTrue (is_trusted old.history) → Agrees (latest old.history) reads → ⊥)
-IsCommitRefusal old s reads writes new (Stale cause) =
-    (old.objects.ring.faulted ≡ false) × IsStale old cause
-IsCommitRefusal old s reads writes new (Stranger cause) = (old.objects.ring.faulted ≡ false) × (cause ≡ Some old.history) × IsStrange old s
-IsCommitRefusal old s reads writes new TooLarge = MayCommit old s reads × (128 < written_blocks writes)
-IsCommitRefusal old s reads writes new (Worn cause) = MayCommit old s reads × (written_blocks writes ≤ 128) × IsWorn old s writes × IsUnexplained cause
-IsCommitRefusal old s reads writes new (Full cause) = MayCommit old s reads × (written_blocks writes ≤ 128) × (IsWorn old s writes → ⊥)
-    × (255 < tail_length old.objects + fresh_blocks old.objects writes) × IsUnexplained cause
-IsCommitRefusal old s reads writes new NoMemory = (old.objects.ring.faulted ≡ false) × (length (commits_of s.number old.history) ≡ made s)
-IsCommitRefusal old s reads writes new other = ⊥
+-- Nothing but memory and the device can refuse the writes
+pub record CanPrepare (c : CoreState) (s : SessionState) (writes : List Pair) : Type 0 where
+  pub few : written_blocks writes ≤ 128
+  pub unworn : IsWorn c s writes → ⊥
+  pub room : IsFull c writes → ⊥
 
--- Why a session is not admitted
-abbrev pub IsSessionFault : CoreState → SessionState → Refusal Told → Type 0
-IsSessionFault c s (Stale cause) = IsStale c cause
-IsSessionFault c s (Stranger cause) = (cause ≡ Some c.history) × IsStrange c s
-IsSessionFault c s other = ⊥
+-- Nothing but memory and the device can refuse the commit
+pub record CanCommit (c : CoreState) (s : SessionState) (t : TransactionState) : Type 0 where
+  pub may : MayCommit c s t
+  pub writes : CanPrepare c s t.writes
 
--- Why what was read is not found to be what the map gives
-abbrev pub IsComparedRefusal : CoreState → List Pair → CoreState → Refusal Told → Type 0
-IsComparedRefusal old reads new Busy = IsTrue (is_trusted old.history) → Agrees (latest old.history) reads → ⊥
-IsComparedRefusal old reads new NoMemory = Unit {0}
-IsComparedRefusal old reads new (DeviceFailed cause) = IsFaulted old new cause
-IsComparedRefusal old reads new other = ⊥
+-- Why a commit is refused: the first of these that holds, then J1 or a new J6
+abbrev pub IsCommitRefusal : CoreState → SessionState → TransactionState → CoreState → Refusal Told → Type 0
+IsCommitRefusal old s t new (DeviceFailed cause) = IsFaulted (CanCommit old s t) old new cause
+IsCommitRefusal old s t new (Stale cause) = (is_faulted old ≡ false) × IsStale old cause
+IsCommitRefusal old s t new (Stranger cause) = (is_faulted old ≡ false) × HasSeen old s t × IsUnknown old s t cause
+IsCommitRefusal old s t new TooLarge = MayCommit old s t × (128 < written_blocks t.writes)
+IsCommitRefusal old s t new (Worn cause) = MayCommit old s t × (written_blocks t.writes ≤ 128) × IsWorn old s t.writes × IsUnexplained cause
+IsCommitRefusal old s t new (Full cause) = MayCommit old s t × (written_blocks t.writes ≤ 128) × (IsWorn old s t.writes → ⊥)
+    × IsFull old t.writes × IsUnexplained cause
+IsCommitRefusal old s t new NoMemory = CanCommit old s t
+IsCommitRefusal old s t new other = ⊥
+
+-- J9 lasts: the session has then seen the longer history, by which each later commit of it is refused
+abbrev pub ShowsLonger : CoreState → SessionState → Refusal Told → Type 0
+ShowsLonger c after (Stale cause) = IsLonger c.history after.seen
+ShowsLonger c after other = Unit {0}
+
+-- The history is longer than the core's
+abbrev pub IsStaleRefusal : CoreState → Refusal Told → Type 0
+IsStaleRefusal c (Stale cause) = IsStale c cause
+IsStaleRefusal c other = ⊥
+
+-- Why a session's commit is not admitted
+abbrev pub IsAdmissionFault : CoreState → SessionState → TransactionState → Refusal Told → Type 0
+IsAdmissionFault c s t (Stale cause) = IsStale c cause
+IsAdmissionFault c s t (Stranger cause) = HasSeen c s t × IsUnknown c s t cause
+IsAdmissionFault c s t other = ⊥
+
+-- Why what a transaction has read is not admitted
+abbrev pub IsMovedRefusal : CoreState → TransactionState → Refusal Told → Type 0
+IsMovedRefusal c t (Stranger cause) = IsMoved c t cause
+IsMovedRefusal c t other = ⊥
 
 -- Why writes are not made ready
 abbrev pub IsPreparingRefusal : CoreState → SessionState → List Pair → CoreState → Refusal Told → Type 0
 IsPreparingRefusal old s writes new TooLarge = 128 < written_blocks writes
 IsPreparingRefusal old s writes new (Worn cause) = (written_blocks writes ≤ 128) × IsWorn old s writes × IsUnexplained cause
 IsPreparingRefusal old s writes new (Full cause) = (written_blocks writes ≤ 128) × (IsWorn old s writes → ⊥)
-    × (255 < tail_length old.objects + fresh_blocks old.objects writes) × IsUnexplained cause
-IsPreparingRefusal old s writes new NoMemory = Unit {0}
-IsPreparingRefusal old s writes new (DeviceFailed cause) = IsFaulted old new cause
+    × IsFull old writes × IsUnexplained cause
+IsPreparingRefusal old s writes new NoMemory = CanPrepare old s writes
+IsPreparingRefusal old s writes new (DeviceFailed cause) = IsFaulted (CanPrepare old s writes) old new cause
 IsPreparingRefusal old s writes new other = ⊥
 
 -- Why what is ready is not added

@@ -1,14 +1,14 @@
 -- What contracts see of the core, what a crash may leave of it, and what its type keeps.
-use Rattle.std.specs.Prelude.{ℕ, ◌≡◌, ◌≤◌, false, IsTrue, List, []}
+use Rattle.std.specs.Prelude.{ℕ, ◌≡◌, ◌≤◌, Bool, false, IsTrue, List, []}
 use Rattle.journal_world.specs.Maps.{Map, SameMap}
 use Rattle.journal_world.specs.Histories.{Entry, opened, is_trusted, commits_of, count, floor, at, latest}
 use Rattle.journal_block.specs.Block.{Bytes}
-use Rattle.journal_disk.specs.Disks.{Keeps}
+use Rattle.journal_disk.specs.Disks.{DiskState, Keeps}
 use Rattle.journal_disk.specs.Images.{EveryImage}
 use Rattle.journal_disk.specs.Moments.{LeavesOnly}
 use Rattle.journal_wal.specs.Wal.{WalState, size_of, log_steps}
 use Rattle.journal_objlog.specs.Maps.{OpensAs}
-use Rattle.journal_objlog.specs.ObjectLogs.{map_now, map_cut, map_logged, MayOpenAs}
+use Rattle.journal_objlog.specs.ObjectLogs.{map_now, map_cut, map_logged, MayOpenAs, is_faulted as is_log_faulted, disk_of as log_disk}
 
 pub record CoreState : Type 0 where
   -- the map of objects, and the log that it is kept in
@@ -20,6 +20,14 @@ pub record CoreState : Type 0 where
   pub logged : ℕ
   -- the number of the next session
   pub next : ℕ
+
+-- a device call failed, so that reads, commits and steps are refused until the disk is opened again
+abbrev pub is_faulted : CoreState → Bool
+is_faulted c = is_log_faulted c.objects
+
+-- the disk that the core lies on
+abbrev pub disk_of : CoreState → DiskState
+disk_of c = log_disk c.objects
 
 -- The image opens as the map after so many commits, no fewer than the greatest mark
 pub record Leaves (history : List Entry) (image : List Bytes) : Type 0 where
@@ -33,9 +41,9 @@ pub record Leaves (history : List Entry) (image : List Bytes) : Type 0 where
 -- What each step says of crashes: at every moment of it an image opens as the map after a front of the history that there
 -- was, and at its end after one of the history that there is
 pub record Crashes (old new : CoreState) : Type 0 where
-  pub keeps : Keeps old.objects.ring.disk new.objects.ring.disk
-  pub moments : IsTrue old.objects.ring.disk.honest → LeavesOnly old.objects.ring.disk.past new.objects.ring.disk.past (Leaves old.history)
-  pub images : IsTrue new.objects.ring.disk.honest → EveryImage new.objects.ring.disk.past (Leaves new.history)
+  pub keeps : Keeps (disk_of old) (disk_of new)
+  pub moments : IsTrue (disk_of old).honest → LeavesOnly (disk_of old).past (disk_of new).past (Leaves old.history)
+  pub images : IsTrue (disk_of new).honest → EveryImage (disk_of new).past (Leaves new.history)
 
 -- The map now is that of the history, the one at the last cut that after m commits, the one that is logged that after n
 pub record AreTied (objects : WalState) (history : List Entry) (m n : ℕ) : Type 0 where
@@ -47,13 +55,13 @@ pub record AreTied (objects : WalState) (history : List Entry) (m n : ℕ) : Typ
 pub record IsKept (blocks : ℕ) (c : CoreState) : Type 0 where
   pub size : size_of c.objects ≡ blocks
   pub on_disk : (opened c.history).blocks ≡ blocks
-  pub trusted : is_trusted c.history ≡ c.objects.ring.disk.honest
+  pub trusted : is_trusted c.history ≡ (disk_of c).honest
   pub marked : floor c.history ≤ c.logged
   pub logged_to_cut : c.logged ≤ c.cut
   pub cut_to_count : c.cut ≤ count c.history
   -- where no group is in flight, what was cut is logged
-  pub rest : c.objects.ring.faulted ≡ false → log_steps c.objects ≡ 0 → c.logged ≡ c.cut
-  pub tied : IsTrue c.objects.ring.disk.honest → AreTied c.objects c.history c.cut c.logged
-  pub images : IsTrue c.objects.ring.disk.honest → EveryImage c.objects.ring.disk.past (MayOpenAs c.objects)
+  pub rest : is_faulted c ≡ false → log_steps c.objects ≡ 0 → c.logged ≡ c.cut
+  pub tied : IsTrue (disk_of c).honest → AreTied c.objects c.history c.cut c.logged
+  pub images : IsTrue (disk_of c).honest → EveryImage (disk_of c).past (MayOpenAs c.objects)
   -- no session of a later number has committed
   pub fresh : (s : ℕ) → c.next ≤ s → commits_of s c.history ≡ []

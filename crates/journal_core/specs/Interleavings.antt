@@ -1,34 +1,40 @@
 -- Transactions of many actors, the logger's and the installer's steps, crashes and openings, in any order: lists of events,
 -- and what they come to.
-use Rattle.std.specs.Prelude.{ℕ, ◌≡◌, ◌⊎◌, ◌==◌, ◌≤◌, true, if◌then◌else◌, IsTrue, List, [], ◌∷◌, ◌++◌, length, Option, Some, None}
+use Rattle.std.specs.Prelude.{ℕ, ◌≡◌, ◌⊎◌, ◌==◌, ◌≤◌, true, false, if◌then◌else◌, Bool, IsTrue, List, [], ◌∷◌, ◌++◌, Option, Some, None, Result, Ok, Err}
+use mathlib.Core.List.{IsPrefix}
 use Rattle.journal_world.specs.declared.address.Addr.{Addr}
 use Rattle.journal_world.specs.declared.refusal.Refusal.{Refusal}
 use Rattle.journal_world.specs.declared.step.Step.{Step}
-use Rattle.journal_world.specs.Addresses.{Value}
-use Rattle.journal_world.specs.Maps.{Map, Pair, Transaction, SameMap, Agrees, value_at, IsLegalAt, is_object}
-use Rattle.journal_world.specs.Histories.{Entry, opened, is_trusted, latest, at, count, floor, commits_of}
+use Rattle.journal_world.specs.Addresses.{Value, slot_of}
+use Rattle.journal_world.specs.Maps.{Map, Pair, Transaction, SameMap, Agrees, value_at, is_object}
+use Rattle.journal_world.specs.Histories.{Entry, opened, is_trusted, latest, at, count, floor, Follows, IsTrueTo}
 use Rattle.journal_world.specs.Histories.Entry.{opening, commit, stable}
 use Rattle.journal_block.specs.Block.{Bytes}
 use Rattle.journal_disk.specs.Disks.{Past, DiskState, IsSettled}
 use Rattle.journal_disk.specs.Images.{IsImage}
 use Rattle.journal_disk.specs.Moments.{Extends}
 use Rattle.journal_objlog.specs.Maps.{OpensAs}
-use Rattle.journal_history.specs.Tokens.{SessionState, next_of}
+use Rattle.journal_objlog.specs.ObjectLogs.{OnlyReads}
+use Rattle.journal_history.specs.Tokens.{SessionState, CommitPlace, next_of}
 use Rattle.journal_core.specs.Causes.{Told}
-use Rattle.journal_core.specs.Cores.{CoreState, Crashes}
-use Rattle.journal_core.specs.Steps.{Marks, LogAnswers, IsLogRefusal, InstallAnswers, IsInstallRefusal, IsReadRefusal}
-use Rattle.journal_core.specs.Commits.{IsCommitted, IsCommitRefusal}
+use Rattle.journal_core.specs.Cores.{CoreState, Crashes, is_faulted, disk_of}
+use Rattle.journal_core.specs.Transactions.{TransactionState, begun, AreUnmoved, Remembers, Overwrites}
+use Rattle.journal_core.specs.Steps.{Marks, LogAnswers, IsLogRefusal, InstallAnswers, IsInstallRefusal, MayRead, IsReadRefusal, IsBehind, IsMoved, BeginsSession, IsSessionRefusal}
+use Rattle.journal_core.specs.Commits.{IsCommitted, CanCommit, IsCommitRefusal}
 use Rattle.journal_core.specs.Openings.{Begins}
 
--- An event. The first five are of one actor, and all of these but the first of the transaction that it has open. A step of
--- the logger is the next of: cut a group, put a log block, a barrier, put `end`, a barrier, a mark; one of the installer the
--- next of: put a home block, a barrier, put `start`, a barrier. A device call of any of them may fail
+-- An event. The first six are of one actor, and all of these but the first of the transaction that it has open. A slot that
+-- it takes is held until the transaction is ended. Then a session is asked for. A step of the logger is the next of: cut a group, put a log block, a
+-- barrier, put `end`, a barrier, a mark; one of the installer the next of: put a home block, a barrier, put `start`, a barrier.
+-- A device call of any of them may fail
 pub data Event : Type 0 where
   begins : ℕ → Event
+  takes : ℕ → ℕ → Event
   reads : ℕ → Addr → Event
   overwrites : ℕ → Addr → Value → Event
   aborts : ℕ → Event
   commits : ℕ → Event
+  joins : Event
   logs : Event
   installs : Event
   -- at a moment of a call, or between two, and leaves this image
@@ -45,92 +51,152 @@ pub data Answer : Type 0 where
   crashed : Answer
   reopened : Answer
 
--- What an answer tells of the history: a value is what its last map gives; a commit is one legal entry more; a mark is one
--- that is allowed; a crash leaves the map after so many commits, no fewer than the greatest mark, and the next history begins
--- with it
-abbrev pub Tells : List Entry → Answer → List Entry → Type 0
-Tells old nothing new = new ≡ old
-Tells old (value a v) new = (v ≡ value_at (latest old) a) × (new ≡ old)
-Tells old (committed t) new = IsLegalAt (latest old) t × (t.number ≡ length (commits_of t.session old)) × (new ≡ old ++ commit t ∷ [])
-Tells old (marked n) new = (floor old ≤ n) × (n ≤ count old) × (new ≡ old ++ stable n ∷ [])
-Tells old crashed new = (n : ℕ) × (floor old ≤ n) × (n ≤ count old) × ((m : Map) × SameMap m (at old n) × (new ≡ opening m true ∷ []))
-Tells old reopened new = (m : Map) × SameMap m (opened old) × (new ≡ opening m true ∷ [])
+-- One entry more, which may follow and is true to the rule, so that a legal history stays legal
+abbrev pub Adds : (Map → Type 0) → List Entry → Entry → List Entry → Type 0
+Adds rule old e new = Follows old e × IsTrueTo rule old e × (new ≡ old ++ e ∷ [])
+
+-- What an answer tells of the history: a value is what its last map gives; a commit or a mark is one entry more; a crash
+-- leaves the map after so many commits, no fewer than the greatest mark, and the next history begins with it
+abbrev pub Tells : (Map → Type 0) → List Entry → Answer → List Entry → Type 0
+Tells rule old nothing new = new ≡ old
+Tells rule old (value a v) new = (v ≡ value_at (latest old) a) × (new ≡ old)
+Tells rule old (committed t) new = Adds rule old (commit t) new
+Tells rule old (marked n) new = Adds rule old (stable n) new
+Tells rule old crashed new = (n : ℕ) × (floor old ≤ n) × (n ≤ count old) × ((m : Map) × SameMap m (at old n) × (new ≡ opening m true ∷ []))
+Tells rule old reopened new = (m : Map) × SameMap m (opened old) × (new ≡ opening m true ∷ [])
 
 -- the same of answers one after the other
-abbrev pub TellsAll : List Entry → List Answer → List Entry → Type 0
-TellsAll old [] new = new ≡ old
-TellsAll old (answer ∷ answers) new = (mid : List Entry) × Tells old answer mid × TellsAll mid answers new
+abbrev pub TellsAll : (Map → Type 0) → List Entry → List Answer → List Entry → Type 0
+TellsAll rule old [] new = new ≡ old
+TellsAll rule old (answer ∷ answers) new = (mid : List Entry) × Tells rule old answer mid × TellsAll rule mid answers new
 
--- What an open transaction has read and overwritten
-pub record Draft : Type 0 where
-  pub reads : List Pair
-  pub writes : List Pair
-
-abbrev pub no_draft : Draft
-no_draft = record { reads = []; writes = [] }
-
--- A mount: its core, and the transaction that each actor has open
+-- A mount: its core, the transaction that each actor has open, and the actor that holds each slot
 pub record Mount : Type 0 where
   pub core : CoreState
-  pub drafts : ℕ → Option Draft
+  pub drafts : ℕ → Option TransactionState
+  pub holders : ℕ → Option ℕ
+
+abbrev pub is_actor : Option ℕ → ℕ → Bool
+is_actor None actor = false
+is_actor (Some holder) actor = holder == actor
+
+-- the actor holds the slot of the address
+abbrev pub holds : Mount → ℕ → Addr → Bool
+holds m actor a = is_actor (m.holders (slot_of a)) actor
 
 -- A mount, or a disk that waits to be opened, as a crash left it
 pub data Machine : Type 0 where
   up : Mount → Machine
   down : List Bytes → Machine
 
--- nobody has a transaction open
+-- nobody has a transaction open, or holds a slot
 abbrev pub mounted : CoreState → Machine
-mounted core = up (record { core = core; drafts = λ actor. None })
-
--- the actor has this transaction open, or none
-abbrev pub with_draft : Mount → ℕ → Option Draft → Mount
-with_draft m actor draft = record { core = m.core; drafts = λ other. if other == actor then draft else m.drafts other }
+mounted core = up (record { core = core; drafts = λ actor. None; holders = λ slot. None })
 
 -- the core has gone on
 abbrev pub with_core : Mount → CoreState → Mount
-with_core m core = record { core = core; drafts = m.drafts }
+with_core m core = record m { core = core }
 
--- A read was answered
-pub record ReadsValue (old : CoreState) (a : Addr) (v : Value) (new : CoreState) : Type 0 where
+-- the actor has this transaction open, or none
+abbrev pub with_draft : Mount → ℕ → Option TransactionState → Mount
+with_draft m actor draft = record m { drafts = λ other. if other == actor then draft else m.drafts other }
+
+-- the actor has the slot
+abbrev pub with_slot : Mount → ℕ → ℕ → Mount
+with_slot m actor slot = record m { holders = λ other. if other == slot then Some actor else m.holders other }
+
+-- the actor's transaction is ended, and all its slots are given up
+abbrev pub ended : Mount → ℕ → Mount
+ended m actor = record (with_draft m actor None) { holders = λ slot. if is_actor (m.holders slot) actor then None else m.holders slot }
+
+-- The steps of the core, as events: each step's contract cites what it answers and leaves
+
+-- A read was answered, on a disk of so many blocks, and what was read is remembered
+pub record ReadsValue (blocks : ℕ) (old : CoreState) (t : TransactionState) (a : Addr) (v : Value) (new : CoreState) (after : TransactionState) : Type 0 where
+  pub may : MayRead blocks old t a
   pub value : IsTrue (is_trusted old.history) → v ≡ value_at (latest old.history) a
-  pub object : IsTrue (is_object (opened old.history).blocks (a, v))
+  pub object : IsTrue (is_object blocks (a, v))
+  pub remembers : Remembers t a v old.history after
+  pub fine : is_faulted new ≡ false
+  pub reads : OnlyReads old.objects new.objects
   pub others : new ≡ record old { objects = new.objects }
   pub crash : Crashes old new
 
--- A read was refused
-pub record RefusesRead (old : CoreState) (a : Addr) (new : CoreState) : Type 0 where
-  pub refusal : Refusal Told
-  pub why : IsReadRefusal (opened old.history).blocks old a new refusal
+-- A read was refused, and the transaction is as it was
+pub record RefusesRead (blocks : ℕ) (old : CoreState) (t : TransactionState) (a : Addr) (why : Refusal Told) (new : CoreState) (after : TransactionState) : Type 0 where
+  pub refusal : IsReadRefusal blocks old t a new why
+  pub stays : after ≡ t
+  pub reads : OnlyReads old.objects new.objects
   pub others : new ≡ record old { objects = new.objects }
   pub crash : Crashes old new
 
--- A transaction was committed, by some session
-pub record CommitsDraft (old : CoreState) (d : Draft) (t : Transaction) (new : CoreState) : Type 0 where
-  pub session : SessionState
-  pub after : SessionState
-  pub is : t ≡ next_of session d.reads d.writes
+abbrev pub AnswersRead : ℕ → CoreState → TransactionState → Addr → Result Value (Refusal Told) → CoreState → TransactionState → Type 0
+AnswersRead blocks old t a (Ok v) new after = ReadsValue blocks old t a v new after
+AnswersRead blocks old t a (Err why) new after = RefusesRead blocks old t a why new after
+
+-- The session's next transaction was committed, as it is
+pub record CommitsDraft (old : CoreState) (session : SessionState) (d : TransactionState) (new : CoreState) (after : SessionState) : Type 0 where
+  pub can : CanCommit old session d
   pub committed : IsCommitted d.reads d.writes session after old new
   pub agrees : IsTrue (is_trusted old.history) → Agrees (latest old.history) d.reads
+  pub fine : is_faulted new ≡ false
   pub crash : Crashes old new
 
 -- A commit was refused
-pub record RefusesCommit (old : CoreState) (d : Draft) (new : CoreState) : Type 0 where
-  pub session : SessionState
-  pub refusal : Refusal Told
-  pub why : IsCommitRefusal old session d.reads d.writes new refusal
+pub record RefusesCommit (old : CoreState) (session : SessionState) (d : TransactionState) (why : Refusal Told) (new : CoreState) : Type 0 where
+  pub refusal : IsCommitRefusal old session d new why
+  pub reads : OnlyReads old.objects new.objects
   pub others : new ≡ record old { objects = new.objects }
   pub crash : Crashes old new
 
--- The logger made a step, or was refused one
-pub record LogsStep (old new : CoreState) : Type 0 where
-  pub how : ((step : Step) × LogAnswers old step new) ⊎ ((refusal : Refusal Told) × IsLogRefusal old new refusal)
+abbrev pub AnswersCommit : CoreState → SessionState → TransactionState → Result CommitPlace (Refusal Told) → CoreState → SessionState → Type 0
+AnswersCommit old session d (Ok place) new after = CommitsDraft old session d new after
+AnswersCommit old session d (Err why) new after = RefusesCommit old session d why new
+
+-- The logger made a step
+pub record LogsStep (old : CoreState) (step : Step) (new : CoreState) : Type 0 where
+  pub did : LogAnswers old step new
+  pub fine : (is_faulted old ≡ false) × (is_faulted new ≡ false)
   pub crash : Crashes old new
 
--- The installer made a step, or was refused one
-pub record InstallsStep (old new : CoreState) : Type 0 where
-  pub how : ((step : Step) × InstallAnswers old step new) ⊎ ((refusal : Refusal Told) × IsInstallRefusal old new refusal)
+-- or was refused one
+pub record RefusesLog (old : CoreState) (why : Refusal Told) (new : CoreState) : Type 0 where
+  pub refusal : IsLogRefusal old new why
   pub crash : Crashes old new
+
+abbrev pub AnswersLog : CoreState → Result Step (Refusal Told) → CoreState → Type 0
+AnswersLog old (Ok step) new = LogsStep old step new
+AnswersLog old (Err why) new = RefusesLog old why new
+
+-- The installer made a step
+pub record InstallsStep (old : CoreState) (step : Step) (new : CoreState) : Type 0 where
+  pub did : InstallAnswers old step new
+  pub fine : (is_faulted old ≡ false) × (is_faulted new ≡ false)
+  pub crash : Crashes old new
+
+-- or was refused one
+pub record RefusesInstall (old : CoreState) (why : Refusal Told) (new : CoreState) : Type 0 where
+  pub refusal : IsInstallRefusal old new why
+  pub crash : Crashes old new
+
+abbrev pub AnswersInstall : CoreState → Result Step (Refusal Told) → CoreState → Type 0
+AnswersInstall old (Ok step) new = InstallsStep old step new
+AnswersInstall old (Err why) new = RefusesInstall old why new
+
+-- A session began
+pub record Joins (old : CoreState) (session : SessionState) (new : CoreState) : Type 0 where
+  pub begins : BeginsSession old session new
+  pub crash : Crashes old new
+
+-- or was refused
+pub record RefusesSession (old : CoreState) (why : Refusal Told) (new : CoreState) : Type 0 where
+  pub refusal : IsSessionRefusal old why
+  pub same : new ≡ old
+  pub crash : Crashes old new
+
+abbrev pub AnswersSession : CoreState → Result SessionState (Refusal Told) → CoreState → Type 0
+AnswersSession old (Ok session) new = Joins old session new
+AnswersSession old (Err why) new = RefusesSession old why new
 
 -- The image was left at a moment from the old past to the new one
 pub record IsLeftBetween (old new : Past) (image : List Bytes) : Type 0 where
@@ -145,58 +211,86 @@ pub record HoldsImage (disk : DiskState) (image : List Bytes) : Type 0 where
   pub settled : IsSettled disk.past
   pub is_image : IsImage disk.past image
 
-abbrev pub BeginsDraft : Mount → ℕ → Option Draft → Answer → Machine → Type 0
-BeginsDraft old actor None answer new = (answer ≡ nothing) × (new ≡ up (with_draft old actor (Some no_draft)))
-BeginsDraft old actor (Some draft) answer new = (answer ≡ nothing) × (new ≡ up old)
+-- nothing is answered, and nothing changes
+abbrev pub Ignores : Mount → Answer → Machine → Type 0
+Ignores old answer new = (answer ≡ nothing) × (new ≡ up old)
 
--- a read is answered by the core, and the answer is remembered; or it is refused
-abbrev pub Reads : Mount → ℕ → Addr → Option Draft → Answer → Machine → Type 0
-Reads old actor a None answer new = (answer ≡ nothing) × (new ≡ up old)
-Reads old actor a (Some draft) nothing new = (core : CoreState) × RefusesRead old.core a core × (new ≡ up (with_core old core))
-Reads old actor a (Some draft) (value b v) new = (b ≡ a) × ((core : CoreState) × ReadsValue old.core a v core
-    × (new ≡ up (with_draft (with_core old core) actor (Some (record { reads = (a, v) ∷ draft.reads; writes = draft.writes })))))
-Reads old actor a (Some draft) other new = ⊥
+-- a transaction begins after what its session has seen of the history
+abbrev pub BeginsDraft : Mount → ℕ → Option TransactionState → Answer → Machine → Type 0
+BeginsDraft old actor None answer new =
+    (answer ≡ nothing) × ((seen : List Entry) × IsPrefix seen old.core.history × (new ≡ up (with_draft old actor (Some (begun seen)))))
+BeginsDraft old actor (Some draft) answer new = Ignores old answer new
 
--- an object is remembered, or the overwrite is refused; the core is not asked
-abbrev pub Overwrites : Mount → ℕ → Pair → Option Draft → Answer → Machine → Type 0
-Overwrites old actor p None answer new = (answer ≡ nothing) × (new ≡ up old)
-Overwrites old actor p (Some draft) answer new =
+-- a slot is taken that nobody holds
+abbrev pub TakesSlot : Mount → ℕ → ℕ → Option TransactionState → Option ℕ → Answer → Machine → Type 0
+TakesSlot old actor slot None holder answer new = Ignores old answer new
+TakesSlot old actor slot (Some draft) (Some holder) answer new = Ignores old answer new
+TakesSlot old actor slot (Some draft) None answer new = (answer ≡ nothing) × (new ≡ up (with_slot old actor slot))
+
+-- the number of blocks of the mount's disk
+abbrev pub blocks_of : Mount → ℕ
+blocks_of m = (opened m.core.history).blocks
+
+-- a read under its slot is answered by the core, and the answer is remembered; or it is refused
+abbrev pub ReadsDraft : Mount → ℕ → Addr → Option TransactionState → Bool → Answer → Machine → Type 0
+ReadsDraft old actor a None held answer new = Ignores old answer new
+ReadsDraft old actor a (Some draft) false answer new = Ignores old answer new
+ReadsDraft old actor a (Some draft) true nothing new =
+    (why : Refusal Told) × ((core : CoreState) × RefusesRead (blocks_of old) old.core draft a why core draft × (new ≡ up (with_core old core)))
+ReadsDraft old actor a (Some draft) true (value b v) new =
+    (b ≡ a) × ((core : CoreState) × ((after : TransactionState) × ReadsValue (blocks_of old) old.core draft a v core after
+    × (new ≡ up (with_draft (with_core old core) actor (Some after)))))
+ReadsDraft old actor a (Some draft) true other new = ⊥
+
+-- an object is remembered under its slot, or the overwrite is refused; the core is not asked
+abbrev pub OverwritesDraft : Mount → ℕ → Pair → Option TransactionState → Bool → Answer → Machine → Type 0
+OverwritesDraft old actor p None held answer new = Ignores old answer new
+OverwritesDraft old actor p (Some draft) false answer new = Ignores old answer new
+OverwritesDraft old actor p (Some draft) true answer new =
     (answer ≡ nothing)
     × ((new ≡ up old)
-    ⊎ (IsTrue (is_object (opened old.core.history).blocks p)
-    × (new ≡ up (with_draft old actor (Some (record { reads = draft.reads; writes = p ∷ draft.writes }))))))
+    ⊎ (IsTrue (is_object (blocks_of old) p)
+    × ((after : TransactionState) × Overwrites draft p.0 p.1 after × (new ≡ up (with_draft old actor (Some after))))))
 
--- the transaction is committed, or refused; it is ended either way
-abbrev pub Finishes : Mount → ℕ → Option Draft → Answer → Machine → Type 0
-Finishes old actor None answer new = (answer ≡ nothing) × (new ≡ up old)
+-- the transaction is committed by some session, as that session's next one, or refused; it is ended either way
+abbrev pub Finishes : Mount → ℕ → Option TransactionState → Answer → Machine → Type 0
+Finishes old actor None answer new = Ignores old answer new
 Finishes old actor (Some draft) nothing new =
-    (core : CoreState) × RefusesCommit old.core draft core × (new ≡ up (with_draft (with_core old core) actor None))
+    (session : SessionState) × ((why : Refusal Told) × ((core : CoreState) × RefusesCommit old.core session draft why core
+    × (new ≡ up (ended (with_core old core) actor))))
 Finishes old actor (Some draft) (committed t) new =
-    (core : CoreState) × CommitsDraft old.core draft t core × (new ≡ up (with_draft (with_core old core) actor None))
+    (session : SessionState) × ((after : SessionState) × ((core : CoreState) × (t ≡ next_of session draft.reads draft.writes)
+    × CommitsDraft old.core session draft core after × (new ≡ up (ended (with_core old core) actor))))
 Finishes old actor (Some draft) other new = ⊥
 
 -- a step of the logger that marks is answered by its mark, and any other leaves the history
 abbrev pub Logs : Mount → Answer → Machine → Type 0
 Logs old nothing new =
-    (core : CoreState) × LogsStep old.core core × (core.history ≡ old.core.history) × (new ≡ up (with_core old core))
+    (result : Result Step (Refusal Told)) × ((core : CoreState) × AnswersLog old.core result core
+    × (core.history ≡ old.core.history) × (new ≡ up (with_core old core)))
 Logs old (marked n) new =
-    (core : CoreState) × LogsStep old.core core × Marks n old.core core × (new ≡ up (with_core old core))
+    (step : Step) × ((core : CoreState) × LogsStep old.core step core × Marks n old.core core × (new ≡ up (with_core old core)))
 Logs old other new = ⊥
 
 -- The event may be answered so, and then leaves new. One that is not enabled changes nothing
 abbrev pub HappensUp : Mount → Event → Answer → Machine → Type 0
 HappensUp old (begins actor) answer new = BeginsDraft old actor (old.drafts actor) answer new
-HappensUp old (reads actor a) answer new = Reads old actor a (old.drafts actor) answer new
-HappensUp old (overwrites actor a v) answer new = Overwrites old actor (a, v) (old.drafts actor) answer new
-HappensUp old (aborts actor) answer new = (answer ≡ nothing) × (new ≡ up (with_draft old actor None))
+HappensUp old (takes actor slot) answer new = TakesSlot old actor slot (old.drafts actor) (old.holders slot) answer new
+HappensUp old (reads actor a) answer new = ReadsDraft old actor a (old.drafts actor) (holds old actor a) answer new
+HappensUp old (overwrites actor a v) answer new = OverwritesDraft old actor (a, v) (old.drafts actor) (holds old actor a) answer new
+HappensUp old (aborts actor) answer new = (answer ≡ nothing) × (new ≡ up (ended old actor))
 HappensUp old (commits actor) answer new = Finishes old actor (old.drafts actor) answer new
 HappensUp old logs answer new = Logs old answer new
+HappensUp old joins answer new =
+    (answer ≡ nothing) × ((result : Result SessionState (Refusal Told)) × ((core : CoreState) × AnswersSession old.core result core
+    × (new ≡ up (with_core old core))))
 HappensUp old installs answer new =
-    (answer ≡ nothing) × ((core : CoreState) × InstallsStep old.core core × (new ≡ up (with_core old core)))
+    (answer ≡ nothing) × ((result : Result Step (Refusal Told)) × ((core : CoreState) × AnswersInstall old.core result core
+    × (new ≡ up (with_core old core))))
 HappensUp old (crashes image) answer new =
     (answer ≡ crashed) × ((core : CoreState) × Crashes old.core core
-    × IsLeftBetween old.core.objects.ring.disk.past core.objects.ring.disk.past image × (new ≡ down image))
-HappensUp old opens answer new = (answer ≡ nothing) × (new ≡ up old)
+    × IsLeftBetween (disk_of old.core).past (disk_of core).past image × (new ≡ down image))
+HappensUp old opens answer new = Ignores old answer new
 
 -- what waits is opened, or is refused and waits on
 abbrev pub HappensDown : (Map → Type 0) → List Bytes → Event → Answer → Machine → Type 0
@@ -220,3 +314,12 @@ Run rule old (event ∷ events) (answer ∷ answers) new =
 abbrev pub HasHistory : Machine → List Entry → Type 0
 HasHistory (up m) history = m.core.history ≡ history
 HasHistory (down image) history = (m : Map) × OpensAs m image × (history ≡ opening m true ∷ [])
+
+-- What an open transaction has read is what the map gives now, and no commit touched a slot under which it read: neither a
+-- read nor its commit is refused for what others did
+pub record IsUndisturbed (c : CoreState) (t : TransactionState) : Type 0 where
+  pub later : IsPrefix t.seen c.history
+  pub unmoved : AreUnmoved c.history t
+  pub agrees : Agrees (latest c.history) t.reads
+  pub never_behind : (cause : Told) → IsBehind c t cause → ⊥
+  pub never_moved : (cause : Told) → IsMoved c t cause → ⊥

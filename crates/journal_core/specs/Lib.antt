@@ -2,6 +2,8 @@ pub mod Causes
 pub mod Cores
 pub mod Steps
 pub mod Tallies
+pub mod SlotCounts
+pub mod Transactions
 pub mod Commits
 pub mod Openings
 pub mod Interleavings

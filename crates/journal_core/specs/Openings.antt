@@ -10,33 +10,34 @@ use Rattle.journal_disk.specs.Disks.{DiskState, Keeps, HasFailed}
 use Rattle.journal_disk.specs.Images.{EveryImage, reading}
 use Rattle.journal_circ.specs.Log.{IsWellFormed}
 use Rattle.journal_wal.specs.Wal.{WalState, IsOpened as AtRest}
-use Rattle.journal_objlog.specs.ObjectLogs.{map_now}
+use Rattle.journal_objlog.specs.ObjectLogs.{map_now, disk_of as log_disk}
 use Rattle.journal_objlog.specs.Maps.{OpensAs}
 use Rattle.journal_core.specs.Causes.{Told, IsUnexplained, raised_of}
-use Rattle.journal_core.specs.Cores.{CoreState}
+use Rattle.journal_core.specs.Cores.{CoreState, disk_of}
 
 -- the disk is opened with this map: each image of it opens as the map
 abbrev pub HoldsMap : DiskState → Map → Type 0
 HoldsMap disk m = EveryImage disk.past (OpensAs m)
 
+-- The number of blocks is one that a disk may have
+abbrev pub IsInRange : DiskState → Type 0
+IsInRange disk = (MIN_BLOCKS ≤ disk.past.size) × (disk.past.size ≤ MAX_BLOCKS)
+
 -- A mount of a disk begins: its history is the opening, and the disk was only read
 pub record Begins (rule : Map → Type 0) (disk : DiskState) (new : CoreState) : Type 0 where
   pub map : Map
-  pub large : MIN_BLOCKS ≤ disk.past.size
+  pub range : IsInRange disk
+  pub size : map.blocks ≡ disk.past.size
   pub objects : IsTrue (are_objects map.blocks map.pairs)
   pub holds : IsTrue disk.honest → HoldsMap disk map
   pub ruled : IsTrue disk.honest → rule map
   pub history : new.history ≡ opening map disk.honest ∷ []
-  pub keeps : Keeps disk new.objects.ring.disk
-  pub past : IsTrue disk.honest → new.objects.ring.disk.past ≡ disk.past
+  pub keeps : Keeps disk (disk_of new)
+  pub past : IsTrue disk.honest → (disk_of new).past ≡ disk.past
   pub rest : AtRest new.objects
   pub cut : new.cut ≡ 0
   pub logged : new.logged ≡ 0
   pub next : new.next ≡ 0
-
--- The number of blocks is one that a disk may have
-abbrev pub IsInRange : DiskState → Type 0
-IsInRange disk = (MIN_BLOCKS ≤ disk.past.size) × (disk.past.size ≤ MAX_BLOCKS)
 
 -- Why a disk is not opened. The number of blocks comes first, then the log, the rule and the book; J1 and J6 come as they are met
 abbrev pub IsOpenRefusal : (Map → Type 0) → DiskState → DiskState → Refusal Told → Type 0
@@ -60,8 +61,8 @@ pub record IsHandedBack (old new : DiskState) : Type 0 where
 -- Why a history is not begun: the rule was not asked to its end, it does not hold, or it does and there is a history
 abbrev pub IsBeginRefusal : (Map → Type 0) → WalState → Result Bool (Refusal Unit) → Refusal Told → Type 0
 IsBeginRefusal rule objects (Err refusal) why = why ≡ raised_of refusal
-IsBeginRefusal rule objects (Ok admitted) BadSuper = IsTrue objects.ring.disk.honest → rule (map_now objects) → ⊥
+IsBeginRefusal rule objects (Ok admitted) BadSuper = IsTrue (log_disk objects).honest → rule (map_now objects) → ⊥
 IsBeginRefusal rule objects (Ok admitted) (Stale cause) =
-    (IsTrue objects.ring.disk.honest → rule (map_now objects))
+    (IsTrue (log_disk objects).honest → rule (map_now objects))
     × ((front : List Entry) × (cause ≡ Some front) × (front ≢ []))
 IsBeginRefusal rule objects (Ok admitted) other = ⊥

@@ -1,18 +1,24 @@
--- What the steps of the logger and the installer do.
+-- What the steps of the core do, and why they are refused.
 use Rattle.std.specs.Prelude.{ℕ, zero, suc, ◌≡◌, ◌⊎◌, ◌<◌, ◌≤◌, ◌+◌, ◌^◌, ◌++◌, ◌∷◌, [], List, IsTrue, true, false, length, Some}
+use mathlib.Core.List.{IsPrefix}
 use Rattle.journal_world.specs.declared.address.Addr.{Addr}
 use Rattle.journal_world.specs.declared.refusal.Refusal.{Refusal}
-use Rattle.journal_world.specs.declared.refusal.Refusal.TheVariants.{NoMemory, BadAddress, DeviceFailed, Stale, Worn}
+use Rattle.journal_world.specs.declared.refusal.Refusal.TheVariants.{NoMemory, BadAddress, DeviceFailed, Stale, Stranger, Worn}
 use Rattle.journal_world.specs.Addresses.{is_valid}
 use Rattle.journal_disk.specs.Disks.{HasFailed}
 use Rattle.journal_world.specs.declared.step.Step.{Step}
 use Rattle.journal_world.specs.declared.step.Step.TheVariants.{Idle, Moved}
-use Rattle.journal_world.specs.Histories.{Entry, count, floor}
+use Rattle.journal_world.specs.Histories.{Entry, count, floor, commits_of}
 use Rattle.journal_world.specs.Histories.Entry.{stable}
 use Rattle.journal_wal.specs.Wal.{log_steps, install_steps, tail_length, free_positions, Cuts, EndsGroup, LogsOn, InstallAnswers as WalInstalls}
+use Rattle.journal_objlog.specs.ObjectLogs.{start_of, end_of}
 use Rattle.journal_history.specs.Soundness.{IsLonger}
+use Rattle.journal_history.specs.Tokens.{SessionState}
 use Rattle.journal_core.specs.Causes.{Told, IsUnexplained}
-use Rattle.journal_core.specs.Cores.{CoreState}
+use Rattle.journal_core.specs.Transactions.{TransactionState, AreUnmoved}
+use Rattle.journal_core.specs.Cores.{CoreState, is_faulted, disk_of}
+
+-- The logger
 
 -- A step of the group in flight was made, and its cycle goes on
 pub record GoesOn (old new : CoreState) : Type 0 where
@@ -39,10 +45,20 @@ pub record Marks (n : ℕ) (old new : CoreState) : Type 0 where
 pub record CanMark (c : CoreState) (n : ℕ) : Type 0 where
   pub rises : floor c.history ≤ n
   pub made : n ≤ count c.history
-  pub fine : c.objects.ring.faulted ≡ false
+  pub fine : is_faulted c ≡ false
   pub steps : log_steps c.objects ≡ 0
   pub rest : c.objects.log.logged ≡ c.objects.log.cut
   pub which : (n ≡ c.cut) ⊎ ((n ≡ count c.history) × (tail_length c.objects ≡ 0))
+
+-- A group whose cycle ended is not marked yet
+abbrev pub HasLogged : CoreState → Type 0
+HasLogged c = floor c.history < c.cut
+
+-- Nothing awaits logging, and not all commits are marked: the others wrote nothing
+pub record HasUnmarked (c : CoreState) : Type 0 where
+  pub marked : c.cut ≤ floor c.history
+  pub tail : tail_length c.objects ≡ 0
+  pub more : floor c.history < count c.history
 
 -- The logger has nothing to do: no group is in flight or unmarked, the tail is empty and all commits are marked, or the
 -- tail has no place in the log
@@ -54,9 +70,9 @@ pub record IsLogIdle (c : CoreState) : Type 0 where
 -- What a step of the logger that moved did
 abbrev pub LogMoves : ℕ → CoreState → CoreState → Type 0
 LogMoves zero old new =
-    (Marks old.cut old new × (floor old.history < old.cut))
+    (Marks old.cut old new × HasLogged old)
     ⊎ (CutsGroup old new × (old.cut ≤ floor old.history))
-    ⊎ (Marks (count old.history) old new × (old.cut ≤ floor old.history) × (tail_length old.objects ≡ 0))
+    ⊎ (Marks (count old.history) old new × HasUnmarked old)
 LogMoves (suc zero) old new = Ends old new
 LogMoves (suc (suc left)) old new = GoesOn old new
 
@@ -64,11 +80,13 @@ abbrev pub LogAnswers : CoreState → Step → CoreState → Type 0
 LogAnswers old Idle new = IsLogIdle old × (new ≡ old)
 LogAnswers old Moved new = LogMoves (log_steps old.objects) old new
 
--- J6: a device call failed, in the step or before
-pub record IsFaulted (old new : CoreState) (cause : Told) : Type 0 where
+-- Why steps are refused
+
+-- J6: the device failed before, or the step came so far and the device failed in it
+pub record IsFaulted (reached : Type 0) (old new : CoreState) (cause : Told) : Type 0 where
   pub unexplained : IsUnexplained cause
-  pub fault : IsTrue old.objects.ring.faulted ⊎ HasFailed old.objects.ring.disk new.objects.ring.disk
-  pub faulted : new.objects.ring.faulted ≡ true
+  pub fault : IsTrue (is_faulted old) ⊎ (reached × HasFailed (disk_of old) (disk_of new))
+  pub faulted : is_faulted new ≡ true
   pub others : new ≡ record old { objects = new.objects }
 
 -- The history is longer than the core's, and was seen
@@ -81,28 +99,66 @@ IsMarkRefusal old new (Worn cause) = (2 ^ 62 ≤ length old.history + 1) × (new
 IsMarkRefusal old new (Stale cause) = IsStale old cause × (new ≡ old)
 IsMarkRefusal old new other = ⊥
 
--- why a step of the logger is refused, and what is left
+-- why a step of the logger is refused, and what is left: a mark is, or the device failed
 abbrev pub IsLogRefusal : CoreState → CoreState → Refusal Told → Type 0
-IsLogRefusal old new (DeviceFailed cause) = IsFaulted old new cause
-IsLogRefusal old new refusal = (old.objects.ring.faulted ≡ false) × (log_steps old.objects ≡ 0) × IsMarkRefusal old new refusal
+IsLogRefusal old new (DeviceFailed cause) = IsFaulted (Unit {0}) old new cause
+IsLogRefusal old new refusal =
+    (is_faulted old ≡ false) × (log_steps old.objects ≡ 0) × (HasLogged old ⊎ HasUnmarked old) × IsMarkRefusal old new refusal
 
 -- what a step of the installer answers, and does
 abbrev pub InstallAnswers : CoreState → Step → CoreState → Type 0
 InstallAnswers old step new = WalInstalls old.objects step new.objects × (new ≡ record old { objects = new.objects })
 
 abbrev pub IsInstallRefusal : CoreState → CoreState → Refusal Told → Type 0
-IsInstallRefusal old new NoMemory = (install_steps old.objects ≡ 0) × (old.objects.log.start < old.objects.log.logged) × (new ≡ old)
-IsInstallRefusal old new (DeviceFailed cause) = IsFaulted old new cause
+IsInstallRefusal old new NoMemory =
+    (is_faulted old ≡ false) × (install_steps old.objects ≡ 0) × (start_of old.objects < end_of old.objects) × (new ≡ old)
+IsInstallRefusal old new (DeviceFailed cause) = IsFaulted (Unit {0}) old new cause
 IsInstallRefusal old new other = ⊥
 
+-- The transaction has seen more of the history than the core, as this cause has
+abbrev pub IsBehind : CoreState → TransactionState → Told → Type 0
+IsBehind c t cause = (cause ≡ Some t.seen) × IsLonger c.history t.seen
+
+-- A commit touched a slot under which the transaction had read
+abbrev pub IsMoved : CoreState → TransactionState → Told → Type 0
+IsMoved c t cause = (cause ≡ Some c.history) × IsPrefix t.seen c.history × (AreUnmoved c.history t → ⊥)
+
+-- Nothing but memory and the device can refuse the read
+pub record MayRead (blocks : ℕ) (c : CoreState) (t : TransactionState) (a : Addr) : Type 0 where
+  pub fine : is_faulted c ≡ false
+  pub valid : IsTrue (is_valid blocks a)
+  pub later : IsPrefix t.seen c.history
+  pub unmoved : AreUnmoved c.history t
+
+-- why an object that may be read is not
+abbrev pub IsFetchRefusal : CoreState → CoreState → Refusal Told → Type 0
+IsFetchRefusal old new (DeviceFailed cause) = IsFaulted (Unit {0}) old new cause
+IsFetchRefusal old new NoMemory = Unit {0}
+IsFetchRefusal old new other = ⊥
+
 -- why an object is not read: the first of these that holds, then J1 or a new J6
-abbrev pub IsReadRefusal : ℕ → CoreState → Addr → CoreState → Refusal Told → Type 0
-IsReadRefusal blocks old addr new (DeviceFailed cause) = IsFaulted old new cause
-IsReadRefusal blocks old addr new BadAddress = (old.objects.ring.faulted ≡ false) × (is_valid blocks addr ≡ false)
-IsReadRefusal blocks old addr new NoMemory = (old.objects.ring.faulted ≡ false) × IsTrue (is_valid blocks addr)
-IsReadRefusal blocks old addr new other = ⊥
+abbrev pub IsReadRefusal : ℕ → CoreState → TransactionState → Addr → CoreState → Refusal Told → Type 0
+IsReadRefusal blocks old t addr new (DeviceFailed cause) = IsFaulted (MayRead blocks old t addr) old new cause
+IsReadRefusal blocks old t addr new BadAddress = (is_faulted old ≡ false) × (is_valid blocks addr ≡ false)
+IsReadRefusal blocks old t addr new (Stale cause) =
+    (is_faulted old ≡ false) × IsTrue (is_valid blocks addr) × IsBehind old t cause × (new ≡ old)
+IsReadRefusal blocks old t addr new (Stranger cause) =
+    (is_faulted old ≡ false) × IsTrue (is_valid blocks addr) × IsMoved old t cause × (new ≡ old)
+IsReadRefusal blocks old t addr new NoMemory = MayRead blocks old t addr
+IsReadRefusal blocks old t addr new other = ⊥
+
+-- A session of a number that no session had before, and that the history has no commit of. It has seen the whole history
+pub record BeginsSession (old : CoreState) (session : SessionState) (new : CoreState) : Type 0 where
+  pub is : session ≡ record { number = old.next; mine = old.history; seen = old.history }
+  pub fresh : commits_of old.next old.history ≡ []
+  pub others : new ≡ record old { next = old.next + 1 }
 
 -- why there is no further session
 abbrev pub IsSessionRefusal : CoreState → Refusal Told → Type 0
 IsSessionRefusal c (Worn cause) = (2 ^ 62 ≤ c.next) × IsUnexplained cause
 IsSessionRefusal c other = ⊥
+
+-- why a session is not shown the history
+abbrev pub IsShowRefusal : CoreState → Refusal Told → Type 0
+IsShowRefusal c (Stale cause) = IsStale c cause
+IsShowRefusal c other = ⊥

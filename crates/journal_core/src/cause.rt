@@ -11,7 +11,8 @@ use std::marker::Model;
 /// that it has, if any.
 #[derive(Drop)]
 pub struct Cause<'b, J: Naming, R: MapRule> {
-    // At J9 the history that is longer than the core's, at J10 the one that has the strange entry.
+    // At J9 the history that is longer than the core's, at J10 the one that has the strange entry, or in which a
+    // slot has moved.
     front: Option<Front<'b, J, R>>,
 }
 

@@ -1,13 +1,17 @@
 // A commit.
 ghost use Rattle.std.specs.Prelude.{◌≡◌, ◌<◌, ◌≤◌, ◌+◌, ◌^◌, ◌↔◌, false, IsTrue, List, length, Err, IfOk, IfErr, OnOk, OnErr};
+ghost use mathlib.Core.List.{IsPrefix};
 ghost use Rattle.journal_world.specs.declared.refusal.Refusal.TheVariants.{TooLarge};
 ghost use Rattle.journal_world.specs.Maps.{Map, Agrees, are_objects, overwritten};
 ghost use Rattle.journal_world.specs.Histories.{is_trusted, commits_of, latest};
 ghost use Rattle.journal_objlog.specs.ObjectLogs.{OnlyReads};
 ghost use Rattle.journal_history.specs.Tokens.{made, next_of, OnlyExtends, IsReceiptFor};
-ghost use Rattle.journal_core.specs.Cores.{Crashes};
+ghost use Rattle.journal_history.specs.Soundness.{IsLonger};
+ghost use Rattle.journal_core.specs.Cores.{Crashes, is_faulted};
 ghost use Rattle.journal_objlog.specs.Writes.{IsPrepared};
-ghost use Rattle.journal_core.specs.Commits.{IsCommitted, IsAdded, IsCommitRefusal, IsSessionFault, IsComparedRefusal, IsPreparingRefusal, IsAddingRefusal};
+ghost use Rattle.journal_core.specs.Transactions.{AreUnmoved};
+ghost use Rattle.journal_core.specs.Commits.{IsCommitted, IsAdded, HasSeen, CanPrepare, CanCommit, ShowsLonger, IsStaleRefusal, IsCommitRefusal, IsAdmissionFault, IsPreparingRefusal, IsAddingRefusal};
+ghost use Rattle.journal_core.specs.Interleavings.{AnswersCommit};
 
 use crate::cause::{Cause, raise};
 use crate::state::{Core, LIMIT};
@@ -22,82 +26,83 @@ impl<'b, D: BlockDisk, R: MapRule, J: Naming> Core<'b, D, R, J> {
     /// overwrites the map by its writes, in memory. The receipt says where it stands. All memory and all reads
     /// from the device come before the history grows.
     ///
-    /// The first that applies of these refuses it: J6 `DeviceFailed` where the device failed before, J5 `Busy`
-    /// where a value that it read is no more what the map gives, J9 `Stale` where the history is longer than
-    /// the core's, J10 `Stranger` where the history has a commit under the session's number that the session
-    /// did not make, J4 `TooLarge` where more than 128 distinct blocks are written, J11 `Worn` where the
-    /// history's length, the session's number or a position of the log would reach 2^62, J12 `Full` where the
-    /// log's tail cannot take the blocks that do not stand in it, then J1 `NoMemory` where memory is refused, or
-    /// J6 where the device fails in this call. To compare what was read, values are read again, for which J1 and
-    /// a new J6 come before J4. The history, the map and the pending writes are then as they were.
+    /// The first that applies of these refuses it: J6 `DeviceFailed` where the device failed before, J9 `Stale`
+    /// where the session or the transaction has seen more of the history than the core, or the history is longer,
+    /// J10 `Stranger` where the history has a commit under the session's number that the session did not make, or
+    /// a commit touched a slot under which the transaction had read, J4 `TooLarge` where more than 128 distinct
+    /// blocks are written, J11 `Worn` where the history's length, the session's number or a position of the log
+    /// would reach 2^62, J12 `Full` where the log's tail cannot take the blocks that do not stand in it, then J1
+    /// `NoMemory` where memory is refused, or J6 where the device fails in this call. The history, the map and the
+    /// pending writes are then as they were.
     pub fn commit_step(
         &mut self,
         session: &mut Session<'b, J, R>,
-        transaction: &Transaction,
+        transaction: &Transaction<'b, J, R>,
     ) -> Result<Receipt<'b, J, R>, Refusal<Cause<'b, J, R>>>
-        requires reads { IsTrue (are_objects J.blocks transaction.now.reads) }
-        requires writes { IsTrue (are_objects J.blocks transaction.now.writes) }
         requires rule { (m : Map) → m.blocks ≡ J.blocks → R.statement m → Agrees m transaction.now.reads
             → R.statement (overwritten m transaction.now.writes) }
         ensures committed { OnOk result (IsCommitted transaction.now.reads transaction.now.writes session.old session.new self.old self.new) }
         ensures receipt { IfOk result (IsReceiptFor (next_of session.old transaction.now.reads transaction.now.writes) self.new.history (length self.old.history)) }
+        ensures can { OnOk result (CanCommit self.old session.old transaction.now) }
         ensures agrees { OnOk result (IsTrue (is_trusted self.old.history) → Agrees (latest self.old.history) transaction.now.reads) }
-        ensures refusal { IfErr result (IsCommitRefusal self.old session.old transaction.now.reads transaction.now.writes self.new) }
+        ensures fine { OnOk result (is_faulted self.new ≡ false) }
+        ensures refusal { IfErr result (IsCommitRefusal self.old session.old transaction.now self.new) }
         ensures same { OnErr result (self.new ≡ record self.old { objects = self.new.objects }) }
         ensures left { OnErr result (OnlyReads self.old.objects self.new.objects) }
         ensures session { OnErr result (OnlyExtends session.old session.new) }
+        ensures longer { IfErr result (ShowsLonger self.old session.new) }
         ensures crash { Crashes self.old self.new }
+        ensures event { AnswersCommit self.old session.old transaction.now result self.new session.new }
     {
         if self.objects.is_faulted() {
             return Err(Refusal::DeviceFailed(Cause::none()));
         }
-        let own = self.admit(session);
-        match self.compare(&transaction.reads) {
-            Err(Refusal::Busy) => return Err(Refusal::Busy),
-            compared => {
-                own?;
-                compared?;
-            }
-        }
+        self.admit(session, transaction)?;
         let prepared = self.prepare(session, &transaction.writes)?;
         self.add(session, transaction, prepared)
     }
 
-    // Refuses by what is known of sessions: J9 and J10. The session has then seen the history as it is.
-    fn admit(&self, session: &mut Session<'b, J, R>) -> Result<(), Refusal<Cause<'b, J, R>>>
+    // Refuses by what is known of the session and of what the transaction has read: J9 and J10. The session has
+    // then seen the history as it is, or the longer one.
+    fn admit(
+        &self,
+        session: &mut Session<'b, J, R>,
+        transaction: &Transaction<'b, J, R>,
+    ) -> Result<(), Refusal<Cause<'b, J, R>>>
         ensures own { OnOk result (length (commits_of session.old.number self.now.history) ≡ made session.old) }
+        ensures seen { OnOk result (HasSeen self.now session.old transaction.now) }
+        ensures unmoved { OnOk result (AreUnmoved self.now.history transaction.now) }
+        ensures agrees { OnOk result (IsTrue (is_trusted self.now.history) → Agrees (latest self.now.history) transaction.now.reads) }
         ensures session { OnlyExtends session.old session.new }
-        ensures refusal { IfErr result (IsSessionFault self.now session.old) }
+        ensures refusal { IfErr result (IsAdmissionFault self.now session.old transaction.now) }
+        ensures longer { IfErr result (ShowsLonger self.now session.new) }
     {
-        session.observe();
-        if let Err(front) = self.writer.show(session) {
-            return Err(Refusal::Stale(Cause::of(front)));
-        }
+        self.catch_up(session, transaction)?;
+        self.admit_reads(transaction)?;
         if self.tally.made(session.number()) != session.made() {
             return Err(Refusal::Stranger(Cause::of(self.writer.front())));
         }
         Ok(())
     }
 
-    // Refuses by J5 where a value that was read is no more what the map gives.
-    fn compare(&mut self, reads: &Objects) -> Result<(), Refusal<Cause<'b, J, R>>>
-        requires objects { IsTrue (are_objects J.blocks reads.now) }
-        requires fine { self.old.objects.ring.faulted ≡ false }
-        ensures agrees { OnOk result (IsTrue (is_trusted self.old.history) → Agrees (latest self.old.history) reads.now) }
-        ensures fine { OnOk result (self.new.objects.ring.faulted ≡ false) }
-        ensures refusal { IfErr result (IsComparedRefusal self.old reads.now self.new) }
-        ensures others { self.new ≡ record self.old { objects = self.new.objects } }
-        ensures reads { OnlyReads self.old.objects self.new.objects }
-        ensures crash { Crashes self.old self.new }
+    // Shows the session all that is known of the history. Refuses by J9 where that is more than the core knows.
+    fn catch_up(
+        &self,
+        session: &mut Session<'b, J, R>,
+        transaction: &Transaction<'b, J, R>,
+    ) -> Result<(), Refusal<Cause<'b, J, R>>>
+        ensures seen { OnOk result (HasSeen self.now session.old transaction.now) }
+        ensures whole { OnOk result (session.new.seen ≡ self.now.history) }
+        ensures session { OnlyExtends session.old session.new }
+        ensures refusal { IfErr result (IsStaleRefusal self.now) }
+        ensures longer { IfErr result (ShowsLonger self.now session.new) }
     {
-        // It tells the proof what the core keeps.
-        let _ = &self.objects;
-        for (addr, value) in reads.iter() {
-            if self.read_step(*addr)?.bytes() != value.bytes() {
-                return Err(Refusal::Busy);
-            }
+        session.observe();
+        session.see(&transaction.front);
+        match self.writer.show(session) {
+            Ok(()) => Ok(()),
+            Err(front) => Err(Refusal::Stale(Cause::of(front))),
         }
-        Ok(())
     }
 
     // Makes the writes ready, with all the memory and all the reads from the device that they take. Refuses by
@@ -108,10 +113,11 @@ impl<'b, D: BlockDisk, R: MapRule, J: Naming> Core<'b, D, R, J> {
         writes: &Objects,
     ) -> Result<Prepared, Refusal<Cause<'b, J, R>>>
         requires objects { IsTrue (are_objects J.blocks writes.now) }
-        requires fine { self.old.objects.ring.faulted ≡ false }
+        requires fine { is_faulted self.old ≡ false }
         ensures prepared { IfOk result (λ prepared. IsPrepared self.new.objects prepared writes.now) }
+        ensures can { OnOk result (CanPrepare self.old session.now writes.now) }
         ensures room { OnOk result ((length self.old.history + 1 < 2 ^ 62) × (session.now.number < 2 ^ 62)) }
-        ensures fine { OnOk result (self.new.objects.ring.faulted ≡ false) }
+        ensures fine { OnOk result (is_faulted self.new ≡ false) }
         ensures refusal { IfErr result (IsPreparingRefusal self.old session.now writes.now self.new) }
         ensures others { self.new ≡ record self.old { objects = self.new.objects } }
         ensures reads { OnlyReads self.old.objects self.new.objects }
@@ -131,7 +137,7 @@ impl<'b, D: BlockDisk, R: MapRule, J: Naming> Core<'b, D, R, J> {
     fn add(
         &mut self,
         session: &mut Session<'b, J, R>,
-        transaction: &Transaction,
+        transaction: &Transaction<'b, J, R>,
         prepared: Prepared,
     ) -> Result<Receipt<'b, J, R>, Refusal<Cause<'b, J, R>>>
         requires reads { IsTrue (are_objects J.blocks transaction.now.reads) }
@@ -146,7 +152,9 @@ impl<'b, D: BlockDisk, R: MapRule, J: Naming> Core<'b, D, R, J> {
         ensures committed { OnOk result (IsAdded (next_of session.old transaction.now.reads transaction.now.writes) prepared session.old session.new self.old self.new) }
         ensures receipt { IfOk result (IsReceiptFor (next_of session.old transaction.now.reads transaction.now.writes) self.new.history (length self.old.history)) }
         ensures refusal { IfErr result (IsAddingRefusal self.old) }
-        ensures same { OnErr result ((self.new ≡ self.old) × (session.new ≡ session.old)) }
+        ensures same { OnErr result (self.new ≡ self.old) }
+        ensures session { OnErr result (OnlyExtends session.old session.new) }
+        ensures longer { IfErr result (ShowsLonger self.old session.new) }
         ensures crash { Crashes self.old self.new }
     {
         // It tells the proof that the history is sound.
@@ -155,11 +163,15 @@ impl<'b, D: BlockDisk, R: MapRule, J: Naming> Core<'b, D, R, J> {
         self.tally.reserve(number)?;
         let receipt = match self.writer.commit(session, transaction) {
             Ok(receipt) => receipt,
-            Err(front) => return Err(Refusal::Stale(Cause::of(front))),
+            Err(front) => {
+                session.see(&front);
+                return Err(Refusal::Stale(Cause::of(front)));
+            }
         };
         // Nothing fails from here on.
         self.objects.apply(prepared);
         self.tally.count_one(number);
+        self.slots.count_writes(&transaction.writes);
         self.next = self.next.max(number + 1);
         Ok(receipt)
     }

@@ -1,7 +1,8 @@
 // A step of the installer.
-ghost use Rattle.std.specs.Prelude.{ℕ, ◌≡◌, true, IsTrue, IsErr, IfOk, IfErr};
-ghost use Rattle.journal_core.specs.Cores.{Crashes};
+ghost use Rattle.std.specs.Prelude.{ℕ, ◌≡◌, true, false, IsTrue, IsErr, IfOk, IfErr, OnOk};
+ghost use Rattle.journal_core.specs.Cores.{Crashes, is_faulted};
 ghost use Rattle.journal_core.specs.Steps.{InstallAnswers, IsInstallRefusal};
+ghost use Rattle.journal_core.specs.Interleavings.{AnswersInstall};
 
 use crate::cause::{Cause, raise};
 use crate::state::Core;
@@ -18,8 +19,10 @@ impl<'b, D: BlockDisk, R: MapRule, J: Naming> Core<'b, D, R, J> {
     /// for the list of addresses is refused, at the first of these steps.
     pub fn install_step(&mut self) -> Result<Step, Refusal<Cause<'b, J, R>>>
         ensures ok { IfOk result (λ step. InstallAnswers self.old step self.new) }
+        ensures fine { OnOk result ((is_faulted self.old ≡ false) × (is_faulted self.new ≡ false)) }
         ensures refusal { IfErr result (IsInstallRefusal self.old self.new) }
         ensures crash { Crashes self.old self.new }
+        ensures event { AnswersInstall self.old result self.new }
     {
         raise(self.objects.install_step())
     }

@@ -1,26 +1,32 @@
 // The law over whole lists of events.
-ghost use Rattle.std.specs.Prelude.{ℕ, ◌≡◌, List, IsTrue};
+ghost use Rattle.std.specs.Prelude.{ℕ, ◌≡◌, List, Some, IsTrue};
 ghost use Rattle.journal_world.specs.Histories.{Entry, IsLegal};
 ghost use Rattle.journal_disk.specs.Disks.{DiskState};
 ghost use Rattle.journal_core.specs.Cores.{CoreState};
+ghost use Rattle.journal_core.specs.Transactions.{TransactionState};
 ghost use Rattle.journal_core.specs.Openings.{Begins};
 ghost use Rattle.journal_core.specs.Interleavings.Machine.{up};
-ghost use Rattle.journal_core.specs.Interleavings.{Event, Answer, Machine, Mount, mounted, TellsAll, Run, HasHistory};
+ghost use Rattle.journal_core.specs.Interleavings.{Event, Answer, Machine, Mount, mounted, TellsAll, Run, HasHistory, IsUndisturbed};
 
 use journal_world::MapRule;
 
-/// Transactions of any number of actors, steps of the logger and the installer, crashes at any moment of any
-/// call, and openings, in any order of their events, on a disk that is honest. Each read is answered by the map
-/// after the history so far, each commit adds one legal entry, a mark is one that is allowed, a crash leaves the
-/// map after a front of the history that has every marked commit, and the next mount begins with it; nothing
-/// else changes the history. The history of each mount is legal.
+/// Transactions of any number of actors, who take slots that nobody holds and read and overwrite under these,
+/// steps of the logger and the installer, crashes at any moment of any call, and openings, in any order of their
+/// events, on a disk that is honest. Each read is answered by the map after the history so far, each commit adds
+/// one legal entry, a mark is one that is allowed, a crash leaves the map after a front of the history that has
+/// every marked commit, and the next mount begins with it; nothing else changes the history. The history of each
+/// mount is legal. What an open transaction has read stays what the map gives, whatever others do, so that none
+/// is ever refused because a slot of it moved.
 ///
 /// The call does nothing: its contract is the law, over the definitions that the steps of `Core` cite.
 pub fn every_interleaving<R: MapRule>()
     ensures told { (disk : DiskState) (first : CoreState) (events : List Event) (answers : List Answer) (last : Machine) →
         IsTrue disk.honest → Begins R.statement disk first → Run R.statement (mounted first) events answers last →
-        (history : List Entry) × HasHistory last history × TellsAll first.history answers history }
+        (history : List Entry) × HasHistory last history × TellsAll R.statement first.history answers history }
     ensures legal { (disk : DiskState) (first : CoreState) (events : List Event) (answers : List Answer) (last : Mount) →
         IsTrue disk.honest → Begins R.statement disk first → Run R.statement (mounted first) events answers (up last) →
         IsLegal R.statement last.core.history }
+    ensures two_phase { (disk : DiskState) (first : CoreState) (events : List Event) (answers : List Answer) (last : Mount) (actor : ℕ) (draft : TransactionState) →
+        IsTrue disk.honest → Begins R.statement disk first → Run R.statement (mounted first) events answers (up last) →
+        last.drafts actor ≡ Some draft → IsUndisturbed last.core draft }
 {}

@@ -14,6 +14,7 @@ mod log;
 mod open;
 mod read;
 mod session;
+mod slot_counts;
 mod state;
 mod tally;
 mod transaction;

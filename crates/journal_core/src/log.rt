@@ -1,8 +1,9 @@
 // A step of the logger, or a mark.
 ghost use Rattle.std.specs.Prelude.{ℕ, ◌≡◌, ◌≤◌, ◌<◌, false, true, IsTrue, IsErr, IfOk, IfErr, OnOk, OnErr};
 ghost use Rattle.journal_world.specs.Histories.{count, floor};
-ghost use Rattle.journal_core.specs.Cores.{Crashes};
+ghost use Rattle.journal_core.specs.Cores.{Crashes, is_faulted};
 ghost use Rattle.journal_core.specs.Steps.{LogAnswers, Marks, IsLogRefusal, IsMarkRefusal, CanMark};
+ghost use Rattle.journal_core.specs.Interleavings.{AnswersLog};
 
 use crate::cause::{Cause, raise};
 use crate::state::{Core, LIMIT};
@@ -16,8 +17,10 @@ impl<'b, D: BlockDisk, R: MapRule, J: Naming> Core<'b, D, R, J> {
     /// the mark of commits that wrote nothing. It is idle where there is none of these.
     pub fn log_step(&mut self) -> Result<Step, Refusal<Cause<'b, J, R>>>
         ensures ok { IfOk result (λ step. LogAnswers self.old step self.new) }
+        ensures fine { OnOk result ((is_faulted self.old ≡ false) × (is_faulted self.new ≡ false)) }
         ensures refusal { IfErr result (IsLogRefusal self.old self.new) }
         ensures crash { Crashes self.old self.new }
+        ensures event { AnswersLog self.old result self.new }
     {
         if self.objects.is_faulted() {
             return Err(Refusal::DeviceFailed(Cause::none()));

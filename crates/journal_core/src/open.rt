@@ -2,11 +2,12 @@
 ghost use Rattle.std.specs.Prelude.{◌≡◌, ◌↔◌, ◌∷◌, [], true, IsTrue, OnOk, IfOk, IfErr};
 ghost use Rattle.journal_world.specs.Histories.Entry.{opening};
 ghost use Rattle.journal_wal.specs.Wal.{size_of};
-ghost use Rattle.journal_objlog.specs.ObjectLogs.{map_now};
+ghost use Rattle.journal_objlog.specs.ObjectLogs.{map_now, disk_of};
 ghost use Rattle.journal_disk.specs.Disks.{IsSettled};
 ghost use Rattle.journal_core.specs.Openings.{Begins, IsBeginRefusal, IsOpenRefusal, IsHandedBack};
 
 use crate::cause::{Cause, raise, raised};
+use crate::slot_counts::SlotCounts;
 use crate::state::Core;
 use crate::tally::Tally;
 use journal_disk::BlockDisk;
@@ -22,11 +23,11 @@ struct MapNow<'a, D: BlockDisk> {
 }
 
 impl<'a, D: BlockDisk> Opened for MapNow<'a, D> {
-    ghost use Rattle.journal_objlog.specs.ObjectLogs.{map_now};
+    ghost use Rattle.journal_objlog.specs.ObjectLogs.{map_now, disk_of};
 
     ghost map = { λ now. map_now now.objects.now };
 
-    ghost trusted = { λ now. now.objects.now.ring.disk.honest };
+    ghost trusted = { λ now. (disk_of now.objects.now).honest };
 }
 
 impl<'b, D: BlockDisk, R: MapRule, J: Naming> Core<'b, D, R, J> {
@@ -56,6 +57,12 @@ impl<'b, D: BlockDisk, R: MapRule, J: Naming> Core<'b, D, R, J> {
                 disk,
             });
         };
+        let Ok(slots) = SlotCounts::new(alloc) else {
+            return Err(Refused {
+                refusal: Refusal::NoMemory,
+                disk,
+            });
+        };
         let objects = match ObjectLog::open(alloc, layout, disk) {
             Ok(objects) => objects,
             Err(Refused { refusal, disk }) => {
@@ -74,6 +81,7 @@ impl<'b, D: BlockDisk, R: MapRule, J: Naming> Core<'b, D, R, J> {
                 logged: 0,
                 tally: Tally::new(alloc),
                 next: 0,
+                slots,
             }),
             Err(refusal) => Err(Refused {
                 refusal,
@@ -91,10 +99,10 @@ fn begin<'b, D: BlockDisk, R: MapRule, J: Naming>(
 ) -> Result<Writer<'b, J, R>, Refusal<Cause<'b, J, R>>>
     requires book { book.now ≡ J.book }
     requires blocks { size_of objects.now ≡ J.blocks }
-    requires admitted { IsTrue objects.now.ring.disk.honest → IfOk admitted (λ admitted. IsTrue admitted ↔ R.statement (map_now objects.now)) }
-    ensures begun { IfOk result (λ writer. writer ≡ opening (map_now objects.now) objects.now.ring.disk.honest ∷ []) }
+    requires admitted { IsTrue (disk_of objects.now).honest → IfOk admitted (λ admitted. IsTrue admitted ↔ R.statement (map_now objects.now)) }
+    ensures begun { IfOk result (λ writer. writer ≡ opening (map_now objects.now) (disk_of objects.now).honest ∷ []) }
     ensures admitted { OnOk result (admitted ≡ Ok true) }
-    ensures ruled { OnOk result (IsTrue objects.now.ring.disk.honest → R.statement (map_now objects.now)) }
+    ensures ruled { OnOk result (IsTrue (disk_of objects.now).honest → R.statement (map_now objects.now)) }
     ensures refusal { IfErr result (IsBeginRefusal R.statement objects.now admitted) }
 {
     if !raise(admitted)? {

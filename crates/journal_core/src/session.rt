@@ -1,7 +1,10 @@
 // A further session.
-ghost use Rattle.std.specs.Prelude.{◌≡◌, ◌≤◌, ◌^◌, ◌+◌, IfOk, IfErr, OnErr};
+ghost use Rattle.std.specs.Prelude.{◌≡◌, ◌≤◌, ◌^◌, ◌+◌, [], IfOk, IfErr, OnOk, OnErr};
+ghost use Rattle.journal_world.specs.Histories.{commits_of};
+ghost use Rattle.journal_history.specs.Tokens.{OnlyExtends};
 ghost use Rattle.journal_core.specs.Cores.{Crashes};
-ghost use Rattle.journal_core.specs.Steps.{IsSessionRefusal};
+ghost use Rattle.journal_core.specs.Steps.{BeginsSession, IsSessionRefusal, IsShowRefusal};
+ghost use Rattle.journal_core.specs.Interleavings.{AnswersSession};
 
 use crate::cause::Cause;
 use crate::state::{Core, LIMIT};
@@ -15,11 +18,11 @@ impl<'b, D: BlockDisk, R: MapRule, J: Naming> Core<'b, D, R, J> {
     ///
     /// Answers J11 `Worn` where the number would reach 2^62.
     pub fn session_step(&mut self) -> Result<Session<'b, J, R>, Refusal<Cause<'b, J, R>>>
-        ensures session { IfOk result (λ session. session ≡ record { number = self.old.next; mine = self.old.history; seen = self.old.history }) }
-        ensures next { IfOk result (λ session. self.new ≡ record self.old { next = self.old.next + 1 }) }
+        ensures begun { IfOk result (λ session. BeginsSession self.old session self.new) }
         ensures refusal { IfErr result (IsSessionRefusal self.old) }
         ensures same { OnErr result (self.new ≡ self.old) }
         ensures crash { Crashes self.old self.new }
+        ensures event { AnswersSession self.old result self.new }
     {
         if self.next >= LIMIT {
             return Err(Refusal::Worn(Cause::none()));
@@ -27,5 +30,20 @@ impl<'b, D: BlockDisk, R: MapRule, J: Naming> Core<'b, D, R, J> {
         let session = self.writer.session(self.next);
         self.next += 1;
         Ok(session)
+    }
+
+    /// Shows the session the whole history.
+    ///
+    /// Answers J9 `Stale` where the session had seen more of the history than the core, and nothing else. The
+    /// session may then have seen more.
+    pub fn show_step(&self, session: &mut Session<'b, J, R>) -> Result<(), Refusal<Cause<'b, J, R>>>
+        ensures extends { OnlyExtends session.old session.new }
+        ensures shown { OnOk result (session.new.seen ≡ self.now.history) }
+        ensures refusal { IfErr result (IsShowRefusal self.now) }
+    {
+        match self.writer.show(session) {
+            Ok(()) => Ok(()),
+            Err(front) => Err(Refusal::Stale(Cause::of(front))),
+        }
     }
 }

@@ -1,10 +1,17 @@
 // The core, and what it tells without a step.
-ghost use Rattle.std.specs.Prelude.{ℕ, ◌≡◌};
-ghost use Rattle.journal_world.specs.Histories.{count, floor};
+ghost use Rattle.std.specs.Prelude.{ℕ, ◌≡◌, ◌<◌, ◌↔◌, IsTrue, All};
+ghost use Rattle.journal_world.specs.declared.address.TheConstants.{SLOTS as SLOT_COUNT};
+ghost use Rattle.journal_world.specs.Histories.{opened, is_trusted, count, floor, touched};
+ghost use Rattle.journal_disk.specs.Images.{EveryImage};
+ghost use Rattle.journal_objlog.specs.ObjectLogs.{start_of, end_of};
+ghost use Rattle.journal_history.specs.Soundness.{IsSound};
+ghost use Rattle.journal_core.specs.Cores.{Leaves, disk_of};
+ghost use Rattle.journal_core.specs.Transactions.{IsCount};
 
+use crate::slot_counts::SlotCounts;
 use crate::tally::Tally;
 use journal_disk::{BlockDisk, MemDisk};
-use journal_history::{Naming, Writer};
+use journal_history::{Front, Naming, Writer};
 use journal_objlog::ObjectLog;
 use journal_world::MapRule;
 use std::marker::Model;
@@ -36,11 +43,13 @@ pub struct Core<'b, D: BlockDisk, R: MapRule, J: Naming> {
     // How many commits each session has, and the number of the next one.
     pub(crate) tally: Tally,
     pub(crate) next: u64,
+    // How many commits touched each slot.
+    pub(crate) slots: SlotCounts,
 }
 
 impl<'b, D: BlockDisk, R: MapRule, J: Naming> Model for Core<'b, D, R, J> {
     ghost use Rattle.journal_core.specs.Cores.{CoreState, IsKept};
-    ghost use Rattle.journal_core.specs.Tallies.{IsTallied};
+    ghost use Rattle.journal_core.specs.SlotCounts.{KeepsCounts};
 
     ghost Value = { CoreState };
 
@@ -48,7 +57,7 @@ impl<'b, D: BlockDisk, R: MapRule, J: Naming> Model for Core<'b, D, R, J> {
 
     ghost invariant = { λ c.
         IsKept J.blocks (record { objects = c.objects; history = c.writer; cut = c.cut; logged = c.logged; next = c.next })
-        × IsTallied c.tally c.writer };
+        × KeepsCounts c.tally c.slots c.writer };
 }
 
 impl<'b, D: BlockDisk, R: MapRule, J: Naming> Core<'b, D, R, J> {
@@ -57,8 +66,8 @@ impl<'b, D: BlockDisk, R: MapRule, J: Naming> Core<'b, D, R, J> {
         ensures { result ≡ record {
           commits = count self.now.history;
           floor = floor self.now.history;
-          start = self.now.objects.log.start;
-          end = self.now.objects.log.logged;
+          start = start_of self.now.objects;
+          end = end_of self.now.objects;
         } }
     {
         let (start, end) = self.objects.bounds();
@@ -70,16 +79,53 @@ impl<'b, D: BlockDisk, R: MapRule, J: Naming> Core<'b, D, R, J> {
         }
     }
 
-    /// The disk, lent.
+    /// How many commits touched the slot: while this stays, so do the values of the slot's addresses.
+    pub fn touched(&self, slot: u16) -> u64
+        requires slot { slot < SLOT_COUNT }
+        ensures { result ≡ touched self.now.history slot }
+    {
+        self.slots.touched(slot)
+    }
+
+    /// Whether each of these slots has been touched by as many commits as stand beside it.
+    pub fn unmoved(&self, counts: &[(u16, u64)]) -> bool
+        requires slots { All (λ c. c.0 < SLOT_COUNT) counts.now }
+        ensures { IsTrue result ↔ All (IsCount self.now.history) counts.now }
+    {
+        counts
+            .iter()
+            .all(|(slot, count)| self.touched(*slot) == *count)
+    }
+
+    /// The whole history. It is sound, its map has the journal's number of blocks, and it is trusted where the
+    /// disk was honest and settled when it was opened.
+    pub fn front(&self) -> Front<'b, J, R>
+        ensures history { result ≡ self.now.history }
+        ensures size { (opened self.now.history).blocks ≡ J.blocks }
+        ensures trusted { is_trusted self.now.history ≡ (disk_of self.now).honest }
+        ensures sound { IsSound R.statement self.now.history }
+    {
+        // It tells the proof that the history is sound.
+        let _len = self.writer.len();
+        self.writer.front()
+    }
+
+    /// The disk, lent. Where it was honest and settled when it was opened, each image that a crash may leave of it
+    /// opens as the map after a front of the history that has every marked commit.
     pub fn disk(&self) -> &D
-        ensures { D.state result.now ≡ self.now.objects.ring.disk }
+        ensures disk { D.state result.now ≡ disk_of self.now }
+        ensures size { (disk_of self.now).past.size ≡ J.blocks }
+        ensures images { IsTrue (disk_of self.now).honest → EveryImage (disk_of self.now).past (Leaves self.now.history) }
     {
         self.objects.disk()
     }
 
-    /// Gives the disk up, as it is.
+    /// Gives the disk up, as it is. Where it was honest and settled when it was opened, each image that a crash may
+    /// leave of it opens as the map after a front of the history that has every marked commit.
     pub fn into_disk(self) -> D
-        ensures { D.state result ≡ self.entry.objects.ring.disk }
+        ensures disk { D.state result ≡ disk_of self.entry }
+        ensures trusted { is_trusted self.entry.history ≡ (D.state result).honest }
+        ensures images { IsTrue (D.state result).honest → EveryImage (D.state result).past (Leaves self.entry.history) }
     {
         let Core { objects, .. } = self;
         objects.into_disk()

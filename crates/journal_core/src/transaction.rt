@@ -1,18 +1,119 @@
-// What a transaction did.
-use journal_history::Recorded;
-use journal_world::Objects;
+// What an open transaction has done.
+ghost use Rattle.std.specs.Prelude.{◌≡◌, ◌≢◌, ◌↔◌, IsTrue, All, OnOk, OnErr};
+ghost use mathlib.Core.List.{IsPrefix};
+ghost use Rattle.std.specs.Option.{option_copied};
+ghost use Rattle.journal_world.specs.Addresses.{slot_of as slot_number};
+ghost use Rattle.journal_world.specs.Maps.{is_object, are_objects, value_among, value_at, Agrees};
+ghost use Rattle.journal_world.specs.Histories.{is_trusted, latest, touched as count_touched};
+ghost use Rattle.journal_core.specs.Transactions.{begun, AreUnmoved, Remembers, Overwrites};
 
-/// What an open transaction has read and overwritten, by address.
-#[derive(Debug, Drop)]
-pub struct Transaction {
-    /// The values that it was told.
-    pub reads: Objects,
-    /// The values that it writes where it is committed.
-    pub writes: Objects,
+use journal_history::{Front, Naming, Recorded, Session};
+use journal_world::{Addr, MapRule, Objects, Value, slot_of};
+use std::alloc::{AllocError, Global};
+use std::marker::Model;
+
+/// What an open transaction has read and overwritten. Contracts see both, by address, and a history at whose end
+/// all that it read is what the map gives: a transaction sees one map, whether it is committed or not.
+///
+/// It keeps, for each slot under which it read, how many commits had touched the slot then. While these numbers
+/// stay, so does all that it read.
+#[derive(Drop)]
+pub struct Transaction<'b, J: Naming, R: MapRule> {
+    pub(crate) reads: Objects,
+    pub(crate) writes: Objects,
+    pub(crate) counts: Vec<(u16, u64)>,
+    pub(crate) front: Front<'b, J, R>,
 }
 
-impl Recorded for Transaction {
+impl<'b, J: Naming, R: MapRule> Model for Transaction<'b, J, R> {
+    ghost use Rattle.journal_core.specs.Transactions.{TransactionState, IsTransaction};
+
+    ghost Value = { TransactionState };
+
+    ghost view = { λ t. record { reads = t.reads; writes = t.writes; seen = t.front } };
+
+    ghost invariant = { λ t. IsTransaction J.blocks t.counts.items (record { reads = t.reads; writes = t.writes; seen = t.front }) };
+}
+
+impl<'b, J: Naming, R: MapRule> Recorded for Transaction<'b, J, R> {
     ghost reads = { λ t. t.reads };
 
     ghost writes = { λ t. t.writes };
+}
+
+impl<'b, J: Naming, R: MapRule> Transaction<'b, J, R> {
+    /// One that has done nothing yet, after all that the session has seen. It takes no memory.
+    pub fn begin(alloc: Global, session: &Session<'b, J, R>) -> Transaction<'b, J, R>
+        ensures { result ≡ begun session.now.seen }
+    {
+        // It tells the proof that the session has seen an opening.
+        let _seen = session.seen();
+        Transaction {
+            reads: Objects::new(alloc),
+            writes: Objects::new(alloc),
+            counts: Vec::new(alloc),
+            front: session.front(),
+        }
+    }
+
+    /// The history at whose end all that it read is what the map gives.
+    pub fn front(&self) -> &Front<'b, J, R>
+        ensures seen { result.now ≡ self.now.seen }
+        ensures agrees { IsTrue (is_trusted self.now.seen) → Agrees (latest self.now.seen) self.now.reads }
+        ensures reads { IsTrue (are_objects J.blocks self.now.reads) }
+        ensures writes { IsTrue (are_objects J.blocks self.now.writes) }
+    {
+        &self.front
+    }
+
+    /// The value that it gave the address, if it has overwritten it.
+    pub fn own(&self, addr: Addr) -> Option<&Value>
+        ensures { option_copied result ≡ value_among self.now.writes addr }
+    {
+        self.writes.get(addr)
+    }
+
+    /// Gives the address this value, in place of one that it gave it before. After an `Err` all is as before.
+    pub fn overwrite(&mut self, addr: Addr, value: Value) -> Result<(), AllocError>
+        requires object { IsTrue (is_object J.blocks (addr, value)) }
+        ensures ok { OnOk result (Overwrites self.old addr value self.new) }
+        ensures err { OnErr result (self.new ≡ self.old) }
+    {
+        self.writes.insert(addr, value)
+    }
+
+    // Remembers what was read of the address at the end of the front, and how many commits had touched its slot.
+    // After an `Err` all is as before.
+    pub(crate) fn remember(
+        &mut self,
+        addr: Addr,
+        value: &Value,
+        touched: u64,
+        front: Front<'b, J, R>,
+    ) -> Result<(), AllocError>
+        requires object { IsTrue (is_object J.blocks (addr, value.now)) }
+        requires value { IsTrue (is_trusted front) → value.now ≡ value_at (latest front) addr }
+        requires touched { touched ≡ count_touched front (slot_number addr) }
+        requires later { IsPrefix self.old.seen front }
+        requires unmoved { AreUnmoved front self.old }
+        ensures ok { OnOk result (Remembers self.old addr value.now front.entry self.new) }
+        ensures err { OnErr result (self.new ≡ self.old) }
+    {
+        // Room for the count comes first, so that nothing fails once the value stands.
+        let slot = slot_of(addr);
+        self.counts.reserve(1)?;
+        self.reads.insert(addr, value.clone()?)?;
+        if lacks(&self.counts, slot) {
+            self.counts.push_reserved((slot, touched));
+        }
+        self.front = front;
+        Ok(())
+    }
+}
+
+// Whether none of the counts is the slot's.
+fn lacks(counts: &[(u16, u64)], slot: u16) -> bool
+    ensures { IsTrue result ↔ All (λ c. c.0 ≢ slot) counts.now }
+{
+    counts.iter().all(|count| count.0 != slot)
 }

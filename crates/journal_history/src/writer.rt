@@ -114,6 +114,7 @@ impl<'b, J: Naming, R: MapRule> Writer<'b, J, R> {
         ensures shown { OnOk result (session.new.seen ≡ self.now) }
         ensures exact { OnOk result (length (commits_of session.old.number self.now) ≡ made session.old → IsExact session.new) }
         ensures stale { IfErr result (λ front. IsLonger self.now front) }
+        ensures seen { IfErr result (λ front. session.new.seen ≡ front) }
     {
         session.see(&self.front);
         if session.seen() > self.front.len() {

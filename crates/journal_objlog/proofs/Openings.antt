@@ -86,6 +86,7 @@ OnlyReads-refl w = record {
   keeps = record { size = refl; honest = refl; failures = omega arith };
   past = λ honest. refl;
   fault = λ faulted. inl faulted;
+  stays = λ faulted. faulted;
 }
 
 -- a failure is one of a longer time
@@ -118,6 +119,7 @@ OnlyReads-trans a b c first second = record {
       (λ was. ⊎_elim (λ before. inl before) (λ failed. inr (failed_before a.ring.disk b.ring.disk c.ring.disk first.keeps second.keeps failed)) (first.fault was))
       (λ failed. inr (failed_after a.ring.disk b.ring.disk c.ring.disk first.keeps failed))
       (second.fault faulted);
+  stays = λ faulted. second.stays (first.stays faulted);
 }
 
 -- reads leave what a crash left before
@@ -158,4 +160,5 @@ OnlyReads-from old new reads = record {
   keeps = reads.keeps;
   past = reads.past;
   fault = reads.fault;
+  stays = reads.stays;
 }

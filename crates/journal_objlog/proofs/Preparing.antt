@@ -76,6 +76,7 @@ OnlyReads-room w new is = record {
   };
   past = λ honest. ap (λ (v : WalState). v.ring.disk.past) is;
   fault = λ faulted. inl (sym (ap (λ (v : WalState). v.ring.faulted) is) ∙ faulted);
+  stays = λ faulted. ap (λ (v : WalState). v.ring.faulted) is ∙ faulted;
 }
 
 -- what passed lacks no room
@@ -115,4 +116,6 @@ prepared n mid new writes updates sound staged is room = record {
       subst (λ (w : WalState). SameMap (map_of (size_of w) (with_updates (blocks_now w) updates)) (overwritten (map_now w) writes)) (sym is)
       (map_of-is (size_of mid) (law_of n mid sound) (low_of n mid sound) (with_updates (blocks_now mid) updates) (overwritten (map_now mid) writes) refl
       (staged.objects (subst (λ (w : WalState). IsTrue w.ring.disk.honest) is honest)));
+  named = staged.blocks.named;
+  number = staged.blocks.number;
 }

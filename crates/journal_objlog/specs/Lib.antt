@@ -2,6 +2,7 @@ pub mod Maps
 pub mod MapLaws
 pub mod ObjectLogs
 pub mod ReadLaws
+pub mod CutLaws
 pub mod Reading
 pub mod Writes
 pub mod Soundness

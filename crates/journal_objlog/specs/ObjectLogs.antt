@@ -1,5 +1,5 @@
 -- What contracts see of an object log: the map now, the two that a crash may leave, and what each call makes of them.
-use Rattle.std.specs.Prelude.{ℕ, zero, suc, ◌≡◌, ◌⊎◌, true, false, IsTrue, List}
+use Rattle.std.specs.Prelude.{ℕ, zero, suc, ◌≡◌, ◌⊎◌, Bool, true, false, IsTrue, List}
 use Rattle.journal_world.specs.declared.address.Addr.{Addr}
 use Rattle.journal_world.specs.declared.refusal.Refusal.{Refusal}
 use Rattle.journal_world.specs.declared.refusal.Refusal.TheVariants.{NoMemory, BadAddress, DeviceFailed}
@@ -8,11 +8,26 @@ use Rattle.journal_world.specs.declared.step.Step.TheVariants.{Idle, Moved}
 use Rattle.journal_world.specs.Addresses.{is_valid}
 use Rattle.journal_world.specs.Maps.{Map, SameMap}
 use Rattle.journal_block.specs.Block.{Bytes}
-use Rattle.journal_disk.specs.Disks.{Keeps, HasFailed}
+use Rattle.journal_disk.specs.Disks.{DiskState, Keeps, HasFailed}
 use Rattle.journal_disk.specs.Images.{EveryImage}
 use Rattle.journal_disk.specs.Moments.{LeavesOnly}
 use Rattle.journal_wal.specs.Wal.{WalState, size_of, blocks_now, blocks_cut, blocks_logged, log_steps}
 use Rattle.journal_objlog.specs.Maps.{map_of, OpensAs}
+
+-- a device call failed
+abbrev pub is_faulted : WalState → Bool
+is_faulted w = w.ring.faulted
+
+-- the disk that the log lies on
+abbrev pub disk_of : WalState → DiskState
+disk_of w = w.ring.disk
+
+-- where the log on the disk starts and ends, as last synced: positions
+abbrev pub start_of : WalState → ℕ
+start_of w = w.log.start
+
+abbrev pub end_of : WalState → ℕ
+end_of w = w.log.logged
 
 -- the map with all overwrites
 abbrev pub map_now : WalState → Map
@@ -53,6 +68,8 @@ pub record OnlyReads (old new : WalState) : Type 0 where
   pub keeps : Keeps old.ring.disk new.ring.disk
   pub past : IsTrue old.ring.disk.honest → new.ring.disk.past ≡ old.ring.disk.past
   pub fault : IsTrue new.ring.faulted → IsTrue old.ring.faulted ⊎ HasFailed old.ring.disk new.ring.disk
+  -- a fault lasts
+  pub stays : IsTrue old.ring.faulted → IsTrue new.ring.faulted
 
 -- J6 leaves the log faulted, and no other refusal does
 abbrev pub IsLeft : WalState → Refusal Unit → Type 0

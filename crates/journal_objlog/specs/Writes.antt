@@ -1,5 +1,5 @@
 -- Which writes can be prepared, why others are refused, and what it is to be prepared.
-use Rattle.std.specs.Prelude.{ℕ, ◌≡◌, ◌⊎◌, ◌<◌, ◌≤◌, ◌+◌, ◌^◌, ◌==◌, ◌||◌, Bool, false, IsTrue, if◌then◌else◌, List, [], ◌∷◌}
+use Rattle.std.specs.Prelude.{ℕ, ◌≡◌, ◌⊎◌, ◌<◌, ◌≤◌, ◌+◌, ◌^◌, ◌==◌, ◌||◌, Bool, false, IsTrue, if◌then◌else◌, List, [], ◌∷◌, length}
 use Rattle.std.specs.List.{list_all}
 use Rattle.journal_world.specs.declared.refusal.Refusal.{Refusal}
 use Rattle.journal_world.specs.declared.refusal.Refusal.TheVariants.{NoMemory, BadAddress, BadSize, TooLarge, DeviceFailed, Worn, Full}
@@ -80,3 +80,6 @@ pub record IsPrepared (w : WalState) (prepared : List Update) (writes : List Pai
   pub ready : IsReady w prepared
   pub map : IsTrue w.ring.disk.honest
       → SameMap (map_of (size_of w) (with_updates (blocks_now w) prepared)) (overwritten (map_now w) writes)
+  -- it has one update for each block that is written, and no other
+  pub named : (b : ℕ) → updates_block prepared b ≡ writes_block writes b
+  pub number : length prepared ≡ written_blocks writes

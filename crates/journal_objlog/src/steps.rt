@@ -1,5 +1,5 @@
 // The steps of the logger and of the installer.
-ghost use Rattle.std.specs.Prelude.{◌≡◌, IsTrue, IsErr, OnErr, IfOk, IfErr, true};
+ghost use Rattle.std.specs.Prelude.{◌≡◌, IsTrue, IsErr, OnOk, OnErr, IfOk, IfErr, true, false};
 ghost use Rattle.journal_circ.specs.Ring.{IsFault};
 ghost use Rattle.journal_wal.specs.Wal.{LogAnswers, InstallAnswers, IsInstallFault};
 ghost use Rattle.journal_objlog.specs.ObjectLogs.{KeepsMaps, LogsMaps, MayCrash};
@@ -21,6 +21,7 @@ impl<D: BlockDisk> ObjectLog<D> {
     pub fn log_step(&mut self) -> Result<Step, Refusal<()>>
         ensures cause { IfErr result (IsFault self.old.ring.faulted self.old.ring.disk self.new.ring.disk) }
         ensures faulted { IsTrue self.old.ring.faulted → IsErr result × (self.new ≡ self.old) }
+        ensures fine { OnOk result ((self.old.ring.faulted ≡ false) × (self.new.ring.faulted ≡ false)) }
         ensures ok { IfOk result (λ step. LogAnswers self.old step self.new) }
         ensures maps { IsTrue self.old.ring.disk.honest → IfOk result (λ step. LogsMaps self.old step self.new) }
         ensures err { OnErr result (self.new.ring.faulted ≡ true) }
@@ -40,6 +41,7 @@ impl<D: BlockDisk> ObjectLog<D> {
     pub fn install_step(&mut self) -> Result<Step, Refusal<()>>
         ensures cause { IfErr result (IsInstallFault self.old self.new) }
         ensures faulted { IsTrue self.old.ring.faulted → IsErr result × (self.new ≡ self.old) }
+        ensures fine { OnOk result ((self.old.ring.faulted ≡ false) × (self.new.ring.faulted ≡ false)) }
         ensures ok { IfOk result (λ step. InstallAnswers self.old step self.new) }
         ensures maps { IsTrue self.old.ring.disk.honest → KeepsMaps self.old self.new }
         ensures crash { MayCrash self.old self.new }

@@ -146,6 +146,8 @@ pub record Reads (old new : WalState) : Type 0 where
   pub keeps : Keeps old.ring.disk new.ring.disk
   pub past : IsTrue old.ring.disk.honest → new.ring.disk.past ≡ old.ring.disk.past
   pub fault : IsTrue new.ring.faulted → IsTrue old.ring.faulted ⊎ HasFailed old.ring.disk new.ring.disk
+  -- a fault lasts
+  pub stays : IsTrue old.ring.faulted → IsTrue new.ring.faulted
 
 -- A device call failed
 pub record Fails (old new : WalState) : Type 0 where

@@ -24,6 +24,7 @@ impl<D: BlockDisk> Wal<D> {
     pub fn install_step(&mut self) -> Result<Step, Refusal<()>>
         ensures cause { IfErr result (IsInstallFault self.old self.new) }
         ensures faulted { IsTrue self.old.ring.faulted → IsErr result × (self.new ≡ self.old) }
+        ensures fine { OnOk result ((self.old.ring.faulted ≡ false) × (self.new.ring.faulted ≡ false)) }
         ensures ok { IfOk result (λ step. InstallAnswers self.old step self.new) }
         ensures crash { Crashes self.old self.new }
     {
@@ -72,6 +73,7 @@ impl<D: BlockDisk> Wal<D> {
         requires fine { self.old.ring.faulted ≡ false }
         requires some { 0 < install_steps self.old }
         ensures cause { IfErr result (IsFault self.old.ring.faulted self.old.ring.disk self.new.ring.disk) }
+        ensures fine { OnOk result (self.new.ring.faulted ≡ false) }
         ensures ok { OnOk result (Installs self.old self.new) }
         ensures err { OnErr result (Fails self.old self.new) }
         ensures crash { Crashes self.old self.new }

@@ -1,5 +1,5 @@
 // The logger's cycle: a group becomes durable, whole.
-ghost use Rattle.std.specs.Prelude.{ℕ, ◌≡◌, ◌≤◌, ◌<◌, true, false, IsTrue, IsErr, OnErr, IfOk, IfErr};
+ghost use Rattle.std.specs.Prelude.{ℕ, ◌≡◌, ◌≤◌, ◌<◌, true, false, IsTrue, IsErr, OnOk, OnErr, IfOk, IfErr};
 ghost use Rattle.journal_circ.specs.Ring.{IsFault};
 ghost use Rattle.journal_wal.specs.Wal.{Crashes, Fails, LogAnswers, log_blocks};
 
@@ -19,6 +19,7 @@ impl<D: BlockDisk> Wal<D> {
     pub fn log_step(&mut self) -> Result<Step, Refusal<()>>
         ensures cause { IfErr result (IsFault self.old.ring.faulted self.old.ring.disk self.new.ring.disk) }
         ensures faulted { IsTrue self.old.ring.faulted → IsErr result × (self.new ≡ self.old) }
+        ensures fine { OnOk result ((self.old.ring.faulted ≡ false) × (self.new.ring.faulted ≡ false)) }
         ensures ok { IfOk result (λ step. LogAnswers self.old step self.new) }
         ensures err { OnErr result (Fails self.old self.new) }
         ensures crash { Crashes self.old self.new }

@@ -8,9 +8,10 @@ use Rattle.std.specs.Cmp.{unsigned_ties}
 use Rattle.std.proofs.lemmas.Bool.{and_from, and_parts}
 use Rattle.std.proofs.lemmas.Bool.Decides.{Decides-eqb}
 use Rattle.std.proofs.lemmas.Cmp.{nat_eq_equiv}
+use Rattle.std.proofs.lemmas.List.Elements.{All-head, All-tail, All-cons}
 use Rattle.journal_world.specs.declared.address.Addr.{Addr}
 use Rattle.journal_world.specs.Addresses.{Value, is_same}
-use Rattle.journal_world.specs.Maps.{Pair, value_among, SamePairs, is_object, are_objects}
+use Rattle.journal_world.specs.Maps.{Pair, Map, value_among, value_at, SamePairs, Agrees, is_object, are_objects}
 
 -- by block, then by offset
 abbrev pub addr_cmp : Addr → Addr → Ordering
@@ -75,3 +76,23 @@ are_objects-insert_entry blocks (e ∷ es) a v old new = by_order (addr_cmp a e.
         let same : a ≡ e.0 = same_addr a e.0 (sym (is_same-at a e.0) ∙ ap is_eq is) in
         and_from (is_object blocks (e.0, v)) (are_objects blocks es) (subst (λ b. IsTrue (is_object blocks (b, v))) same new) parts.1
     by_order Greater is go = and_from (is_object blocks e) (are_objects blocks (insert_entry addr_cmp es a v)) parts.0 (go parts.1)
+
+-- an insert of what the map gives leaves what it gives
+pub Agrees-insert_entry : (m : Map) (es : List Pair) (a : Addr) (v : Value)
+    → Agrees m es → value_at m a ≡ v → Agrees m (insert_entry addr_cmp es a v)
+Agrees-insert_entry m [] a v old new = All-cons (λ (p : Pair). value_at m p.0 ≡ p.1) (a, v) [] new old
+Agrees-insert_entry m (e ∷ es) a v old new = by_order (addr_cmp a e.0) refl (λ rest. Agrees-insert_entry m es a v rest new)
+  where
+    here : value_at m e.0 ≡ e.1
+    here = All-head (λ (p : Pair). value_at m p.0 ≡ p.1) e es old
+
+    later : Agrees m es
+    later = All-tail (λ (p : Pair). value_at m p.0 ≡ p.1) e es old
+
+    by_order : (o : Ordering) → addr_cmp a e.0 ≡ o → (Agrees m es → Agrees m (insert_entry addr_cmp es a v))
+        → Agrees m (match_ordering o ((a, v) ∷ e ∷ es) ((e.0, v) ∷ es) (e ∷ insert_entry addr_cmp es a v))
+    by_order Less is go = All-cons (λ (p : Pair). value_at m p.0 ≡ p.1) (a, v) (e ∷ es) new old
+    by_order Equal is go =
+        let same : a ≡ e.0 = same_addr a e.0 (sym (is_same-at a e.0) ∙ ap is_eq is) in
+        All-cons (λ (p : Pair). value_at m p.0 ≡ p.1) (e.0, v) es (subst (λ b. value_at m b ≡ v) same new) later
+    by_order Greater is go = All-cons (λ (p : Pair). value_at m p.0 ≡ p.1) e (insert_entry addr_cmp es a v) here (go later)

@@ -1,7 +1,7 @@
 // Values by address.
 ghost use Rattle.std.specs.Prelude.{◌≡◌, ℕ, [], ◌∷◌, ◌++◌, IsTrue, OnOk, OnErr, IfSome, IfNone};
 ghost use Rattle.std.specs.Option.{option_copied};
-ghost use Rattle.journal_world.specs.Maps.{value_among, SamePairs, is_object, are_objects};
+ghost use Rattle.journal_world.specs.Maps.{Map, value_among, value_at, SamePairs, Agrees, is_object, are_objects};
 ghost use Rattle.journal_world.specs.Orders.{HasAscendingBlocks};
 
 use crate::{Addr, Value};
@@ -57,6 +57,7 @@ impl Objects {
         ensures err { OnErr result (self.new ≡ self.old) }
         ensures err_only_if_absent { OnErr result (value_among self.old addr ≡ None) }
         ensures objects { (blocks : ℕ) → IsTrue (are_objects blocks self.old) → IsTrue (is_object blocks (addr, value)) → IsTrue (are_objects blocks self.new) }
+        ensures agrees { (m : Map) → Agrees m self.old → value_at m addr ≡ value → Agrees m self.new }
     {
         self.values.insert(addr, value)?;
         Ok(())

@@ -1,14 +1,15 @@
 -- What may stand behind a verb, where a part of it is told.
-use Rattle.std.proofs.Common.{◌≡◌, ℕ, ◌+◌, nat_le, Bool, true, false, List, [], ◌∷◌, length, Option, Some, None, Bor, sym, ap, subst, ◌∙◌, arith, get_or}
-use Rattle.std.specs.Prelude.{◌&&◌, IfSome, codes}
+use Rattle.std.proofs.Common.{◌≡◌, ℕ, ◌+◌, nat_le, Bool, true, false, List, [], ◌∷◌, length, Option, Some, None, Bor, sym, ap, ◌∙◌, arith, get_or}
+use Rattle.std.specs.Prelude.{◌&&◌, IfSome}
 use Rattle.std.specs.Fmt.{decimal}
 use Rattle.std.proofs.lemmas.Bool.Decides.{nat_tests}
 use Rattle.std.proofs.lemmas.Fmt.{decimal_injective}
+use Rattle.jtool.specs.declared.command.Choice.{Choice}
 use Rattle.jtool.specs.declared.command.Command.{Command}
 use Rattle.jtool.specs.declared.command.Command.TheVariants as commands
 use Rattle.jtool.specs.declared.command.verb.Verb.TheVariants as verbs
 use Rattle.jtool.specs.Values.{Spells}
-use Rattle.jtool.specs.Commands.{IsNumber, InBlock, Says, MayFollow}
+use Rattle.jtool.specs.Commands.{IsNumber, InBlock, IsChoice, Follows}
 
 -- ---- byte ranges
 
@@ -24,15 +25,15 @@ not_in_block at len e (some, inside) = grind (arith, nat_tests)
 
 -- ---- behind `put`
 
-pub put_unspelled : (ws more : List (List ℕ)) (block off text : List ℕ) → ws ≡ block ∷ off ∷ text ∷ more → ((value : List ℕ) → Spells text value → ⊥) → MayFollow verbs.Put ws → ⊥
-put_unspelled ws more block off text is none (a, t, value, spells, (short, says)) =
-    let same : t ≡ text = ap (λ l. get_or l 2 []) (sym says ∙ is) in
-    none value (rw same at spells)
+pub put_unspelled : (ws more : List (List ℕ)) (block off text : List ℕ) → ws ≡ block ∷ off ∷ text ∷ more → ((value : List ℕ) → Spells text value → ⊥) → (c : Command) → Follows verbs.Put ws c → ⊥
+put_unspelled ws more block off text is none c (a, t, value, short, spells, asks) =
+    let same : t ≡ text = ap (λ l. get_or l 2 []) (sym short.1 ∙ is) in
+    none value.now (rw same at spells)
 
 -- ---- behind `disk`
 
-pub disk_outside : (ws more : List (List ℕ)) (block at len : ℕ) → ws ≡ decimal block ∷ decimal at ∷ decimal len ∷ more → IsNumber at → IsNumber len → is_in_block at len ≡ false → MayFollow verbs.Disk ws → ⊥
-disk_outside ws more block at len is small short outside (b, a, l, number, inside, says) =
+pub disk_outside : (ws more : List (List ℕ)) (block at len : ℕ) → ws ≡ decimal block ∷ decimal at ∷ decimal len ∷ more → IsNumber at → IsNumber len → is_in_block at len ≡ false → (c : Command) → Follows verbs.Disk ws c → ⊥
+disk_outside ws more block at len is small short outside c (b, a, l, number, inside, says, asks) =
     let e = sym says ∙ is in
     let same_at = decimal_injective a at (omega (arith, inside)) (omega arith) (ap (λ l. get_or l 1 []) e) in
     let same_len = decimal_injective l len (omega (arith, inside)) (omega arith) (ap (λ l. get_or l 2 []) e) in
@@ -40,30 +41,37 @@ disk_outside ws more block at len is small short outside (b, a, l, number, insid
 
 -- ---- behind `fail`
 
-pub fail_at_zero : (ws more : List (List ℕ)) (call : ℕ) → ws ≡ decimal call ∷ more → call ≡ 0 → MayFollow verbs.Fail ws → ⊥
-fail_at_zero ws more call is zero (n, some, small, says) =
+pub fail_at_zero : (ws more : List (List ℕ)) (call : ℕ) → ws ≡ decimal call ∷ more → call ≡ 0 → (c : Command) → Follows verbs.Fail ws c → ⊥
+fail_at_zero ws more call is zero c (n, some, small, says, asks) =
     let same = decimal_injective n call (omega arith) (omega arith) (ap (λ l. get_or l 0 []) (sym says ∙ is)) in
     omega arith
 
 -- ---- behind `poke`
 
-pub poke_unspelled : (ws more : List (List ℕ)) (block at text : List ℕ) → ws ≡ block ∷ at ∷ text ∷ more → ((value : List ℕ) → Spells text value → ⊥) → MayFollow verbs.Poke ws → ⊥
-poke_unspelled ws more block at text is none (b, a, t, value, number, inside, spells, says) =
+pub poke_unspelled : (ws more : List (List ℕ)) (block at text : List ℕ) → ws ≡ block ∷ at ∷ text ∷ more → ((value : List ℕ) → Spells text value → ⊥) → (c : Command) → Follows verbs.Poke ws c → ⊥
+poke_unspelled ws more block at text is none c (b, a, t, value, number, inside, spells, says, asks) =
     let same : t ≡ text = ap (λ l. get_or l 2 []) (sym says ∙ is) in
-    none value (rw same at spells)
+    none value.now (rw same at spells)
 
-pub poke_outside : (ws more : List (List ℕ)) (block at : ℕ) (text value : List ℕ) → ws ≡ decimal block ∷ decimal at ∷ text ∷ more → IsNumber at → ((other : List ℕ) → Spells text other → other ≡ value) → is_in_block at (length value) ≡ false → MayFollow verbs.Poke ws → ⊥
-poke_outside ws more block at text value is small only outside (b, a, t, v, number, inside, spells, says) =
+pub poke_outside : (ws more : List (List ℕ)) (block at : ℕ) (text value : List ℕ) → ws ≡ decimal block ∷ decimal at ∷ text ∷ more → IsNumber at → ((other : List ℕ) → Spells text other → other ≡ value) → is_in_block at (length value) ≡ false → (c : Command) → Follows verbs.Poke ws c → ⊥
+poke_outside ws more block at text value is small only outside c (b, a, t, v, number, inside, spells, says, asks) =
     let e = sym says ∙ is in
     let same_at = decimal_injective a at (omega (arith, inside)) (omega arith) (ap (λ l. get_or l 1 []) e) in
     let same_text : t ≡ text = ap (λ l. get_or l 2 []) e in
-    let same = ap length (only v (rw same_text at spells)) in
+    let same = ap length (only v.now (rw same_text at spells)) in
     not_in_block at (length value) outside (omega (arith, inside), omega (arith, inside))
 
 pub poke_says : (result : Option Command) (command : Command) (ws more : List (List ℕ)) (block at : ℕ) (text : List ℕ) (value : Bor (List ℕ)) → command ≡ commands.Poke block at value
     → IfSome result (λ found. (more ≡ []) × (found ≡ command)) → ws ≡ decimal block ∷ decimal at ∷ text ∷ more → IsNumber block → Spells text value.now → is_in_block at (length value.now) ≡ true
-    → IfSome result (Says (codes "poke" ∷ ws))
+    → IfSome result (Follows verbs.Poke ws)
 poke_says None command ws more block at text value asks found is small spells inside = tt
 poke_says (Some c) command ws more block at text value asks (none, same) is small spells inside =
-    let all : codes "poke" ∷ ws ≡ codes "poke" ∷ decimal block ∷ decimal at ∷ text ∷ [] = cc in
-    subst (Says (codes "poke" ∷ ws)) (sym (same ∙ asks)) (small, InBlock-from_test at (length value.now) inside, text, spells, all)
+    (block, at, text, value, small, InBlock-from_test at (length value.now) inside, spells, is ∙ ap (λ l. decimal block ∷ decimal at ∷ text ∷ l) none, same ∙ asks)
+
+-- ---- behind `down` and `crash`
+
+pub no_choice-down : (ws : List (List ℕ)) → ((choice : Choice) → IsChoice ws choice → ⊥) → (c : Command) → Follows verbs.Down ws c → ⊥
+no_choice-down ws none c (choice, is, asks) = none choice is
+
+pub no_choice-crash : (ws : List (List ℕ)) → ((choice : Choice) → IsChoice ws choice → ⊥) → (c : Command) → Follows verbs.Crash ws c → ⊥
+no_choice-crash ws none c (choice, is, asks) = none choice is

@@ -5,11 +5,10 @@ pub mod Terms
 pub mod Parts
 pub mod LineEnds
 pub mod Printing
-pub mod Runs
 pub mod Poking
 pub mod Behind
 pub mod Listing
 pub mod Verbs
 pub mod Words
-pub mod Asked
-pub mod Knowing
+pub mod Talking
+pub mod Replying

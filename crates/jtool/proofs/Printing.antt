@@ -4,7 +4,7 @@ use Rattle.std.specs.Prelude.{◌==◌, replicate, slice_get, take_while}
 use Rattle.std.specs.List.{flat_map, join_with_byte, AllByRecursion}
 use Rattle.std.proofs.lemmas.Bool.Decides.{nat_tests}
 use Rattle.std.proofs.lemmas.List.Sums.{take_while-cons}
-use Rattle.jtool.specs.declared.values.Run.{Run}
+use Rattle.jtool.specs.declared.value.Run.{Run}
 use Rattle.jtool.specs.Values.{hex, starred, Term, listed, repeated, IsTerm, term_text, term_bytes, Spells, with_front, runs, run_text, text_of}
 
 abbrev run : ℕ → ℕ → Run

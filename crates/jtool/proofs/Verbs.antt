@@ -1,28 +1,10 @@
--- The verb of a command, and what may follow it.
+-- The verb of a command, which its first word tells.
 use Rattle.std.proofs.Common.{◌≡◌, ◌≢◌, ℕ, ◌+◌, ◌*◌, List, [], ◌∷◌, Option, Some, None, refl, sym, ap, subst, ◌∙◌, get_or, drop}
-use Rattle.std.specs.Prelude.{◌==◌, if◌then◌else◌, IfNone}
+use Rattle.std.specs.Prelude.{◌==◌, if◌then◌else◌, IfNone, IfSome}
 use Rattle.jtool.specs.declared.command.Command.{Command}
-use Rattle.jtool.specs.declared.command.Command.TheVariants as commands
 use Rattle.jtool.specs.declared.command.verb.Verb.{Verb}
 use Rattle.jtool.specs.declared.command.verb.Verb.TheVariants as verbs
-use Rattle.jtool.specs.Commands.{verb_text, Says, MayFollow}
-
-abbrev verb_of : Command → Verb
-verb_of (commands.Put a value) = verbs.Put
-verb_of (commands.Get a) = verbs.Get
-verb_of commands.Commit = verbs.Commit
-verb_of commands.Abort = verbs.Abort
-verb_of commands.Wait = verbs.Wait
-verb_of (commands.Log most) = verbs.Log
-verb_of (commands.Install most) = verbs.Install
-verb_of commands.Stat = verbs.Stat
-verb_of commands.Pend = verbs.Pend
-verb_of (commands.Disk block at len) = verbs.Disk
-verb_of (commands.Fail call) = verbs.Fail
-verb_of (commands.Down choice) = verbs.Down
-verb_of commands.Open = verbs.Open
-verb_of (commands.Crash choice) = verbs.Crash
-verb_of (commands.Poke block at value) = verbs.Poke
+use Rattle.jtool.specs.Commands.{words, verb_text, Follows, Says, LineSays, IsInside}
 
 -- ---- a verb is known by its first two letters
 
@@ -67,43 +49,57 @@ known verbs.Poke = refl
 verb_text_injective : (v w : Verb) → verb_text v ≡ verb_text w → v ≡ w
 verb_text_injective v w e = sym (known v) ∙ ap (λ t. verb_at (letters t)) e ∙ known w
 
--- ---- what a command's words are
+-- ---- where words say no command
 
 abbrev first_word : List (List ℕ) → List ℕ
 first_word ws = get_or ws 0 []
 
--- the first is its verb, and the others may follow it
-follows : (w : List ℕ) (ws : List (List ℕ)) (command : Command) → Says (w ∷ ws) command → (w ≡ verb_text (verb_of command)) × MayFollow (verb_of command) ws
-follows w ws (commands.Put a value) (short, text, spells, says) = (ap first_word says, (a, text, value.now, spells, (short, ap (drop 1) says)))
-follows w ws (commands.Get a) (short, says) = (ap first_word says, (a, (short, ap (drop 1) says)))
-follows w ws commands.Commit says = (ap first_word says, ap (drop 1) says)
-follows w ws commands.Abort says = (ap first_word says, ap (drop 1) says)
-follows w ws commands.Wait says = (ap first_word says, ap (drop 1) says)
-follows w ws (commands.Log None) says = (ap first_word says, (None, ap (drop 1) says))
-follows w ws (commands.Log (Some most)) (small, says) = (ap first_word says, (Some most, (small, ap (drop 1) says)))
-follows w ws (commands.Install None) says = (ap first_word says, (None, ap (drop 1) says))
-follows w ws (commands.Install (Some most)) (small, says) = (ap first_word says, (Some most, (small, ap (drop 1) says)))
-follows w ws commands.Stat says = (ap first_word says, ap (drop 1) says)
-follows w ws commands.Pend says = (ap first_word says, ap (drop 1) says)
-follows w ws (commands.Disk block at len) (small, inside, says) = (ap first_word says, (block, at, len, small, inside, ap (drop 1) says))
-follows w ws (commands.Fail call) (some, small, says) = (ap first_word says, (call, some, small, ap (drop 1) says))
-follows w ws (commands.Down choice) (text, chooses, says) = (ap first_word says, (choice, (text, chooses, ap (drop 1) says)))
-follows w ws commands.Open says = (ap first_word says, ap (drop 1) says)
-follows w ws (commands.Crash choice) (text, chooses, says) = (ap first_word says, (choice, (text, chooses, ap (drop 1) says)))
-follows w ws (commands.Poke block at value) (small, inside, text, spells, says) = (ap first_word says, (block, at, text, value.now, small, inside, spells, ap (drop 1) says))
-
 -- where the first is no verb, the words say nothing
 pub says_none-no_verb : (ws more : List (List ℕ)) (w : List ℕ) → ws ≡ w ∷ more → ((verb : Verb) → w ≢ verb_text verb) → (command : Command) → Says ws command → ⊥
-says_none-no_verb ws more w is none command says =
-    none (verb_of command) (follows w more command (subst (λ l. Says l command) is says)).0
+says_none-no_verb ws more w is none command (verb, behind, says, follows) = none verb (ap first_word (sym is ∙ says))
 
 -- nor where the others may not follow it
-says_none-behind : (ws more : List (List ℕ)) (w : List ℕ) (verb : Verb) → ws ≡ w ∷ more → w ≡ verb_text verb → (MayFollow verb more → ⊥) → (command : Command) → Says ws command → ⊥
-says_none-behind ws more w verb is word none command says =
-    let f = follows w more command (subst (λ l. Says l command) is says) in
-    none (subst (λ v. MayFollow v more) (verb_text_injective _ _ (sym f.0 ∙ word)) f.1)
+says_none-behind : (ws more : List (List ℕ)) (w : List ℕ) (verb : Verb) → ws ≡ w ∷ more → w ≡ verb_text verb → ((command : Command) → Follows verb more command → ⊥) → (command : Command) → Says ws command → ⊥
+says_none-behind ws more w verb is word none command (other, behind, says, follows) =
+    let same : other ≡ verb = verb_text_injective other verb (ap first_word (sym says ∙ is) ∙ word) in
+    let rest : behind ≡ more = ap (drop 1) (sym says ∙ is) in
+    none command (subst (λ v. Follows v more command) same (subst (λ l. Follows other l command) rest follows))
 
 -- so where no command was read behind a verb, the words say none
-pub says_none-read : (result : Option Command) (ws more : List (List ℕ)) (w : List ℕ) (verb : Verb) → ws ≡ w ∷ more → w ≡ verb_text verb → IfNone result (MayFollow verb more → ⊥) → IfNone result ((command : Command) → Says ws command → ⊥)
+pub says_none-read : (result : Option Command) (ws more : List (List ℕ)) (w : List ℕ) (verb : Verb) → ws ≡ w ∷ more → w ≡ verb_text verb → IfNone result ((command : Command) → Follows verb more command → ⊥) → IfNone result ((command : Command) → Says ws command → ⊥)
 says_none-read None ws more w verb is word none = says_none-behind ws more w verb is word none
 says_none-read (Some c) ws more w verb is word none = tt
+
+-- and where one was read, they say it
+pub says-read : (result : Option Command) (ws more : List (List ℕ)) (w : List ℕ) (verb : Verb) → ws ≡ w ∷ more → w ≡ verb_text verb → IfSome result (Follows verb more) → IfSome result (Says ws)
+says-read None ws more w verb is word found = tt
+says-read (Some c) ws more w verb is word found = (verb, more, is ∙ ap (λ t. t ∷ more) word, found)
+
+-- ---- the bytes that a command names
+
+follows_inside : (verb : Verb) (ws : List (List ℕ)) (c : Command) → Follows verb ws c → IsInside c
+follows_inside verbs.Put ws c (a, text, value, short, spells, is) = subst IsInside (sym is) tt
+follows_inside verbs.Get ws c (a, short, is) = subst IsInside (sym is) tt
+follows_inside verbs.Commit ws c (none, is) = subst IsInside (sym is) tt
+follows_inside verbs.Abort ws c (none, is) = subst IsInside (sym is) tt
+follows_inside verbs.Wait ws c (none, is) = subst IsInside (sym is) tt
+follows_inside verbs.Log ws c (most, says, is) = subst IsInside (sym is) tt
+follows_inside verbs.Install ws c (most, says, is) = subst IsInside (sym is) tt
+follows_inside verbs.Stat ws c (none, is) = subst IsInside (sym is) tt
+follows_inside verbs.Pend ws c (none, is) = subst IsInside (sym is) tt
+follows_inside verbs.Disk ws c (block, at, len, small, inside, says, is) = subst IsInside (sym is) inside.1
+follows_inside verbs.Fail ws c (call, some, small, says, is) = subst IsInside (sym is) tt
+follows_inside verbs.Down ws c (choice, says, is) = subst IsInside (sym is) tt
+follows_inside verbs.Open ws c (none, is) = subst IsInside (sym is) tt
+follows_inside verbs.Crash ws c (choice, says, is) = subst IsInside (sym is) tt
+follows_inside verbs.Poke ws c (block, at, text, value, small, inside, spells, says, is) = subst IsInside (sym is) inside.1
+
+-- a command that words say names bytes inside a block
+pub says_inside : (result : Option Command) (ws : List (List ℕ)) → IfSome result (Says ws) → IfSome result IsInside
+says_inside None ws says = tt
+says_inside (Some c) ws (verb, behind, is, follows) = follows_inside verb behind c follows
+
+-- where the words say no command, the line says none
+pub none_said : (result : Option Command) (line : List ℕ) → IfNone result ((command : Command) → Says (words line) command → ⊥) → IfNone result ((command : Command) → LineSays line command → ⊥)
+none_said None line none = λ command says. none command says.1
+none_said (Some c) line none = tt

@@ -1,13 +1,30 @@
 -- The lines that answers are printed as.
-use Rattle.std.specs.Prelude.{ℕ, ◌==◌, if◌then◌else◌, List, [], ◌∷◌, ◌++◌, length, codes, Option, Some, None}
+use Rattle.std.specs.Prelude.{ℕ, ◌≡◌, List, [], ◌∷◌, ◌++◌, codes}
 use Rattle.std.specs.List.{flat_map}
 use Rattle.std.specs.Fmt.{decimal}
-use Rattle.jtool.specs.declared.lines.Line.{Line}
-use Rattle.jtool.specs.declared.lines.Line.TheVariants.{Whole, TooLong}
+use Rattle.journal_world.specs.declared.refusal.Refusal.{Refusal}
+use Rattle.journal_world.specs.declared.refusal.Refusal.TheVariants as refusals
+use Rattle.journal_core.specs.declared.state.Stat.{Stat}
 use Rattle.jtool.specs.declared.answer.Answer.{Answer}
 use Rattle.jtool.specs.declared.answer.Answer.TheVariants as answers
-use Rattle.journal_core.specs.declared.state.Stat.{Stat}
 use Rattle.jtool.specs.Values.{text_of}
+
+-- a refusal's number and name
+abbrev pub refusal_text : {C : Type 0} → Refusal C → List ℕ
+refusal_text refusals.NoMemory = codes "J1 NoMemory"
+refusal_text refusals.BadAddress = codes "J2 BadAddress"
+refusal_text refusals.BadSize = codes "J3 BadSize"
+refusal_text refusals.TooLarge = codes "J4 TooLarge"
+refusal_text refusals.Busy = codes "J5 Busy"
+refusal_text (refusals.DeviceFailed cause) = codes "J6 DeviceFailed"
+refusal_text refusals.BadLog = codes "J7 BadLog"
+refusal_text refusals.BadSuper = codes "J8 BadSuper"
+refusal_text (refusals.Stale cause) = codes "J9 Stale"
+refusal_text (refusals.Stranger cause) = codes "J10 Stranger"
+refusal_text (refusals.Worn cause) = codes "J11 Worn"
+refusal_text (refusals.Full cause) = codes "J12 Full"
+refusal_text (refusals.Closed cause) = codes "J13 Closed"
+refusal_text refusals.Fenced = codes "J14 Fenced"
 
 -- the numbers of a mount, as printed
 abbrev pub stat_text : Stat → List ℕ
@@ -23,25 +40,30 @@ abbrev pub pending_text : List (ℕ × ℕ) → List ℕ
 pending_text [] = codes " none"
 pending_text (p ∷ ps) = flat_map pair_text (p ∷ ps)
 
--- the line that is printed, where it is said here: that of a refusal is the refusal's own
-abbrev pub answer_line : {C : Type 0} → Answer C → Option (List ℕ)
-answer_line answers.Done = Some (codes "ok" ++ 10 ∷ [])
-answer_line (answers.Value v) = Some (codes "= " ++ text_of v ++ 10 ∷ [])
-answer_line (answers.Committed n) = Some (codes "committed " ++ decimal n ++ 10 ∷ [])
-answer_line answers.NoTransaction = Some (codes "no transaction" ++ 10 ∷ [])
-answer_line (answers.Stable n) = Some (codes "stable " ++ decimal n ++ 10 ∷ [])
-answer_line (answers.Logged n) = Some (codes "log " ++ decimal n ++ 10 ∷ [])
-answer_line (answers.Installed n) = Some (codes "install " ++ decimal n ++ 10 ∷ [])
-answer_line (answers.Stat s) = Some (stat_text s ++ 10 ∷ [])
-answer_line (answers.Pending pending) = Some (codes "pending" ++ pending_text pending.items ++ 10 ∷ [])
-answer_line answers.Opened = Some (codes "opened" ++ 10 ∷ [])
-answer_line answers.Up = Some (codes "up" ++ 10 ∷ [])
-answer_line answers.Down = Some (codes "down" ++ 10 ∷ [])
-answer_line (answers.Refused why) = None
-answer_line answers.BadLine = Some (codes "bad line" ++ 10 ∷ [])
-answer_line answers.Nothing = Some []
+-- the line that is printed
+abbrev pub answer_line : Answer → List ℕ
+answer_line answers.Done = codes "ok" ++ 10 ∷ []
+answer_line (answers.Value v) = codes "= " ++ text_of v ++ 10 ∷ []
+answer_line (answers.Committed n) = codes "committed " ++ decimal n ++ 10 ∷ []
+answer_line answers.NoTransaction = codes "no transaction" ++ 10 ∷ []
+answer_line (answers.Stable n) = codes "stable " ++ decimal n ++ 10 ∷ []
+answer_line (answers.Logged n) = codes "log " ++ decimal n ++ 10 ∷ []
+answer_line (answers.Installed n) = codes "install " ++ decimal n ++ 10 ∷ []
+answer_line (answers.Stat s) = stat_text s ++ 10 ∷ []
+answer_line (answers.Pending pending) = codes "pending" ++ pending_text pending.items ++ 10 ∷ []
+answer_line answers.Opened = codes "opened" ++ 10 ∷ []
+answer_line answers.Up = codes "up" ++ 10 ∷ []
+answer_line answers.Down = codes "down" ++ 10 ∷ []
+answer_line (answers.Refused why) = codes "refused " ++ refusal_text why ++ 10 ∷ []
+answer_line answers.BadLine = codes "bad line" ++ 10 ∷ []
+answer_line answers.Nothing = []
 
 -- what a line is answered that says no command
-abbrev pub to_no_command : {C : Type 0} → Line → Answer C
-to_no_command (Whole line) = if length line.now == 0 then answers.Nothing else answers.BadLine
-to_no_command TooLong = answers.BadLine
+abbrev pub to_no_command : List ℕ → Answer
+to_no_command [] = answers.Nothing
+to_no_command (byte ∷ bytes) = answers.BadLine
+
+-- that it was refused, is answered
+abbrev pub Refuses : {C : Type 0} → Refusal C → Answer → Type 0
+Refuses why (answers.Refused told) = refusal_text told ≡ refusal_text why
+Refuses why answer = ⊥

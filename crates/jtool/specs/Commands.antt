@@ -7,10 +7,9 @@ use Rattle.jtool.specs.declared.command.Choice.{Choice}
 use Rattle.jtool.specs.declared.command.Choice.TheVariants as choices
 use Rattle.jtool.specs.declared.command.Command.{Command}
 use Rattle.jtool.specs.declared.command.Command.TheVariants as commands
-use Rattle.jtool.specs.declared.lines.Line.{Line}
-use Rattle.jtool.specs.declared.lines.Line.TheVariants.{Whole, TooLong}
 use Rattle.jtool.specs.declared.command.verb.Verb.{Verb}
 use Rattle.jtool.specs.declared.command.verb.Verb.TheVariants as verbs
+use denote.Ref.{Bor}
 use Rattle.jtool.specs.Values.{Spells}
 
 -- the words of a line: what stands between its spaces
@@ -61,7 +60,7 @@ AtMost ws (Some most) = IsNumber most × (ws ≡ decimal most ∷ [])
 abbrev pub InBlock : ℕ → ℕ → Type 0
 InBlock at len = (1 ≤ len) × (at + len ≤ 4096)
 
--- The text lists the numbers: they stand in decimal, joined by commas. A line has no room for more of them
+-- The text lists the numbers: they stand in decimal, joined by commas. A line has no room for more than 10000
 pub record Lists (text numbers : List ℕ) : Type 0 where
   pub some : 0 < length numbers
   pub fits : length numbers ≤ 10000
@@ -78,48 +77,31 @@ Chooses text (choices.Listed numbers) = Lists text numbers.now
 abbrev pub IsChoice : List (List ℕ) → Choice → Type 0
 IsChoice ws choice = (text : List ℕ) × Chooses text choice × (ws ≡ text ∷ [])
 
+-- the words may stand behind the verb, and say the command with it
+abbrev pub Follows : Verb → List (List ℕ) → Command → Type 0
+Follows verbs.Put ws c = (a : Addr) × (text : List ℕ) × (value : Bor (List ℕ)) × AddrThen ws a (text ∷ []) × Spells text value.now × (c ≡ commands.Put a value)
+Follows verbs.Get ws c = (a : Addr) × AddrThen ws a [] × (c ≡ commands.Get a)
+Follows verbs.Commit ws c = (ws ≡ []) × (c ≡ commands.Commit)
+Follows verbs.Abort ws c = (ws ≡ []) × (c ≡ commands.Abort)
+Follows verbs.Wait ws c = (ws ≡ []) × (c ≡ commands.Wait)
+Follows verbs.Log ws c = (most : Option ℕ) × AtMost ws most × (c ≡ commands.Log most)
+Follows verbs.Install ws c = (most : Option ℕ) × AtMost ws most × (c ≡ commands.Install most)
+Follows verbs.Stat ws c = (ws ≡ []) × (c ≡ commands.Stat)
+Follows verbs.Pend ws c = (ws ≡ []) × (c ≡ commands.Pend)
+Follows verbs.Disk ws c = (block : ℕ) × (at : ℕ) × (len : ℕ) × IsNumber block × InBlock at len × (ws ≡ decimal block ∷ decimal at ∷ decimal len ∷ []) × (c ≡ commands.Disk block at len)
+Follows verbs.Fail ws c = (call : ℕ) × (1 ≤ call) × IsNumber call × (ws ≡ decimal call ∷ []) × (c ≡ commands.Fail call)
+Follows verbs.Down ws c = (choice : Choice) × IsChoice ws choice × (c ≡ commands.Down choice)
+Follows verbs.Open ws c = (ws ≡ []) × (c ≡ commands.Open)
+Follows verbs.Crash ws c = (choice : Choice) × IsChoice ws choice × (c ≡ commands.Crash choice)
+Follows verbs.Poke ws c = (block : ℕ) × (at : ℕ) × (text : List ℕ) × (value : Bor (List ℕ)) × IsNumber block × InBlock at (length value.now) × Spells text value.now × (ws ≡ decimal block ∷ decimal at ∷ text ∷ []) × (c ≡ commands.Poke block at value)
+
 -- the words say the command
 abbrev pub Says : List (List ℕ) → Command → Type 0
-Says ws (commands.Put a value) = CanBeWritten a × (text : List ℕ) × Spells text value.now × (ws ≡ codes "put" ∷ decimal a.block ∷ decimal a.off ∷ text ∷ [])
-Says ws (commands.Get a) = CanBeWritten a × (ws ≡ codes "get" ∷ decimal a.block ∷ decimal a.off ∷ [])
-Says ws commands.Commit = ws ≡ codes "commit" ∷ []
-Says ws commands.Abort = ws ≡ codes "abort" ∷ []
-Says ws commands.Wait = ws ≡ codes "wait" ∷ []
-Says ws (commands.Log None) = ws ≡ codes "log" ∷ []
-Says ws (commands.Log (Some most)) = IsNumber most × (ws ≡ codes "log" ∷ decimal most ∷ [])
-Says ws (commands.Install None) = ws ≡ codes "install" ∷ []
-Says ws (commands.Install (Some most)) = IsNumber most × (ws ≡ codes "install" ∷ decimal most ∷ [])
-Says ws commands.Stat = ws ≡ codes "stat" ∷ []
-Says ws commands.Pend = ws ≡ codes "pend" ∷ []
-Says ws (commands.Disk block at len) = IsNumber block × InBlock at len × (ws ≡ codes "disk" ∷ decimal block ∷ decimal at ∷ decimal len ∷ [])
-Says ws (commands.Fail call) = (1 ≤ call) × IsNumber call × (ws ≡ codes "fail" ∷ decimal call ∷ [])
-Says ws (commands.Down choice) = (text : List ℕ) × Chooses text choice × (ws ≡ codes "down" ∷ text ∷ [])
-Says ws commands.Open = ws ≡ codes "open" ∷ []
-Says ws (commands.Crash choice) = (text : List ℕ) × Chooses text choice × (ws ≡ codes "crash" ∷ text ∷ [])
-Says ws (commands.Poke block at value) = IsNumber block × InBlock at (length value.now) × (text : List ℕ) × Spells text value.now × (ws ≡ codes "poke" ∷ decimal block ∷ decimal at ∷ text ∷ [])
+Says ws c = (verb : Verb) × (behind : List (List ℕ)) × (ws ≡ verb_text verb ∷ behind) × Follows verb behind c
 
--- the words may follow the verb: with them it says a command
-abbrev pub MayFollow : Verb → List (List ℕ) → Type 0
-MayFollow verbs.Put ws = (a : Addr) × (text : List ℕ) × (value : List ℕ) × Spells text value × AddrThen ws a (text ∷ [])
-MayFollow verbs.Get ws = (a : Addr) × AddrThen ws a []
-MayFollow verbs.Commit ws = ws ≡ []
-MayFollow verbs.Abort ws = ws ≡ []
-MayFollow verbs.Wait ws = ws ≡ []
-MayFollow verbs.Log ws = (most : Option ℕ) × AtMost ws most
-MayFollow verbs.Install ws = (most : Option ℕ) × AtMost ws most
-MayFollow verbs.Stat ws = ws ≡ []
-MayFollow verbs.Pend ws = ws ≡ []
-MayFollow verbs.Disk ws = (block : ℕ) × (at : ℕ) × (len : ℕ) × IsNumber block × InBlock at len × (ws ≡ decimal block ∷ decimal at ∷ decimal len ∷ [])
-MayFollow verbs.Fail ws = (call : ℕ) × (1 ≤ call) × IsNumber call × (ws ≡ decimal call ∷ [])
-MayFollow verbs.Down ws = (choice : Choice) × IsChoice ws choice
-MayFollow verbs.Open ws = ws ≡ []
-MayFollow verbs.Crash ws = (choice : Choice) × IsChoice ws choice
-MayFollow verbs.Poke ws = (block : ℕ) × (at : ℕ) × (text : List ℕ) × (value : List ℕ) × IsNumber block × InBlock at (length value) × Spells text value × (ws ≡ decimal block ∷ decimal at ∷ text ∷ [])
-
--- the line says the command, by its words
-abbrev pub LineSays : Line → Command → Type 0
-LineSays (Whole line) command = Says (words line.now) command
-LineSays TooLong command = ⊥
+-- the line says the command, by its words: one of more than 20000 bytes says none
+abbrev pub LineSays : List ℕ → Command → Type 0
+LineSays line c = (length line ≤ 20000) × Says (words line) c
 
 -- the bytes that the command names lie in a block
 abbrev pub IsInside : Command → Type 0

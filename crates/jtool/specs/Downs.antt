@@ -1,11 +1,10 @@
 -- What a command does to a disk that is down, and what it is answered.
-use Rattle.std.specs.Prelude.{ℕ, ◌≡◌, ◌≢◌, ◌⊎◌, ◌<◌, ◌+◌, Option, Some, None, slice_range}
+use Rattle.std.specs.Prelude.{ℕ, ◌≡◌, ◌≢◌, ◌⊎◌, ◌<◌, ◌+◌, List, Option, Some, None, length, slice_range}
 use Rattle.journal_world.specs.declared.refusal.Refusal.TheVariants.{NoMemory, DeviceFailed}
 use Rattle.journal_block.specs.Block.{Bytes, with_bytes}
 use Rattle.journal_disk.specs.Disks.{Past, read_of}
 use Rattle.jtool.specs.declared.command.Command.{Command}
 use Rattle.jtool.specs.declared.command.Command.TheVariants as commands
-use Rattle.jtool.specs.declared.lines.Line.{Line}
 use Rattle.jtool.specs.declared.answer.Answer.{Answer}
 use Rattle.jtool.specs.declared.answer.Answer.TheVariants as answers
 use Rattle.jtool.specs.Answers.{to_no_command}
@@ -23,28 +22,28 @@ pub record ReadsAsBefore (old new : Past) : Type 0 where
   pub reads : (b : ℕ) → b < old.size → read_of new b ≡ read_of old b
 
 -- bytes of a block are shown
-abbrev pub Shows : {C : Type 0} → Past → ℕ → ℕ → ℕ → Answer C → Type 0
-Shows p block at len (answers.Value v) = (block < p.size) × (v ≡ slice_range (read_of p block) at (at + len))
+abbrev pub Shows : Past → ℕ → ℕ → ℕ → Answer → Type 0
+Shows p block at len (answers.Value v) = (block < p.size) × (v ≡ slice_range (read_of p block) at (at + len)) × (length v ≡ len)
 Shows p block at len (answers.Refused why) = (block < p.size) × (why ≡ NoMemory)
 Shows p block at len answers.BadLine = block < p.size → ⊥
 Shows p block at len _ = ⊥
 
 -- bytes of a block are overwritten
-abbrev pub Pokes : Past → ℕ → ℕ → Bytes → Answer Unit → Past → Type 0
+abbrev pub Pokes : Past → ℕ → ℕ → Bytes → Answer → Past → Type 0
 Pokes old block at bytes answers.Done new = (block < old.size) × IsPoked block at bytes old new
 Pokes old block at bytes (answers.Refused why) new = (block < old.size) × ((why ≡ NoMemory) ⊎ (why ≡ DeviceFailed tt)) × ReadsAsBefore old new
 Pokes old block at bytes answers.BadLine new = (block < old.size → ⊥) × (new ≡ old)
 Pokes old block at bytes _ new = ⊥
 
 -- What a command is answered, and leaves: `open` has no answer here, and is told to whoever mounts disks
-abbrev pub ObeysDown : Past → Command → Option (Answer Unit) → Past → Type 0
+abbrev pub ObeysDown : Past → Command → Option Answer → Past → Type 0
 ObeysDown old (commands.Disk block at len) (Some answer) new = Shows old block at len answer × (new ≡ old)
 ObeysDown old (commands.Poke block at v) (Some answer) new = Pokes old block at v.now answer new
 ObeysDown old commands.Open answer new = (answer ≡ None) × (new ≡ old)
 ObeysDown old _ answer new = (answer ≡ Some answers.Down) × (new ≡ old)
 
 -- The line says a command, which is answered so; or it says none, which changes nothing
-abbrev pub AnswersDown : Past → Line → Option (Answer Unit) → Past → Type 0
+abbrev pub AnswersDown : Past → List ℕ → Option Answer → Past → Type 0
 AnswersDown old line answer new =
     ((command : Command) × LineSays line command × ObeysDown old command answer new)
     ⊎ (((command : Command) → LineSays line command → ⊥) × (answer ≡ Some (to_no_command line)) × (new ≡ old))

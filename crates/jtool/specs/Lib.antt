@@ -1,11 +1,9 @@
 pub mod Answers
+pub mod Clients
 pub mod Commands
 pub mod Downs
-pub mod Drafts
-pub mod Journals
 pub mod Lines
-pub mod Mounts
 pub mod Numbers
 pub mod Programs
-pub mod Shells
+pub mod Transcripts
 pub mod Values

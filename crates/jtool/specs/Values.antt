@@ -2,7 +2,7 @@
 use Rattle.std.specs.Prelude.{ℕ, ◌≡◌, ◌+◌, ◌/◌, ◌%◌, ◌<◌, ◌≤◌, ◌==◌, nat_lt, if◌then◌else◌, List, [], ◌∷◌, ◌++◌, length, map, replicate}
 use Rattle.std.specs.List.{flat_map, join_with_byte, AllByRecursion}
 use Rattle.std.specs.Fmt.{decimal}
-use Rattle.jtool.specs.declared.values.Run.{Run}
+use Rattle.jtool.specs.declared.value.Run.{Run}
 
 -- the hexadecimal digit of a number below 16, in lower case
 abbrev pub digit : ℕ → ℕ

@@ -1,12 +1,12 @@
 // What a line is answered.
-ghost use Rattle.std.specs.Prelude.{◌≡◌, ◌++◌, ◌∷◌, [], codes, IfSome, OnOk};
+ghost use Rattle.std.specs.Prelude.{◌≡◌, ◌++◌, ◌∷◌, [], codes, OnOk};
 ghost use Rattle.std.specs.List.{flat_map};
 ghost use Rattle.std.specs.Io.KnownBytes.{Appends};
-ghost use Rattle.jtool.specs.Answers.{answer_line, to_no_command, stat_text, pair_text, pending_text};
+ghost use Rattle.jtool.specs.Answers.{answer_line, to_no_command, Refuses, stat_text, pair_text, pending_text};
 ghost use Rattle.jtool.specs.Values.{text_of};
 
-use crate::lines::Line;
-use crate::values;
+use crate::refusal::{name_of, plain};
+use crate::value;
 use journal_core::Stat;
 use journal_world::{Refusal, Value};
 use std::io;
@@ -14,7 +14,7 @@ use std::io::Write;
 
 /// What a line is answered.
 #[derive(Drop)]
-pub enum Answer<C> {
+pub enum Answer {
     /// It was done.
     Done,
     /// The bytes that were asked for.
@@ -29,39 +29,45 @@ pub enum Answer<C> {
     Logged(u64),
     /// So many steps of the installer moved.
     Installed(u64),
-    /// The numbers of the mount.
+    /// The numbers of the journal.
     Stat(Stat),
     /// The blocks with pending writes, and how many each has.
     Pending(Vec<(u64, u64)>),
-    /// The disk is mounted.
+    /// The disk is open.
     Opened,
     /// The line is for a disk that is down.
     Up,
     /// The line is for one that is up.
     Down,
     /// It was refused.
-    Refused(Refusal<C>),
+    Refused(Refusal<()>),
     /// It is no line of a script.
     BadLine,
-    /// It is empty, for which no line is printed.
+    /// Nothing, and no line is printed: the line is empty.
     Nothing,
 }
 
-impl<C> Answer<C> {
+impl Answer {
     /// What a line is answered that says no command.
-    pub fn to_no_command(line: Line<'_>) -> Answer<C>
-        ensures { result ≡ to_no_command line.entry }
+    pub fn to_no_command(line: &[u8]) -> Answer
+        ensures { result ≡ to_no_command line.now }
     {
         match line {
-            Line::Whole([]) => Answer::Nothing,
+            [] => Answer::Nothing,
             _ => Answer::BadLine,
         }
     }
 
+    /// That it was refused.
+    pub fn refused<C: Drop>(why: Refusal<C>) -> Answer
+        ensures { Refuses why result }
+    {
+        Answer::Refused(plain(why))
+    }
+
     /// Prints the answer's line.
     pub fn print<O: Write>(&self, output: &mut O) -> io::Result<()>
-        ensures { OnOk result (IfSome (answer_line self.now)
-            (Appends (O.contents output.old) (O.contents output.new))) }
+        ensures { OnOk result (Appends (O.contents output.old) (O.contents output.new) (answer_line self.now)) }
     {
         match self {
             Answer::Done => writeln!(output, "ok"),
@@ -76,7 +82,7 @@ impl<C> Answer<C> {
             Answer::Opened => writeln!(output, "opened"),
             Answer::Up => writeln!(output, "up"),
             Answer::Down => writeln!(output, "down"),
-            Answer::Refused(why) => writeln!(output, "refused {why}"),
+            Answer::Refused(why) => writeln!(output, "refused {}", name_of(why)),
             Answer::BadLine => writeln!(output, "bad line"),
             Answer::Nothing => Ok(()),
         }
@@ -87,7 +93,7 @@ fn print_value<O: Write>(output: &mut O, value: &Value) -> io::Result<()>
     ensures { OnOk result (Appends (O.contents output.old) (O.contents output.new) (codes "= " ++ text_of value.now ++ 10 ∷ [])) }
 {
     write!(output, "= ")?;
-    values::print(output, value.bytes())?;
+    value::print(output, value.bytes())?;
     writeln!(output)
 }
 

@@ -2,45 +2,21 @@
 ghost use Rattle.std.specs.Prelude.{◌≡◌, ◌⊎◌, ◌<◌, ◌≤◌, ◌+◌, IfOk, IfErr, IsOkUnless, OnOk, OnErr, slice_range, length};
 ghost use Rattle.journal_block.specs.Block.{with_bytes};
 ghost use Rattle.journal_disk.specs.Disks.{read_of, IsSettled, past_after, MayHaveHappened, write as written, barrier};
-ghost use Rattle.jtool.specs.Downs.{Shows};
 
-use crate::answer::Answer;
 use journal_block::Block;
 use journal_disk::{BlockDisk, MemDisk};
 use journal_world::{Refusal, Value};
 use std::alloc::Global;
 
-/// Shows bytes of a block, as a read of the disk gives them. It is no device call.
-pub fn show<C>(alloc: Global, disk: &MemDisk, block: u32, at: u32, len: u32) -> Answer<C>
+/// Bytes of a block.
+pub fn bytes_of<C>(alloc: Global, block: &Block, at: u32, len: u32) -> Result<Value, Refusal<C>>
     requires inside { at + len ≤ 4096 }
-    ensures { Shows disk.now.past block at len result }
-{
-    if u64::from(block) >= disk.size() {
-        return Answer::BadLine;
-    }
-    match bytes_of(alloc, disk, u64::from(block), at as usize, len as usize) {
-        Ok(bytes) => Answer::Value(bytes),
-        Err(why) => Answer::Refused(why),
-    }
-}
-
-// Bytes of a block.
-fn bytes_of<C>(
-    alloc: Global,
-    disk: &MemDisk,
-    block: u64,
-    at: usize,
-    len: usize,
-) -> Result<Value, Refusal<C>>
-    requires block { block < disk.now.past.size }
-    requires inside { at + len ≤ 4096 }
-    ensures bytes { IfOk result (λ value. value ≡ slice_range (read_of disk.now.past block) at (at + len)) }
+    ensures bytes { IfOk result (λ value. value ≡ slice_range block.now at (at + len)) }
+    ensures len { IfOk result (λ value. length value ≡ len) }
     ensures refusal { IsOkUnless result Refusal.NoMemory }
 {
-    let mut copy = Block::try_new(alloc)?;
-    disk.peek(block, &mut copy);
-    let bytes = copy.as_bytes();
-    Ok(Value::new(bytes[at..at + len].to_vec(alloc)?))
+    let (start, end) = (at as usize, at as usize + len as usize);
+    Ok(Value::new(block.as_bytes()[start..end].to_vec(alloc)?))
 }
 
 /// Overwrites bytes of a block, at once stable. After an error the write may be pending.

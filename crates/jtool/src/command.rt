@@ -1,14 +1,14 @@
 // What a line of a script asks for.
-ghost use Rattle.std.specs.Prelude.{◌≡◌, ◌≢◌, ℕ, ◌+◌, ◌&&◌, nat_le, ◌∷◌, [], List, Option, codes, IfSome, IfNone};
+ghost use Rattle.std.specs.Prelude.{◌≡◌, ◌≢◌, ℕ, ◌+◌, ◌&&◌, nat_le, [], List, Option, IfSome, IfNone};
 ghost use Rattle.journal_world.specs.declared.address.Addr.{Addr as Address};
 ghost use Rattle.jtool.specs.declared.command.Choice.{Choice as Chosen};
 ghost use Rattle.jtool.specs.declared.command.Command.{Command as Asked};
-ghost use Rattle.jtool.specs.Commands.{words as words_of, verb_text, AddrThen, AtMost, IsChoice, Says, LineSays, MayFollow};
+ghost use Rattle.jtool.specs.Commands.{words as words_of, AddrThen, AtMost, IsChoice, Follows, Says, LineSays, IsInside};
 
 mod verb;
 mod words;
 
-use crate::lines::Line;
+use crate::line::LONGEST;
 use crate::room::Room;
 use journal_world::Addr;
 use verb::Verb;
@@ -89,14 +89,15 @@ pub enum Choice<'a> {
 impl<'a> Command<'a> {
     /// The command that the line says, or `None` where it says none. The room takes the bytes of a value and
     /// the numbers of a choice.
-    pub fn read(line: Line<'_>, room: &'a mut Room) -> Option<Command<'a>>
-        ensures found { IfSome result (LineSays line.entry) }
-        ensures none { IfNone result ((command : Asked) → LineSays line.entry command → ⊥) }
+    pub fn read(line: &[u8], room: &'a mut Room) -> Option<Command<'a>>
+        ensures found { IfSome result (LineSays line.now) }
+        ensures inside { IfSome result IsInside }
+        ensures none { IfNone result ((command : Asked) → LineSays line.now command → ⊥) }
     {
-        match line {
-            Line::Whole(line) => read_words(line, room),
-            Line::TooLong => None,
+        if line.len() > LONGEST {
+            return None;
         }
+        read_words(line, room)
     }
 }
 
@@ -112,8 +113,8 @@ fn read_words<'a>(line: &[u8], room: &'a mut Room) -> Option<Command<'a>>
 
 // The command that the words behind a verb say.
 fn read_behind<'a>(verb: Verb, words: &mut Words<'_>, room: &'a mut Room) -> Option<Command<'a>>
-    ensures found { IfSome result (Says (verb_text verb ∷ words.old)) }
-    ensures none { IfNone result (MayFollow verb words.old → ⊥) }
+    ensures found { IfSome result (Follows verb words.old) }
+    ensures none { IfNone result ((command : Asked) → Follows verb words.old command → ⊥) }
 {
     match verb {
         Verb::Put => read_put(words, room),
@@ -153,8 +154,8 @@ fn alone<'a>(command: Command<'a>, words: &Words<'_>) -> Option<Command<'a>>
 
 // What stands behind `put`.
 fn read_put<'a>(words: &mut Words<'_>, room: &'a mut Room) -> Option<Command<'a>>
-    ensures found { IfSome result (Says (codes "put" ∷ words.old)) }
-    ensures none { IfNone result (MayFollow Verb.Put words.old → ⊥) }
+    ensures found { IfSome result (Follows Verb.Put words.old) }
+    ensures none { IfNone result ((command : Asked) → Follows Verb.Put words.old command → ⊥) }
 {
     let addr = read_addr(words)?;
     let value = room.value.read(words.word()?)?;
@@ -163,8 +164,8 @@ fn read_put<'a>(words: &mut Words<'_>, room: &'a mut Room) -> Option<Command<'a>
 
 // What stands behind `get`.
 fn read_get<'a>(words: &mut Words<'_>) -> Option<Command<'a>>
-    ensures found { IfSome result (Says (codes "get" ∷ words.old)) }
-    ensures none { IfNone result (MayFollow Verb.Get words.old → ⊥) }
+    ensures found { IfSome result (Follows Verb.Get words.old) }
+    ensures none { IfNone result ((command : Asked) → Follows Verb.Get words.old command → ⊥) }
 {
     let addr = read_addr(words)?;
     alone(Command::Get { addr }, words)
@@ -172,8 +173,8 @@ fn read_get<'a>(words: &mut Words<'_>) -> Option<Command<'a>>
 
 // What stands behind `disk`.
 fn read_disk<'a>(words: &mut Words<'_>) -> Option<Command<'a>>
-    ensures found { IfSome result (Says (codes "disk" ∷ words.old)) }
-    ensures none { IfNone result (MayFollow Verb.Disk words.old → ⊥) }
+    ensures found { IfSome result (Follows Verb.Disk words.old) }
+    ensures none { IfNone result ((command : Asked) → Follows Verb.Disk words.old command → ⊥) }
 {
     let block = words.number()?;
     let at = words.number()?;
@@ -186,8 +187,8 @@ fn read_disk<'a>(words: &mut Words<'_>) -> Option<Command<'a>>
 
 // What stands behind `fail`.
 fn read_fail<'a>(words: &mut Words<'_>) -> Option<Command<'a>>
-    ensures found { IfSome result (Says (codes "fail" ∷ words.old)) }
-    ensures none { IfNone result (MayFollow Verb.Fail words.old → ⊥) }
+    ensures found { IfSome result (Follows Verb.Fail words.old) }
+    ensures none { IfNone result ((command : Asked) → Follows Verb.Fail words.old command → ⊥) }
 {
     let call = words.number()?;
     if call == 0 {
@@ -198,8 +199,8 @@ fn read_fail<'a>(words: &mut Words<'_>) -> Option<Command<'a>>
 
 // What stands behind `poke`.
 fn read_poke<'a>(words: &mut Words<'_>, room: &'a mut Room) -> Option<Command<'a>>
-    ensures found { IfSome result (Says (codes "poke" ∷ words.old)) }
-    ensures none { IfNone result (MayFollow Verb.Poke words.old → ⊥) }
+    ensures found { IfSome result (Follows Verb.Poke words.old) }
+    ensures none { IfNone result ((command : Asked) → Follows Verb.Poke words.old command → ⊥) }
 {
     let block = words.number()?;
     let at = words.number()?;

@@ -1,29 +1,52 @@
 // Lines to a disk that is down.
-ghost use Rattle.std.specs.Prelude.{◌≡◌, ◌≤◌, ◌+◌, length};
-ghost use Rattle.journal_disk.specs.Disks.{IsSettled};
+ghost use Rattle.std.specs.Prelude.{◌≡◌, ◌≤◌, ◌+◌, ◌<◌, IfOk, IsOkUnless, slice_range, length};
+ghost use Rattle.journal_disk.specs.Disks.{IsSettled, read_of};
 ghost use Rattle.jtool.specs.Commands.{IsInside};
-ghost use Rattle.jtool.specs.Downs.{AnswersDown, ObeysDown, Pokes};
+ghost use Rattle.jtool.specs.Downs.{AnswersDown, ObeysDown, Pokes, Shows};
+ghost use Rattle.jtool.specs.Transcripts.{Leaves};
 
 use crate::answer::Answer;
-use crate::blocks::{overwrite, show};
+use crate::ask::Stop;
+use crate::blocks::{bytes_of, overwrite};
 use crate::command::Command;
-use crate::lines::Line;
+use crate::console::Console;
 use crate::room::Room;
+use crate::script::Next;
+use journal_block::Block;
 use journal_disk::{BlockDisk, MemDisk};
+use journal_world::{Refusal, Value};
 use std::alloc::Global;
+use std::io::{Read, Write};
 
-/// Does what the line says to the disk, on which nothing is pending, and answers it. `None` says that the line
-/// opens the disk.
-pub fn answer(
+/// Answers line after line, until one opens the disk, on which nothing is pending.
+pub fn run<I: Read + Drop, O: Write + Drop>(
     alloc: Global,
     disk: MemDisk,
-    line: Line<'_>,
-    room: &mut Room,
-) -> (MemDisk, Option<Answer<()>>)
+    console: &mut Console<I, O>,
+) -> Result<Next, Stop>
     requires settled { IsSettled disk.past }
-    ensures size { result.0.past.size ≡ disk.past.size }
+    ensures { IfOk result (λ next. Leaves next console.old console.new) }
+{
+    let mut disk = disk;
+    for _ in 0..u64::MAX {
+        if !console.advance()? {
+            return Ok(Next::End);
+        }
+        let (left, answer) = answer(alloc, disk, console.lines.line(), &mut console.room);
+        disk = left;
+        match answer {
+            Some(answer) => console.print(&answer)?,
+            None => return Ok(Next::Open(disk)),
+        }
+    }
+    Err(Stop::CannotRead)
+}
+
+// Does what the line says, and answers it. `None` says that the line opens the disk.
+fn answer(alloc: Global, disk: MemDisk, line: &[u8], room: &mut Room) -> (MemDisk, Option<Answer>)
+    requires settled { IsSettled disk.past }
     ensures settled { IsSettled result.0.past }
-    ensures answered { AnswersDown disk.past line.entry result.1 result.0.past }
+    ensures answered { AnswersDown disk.past line.now result.1 result.0.past }
 {
     match Command::read(line, room) {
         Some(command) => obey(alloc, disk, command),
@@ -32,10 +55,9 @@ pub fn answer(
 }
 
 // Does what the command says, likewise.
-fn obey(alloc: Global, disk: MemDisk, command: Command<'_>) -> (MemDisk, Option<Answer<()>>)
+fn obey(alloc: Global, disk: MemDisk, command: Command<'_>) -> (MemDisk, Option<Answer>)
     requires inside { IsInside command }
     requires settled { IsSettled disk.past }
-    ensures size { result.0.past.size ≡ disk.past.size }
     ensures settled { IsSettled result.0.past }
     ensures obeyed { ObeysDown disk.past command.entry result.1 result.0.past }
 {
@@ -54,10 +76,9 @@ fn obey(alloc: Global, disk: MemDisk, command: Command<'_>) -> (MemDisk, Option<
 }
 
 // Overwrites bytes of a block, at once stable.
-fn poke(alloc: Global, disk: MemDisk, block: u64, at: usize, value: &[u8]) -> (MemDisk, Answer<()>)
+fn poke(alloc: Global, disk: MemDisk, block: u64, at: usize, value: &[u8]) -> (MemDisk, Answer)
     requires inside { at + length value.now ≤ 4096 }
     requires settled { IsSettled disk.past }
-    ensures size { result.0.past.size ≡ disk.past.size }
     ensures settled { IsSettled result.0.past }
     ensures poked { Pokes disk.past block at value.now result.1 result.0.past }
 {
@@ -70,4 +91,31 @@ fn poke(alloc: Global, disk: MemDisk, block: u64, at: usize, value: &[u8]) -> (M
         // A write that failed may be pending.
         Err(why) => (disk.crash(&[]), Answer::Refused(why)),
     }
+}
+
+// Shows bytes of a block, as a read of the disk gives them. It is no device call.
+fn show(alloc: Global, disk: &MemDisk, block: u32, at: u32, len: u32) -> Answer
+    requires inside { at + len ≤ 4096 }
+    ensures { Shows disk.now.past block at len result }
+{
+    if u64::from(block) >= disk.size() {
+        return Answer::BadLine;
+    }
+    match read(alloc, disk, u64::from(block), at, len) {
+        Ok(bytes) => Answer::Value(bytes),
+        Err(why) => Answer::Refused(why),
+    }
+}
+
+// Bytes of a block that the disk has.
+fn read(alloc: Global, disk: &MemDisk, block: u64, at: u32, len: u32) -> Result<Value, Refusal<()>>
+    requires block { block < disk.now.past.size }
+    requires inside { at + len ≤ 4096 }
+    ensures bytes { IfOk result (λ value. value ≡ slice_range (read_of disk.now.past block) at (at + len)) }
+    ensures len { IfOk result (λ value. length value ≡ len) }
+    ensures refusal { IsOkUnless result Refusal.NoMemory }
+{
+    let mut copy = Block::try_new(alloc)?;
+    disk.peek(block, &mut copy);
+    bytes_of(alloc, &copy, at, len)
 }

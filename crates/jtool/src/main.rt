@@ -2,43 +2,44 @@
 //! answers the commands that it reads on standard input, a line for a line.
 #![tactic(auto)]
 
-ghost use Rattle.std.specs.Prelude.{◌≡◌, ◌≤◌, ℕ, map, string_bytes, IfSome, IfNone, IfErr, OnOk};
-ghost use Rattle.jtool.specs.Programs.{Asks, IsSize, CannotBegin};
+ghost use Rattle.std.specs.Prelude.{◌≡◌, ◌≤◌, ℕ, map, string_bytes, IsErrAnd};
+ghost use Rattle.jtool.specs.Programs.{Asks, IsSize, status_of};
 
-mod actors;
 mod answer;
+mod ask;
 mod blocks;
-mod choices;
+mod choice;
+mod client;
 mod command;
 mod console;
 mod down;
-mod fault;
 mod format;
-mod journal;
-mod lines;
-mod mount;
-mod numbers;
+mod line;
+mod number;
+mod refusal;
 mod room;
 mod script;
-mod shell;
+mod steps;
 #[cfg(test)]
 mod tests;
-mod txn;
-mod values;
+mod up;
+mod value;
 
-use fault::Fault;
-use journal_world::Layout;
-use script::{Outcome, Script};
+use ask::{Ask, Fault, Stop};
 use std::alloc::Global;
 use std::env;
 use std::env::Env;
-use std::io::{BufRead, BufReader, BufWriter, Read, Write};
+use std::io::{BufWriter, Read, Write};
 use std::process::ExitCode;
+use std::sync::Wait;
 
 /// The program: its words, its three streams, and the status that it answers. That is 1 where memory was
 /// refused before the first line, or input or output failed, else 2 where the words or a line were bad,
 /// else 0.
-pub fn run<I: BufRead, O: Write, E: Write>(
+///
+/// What it answers is written out as soon as no further line is at hand.
+pub fn run<W: Wait, I: Read, O: Write, E: Write>(
+    rt: &W,
     alloc: Global,
     words: &[String],
     input: &mut I,
@@ -49,62 +50,53 @@ pub fn run<I: BufRead, O: Write, E: Write>(
     ensures words { ((n : ℕ) → Asks (map string_bytes words.now) n → IsSize n → ⊥) → result ≡ 2 }
     ensures status { result ≤ 2 }
 {
-    match begin(alloc, words, input, output, &mut *faults) {
-        Ok(script) => match script.answer() {
-            Ok(Outcome::AllGood) => 0,
-            Ok(Outcome::SomeBad) => 2,
-            Ok(Outcome::NotBegun) | Err(_) => 1,
-        },
+    match obey(rt, alloc, words, input, output) {
+        Ok(()) => 0,
         Err(fault) => fault.report(faults),
     }
 }
 
-// The script that the words ask for.
-fn begin<I: BufRead + Drop, O: Write + Drop, E: Write + Drop>(
+// Does what the words ask for.
+fn obey<W: Wait, I: Read, O: Write>(
+    rt: &W,
     alloc: Global,
     words: &[String],
-    input: I,
-    output: O,
-    faults: E,
-) -> Result<Script<I, O, E>, Fault>
-    ensures ok { OnOk result ((n : ℕ) × Asks (map string_bytes words.now) n × IsSize n) }
-    ensures err { IfErr result (CannotBegin (map string_bytes words.now)) }
+    input: &mut I,
+    output: &mut O,
+) -> Result<(), Fault>
+    ensures words { ((n : ℕ) → Asks (map string_bytes words.now) n → IsSize n → ⊥)
+        → IsErrAnd result (λ fault. status_of fault ≡ 2) }
 {
-    let blocks = blocks_asked(words).ok_or(Fault::Usage)?;
-    let layout = Layout::new(u64::from(blocks)).ok_or(Fault::BadSize)?;
-    Script::open(alloc, layout, input, output, faults)
-}
-
-// How many blocks the words ask for, where they ask for a script.
-fn blocks_asked(words: &[String]) -> Option<u32>
-    ensures some { IfSome result (Asks (map string_bytes words.now)) }
-    ensures none { IfNone result ((n : ℕ) → Asks (map string_bytes words.now) n → ⊥) }
-{
-    match words {
-        [what, blocks] if what.as_str() == "script" => numbers::read(blocks.as_bytes()),
-        _ => None,
+    match Ask::read(words)? {
+        Ask::Script { blocks } => script::run(rt, alloc, blocks, input, output),
     }
 }
 
 fn main(rt: HostRuntime) -> ExitCode {
     let faults = &mut rt.stderr();
-    let status = match start(&rt, rt.stdin(), rt.stdout()) {
-        Ok((words, mut input, mut output)) => {
-            run(rt.alloc(), &words, &mut input, &mut output, faults)
-        }
+    let status = match start(&rt, rt.stdout()) {
+        Ok((words, mut output)) => run(
+            &rt,
+            rt.alloc(),
+            &words,
+            &mut rt.stdin(),
+            &mut output,
+            faults,
+        ),
         Err(fault) => fault.report(faults),
     };
     ExitCode::from(status)
 }
 
-// The program's words, and its streams with a buffer each.
-fn start<R: Env + AllocGlobal, I: Read + Drop, O: Write + Drop>(
+// The program's words, and its output with a buffer.
+fn start<R: Env + AllocGlobal, O: Write + Drop>(
     rt: &R,
-    input: I,
     output: O,
-) -> Result<(Vec<String>, BufReader<I>, BufWriter<O>), Fault> {
-    let words = env::args(rt)?.skip(1).collect(rt.alloc())?;
-    let input = BufReader::new(rt.alloc(), input)?;
+) -> Result<(Vec<String>, BufWriter<O>), Fault> {
+    let words = env::args(rt)?
+        .skip(1)
+        .collect(rt.alloc())
+        .map_err(Stop::from)?;
     let output = BufWriter::new(rt.alloc(), output)?;
-    Ok((words, input, output))
+    Ok((words, output))
 }

@@ -1,6 +1,6 @@
 // Memory for what a line spells.
-use crate::choices::ChoiceRoom;
-use crate::values::ValueRoom;
+use crate::choice::ChoiceRoom;
+use crate::value::ValueRoom;
 use std::alloc::{AllocError, Global};
 
 /// Room for what one line spells, a value or a choice, taken once and used for one line after another.

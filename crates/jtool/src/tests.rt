@@ -2,13 +2,13 @@
 mod crashes;
 mod refusals;
 mod rows;
-mod side_by_side;
 mod streams;
 
-use crate::lines::LONGEST;
+use crate::line::LONGEST;
 use crate::run;
 use std::alloc::{AllocError, Global};
 use std::process::Abort;
+use std::sync::Wait;
 use std::test::Fail;
 use streams::{BrokenReader, BrokenWriter};
 
@@ -30,11 +30,16 @@ fn words_of(alloc: Global, words: &[&str]) -> Result<Vec<String>, AllocError> {
     Ok(owned)
 }
 
-fn run_with(alloc: Global, words: &[&str], mut input: &[u8]) -> Result<Run, AllocError> {
+fn run_with<H: Wait>(
+    rt: &H,
+    alloc: Global,
+    words: &[&str],
+    mut input: &[u8],
+) -> Result<Run, AllocError> {
     let words = words_of(alloc, words)?;
     let mut output = Vec::new(alloc);
     let mut faults = Vec::new(alloc);
-    let status = run(alloc, &words, &mut input, &mut output, &mut faults);
+    let status = run(rt, alloc, &words, &mut input, &mut output, &mut faults);
     Ok(Run {
         status,
         output,
@@ -53,14 +58,14 @@ fn wants(rt: &impl Abort, run: &Run, script: &[u8], output: &[u8], status: u8) {
 }
 
 /// Runs the script on a disk of 600 blocks, and wants this output and that status.
-fn check(
-    rt: &impl Abort,
+fn check<H: Abort + Wait>(
+    rt: &H,
     alloc: Global,
     script: &[u8],
     output: &[u8],
     status: u8,
 ) -> Result<(), Fail> {
-    let run = run_with(alloc, &["script", "600"], script)?;
+    let run = run_with(rt, alloc, &["script", "600"], script)?;
     wants(rt, &run, script, output, status);
     Ok(())
 }
@@ -250,7 +255,7 @@ fn words_are_checked(rt: HostRuntime) -> Result<(), Fail> {
         (&["script", "33299"], "", 0),
     ];
     for (words, faults, status) in table {
-        let run = run_with(rt.alloc(), words, b"")?;
+        let run = run_with(&rt, rt.alloc(), words, b"")?;
         begins(&rt, &run, words, faults, *status);
     }
     Ok(())
@@ -261,21 +266,29 @@ const SCRIPT: &[u8] =
 
 const ANSWERS: &[u8] = b"ok\n= 01*128\ncommitted 1\nbad line\n= 01*128\nrefused J3 BadSize\nok\n";
 
-/// What a run answered whose input or output may fail, and whether it did.
-fn ended(rt: &impl Abort, status: u8, output: &[u8], has_failed: bool, at: usize) {
-    let want = if has_failed { 1 } else { 2 };
-    assert_eq!(rt; status, want, "at {at}");
+/// What a run ends with whose input or output fails, and one whose lines are all answered.
+fn ended(rt: &impl Abort, status: u8, faults: &[u8], fault: Option<&str>, at: usize) {
+    match fault {
+        Some(fault) => assert_eq!(rt; (status, faults), (1, fault.as_bytes()), "at {at}"),
+        None => assert_eq!(rt; (status, faults.len()), (2, 0), "at {at}"),
+    }
+}
+
+/// What a run printed: all, unless its input or output failed.
+fn printed(rt: &impl Abort, output: &[u8], has_failed: bool, at: usize) {
     assert!(rt; ANSWERS.starts_with(output), "at {at}");
     assert!(rt; has_failed || output.len() == ANSWERS.len(), "at {at}");
 }
 
 /// A run whose input fails once it was read so often; whether it did.
-fn fails_to_read(rt: &impl Abort, alloc: Global, words: &[String], reads: usize) -> bool {
+fn fails_to_read<H: Abort + Wait>(rt: &H, alloc: Global, words: &[String], reads: usize) -> bool {
     let mut input = BrokenReader::new(SCRIPT, reads);
     let mut output = Vec::new(alloc);
     let mut faults = Vec::new(alloc);
-    let status = run(alloc, words, &mut input, &mut output, &mut faults);
-    ended(rt, status, &output, input.has_failed(), reads);
+    let status = run(rt, alloc, words, &mut input, &mut output, &mut faults);
+    let fault = input.has_failed().then_some("cannot read standard input\n");
+    ended(rt, status, &faults, fault, reads);
+    printed(rt, &output, input.has_failed(), reads);
     assert!(rt; output.is_empty() || output.ends_with(b"\n"), "at {reads}");
     input.has_failed()
 }
@@ -292,12 +305,16 @@ fn a_failing_read_ends_the_run(rt: HostRuntime) -> Result<(), Fail> {
 }
 
 /// A run whose output fails once it was written to so often; whether it did.
-fn fails_to_write(rt: &impl Abort, alloc: Global, words: &[String], writes: usize) -> bool {
+fn fails_to_write<H: Abort + Wait>(rt: &H, alloc: Global, words: &[String], writes: usize) -> bool {
     let mut input = SCRIPT;
     let mut output = BrokenWriter::new(alloc, writes);
     let mut faults = Vec::new(alloc);
-    let status = run(alloc, words, &mut input, &mut output, &mut faults);
-    ended(rt, status, output.written(), output.has_failed(), writes);
+    let status = run(rt, alloc, words, &mut input, &mut output, &mut faults);
+    let fault = output
+        .has_failed()
+        .then_some("cannot write standard output\n");
+    ended(rt, status, &faults, fault, writes);
+    printed(rt, output.written(), output.has_failed(), writes);
     output.has_failed()
 }
 

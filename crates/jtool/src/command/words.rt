@@ -3,7 +3,7 @@ ghost use Rattle.std.specs.Prelude.{◌≡◌, ◌≢◌, ◌==◌, ◌∷◌, [
 ghost use Rattle.std.specs.Fmt.{decimal};
 ghost use Rattle.jtool.specs.Commands.{words as words_of, IsNumber};
 
-use crate::numbers;
+use crate::number;
 use std::marker::Model;
 
 /// The words of a line that are still to be read. Contracts see their list.
@@ -53,7 +53,7 @@ impl<'a> Words<'a> {
         ensures found { IfSome result (λ n. IsNumber n × (self.old ≡ decimal n ∷ self.new)) }
         ensures none { IfNone result ((n : ℕ) (more : List (List ℕ)) → IsNumber n → self.old ≢ decimal n ∷ more) }
     {
-        numbers::read(self.word()?)
+        number::read(self.word()?)
     }
 
     /// `Some` where no word is left.

@@ -6,10 +6,16 @@ use std::io;
 use std::io::Write;
 use std::ops::RangeInclusive;
 use std::process::Abort;
+use std::sync::Wait;
 use std::test::Fail;
 
 /// Runs the script on a disk of 600 blocks, and wants these answers.
-fn answers(rt: &impl Abort, alloc: Global, script: &str, answers: &str) -> Result<(), Fail> {
+fn answers<H: Abort + Wait>(
+    rt: &H,
+    alloc: Global,
+    script: &str,
+    answers: &str,
+) -> Result<(), Fail> {
     check(rt, alloc, script.as_bytes(), answers.as_bytes(), 0)
 }
 
@@ -49,7 +55,12 @@ fn what_was_not_logged_is_gone(rt: HostRuntime) -> Result<(), Fail> {
 }
 
 /// A crash of this choice, once block 0 is written and nothing after it, leaves this value.
-fn crashes_to(rt: &impl Abort, alloc: Global, choice: &str, value: &str) -> Result<(), Fail> {
+fn crashes_to<H: Abort + Wait>(
+    rt: &H,
+    alloc: Global,
+    choice: &str,
+    value: &str,
+) -> Result<(), Fail> {
     let mut script = Vec::new(alloc);
     write!(
         script,
@@ -103,14 +114,14 @@ fn print_all(printed: &mut Vec<u8>, blocks: RangeInclusive<u64>, commit: &str) -
 }
 
 /// Runs the script on a disk of so many blocks, and wants these answers.
-fn answers_on(
-    rt: &impl Abort,
+fn answers_on<H: Abort + Wait>(
+    rt: &H,
     alloc: Global,
     blocks: &str,
     script: &[u8],
     printed: &[u8],
 ) -> Result<(), Fail> {
-    let run = run_with(alloc, &["script", blocks], script)?;
+    let run = run_with(rt, alloc, &["script", blocks], script)?;
     wants(rt, &run, script, printed, 0);
     Ok(())
 }
@@ -207,4 +218,20 @@ fn a_block_that_the_disk_lacks_is_a_bad_line(rt: HostRuntime) -> Result<(), Fail
     let script = b"disk 600 0 1\npoke 600 0 01\ndown none\ndisk 600 0 1\npoke 600 0 01\n";
     let printed = b"bad line\nbad line\nok\nbad line\nbad line\n";
     check(&rt, rt.alloc(), script, printed, 2)
+}
+
+#[test]
+fn what_was_committed_is_read_from_memory(rt: HostRuntime) -> Result<(), Fail> {
+    // The device call that is to fail is the read of block 516.
+    let script = "put 515 0 01*128\ncommit\nfail 1\nget 515 0\nget 515 2048\nget 516 0\n";
+    let printed = "ok\ncommitted 1\nok\n= 01*128\n= 00*128\nrefused J6 DeviceFailed\n";
+    answers(&rt, rt.alloc(), script, printed)
+}
+
+#[test]
+fn a_commit_reads_no_block_that_it_overwrites_whole(rt: HostRuntime) -> Result<(), Fail> {
+    // Nor does it read again what the transaction has read.
+    let script = "get 516 0\nput 531 0 aa*4096\nfail 1\ncommit\nget 517 0\n";
+    let printed = "= 00*128\nok\nok\ncommitted 1\nrefused J6 DeviceFailed\n";
+    answers(&rt, rt.alloc(), script, printed)
 }

@@ -2,7 +2,7 @@
 
 use std::alloc::Global;
 use std::io;
-use std::io::{BufRead, Read, Write};
+use std::io::{Read, Write};
 
 /// A reader of these bytes, a few at a time, that fails once it was read so often.
 #[derive(Drop)]
@@ -27,25 +27,17 @@ impl<'a> BrokenReader<'a> {
 }
 
 impl Read for BrokenReader<'_> {
-    fn read(&mut self, _buffer: &mut [u8]) -> io::Result<usize> {
-        Err(io::Error::other("lines are read by `fill_buf`"))
-    }
-}
-
-impl BufRead for BrokenReader<'_> {
-    fn fill_buf(&mut self) -> io::Result<&[u8]> {
+    fn read(&mut self, buffer: &mut [u8]) -> io::Result<usize> {
         if self.reads_left == 0 {
             self.has_failed = true;
             return Err(io::Error::other("broken"));
         }
         self.reads_left -= 1;
-        let shown = self.rest.len().min(9);
-        Ok(&self.rest[..shown])
-    }
-
-    fn consume(&mut self, amount: usize) {
-        let amount = amount.min(self.rest.len());
-        self.rest = &self.rest[amount..];
+        let given = self.rest.len().min(buffer.len()).min(9);
+        let (front, rest) = self.rest.split_at(given);
+        buffer[..given].copy_from_slice(front);
+        self.rest = rest;
+        Ok(given)
     }
 }
 

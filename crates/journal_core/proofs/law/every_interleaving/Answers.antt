@@ -1,6 +1,6 @@
 use Rattle.journal_core.specs.Interleavings.{mounted}
 use Rattle.journal_core.specs.Interleavings.Machine.{up}
-use Rattle.journal_core.proofs.Running.{runs, has_history, first_holds}
+use Rattle.journal_core.proofs.Running.{runs, has_history, first_holds, undisturbed}
 use Rattle.journal_core.proofs.law.every_interleaving.Goals as goal
 
 pub returns-clause-told : goal.returns-clause-told
@@ -13,3 +13,9 @@ pub returns-clause-legal : goal.returns-clause-legal
 returns-clause-legal g c = λ disk first events answers last honest begins run.
     let rule = g.R.MapRule.statement in
     (runs rule (mounted first) first.history events answers (up last) run (first_holds rule disk first honest begins)).1.1.runs.legal
+
+pub returns-clause-two_phase : goal.returns-clause-two_phase
+returns-clause-two_phase g c = λ disk first events answers last actor draft honest begins run at.
+    let rule = g.R.MapRule.statement in
+    let is = (runs rule (mounted first) first.history events answers (up last) run (first_holds rule disk first honest begins)).1.1 in
+    undisturbed last.core last.holders actor draft (is.sound actor draft at)

@@ -1,6 +1,6 @@
-use Rattle.jtool.specs.Mounts.{IsAtRest}
+use Rattle.jtool.specs.Transcripts.{Leaves}
 use Rattle.jtool.proofs.script.answer_all.Given as goal
 
--- nothing is pending
+-- each line that was read is answered, but one that opens the disk
 abbrev pub invariant-loop : goal.invariant-loop
-invariant-loop g l = IsAtRest l.layout.blocks l.disk.past
+invariant-loop g l = Leaves l.next l.fn.console l.console

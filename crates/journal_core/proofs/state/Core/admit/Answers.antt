@@ -1,4 +1,4 @@
-use Rattle.std.proofs.Common.{Some, List, ap, subst, ◌∙◌}
+use Rattle.std.proofs.Common.{inl, Some, List, ap, subst, rules, ◌∙◌}
 use Rattle.journal_world.specs.Histories.{Entry}
 use Rattle.journal_core.specs.Cores.{CoreState}
 use Rattle.journal_core.specs.Commits.{IsStrange}
@@ -7,9 +7,12 @@ use Rattle.journal_core.proofs.state.Core.admit.Goals as goal
 
 pub returns-then-made-clause-refusal : goal.returns-then-made-clause-refusal
 returns-then-made-clause-refusal g c = (
-  c.of-then-made.ensures ∙ ap (λ (h : List Entry). Some h) (c.front.ensures ∙ ap (λ (s : CoreState). s.history) c.self.view_is),
-  subst (λ (s : CoreState). IsStrange s c.args.session.now) c.self.view_is
-      (is_strange (record { objects = c.self.inside.objects; history = c.self.inside.writer; cut = c.self.inside.cut; logged = c.self.inside.logged; next = c.self.inside.next })
-      c.args.session.now c.observe.new.self c.show.new.session c.self.inside.tally c.number.result c.made.result c.made-2.result c.observe.ensures c.in_default.ensures.extends
-      c.in_default.ensures.shown c.made-2.ensures.own c.self.invariant.1 c.number.ensures c.made.ensures c.made-2.ensures.made c.if-made.true),
+  search rules,
+  inl (
+    c.of.ensures ∙ ap (λ (h : List Entry). Some h) (c.front.ensures ∙ ap (λ (s : CoreState). s.history) c.self.view_is),
+    subst (λ (s : CoreState). IsStrange s c.args.session.now) c.self.view_is
+        (is_strange (record { objects = c.self.inside.objects; history = c.self.inside.writer; cut = c.self.inside.cut; logged = c.self.inside.logged; next = c.self.inside.next })
+        c.args.session.now c.catch_up.new.session c.self.inside.tally c.number.result c.made.result c.made-2.result c.catch_up.ensures.session
+        (search rules) c.made-2.ensures.own c.self.invariant.1.tallied c.number.ensures c.made.ensures c.made-2.ensures.made c.if-made.true),
+  ),
 )

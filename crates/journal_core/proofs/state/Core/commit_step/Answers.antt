@@ -1,14 +1,16 @@
-use Rattle.std.proofs.Common.{◌≡◌, false, IsTrue, length, sym, subst, rules}
+use Rattle.std.proofs.Common.{◌≡◌, false, length, refl, sym, subst, rules}
 use Rattle.journal_world.specs.declared.refusal.Refusal.{Refusal}
-use Rattle.journal_world.specs.Maps.{Agrees}
-use Rattle.journal_world.specs.Histories.{is_trusted, commits_of, latest}
-use Rattle.journal_objlog.specs.ObjectLogs.{OnlyReads}
+use Rattle.journal_world.specs.Histories.{commits_of}
+use Rattle.journal_objlog.proofs.Openings.{OnlyReads-refl}
 use Rattle.journal_objlog.proofs.Refusing.{if_err}
 use Rattle.journal_history.specs.Tokens.{made}
 use Rattle.journal_core.specs.Causes.{Told}
-use Rattle.journal_core.specs.Commits.{IsCommitRefusal}
+use Rattle.journal_core.specs.Transactions.{TransactionState, AreUnmoved}
+use Rattle.journal_core.specs.Commits.{HasSeen, IsPreparingRefusal, IsCommitRefusal}
 use Rattle.journal_core.proofs.Keeping.{crashes_still}
-use Rattle.journal_core.proofs.Committing.{refuses_writes, committed_from, on_ok}
+use Rattle.journal_core.proofs.Committing.{refuses_writes, committed_from, err_extends, on_ok}
+use Rattle.journal_core.proofs.Events.{answers_commit}
+use Rattle.journal_core.specs.Cores.{is_faulted}
 use Rattle.journal_core.proofs.state.Core.commit_step.Goals as goal
 
 pub returns-then-is_faulted-clause-crash : goal.returns-then-is_faulted-clause-crash
@@ -16,22 +18,51 @@ returns-then-is_faulted-clause-crash g c = crashes_still _ _ _ c.self.invariant.
 
 pub returns-in_err-prepared-clause-refusal : goal.returns-in_err-prepared-clause-refusal
 returns-in_err-prepared-clause-refusal g c =
-    let fine : c.args.self.now.objects.ring.faulted ≡ false = search rules in
-    let agrees : IsTrue (is_trusted c.args.self.now.history) → Agrees (latest c.args.self.now.history) c.args.transaction.now.reads = search rules in
+    let fine : is_faulted c.args.self.now ≡ false = search rules in
     let own : length (commits_of c.args.session.now.number c.args.self.now.history) ≡ made c.args.session.now = search rules in
-    let reads : OnlyReads c.args.self.now.objects c.compare.new.self.objects = search rules in
-    let still : c.compare.new.self.objects.ring.faulted ≡ false = search rules in
-    if_err c.from_residual-in_err-prepared.result _ (IsCommitRefusal c.args.self.now c.args.session.now c.args.transaction.now.reads c.args.transaction.now.writes c.prepare.new.self)
+    let seen : HasSeen c.args.self.now c.args.session.now c.args.transaction.now = search rules in
+    let unmoved : AreUnmoved c.args.self.now.history c.args.transaction.now = search rules in
+    if_err c.from_residual-in_err-prepared.result _ (IsCommitRefusal c.args.self.now c.args.session.now c.args.transaction.now c.prepare.new.self)
     c.from_residual-in_err-prepared.ensures.1
-    (λ (e : Refusal Told) is. subst (λ (r : Refusal Told). IsCommitRefusal c.args.self.now c.args.session.now c.args.transaction.now.reads c.args.transaction.now.writes c.prepare.new.self r) (sym is)
-    (refuses_writes c.args.self.now c.compare.new.self c.args.session.now c.admit-own.new.session c.args.transaction.now.reads c.args.transaction.now.writes c.admit-own.ensures.session
-    c.compare.ensures.others reads still c.prepare.new.self (record { fine = fine; agrees = agrees; own = own }) c.in_err-prepared.field-0.0 c.in_err-prepared.ensures.refusal))
+    (λ (e : Refusal Told) is. subst (λ (r : Refusal Told). IsCommitRefusal c.args.self.now c.args.session.now c.args.transaction.now c.prepare.new.self r) (sym is)
+    (refuses_writes c.args.self.now c.args.session.now c.admit.new.session c.args.transaction.now c.admit.ensures.session
+    c.prepare.new.self (record { fine = fine; seen = seen; own = own; unmoved = unmoved }) c.in_err-prepared.field-0.0
+    (subst (λ (u : TransactionState). IsPreparingRefusal c.args.self.now c.admit.new.session u.writes c.prepare.new.self c.in_err-prepared.field-0.0)
+    c.transaction.view_is c.in_err-prepared.ensures.refusal)))
+
+pub returns-in_err-admit-clause-crash : goal.returns-in_err-admit-clause-crash
+returns-in_err-admit-clause-crash g c = crashes_still _ _ _ c.self.invariant.0 c.self.view_is
 
 pub returns-clause-committed : goal.returns-clause-committed
 returns-clause-committed g c =
-    let fine : c.args.self.now.objects.ring.faulted ≡ false = search rules in
-    let reads : OnlyReads c.args.self.now.objects c.compare.new.self.objects = search rules in
     on_ok c.add.result c.add.ensures.committed
-    (λ added. committed_from c.args.transaction.now.reads c.args.transaction.now.writes c.args.session.now c.admit-own.new.session c.add.new.session
-    c.args.self.now c.compare.new.self c.prepare.new.self c.add.new.self c.in_ok-prepared.prepared c.admit-own.ensures.session
-    c.compare.ensures.others reads c.prepare.ensures.others c.prepare.ensures.reads fine c.in_ok-prepared.ensures.fine added)
+    (λ added. committed_from c.args.transaction.now.reads c.args.transaction.now.writes c.args.session.now c.admit.new.session c.add.new.session
+    c.args.self.now c.prepare.new.self c.add.new.self c.in_ok-prepared.prepared c.admit.ensures.session
+    c.prepare.ensures.others c.prepare.ensures.reads (search rules) added)
+
+pub returns-clause-crash : goal.returns-clause-crash
+returns-clause-crash g c = search rules
+
+pub returns-clause-session : goal.returns-clause-session
+returns-clause-session g c =
+    err_extends c.add.result c.args.session.now c.admit.new.session c.add.new.session c.admit.ensures.session c.add.ensures.session
+
+-- each as an event
+
+pub returns-then-is_faulted-clause-event : goal.returns-then-is_faulted-clause-event
+returns-then-is_faulted-clause-event g c = record {
+  refusal = search rules;
+  reads = OnlyReads-refl c.args.self.now.objects;
+  others = refl;
+  crash = returns-then-is_faulted-clause-crash g c;
+}
+
+pub returns-in_err-admit-clause-event : goal.returns-in_err-admit-clause-event
+returns-in_err-admit-clause-event g c =
+    answers_commit _ _ (returns-in_err-admit-clause-crash g c) c.args.session.now c.admit.new.session c.args.transaction.now c.from_residual.result
+    (search rules) (search rules) (search rules) (search rules) (search rules) (search rules) (search rules)
+
+pub returns-clause-event : goal.returns-clause-event
+returns-clause-event g c =
+    answers_commit _ _ (returns-clause-crash g c) c.args.session.now c.add.new.session c.args.transaction.now c.add.result
+    (search rules) (returns-clause-committed g c) (search rules) (search rules) (search rules) (search rules) (search rules)

@@ -1,5 +1,7 @@
+use Rattle.std.proofs.Common.{rules}
 use Rattle.journal_core.proofs.Keeping.{kept_on}
 use Rattle.journal_core.proofs.Stepping.{rests_install, crashes_step}
+use Rattle.journal_core.proofs.Events.{answers_install}
 use Rattle.journal_core.proofs.state.Core.install_step.Goals as goal
 
 pub invariant_of-self : goal.invariant_of-self
@@ -12,3 +14,6 @@ invariant_of-self g c = (
 pub returns-clause-crash : goal.returns-clause-crash
 returns-clause-crash g c =
     crashes_step g.J.Naming.blocks _ _ _ c.self.invariant.0 c.self.view_is (invariant_of-self g c).0 c.install_step.ensures.crash
+
+pub returns-clause-event : goal.returns-clause-event
+returns-clause-event g c = answers_install _ _ (returns-clause-crash g c) c.raise.result (search rules) (search rules) (search rules)

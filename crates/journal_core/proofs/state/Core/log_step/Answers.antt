@@ -1,4 +1,4 @@
-use Rattle.std.proofs.Common.{ℕ, IsTrue, IsErr, refl, sym, subst, ◌∙◌}
+use Rattle.std.proofs.Common.{ℕ, IsTrue, IsErr, refl, sym, subst, ◌∙◌, rules}
 use Rattle.std.proofs.lemmas.Bool.{false≢true}
 use Rattle.journal_world.specs.declared.step.Step.{Step}
 use Rattle.journal_wal.specs.Wal.{LogAnswers as WalLogs}
@@ -7,6 +7,8 @@ use Rattle.journal_core.specs.Cores.{CoreState, Crashes, IsKept}
 use Rattle.journal_core.proofs.Keeping.{crashes_still}
 use Rattle.journal_core.proofs.Stepping.{of_err, of_ok, kept_fault, stays_in_flight, has_landed, has_cut, has_rested, no_steps, crashes_step}
 use Rattle.journal_core.proofs.state.Core.log_step.Goals.{then-not-is_logging, else-not-is_logging, else-tail_len-eq0-via-then-tail_len-eq0+else-floor-commits, else-tail_len-eq0-via-else-tail_len-eq0}
+use Rattle.journal_core.proofs.Events.{answers_log}
+use Rattle.journal_objlog.specs.ObjectLogs.{disk_of as log_disk}
 use Rattle.journal_core.proofs.state.Core.log_step.Goals as goal
 
 pub returns-then-is_faulted-clause-crash : goal.returns-then-is_faulted-clause-crash
@@ -67,7 +69,7 @@ invariant_of-self-else-not-is_logging g c = (
 pub returns-then-is_logging-clause-crash : goal.returns-then-is_logging-clause-crash
 returns-then-is_logging-clause-crash g c =
     let ok = of_ok (λ (step : Step). WalLogs c.self.inside.objects step c.log_step.new.self) c.log_step.result c.in_ok-raise.field-0 c.in_ok-raise.ensures.only_ok c.log_step.ensures.ok in
-    let maps : IsTrue c.self.inside.objects.ring.disk.honest → LogsMaps c.self.inside.objects c.in_ok-raise.field-0 c.log_step.new.self = λ honest.
+    let maps : IsTrue (log_disk c.self.inside.objects).honest → LogsMaps c.self.inside.objects c.in_ok-raise.field-0 c.log_step.new.self = λ honest.
     of_ok (λ (step : Step). LogsMaps c.self.inside.objects step c.log_step.new.self) c.log_step.result c.in_ok-raise.field-0 c.in_ok-raise.ensures.only_ok (c.log_step.ensures.maps honest) in
     let some = c.if-is_logging.ensures.steps (sym c.is_faulted.ensures ∙ c.if-is_faulted.false) refl in
     elim c.if-not-is_logging.branch [
@@ -112,3 +114,25 @@ returns-clause-crash g c =
       | else-tail_len-eq0-via-then-tail_len-eq0+else-floor-commits w ↦ subst (λ (s : CoreState). Crashes c.args.self.now s) (sym w.self-is) crash
       | else-tail_len-eq0-via-else-tail_len-eq0 w ↦ subst (λ (s : CoreState). Crashes c.args.self.now s) (sym w.self-is) crash
     ]
+
+-- each as an event
+
+pub returns-then-is_faulted-clause-event : goal.returns-then-is_faulted-clause-event
+returns-then-is_faulted-clause-event g c = record { refusal = search rules; crash = returns-then-is_faulted-clause-crash g c }
+
+pub returns-in_err-raise-clause-event : goal.returns-in_err-raise-clause-event
+returns-in_err-raise-clause-event g c =
+    answers_log _ _ (returns-in_err-raise-clause-crash g c) c.from_residual.result (search rules) (search rules) (search rules)
+
+pub returns-then-is_logging-clause-event : goal.returns-then-is_logging-clause-event
+returns-then-is_logging-clause-event g c = record { did = search rules; fine = search rules; crash = returns-then-is_logging-clause-crash g c }
+
+pub returns-in_err-raise-2-clause-event : goal.returns-in_err-raise-2-clause-event
+returns-in_err-raise-2-clause-event g c =
+    answers_log _ _ (returns-in_err-raise-2-clause-crash g c) c.from_residual-in_err-raise-2.result (search rules) (search rules) (search rules)
+
+pub returns-in-Moved-clause-event : goal.returns-in-Moved-clause-event
+returns-in-Moved-clause-event g c = record { did = search rules; fine = search rules; crash = returns-in-Moved-clause-crash g c }
+
+pub returns-clause-event : goal.returns-clause-event
+returns-clause-event g c = record { did = search rules; fine = search rules; crash = returns-clause-crash g c }

@@ -3,8 +3,9 @@ use Rattle.journal_world.specs.Histories.{Entry}
 use Rattle.journal_world.specs.Histories.Entry.{stable}
 use Rattle.journal_core.specs.Cores.{CoreState, IsKept}
 use Rattle.journal_core.specs.Steps.{CanMark}
-use Rattle.journal_core.specs.Tallies.{IsTallied}
-use Rattle.journal_core.proofs.Keeping.{kept_marked, tallied_mark, crashes_still, crashes_seen}
+use Rattle.journal_core.specs.SlotCounts.{KeepsCounts}
+use Rattle.journal_core.proofs.Keeping.{kept_marked, crashes_still, crashes_seen}
+use Rattle.journal_core.proofs.Counting.{keeps_mark}
 use Rattle.journal_core.proofs.state.Core.mark.Goals as goal
 
 pub returns-then-len-clause-crash : goal.returns-then-len-clause-crash
@@ -21,7 +22,8 @@ invariant_of-self-2 g c =
       subst (λ (h : List Entry). IsKept g.J.Naming.blocks (record { objects = c.self.inside.objects; history = h; cut = c.args.n; logged = c.args.n; next = c.self.inside.next }))
           (sym added)
           (kept_marked g.J.Naming.blocks _ c.args.n c.self.invariant.0 c.len.ensures.begun (subst (λ (s : CoreState). CanMark s c.args.n) (sym c.self.view_is) c.requires.can)),
-      subst (λ (h : List Entry). IsTallied c.self.inside.tally h) (sym added) (tallied_mark c.self.inside.tally c.self.inside.writer c.args.n c.self.invariant.1),
+      subst (λ (h : List Entry). KeepsCounts c.self.inside.tally c.self.inside.slots h) (sym added)
+          (keeps_mark c.self.inside.tally c.self.inside.slots c.self.inside.writer c.args.n c.self.invariant.1),
     )
 
 pub returns-clause-crash : goal.returns-clause-crash

@@ -2,25 +2,30 @@ use Rattle.std.proofs.Common.{ℕ, ◌≤◌, true, sym, subst, ◌∙◌}
 use Rattle.journal_world.specs.declared.layout.TheConstants.{MIN_BLOCKS, MAX_BLOCKS}
 use Rattle.journal_disk.specs.Disks.{DiskState}
 use Rattle.journal_core.specs.Openings.{IsInRange, IsOpenRefusal, IsHandedBack}
-use Rattle.journal_core.specs.Tallies.{Pairs, IsTallied}
-use Rattle.journal_core.proofs.Opening.{kept_begun, begins, tallied_begun, handed_back, refuses_begin, on_ok}
+use Rattle.journal_core.specs.Tallies.{Pairs}
+use Rattle.journal_core.specs.SlotCounts.{KeepsCounts}
+use Rattle.journal_core.proofs.Opening.{kept_begun, begins, handed_back, refuses_begin, on_ok}
+use Rattle.journal_core.proofs.Counting.{keeps_begun}
 use Rattle.journal_core.proofs.state.Core.open_step.Goals as goal
 
 pub invariant_of-result : goal.invariant_of-result
 invariant_of-result g c =
     let fine = on_ok c.admitted_by-objects.result.1 true c.in-Ok-begin.ensures.admitted c.admitted_by-objects.ensures.fine in (
-      kept_begun (g.D.BlockDisk.state c.args.disk) c.in-Ok.objects c.admitted_by-objects.result.0 c.in-Ok.ensures.keeps c.in-Ok.ensures.same c.in-Ok.ensures.opened c.in-Ok.ensures.images
+      kept_begun (g.D.BlockDisk.state c.args.disk) c.in-Ok-open.objects c.admitted_by-objects.result.0 c.in-Ok-open.ensures.keeps c.in-Ok-open.ensures.same c.in-Ok-open.ensures.opened c.in-Ok-open.ensures.images
           c.admitted_by-objects.ensures.reads g.R.MapRule.statement fine.1 g.J.Naming.blocks c.in-Ok-begin.writer c.in-Ok-begin.ensures.begun
-          (c.admitted_by-objects.ensures.crash.keeps.size ∙ c.in-Ok.ensures.keeps.size ∙ c.requires.blocks),
-      subst (λ (t : Pairs). IsTallied t c.in-Ok-begin.writer) (sym c.new-in-Ok-begin.ensures) (tallied_begun c.in-Ok-begin.writer _ _ c.in-Ok-begin.ensures.begun),
+          (c.admitted_by-objects.ensures.crash.keeps.size ∙ c.in-Ok-open.ensures.keeps.size ∙ c.requires.blocks),
+      subst (λ (t : Pairs). KeepsCounts t c.in-Ok.slots c.in-Ok-begin.writer) (sym c.new-in-Ok-begin.ensures)
+          (keeps_begun c.in-Ok.slots c.in-Ok-begin.writer _ _ c.in-Ok-begin.ensures.begun c.in-Ok.ensures),
     )
 
 pub returns-in-Ok-begin-clause-begun : goal.returns-in-Ok-begin-clause-begun
 returns-in-Ok-begin-clause-begun g c =
     let fine = on_ok c.admitted_by-objects.result.1 true c.in-Ok-begin.ensures.admitted c.admitted_by-objects.ensures.fine in
-    begins (g.D.BlockDisk.state c.args.disk) c.in-Ok.objects c.admitted_by-objects.result.0 c.in-Ok.ensures.keeps c.in-Ok.ensures.same c.in-Ok.ensures.opened c.in-Ok.ensures.images
-    c.admitted_by-objects.ensures.reads g.R.MapRule.statement fine.1
-    (subst (λ (n : ℕ). MIN_BLOCKS ≤ n) (c.in-Some.ensures.value ∙ c.size.ensures) c.in-Some.layout.in_range.0)
+    begins (g.D.BlockDisk.state c.args.disk) c.in-Ok-open.objects c.admitted_by-objects.result.0 c.in-Ok-open.ensures.keeps c.in-Ok-open.ensures.same c.in-Ok-open.ensures.opened c.in-Ok-open.ensures.images
+    c.admitted_by-objects.ensures.reads g.R.MapRule.statement fine.1 (
+      subst (λ (n : ℕ). MIN_BLOCKS ≤ n) (c.in-Some.ensures.value ∙ c.size.ensures) c.in-Some.layout.in_range.0,
+      subst (λ (n : ℕ). n ≤ MAX_BLOCKS) (c.in-Some.ensures.value ∙ c.size.ensures) c.in-Some.layout.in_range.1,
+    )
     c.in-Ok-begin.writer c.in-Ok-begin.ensures.begun c.in-Ok-begin.ensures.ruled
 
 pub returns-in-Err-begin-clause-refusal : goal.returns-in-Err-begin-clause-refusal
@@ -28,12 +33,12 @@ returns-in-Err-begin-clause-refusal g c =
     let disk = g.D.BlockDisk.state c.args.disk in
     let range : IsInRange disk = subst (λ (n : ℕ). (MIN_BLOCKS ≤ n) × (n ≤ MAX_BLOCKS)) (c.in-Some.ensures.value ∙ c.size.ensures) c.in-Some.layout.in_range in
     subst (λ (new : DiskState). IsOpenRefusal g.R.MapRule.statement disk new c.in-Err-begin.refusal) (sym c.into_disk.ensures)
-    (refuses_begin disk c.in-Ok.objects c.admitted_by-objects.result.0 c.in-Ok.ensures.keeps c.in-Ok.ensures.same c.in-Ok.ensures.opened c.in-Ok.ensures.images
+    (refuses_begin disk c.in-Ok-open.objects c.admitted_by-objects.result.0 c.in-Ok-open.ensures.keeps c.in-Ok-open.ensures.same c.in-Ok-open.ensures.opened c.in-Ok-open.ensures.images
     c.admitted_by-objects.ensures.reads g.R.MapRule.statement range c.admitted_by-objects.result.1 c.in-Err-begin.refusal c.admitted_by-objects.ensures.refusal
     c.in-Err-begin.ensures.refusal)
 
 pub returns-in-Err-begin-clause-left : goal.returns-in-Err-begin-clause-left
 returns-in-Err-begin-clause-left g c =
     subst (IsHandedBack (g.D.BlockDisk.state c.args.disk)) (sym c.into_disk.ensures)
-    (handed_back (g.D.BlockDisk.state c.args.disk) c.in-Ok.objects c.admitted_by-objects.result.0 c.in-Ok.ensures.keeps c.in-Ok.ensures.same c.in-Ok.ensures.opened c.in-Ok.ensures.images
+    (handed_back (g.D.BlockDisk.state c.args.disk) c.in-Ok-open.objects c.admitted_by-objects.result.0 c.in-Ok-open.ensures.keeps c.in-Ok-open.ensures.same c.in-Ok-open.ensures.opened c.in-Ok-open.ensures.images
     c.admitted_by-objects.ensures.reads)

@@ -1,0 +1,151 @@
+-- A run by hand: two writes in one transaction, the group that logs them, a crash, and the next opening. Whoever calls the
+-- steps of the core has such a run, for each step's contract says that it is its event.
+use Rattle.std.proofs.Common.{◌≡◌, IsTrue, inr, List, [], ◌∷◌, Some, None, Ok, refl}
+use mathlib.Core.List.{IsPrefix}
+use Rattle.journal_world.specs.declared.address.Addr.{Addr}
+use Rattle.journal_world.specs.declared.step.Step.TheVariants.{Moved}
+use Rattle.journal_world.specs.Addresses.{Value, slot_of}
+use Rattle.journal_world.specs.Maps.{Map, is_object}
+use Rattle.journal_world.specs.Histories.{opened}
+use Rattle.journal_block.specs.Block.{Bytes}
+use Rattle.journal_disk.specs.Disks.{DiskState}
+use Rattle.journal_history.specs.Tokens.{SessionState, next_of}
+use Rattle.journal_core.specs.Cores.{CoreState, Crashes, disk_of}
+use Rattle.journal_core.specs.Transactions.{TransactionState, begun, Overwrites}
+use Rattle.journal_core.specs.Steps.{Marks}
+use Rattle.journal_core.specs.Openings.{Begins}
+use Rattle.journal_core.specs.Interleavings.{Event, Answer, Mount, mounted, with_core, with_draft, with_slot, ended, CommitsDraft, LogsStep, Joins, IsLeftBetween, HoldsImage, Run}
+use Rattle.journal_core.specs.Interleavings.Event.{joins, begins, takes, overwrites, logs, crashes, opens}
+use Rattle.journal_core.specs.Interleavings.Event.{commits as finishes}
+use Rattle.journal_core.specs.Interleavings.Answer.{nothing, committed, marked, crashed, reopened}
+use Rattle.journal_core.specs.Interleavings.Machine.{up, down}
+
+-- two inodes of one block
+abbrev pub first : Addr
+first = record { block = 515; off = 0 }
+
+abbrev pub second : Addr
+second = record { block = 515; off = 1024 }
+
+-- A step of the logger that moved, and left the history
+pub record Moves (old new : CoreState) : Type 0 where
+  pub step : LogsStep old Moved new
+  pub same : new.history ≡ old.history
+
+-- what the core and the transaction answered, step by step
+pub record Steps (rule : Map → Type 0) (disk : DiskState) (image : List Bytes) (v w : Value) : Type 0 where
+  pub at_first : CoreState
+  pub joined : CoreState
+  pub at_commit : CoreState
+  pub cut : CoreState
+  pub block : CoreState
+  pub synced : CoreState
+  pub put : CoreState
+  pub logged : CoreState
+  pub marks : CoreState
+  pub last : CoreState
+  pub next : CoreState
+  pub session : SessionState
+  pub after : SessionState
+  pub one : TransactionState
+  pub both : TransactionState
+  pub begins_first : Begins rule disk at_first
+  pub joins_one : Joins at_first session joined
+  pub seen : IsPrefix session.seen joined.history
+  pub first_object : IsTrue (is_object (opened joined.history).blocks (first, v))
+  pub writes_first : Overwrites (begun session.seen) first v one
+  pub second_object : IsTrue (is_object (opened joined.history).blocks (second, w))
+  pub writes_second : Overwrites one second w both
+  pub commits_both : CommitsDraft joined session both at_commit after
+  pub cuts : Moves at_commit cut
+  pub puts_block : Moves cut block
+  pub syncs_block : Moves block synced
+  pub puts_end : Moves synced put
+  pub syncs_end : Moves put logged
+  pub marks_one : LogsStep logged Moved marks
+  pub mark : Marks 1 logged marks
+  pub crash : Crashes marks last
+  pub left : IsLeftBetween (disk_of marks).past (disk_of last).past image
+  pub again : DiskState
+  pub holds : HoldsImage again image
+  pub begins_next : Begins rule again next
+
+module _ (rule : Map → Type 0) (disk : DiskState) (image : List Bytes) (v w : Value) (s : Steps rule disk image v w) where
+  -- the mount before each event of the transaction
+  abbrev here : Mount
+  here = record { core = s.joined; drafts = λ actor. None; holders = λ slot. None }
+
+  abbrev begun_one : Mount
+  begun_one = with_draft here 0 (Some (begun s.session.seen))
+
+  abbrev held_first : Mount
+  held_first = with_slot begun_one 0 (slot_of first)
+
+  abbrev wrote_first : Mount
+  wrote_first = with_draft held_first 0 (Some s.one)
+
+  abbrev held_second : Mount
+  held_second = with_slot wrote_first 0 (slot_of second)
+
+  abbrev wrote_second : Mount
+  wrote_second = with_draft held_second 0 (Some s.both)
+
+  abbrev done : CoreState → Mount
+  done c = ended (with_core wrote_second c) 0
+
+  -- a step of the logger between two others
+  logs_on : (old new : CoreState) → Moves old new → (events : List Event) → (answers : List Answer)
+      → Run rule (up (done new)) events answers (mounted s.next) → Run rule (up (done old)) (logs ∷ events) (nothing ∷ answers) (mounted s.next)
+  logs_on old new moves events answers run = (up (done new), (Ok Moved, (new, moves.step, moves.same, refl)), run)
+
+  pub is_run : Run rule (mounted s.at_first)
+      (joins ∷ begins 0 ∷ takes 0 (slot_of first) ∷ overwrites 0 first v ∷ takes 0 (slot_of second) ∷ overwrites 0 second w ∷ finishes 0
+      ∷ logs ∷ logs ∷ logs ∷ logs ∷ logs ∷ logs ∷ crashes image ∷ opens ∷ [])
+      (nothing ∷ nothing ∷ nothing ∷ nothing ∷ nothing ∷ nothing ∷ committed (next_of s.session s.both.reads s.both.writes)
+      ∷ nothing ∷ nothing ∷ nothing ∷ nothing ∷ nothing ∷ marked 1 ∷ crashed ∷ reopened ∷ [])
+      (mounted s.next)
+  is_run = (
+    up here,
+    (refl, (Ok s.session, (s.joined, s.joins_one, refl))),
+    (
+      up begun_one,
+      (refl, (s.session.seen, s.seen, refl)),
+      (
+        up held_first,
+        (refl, refl),
+        (
+          up wrote_first,
+          (refl, inr (s.first_object, (s.one, s.writes_first, refl))),
+          (
+            up held_second,
+            (refl, refl),
+            (
+              up wrote_second,
+              (refl, inr (s.second_object, (s.both, s.writes_second, refl))),
+              (
+                up (done s.at_commit),
+                (s.session, (s.after, (s.at_commit, refl, s.commits_both, refl))),
+                logs_on s.at_commit s.cut s.cuts (logs ∷ logs ∷ logs ∷ logs ∷ logs ∷ crashes image ∷ opens ∷ []) (nothing ∷ nothing ∷ nothing ∷ nothing ∷ marked 1 ∷ crashed ∷ reopened ∷ [])
+                    (logs_on s.cut s.block s.puts_block (logs ∷ logs ∷ logs ∷ logs ∷ crashes image ∷ opens ∷ []) (nothing ∷ nothing ∷ nothing ∷ marked 1 ∷ crashed ∷ reopened ∷ [])
+                    (logs_on s.block s.synced s.syncs_block (logs ∷ logs ∷ logs ∷ crashes image ∷ opens ∷ []) (nothing ∷ nothing ∷ marked 1 ∷ crashed ∷ reopened ∷ [])
+                    (logs_on s.synced s.put s.puts_end (logs ∷ logs ∷ crashes image ∷ opens ∷ []) (nothing ∷ marked 1 ∷ crashed ∷ reopened ∷ [])
+                    (logs_on s.put s.logged s.syncs_end (logs ∷ crashes image ∷ opens ∷ []) (marked 1 ∷ crashed ∷ reopened ∷ []) (
+                      up (done s.marks),
+                      (Moved, (s.marks, s.marks_one, s.mark, refl)),
+                      (
+                        down image,
+                        (refl, (s.last, s.crash, s.left, refl)),
+                        (
+                          mounted s.next,
+                          (s.again, s.holds, (s.next, s.begins_next, refl)),
+                          refl,
+                        ),
+                      ),
+                    ))))),
+              ),
+            ),
+          ),
+        ),
+      ),
+    ),
+  )

@@ -1,0 +1,22 @@
+use Rattle.std.proofs.Common.{IsTrue}
+use Rattle.journal_world.specs.Addresses.{Value}
+use Rattle.journal_world.specs.Maps.{is_object}
+use Rattle.journal_core.proofs.Keeping.{kept_on}
+use Rattle.journal_core.proofs.Stepping.{of_raised, objects_of, rests_call, crashes_step}
+use Rattle.journal_core.proofs.state.Core.fetch.Goals as goal
+
+pub invariant_of-self : goal.invariant_of-self
+invariant_of-self g c = (
+  kept_on g.J.Naming.blocks _ c.self.invariant.0 c.read.new.self c.read.ensures.crash c.read.ensures.maps
+      (rests_call c.self.inside.objects c.read.new.self c.read.result c.read.ensures.reads c.read.ensures.faulted),
+  c.self.invariant.1,
+)
+
+pub returns-clause-crash : goal.returns-clause-crash
+returns-clause-crash g c =
+    crashes_step g.J.Naming.blocks _ _ _ c.self.invariant.0 c.self.view_is (invariant_of-self g c).0 c.read.ensures.crash
+
+pub returns-clause-object : goal.returns-clause-object
+returns-clause-object g c =
+    of_raised (λ (value : Value). IsTrue (is_object g.J.Naming.blocks (c.args.addr, value))) c.read.result c.raise.result c.raise.ensures.only_ok
+    (objects_of g.J.Naming.blocks _ c.self.invariant.0 c.args.addr c.read.result c.read.ensures.object)

@@ -1,0 +1,72 @@
+-- What a commit of the core says to a transaction and to its session.
+use Rattle.std.proofs.Common.{◌≡◌, ◌≢◌, ℕ, IsTrue, List, [], ◌∷◌, ◌++◌, length, Some, slice_get, Result, Ok, Err, IfOk, sym, ap, subst, ◌∙◌}
+use mathlib.Core.List.{IsPrefix}
+use Rattle.journal_world.specs.declared.refusal.Refusal.{Refusal}
+use Rattle.journal_world.specs.Maps.{Map, Transaction, Agrees}
+use Rattle.journal_world.specs.Histories.{Entry, is_trusted, latest, commits_of, opened}
+use Rattle.journal_world.specs.Histories.Entry.{commit}
+use Rattle.journal_world.proofs.Prefixes.{IsPrefix-trans}
+use Rattle.journal_history.specs.Soundness.{IsSound}
+use Rattle.journal_history.specs.Tokens.{SessionState, CommitPlace, next_of, Commits, IsReceiptFor}
+use Rattle.journal_core.specs.Causes.{Told}
+use Rattle.journal_core.specs.Cores.{CoreState}
+use Rattle.journal_core.specs.Transactions.{TransactionState}
+use Rattle.journal_core.specs.Interleavings.{AnswersCommit}
+use Rattle.journal_twophase.specs.Journals.{IsKnown}
+use Rattle.journal_twophase.specs.Commits.{IsCommitted}
+use Rattle.journal_twophase.proofs.Knowing.{some_before, ruled_before, blocks_before}
+
+module _ (rule : Map → Type 0) (blocks : ℕ) where
+  -- what the core's histories before and after its commit, and what is known of the latter, say of the transaction
+  from_histories : (t : TransactionState) (s new : SessionState) (found history : List Entry) (place : CommitPlace)
+      → Commits (next_of s t.reads t.writes) s new found history
+      → IsReceiptFor (next_of s t.reads t.writes) history (length found) place
+      → IsPrefix t.seen found → (IsTrue (is_trusted found) → Agrees (latest found) t.reads) → IsKnown rule blocks new.seen
+      → IsCommitted rule blocks t.seen t s new place
+  from_histories t s new found history place commits receipt later agrees known =
+      let u : Transaction = next_of s t.reads t.writes in
+      let whole : new.seen ≡ history = ap (λ (n : SessionState). n.seen) commits.session in
+      let mine : new.mine ≡ history = ap (λ (n : SessionState). n.mine) commits.session in
+      let here : history ≡ found ++ commit u ∷ [] = commits.added in
+      let sound : IsSound rule (found ++ commit u ∷ []) = subst (IsSound rule) (whole ∙ here) known.sound in
+      let stands : slice_get (found ++ commit u ∷ []) (length found) ≡ Some (commit u) =
+      subst (λ (h : List Entry). slice_get h (length found) ≡ Some (commit u)) here receipt.stands in
+      let some : found ≢ [] = some_before rule found u sound stands in
+      record {
+        found = found;
+        after_begin = later;
+        after_reads = later;
+        agrees = agrees;
+        ruled = ruled_before rule found u some sound;
+        on_disk = blocks_before rule blocks found u some (subst (λ (h : List Entry). (opened h).blocks ≡ blocks) (whole ∙ here) known.on_disk);
+        committed = subst (λ (h : List Entry). Commits u s new found h) (sym whole) commits;
+        exact = ap (commits_of new.number) (whole ∙ sym mine);
+        known = known;
+        receipt = subst (λ (h : List Entry). IsReceiptFor u h (length found) place) (sym whole) receipt;
+      }
+
+  pub committed : (t : TransactionState) (s new : SessionState) (old core : CoreState) (answer : Result CommitPlace (Refusal Told))
+      → AnswersCommit old s t answer core new
+      → IfOk answer (IsReceiptFor (next_of s t.reads t.writes) core.history (length old.history))
+      → IsKnown rule blocks new.seen
+      → IfOk answer (IsCommitted rule blocks t.seen t s new)
+  committed t s new old core (Err why) step receipt known = tt
+  committed t s new old core (Ok place) step receipt known =
+      from_histories t s new old.history core.history place step.committed.committed receipt step.can.may.seen.later step.agrees known
+
+  -- a transaction whose reads came after its beginning is committed after that
+  pub since_begin : (began : List Entry) (t : TransactionState) (s new : SessionState) (answer : Result CommitPlace (Refusal Told)) → IsPrefix began t.seen
+      → IfOk answer (IsCommitted rule blocks t.seen t s new) → IfOk answer (IsCommitted rule blocks began t s new)
+  since_begin began t s new (Err why) begins is = tt
+  since_begin began t s new (Ok place) begins is = record {
+    found = is.found;
+    after_begin = IsPrefix-trans began t.seen is.found begins is.after_reads;
+    after_reads = is.after_reads;
+    agrees = is.agrees;
+    ruled = is.ruled;
+    on_disk = is.on_disk;
+    committed = is.committed;
+    exact = is.exact;
+    known = is.known;
+    receipt = is.receipt;
+  }

@@ -1,0 +1,3 @@
+pub mod Knowing
+pub mod Looking
+pub mod Committing

@@ -1,0 +1,54 @@
+-- What a look-up says to the reader of an address.
+use Rattle.std.proofs.Common.{◌≡◌, ℕ, Bool, true, false, cond, IsTrue, List, [], ◌∷◌, Option, Some, None, IfSome, Result, Ok, Err, IfErr, refl, sym, subst}
+use Rattle.std.proofs.lemmas.Bool.{and_parts}
+use Rattle.journal_world.specs.declared.address.Addr.{Addr}
+use Rattle.journal_world.specs.declared.refusal.Refusal.{Refusal}
+use Rattle.journal_world.specs.declared.refusal.Refusal.TheVariants.{NoMemory, BadAddress, BadSize, TooLarge, Busy, DeviceFailed, BadLog, BadSuper, Stale, Stranger, Worn, Full, Closed, Fenced}
+use Rattle.journal_world.specs.Addresses.{Value, is_valid, is_same}
+use Rattle.journal_world.specs.Maps.{Pair, value_among, is_object, are_objects}
+use Rattle.journal_world.proofs.Lookups.{same_addr}
+use Rattle.journal_core.specs.Causes.{Told}
+use Rattle.journal_twophase.specs.Transactions.{TxnState, core_of, holding, IsLookRefusal, IsReadRefusal}
+
+-- what objects give an address is an object
+value_among-object : (blocks : ℕ) (ps : List Pair) (a : Addr) (v : Value) → IsTrue (are_objects blocks ps) → value_among ps a ≡ Some v → IsTrue (is_object blocks (a, v))
+value_among-object blocks [] a v objects is = absurd (cc is)
+value_among-object blocks (p ∷ ps) a v objects is = by_test (is_same a p.0) refl (value_among-object blocks ps a v parts.1) is
+  where
+    parts : IsTrue (is_object blocks p) × IsTrue (are_objects blocks ps)
+    parts = and_parts (is_object blocks p) (are_objects blocks ps) objects
+
+    by_test : (b : Bool) → is_same a p.0 ≡ b → (value_among ps a ≡ Some v → IsTrue (is_object blocks (a, v)))
+        → cond b (Some p.1) (value_among ps a) ≡ Some v → IsTrue (is_object blocks (a, v))
+    by_test true same later found =
+        let here : p.1 ≡ v = cc found in
+        subst (λ (w : Value). IsTrue (is_object blocks (a, w))) here (subst (λ (b : Addr). IsTrue (is_object blocks (b, p.1))) (sym (same_addr a p.0 same)) parts.0)
+    by_test false same later found = later found
+
+-- and so is what is found of one
+pub own_object : (blocks : ℕ) (ps : List Pair) (a : Addr) (own : Option Value) → own ≡ value_among ps a → IsTrue (are_objects blocks ps)
+    → IfSome own (λ value. IsTrue (is_object blocks (a, value)))
+own_object blocks ps a None is objects = tt
+own_object blocks ps a (Some v) is objects = value_among-object blocks ps a v objects (sym is)
+
+-- why a transaction reads nothing, whose slot is held
+read_refusal : (blocks : ℕ) (t : TxnState) (a : Addr) (why : Refusal Told) → IsTrue (is_valid blocks a) → IsLookRefusal (core_of t) why → IsReadRefusal blocks t a why
+read_refusal blocks t a NoMemory valid look = (valid, look)
+read_refusal blocks t a BadAddress valid look = absurd look
+read_refusal blocks t a BadSize valid look = absurd look
+read_refusal blocks t a TooLarge valid look = absurd look
+read_refusal blocks t a Busy valid look = absurd look
+read_refusal blocks t a (DeviceFailed cause) valid look = look
+read_refusal blocks t a BadLog valid look = absurd look
+read_refusal blocks t a BadSuper valid look = absurd look
+read_refusal blocks t a (Stale cause) valid look = (valid, look)
+read_refusal blocks t a (Stranger cause) valid look = (valid, look)
+read_refusal blocks t a (Worn cause) valid look = absurd look
+read_refusal blocks t a (Full cause) valid look = absurd look
+read_refusal blocks t a (Closed cause) valid look = absurd look
+read_refusal blocks t a Fenced valid look = absurd look
+
+pub read_refused : (blocks : ℕ) (t held : TxnState) (a : Addr) (answer : Result Value (Refusal Told))
+    → held ≡ holding t a → IsTrue (is_valid blocks a) → IfErr answer (IsLookRefusal (core_of held)) → IfErr answer (IsReadRefusal blocks t a)
+read_refused blocks t held a (Ok v) same valid look = tt
+read_refused blocks t held a (Err why) same valid look = read_refusal blocks t a why valid (subst (λ (h : TxnState). IsLookRefusal (core_of h) why) same look)

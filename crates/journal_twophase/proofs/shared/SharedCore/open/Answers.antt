@@ -1,0 +1,14 @@
+use Rattle.std.proofs.Common.{◌∙◌}
+use Rattle.journal_twophase.proofs.shared.SharedCore.open.Goals as goal
+
+pub returns-clause-begun : goal.returns-clause-begun
+returns-clause-begun g c =
+    let begun = c.in_ok-core.ensures.begun in
+    record {
+      map = begun.map;
+      size = begun.size;
+      objects = begun.objects;
+      holds = begun.holds;
+      ruled = begun.ruled;
+      start = c.front-start.ensures.history ∙ begun.history;
+    }

@@ -1,0 +1,50 @@
+-- What a commit is, and why one is refused.
+use Rattle.std.specs.Prelude.{ℕ, ◌≡◌, ◌⊎◌, ◌<◌, ◌≤◌, IsTrue, List, length, Some}
+use mathlib.Core.List.{IsPrefix}
+use Rattle.journal_world.specs.declared.refusal.Refusal.{Refusal}
+use Rattle.journal_world.specs.declared.refusal.Refusal.TheVariants.{NoMemory, TooLarge, DeviceFailed, Stale, Stranger, Worn, Full}
+use Rattle.journal_world.specs.Maps.{Map, Agrees}
+use Rattle.journal_world.specs.Histories.{Entry, is_trusted, latest, commits_of}
+use Rattle.journal_objlog.specs.Writes.{written_blocks}
+use Rattle.journal_history.specs.Tokens.{SessionState, CommitPlace, made, next_of, IsExact, Commits, IsReceiptFor}
+use Rattle.journal_core.specs.Causes.{Told, IsUnexplained}
+use Rattle.journal_core.specs.Transactions.{TransactionState}
+use Rattle.journal_twophase.specs.Journals.{IsKnown, IsShown}
+use Rattle.journal_twophase.specs.Transactions.{ShowsMoved}
+
+-- The transaction was committed as the session's next one, with exactly what it read and overwrote
+pub record IsCommitted (rule : Map → Type 0) (blocks : ℕ) (began : List Entry) (t : TransactionState) (old new : SessionState) (place : CommitPlace) : Type 0 where
+  -- the history that it found, which goes on from what was seen when the transaction began, and from what it saw last
+  pub found : List Entry
+  pub after_begin : IsPrefix began found
+  pub after_reads : IsPrefix t.seen found
+  -- where the opening was trusted, what it read is what the map gives there, and the mount's rule holds of that map
+  pub agrees : IsTrue (is_trusted found) → Agrees (latest found) t.reads
+  pub ruled : IsTrue (is_trusted found) → rule (latest found)
+  pub on_disk : (latest found).blocks ≡ blocks
+  -- it was added to that history, after all that the session had seen, and the session has seen it
+  pub committed : Commits (next_of old t.reads t.writes) old new found new.seen
+  pub exact : IsExact new
+  pub known : IsKnown rule blocks new.seen
+  -- the receipt names its place
+  pub receipt : IsReceiptFor (next_of old t.reads t.writes) new.seen (length found) place
+
+-- The cause shows a history that has a commit under the session's number which the session did not make
+abbrev pub ShowsStrange : SessionState → Told → Type 0
+ShowsStrange s cause = (history : List Entry) × (cause ≡ Some history) × (made s < length (commits_of s.number history))
+
+-- Why a transaction is not committed at once
+abbrev pub IsTryRefusal : TransactionState → SessionState → Refusal Told → Type 0
+IsTryRefusal t s (DeviceFailed cause) = IsUnexplained cause
+IsTryRefusal t s (Stale cause) = IsShown cause
+IsTryRefusal t s (Stranger cause) = ShowsStrange s cause ⊎ ShowsMoved t cause
+IsTryRefusal t s TooLarge = 128 < written_blocks t.writes
+IsTryRefusal t s (Worn cause) = (written_blocks t.writes ≤ 128) × IsUnexplained cause
+IsTryRefusal t s (Full cause) = (written_blocks t.writes ≤ 128) × IsUnexplained cause
+IsTryRefusal t s NoMemory = Unit {0}
+IsTryRefusal t s other = ⊥
+
+-- why it is not committed, with time to wait for room
+abbrev pub IsCommitRefusal : TransactionState → SessionState → Refusal Told → Type 0
+IsCommitRefusal t s (Full cause) = ⊥
+IsCommitRefusal t s other = IsTryRefusal t s other

@@ -1,0 +1,62 @@
+-- What contracts see of a journal that threads share, and why it refuses what is no transaction's.
+use Rattle.std.specs.Prelude.{ℕ, ◌≡◌, IsTrue, List, [], ◌∷◌, Some}
+use Rattle.journal_world.specs.declared.refusal.Refusal.{Refusal}
+use Rattle.journal_world.specs.declared.refusal.Refusal.TheVariants.{NoMemory, DeviceFailed, Stale, Worn}
+use Rattle.journal_world.specs.Maps.{Map, are_objects}
+use Rattle.journal_world.specs.Histories.{Entry, opened, is_trusted, IsLegal}
+use Rattle.journal_world.specs.Histories.Entry.{opening}
+use Rattle.journal_disk.specs.Disks.{DiskState}
+use Rattle.journal_history.specs.Soundness.{IsSound}
+use Rattle.journal_core.specs.Causes.{Told, IsUnexplained}
+use Rattle.journal_core.specs.Openings.{HoldsMap}
+
+-- A journal, by what is known of it outside its lock
+pub record JournalState : Type 0 where
+  -- the history when it was opened, with which all begins that is seen of it later
+  pub start : List Entry
+
+-- The history begins with the map that the disk holds, of which the rule holds
+pub record BeginsWith (rule : Map → Type 0) (disk : DiskState) (history : List Entry) : Type 0 where
+  pub map : Map
+  pub size : map.blocks ≡ disk.past.size
+  pub objects : IsTrue (are_objects map.blocks map.pairs)
+  pub holds : IsTrue disk.honest → HoldsMap disk map
+  pub ruled : IsTrue disk.honest → rule map
+  pub start : history ≡ opening map disk.honest ∷ []
+
+-- What is known of a history that was seen, under the mount's rule, on a disk of so many blocks
+pub record IsKnown (rule : Map → Type 0) (blocks : ℕ) (history : List Entry) : Type 0 where
+  pub on_disk : (opened history).blocks ≡ blocks
+  -- where the disk was honest and settled when it was opened, the rule holds of the opened map, and the history is legal
+  pub ruled : IsTrue (is_trusted history) → rule (opened history)
+  pub legal : IsTrue (is_trusted history) → IsLegal rule history
+  -- and what holds whatever the disk does
+  pub sound : IsSound rule history
+
+-- A cause that shows a history
+abbrev pub IsShown : Told → Type 0
+IsShown cause = (history : List Entry) × (cause ≡ Some history)
+
+-- why there is no further session
+abbrev pub IsSessionRefusal : Refusal Told → Type 0
+IsSessionRefusal (Worn cause) = IsUnexplained cause
+IsSessionRefusal other = ⊥
+
+-- why a step of the logger is refused
+abbrev pub IsLogRefusal : Refusal Told → Type 0
+IsLogRefusal NoMemory = Unit {0}
+IsLogRefusal (DeviceFailed cause) = IsUnexplained cause
+IsLogRefusal (Stale cause) = IsShown cause
+IsLogRefusal (Worn cause) = IsUnexplained cause
+IsLogRefusal other = ⊥
+
+-- why one of the installer is
+abbrev pub IsInstallRefusal : Refusal Told → Type 0
+IsInstallRefusal NoMemory = Unit {0}
+IsInstallRefusal (DeviceFailed cause) = IsUnexplained cause
+IsInstallRefusal other = ⊥
+
+-- why a journal is not closed
+abbrev pub IsCloseRefusal : Refusal Told → Type 0
+IsCloseRefusal (Stale cause) = IsShown cause
+IsCloseRefusal other = ⊥

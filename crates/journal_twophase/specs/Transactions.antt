@@ -1,0 +1,97 @@
+-- What contracts see of an open transaction, what its calls do, and why they are refused.
+use Rattle.std.specs.Prelude.{ℕ, ◌≡◌, ◌==◌, nat_lt, Bool, false, if◌then◌else◌, IsTrue, List, [], ◌∷◌, ◌++◌, Some, MatchOption}
+use Rattle.std.specs.List.{list_any}
+use mathlib.Core.List.{IsPrefix}
+use Rattle.journal_world.specs.declared.address.Addr.{Addr}
+use Rattle.journal_world.specs.declared.refusal.Refusal.{Refusal}
+use Rattle.journal_world.specs.declared.refusal.Refusal.TheVariants.{NoMemory, BadAddress, BadSize, Busy, DeviceFailed, Stale, Stranger}
+use Rattle.journal_world.specs.Addresses.{Value, kind_of, is_valid, slot_of}
+use Rattle.journal_world.specs.Maps.{Pair, SamePairs, value_among, value_at, is_value_at, is_object}
+use Rattle.journal_world.specs.Histories.{Entry, is_trusted, latest}
+use Rattle.journal_core.specs.Causes.{Told, IsUnexplained}
+use Rattle.journal_core.specs.Transactions.{TransactionState, AreUnmoved}
+
+pub record TxnState : Type 0 where
+  -- what its session had seen of the history when it began
+  pub began : List Entry
+  -- what it has read and overwritten, and a history at whose end all that it read is what the map gives
+  pub reads : List Pair
+  pub writes : List Pair
+  pub seen : List Entry
+  -- the slots that it holds
+  pub held : List ℕ
+
+-- the transaction that has done nothing yet, begun where this was seen of the history
+abbrev pub begun : List Entry → TxnState
+begun seen = record { began = seen; reads = []; writes = []; seen = seen; held = [] }
+
+-- the same, as the core has it
+abbrev pub core_of : TxnState → TransactionState
+core_of t = record { reads = t.reads; writes = t.writes; seen = t.seen }
+
+-- the slot is held
+abbrev pub holds : List ℕ → ℕ → Bool
+holds held slot = list_any (λ h. h == slot) held
+
+-- a greater one is
+abbrev pub holds_above : List ℕ → ℕ → Bool
+holds_above held slot = list_any (λ h. nat_lt slot h) held
+
+-- the slots with one more, where it is not among them
+abbrev pub with_slot : List ℕ → ℕ → List ℕ
+with_slot held slot = if holds held slot then held else held ++ slot ∷ []
+
+-- the transaction, with the slot of the address
+abbrev pub holding : TxnState → Addr → TxnState
+holding t a = record t { held = with_slot t.held (slot_of a) }
+
+-- the slot is not held, and a greater one is
+abbrev pub IsBelow : ℕ → List ℕ → Type 0
+IsBelow slot held = (holds held slot ≡ false) × IsTrue (holds_above held slot)
+
+-- It remembers what the map gives the address, at the end of the history that it has then seen
+pub record Learns (old : TxnState) (a : Addr) (v : Value) (new : TxnState) : Type 0 where
+  pub value : IsTrue (is_trusted new.seen) → v ≡ value_at (latest new.seen) a
+  pub reads : SamePairs new.reads ((a, v) ∷ old.reads)
+  pub later : IsPrefix old.seen new.seen
+  pub others : new ≡ record old { reads = new.reads; seen = new.seen }
+
+-- What a read answers and leaves: the transaction's own overwrite, where there is one, else what the map gives
+abbrev pub Reads : TxnState → Addr → Value → TxnState → Type 0
+Reads old a v new = MatchOption (value_among old.writes a) (Learns old a v new) (λ own. (v ≡ own) × (new ≡ old))
+
+-- The address is overwritten
+pub record Overwrites (old : TxnState) (a : Addr) (v : Value) (new : TxnState) : Type 0 where
+  pub writes : SamePairs new.writes ((a, v) ∷ old.writes)
+  pub others : new ≡ record old { writes = new.writes }
+
+-- The cause shows a history in which a commit touched a slot under which the transaction had read
+abbrev pub ShowsMoved : TransactionState → Told → Type 0
+ShowsMoved t cause = (history : List Entry) × (cause ≡ Some history) × IsPrefix t.seen history × (AreUnmoved history t → ⊥)
+
+-- Why a slot is not taken
+abbrev pub IsSlotRefusal : List ℕ → ℕ → Refusal Told → Type 0
+IsSlotRefusal held slot Busy = IsBelow slot held
+IsSlotRefusal held slot NoMemory = Unit {0}
+IsSlotRefusal held slot other = ⊥
+
+-- Why an object whose slot is held is not read
+abbrev pub IsLookRefusal : TransactionState → Refusal Told → Type 0
+IsLookRefusal t (DeviceFailed cause) = IsUnexplained cause
+IsLookRefusal t (Stale cause) = cause ≡ Some t.seen
+IsLookRefusal t (Stranger cause) = ShowsMoved t cause
+IsLookRefusal t NoMemory = Unit {0}
+IsLookRefusal t other = ⊥
+
+-- Why an address is not read
+abbrev pub IsReadRefusal : ℕ → TxnState → Addr → Refusal Told → Type 0
+IsReadRefusal blocks t a (DeviceFailed cause) = IsUnexplained cause
+IsReadRefusal blocks t a BadAddress = is_valid blocks a ≡ false
+IsReadRefusal blocks t a Busy = IsTrue (is_valid blocks a) × IsBelow (slot_of a) t.held
+IsReadRefusal blocks t a other = IsTrue (is_valid blocks a) × IsLookRefusal (core_of t) other
+
+-- Why it is not overwritten
+abbrev pub IsOverwriteRefusal : ℕ → TxnState → Addr → Value → Refusal Told → Type 0
+IsOverwriteRefusal blocks t a v BadAddress = is_valid blocks a ≡ false
+IsOverwriteRefusal blocks t a v BadSize = IsTrue (is_valid blocks a) × (is_value_at (kind_of blocks a.block) v ≡ false)
+IsOverwriteRefusal blocks t a v other = IsTrue (is_object blocks (a, v)) × IsSlotRefusal t.held (slot_of a) other

@@ -1,0 +1,94 @@
+// Commits.
+ghost use Rattle.std.specs.Prelude.{◌≡◌, IfOk, IfErr, OnErr};
+ghost use Rattle.journal_world.specs.Maps.{Map, Agrees, overwritten};
+ghost use Rattle.journal_history.specs.Tokens.{OnlyExtends};
+ghost use Rattle.journal_twophase.specs.Transactions.{core_of};
+ghost use Rattle.journal_twophase.specs.Commits.{IsCommitted, IsTryRefusal, IsCommitRefusal};
+
+use crate::shared::Why;
+use crate::txn::Txn;
+use journal_disk::BlockDisk;
+use journal_history::{Naming, Receipt, Session};
+use journal_world::MapRule;
+use std::sync::Wait;
+
+impl<'j, 'b, D: BlockDisk, R: MapRule, J: Naming> Txn<'j, 'b, D, R, J> {
+    /// Commits the transaction as the session's next one: adds it to the history, which the session has then
+    /// seen, and overwrites the map by its writes, in memory. The receipt says where it stands: at or after all
+    /// that the session had seen when the transaction began, where the map gives all that was read. It waits
+    /// while the log's tail has no room. The transaction is ended either way, and its slots are given up.
+    ///
+    /// The first that applies of these refuses it: J6 `DeviceFailed` where the device failed before, J9 `Stale`
+    /// where the history is longer than the core's, J10 `Stranger` where the history has a commit under the
+    /// session's number that the session did not make, or a commit touched a slot under which the transaction
+    /// had read, J4 `TooLarge` where more than 128 distinct blocks are written, J11 `Worn` where the history's
+    /// length, the session's number or a position of the log would reach 2^62, then J1 `NoMemory` where memory
+    /// is refused, or J6 where the device fails in this call. The history then lacks the transaction.
+    pub fn commit<W: Wait>(
+        self,
+        rt: &W,
+        session: &mut Session<'b, J, R>,
+    ) -> Result<Receipt<'b, J, R>, Why<'b, J, R>>
+        requires rule { (m : Map) → m.blocks ≡ J.blocks → R.statement m → Agrees m self.reads
+            → R.statement (overwritten m self.writes) }
+        ensures committed { IfOk result (IsCommitted R.statement J.blocks self.entry.began (core_of self.entry) session.old session.new) }
+        ensures refusal { IfErr result (IsCommitRefusal (core_of self.entry) session.old) }
+        ensures session { OnErr result (OnlyExtends session.old session.new) }
+    {
+        let answer = self.commit_with_slots(rt, session);
+        self.abort(rt);
+        answer
+    }
+
+    /// Commits the transaction as `commit` does, and waits for no room.
+    ///
+    /// It is refused as `commit` is, and by J12 `Full`, after J11, where the log's tail cannot take the blocks
+    /// that do not stand in it.
+    pub fn try_commit<W: Wait>(
+        self,
+        rt: &W,
+        session: &mut Session<'b, J, R>,
+    ) -> Result<Receipt<'b, J, R>, Why<'b, J, R>>
+        requires rule { (m : Map) → m.blocks ≡ J.blocks → R.statement m → Agrees m self.reads
+            → R.statement (overwritten m self.writes) }
+        ensures committed { IfOk result (IsCommitted R.statement J.blocks self.entry.began (core_of self.entry) session.old session.new) }
+        ensures refusal { IfErr result (IsTryRefusal (core_of self.entry) session.old) }
+        ensures session { OnErr result (OnlyExtends session.old session.new) }
+    {
+        let answer = self.try_with_slots(rt, session);
+        self.abort(rt);
+        answer
+    }
+
+    // Commits it, with its slots held.
+    fn commit_with_slots<W: Wait>(
+        &self,
+        rt: &W,
+        session: &mut Session<'b, J, R>,
+    ) -> Result<Receipt<'b, J, R>, Why<'b, J, R>>
+        requires rule { (m : Map) → m.blocks ≡ J.blocks → R.statement m → Agrees m self.now.reads
+            → R.statement (overwritten m self.now.writes) }
+        ensures committed { IfOk result (IsCommitted R.statement J.blocks self.now.began (core_of self.now) session.old session.new) }
+        ensures refusal { IfErr result (IsCommitRefusal (core_of self.now) session.old) }
+        ensures session { OnErr result (OnlyExtends session.old session.new) }
+    {
+        let journal = self.journal;
+        journal.core.commit(rt, session, &self.transaction)
+    }
+
+    // Commits it without waiting for room, with its slots held.
+    fn try_with_slots<W: Wait>(
+        &self,
+        rt: &W,
+        session: &mut Session<'b, J, R>,
+    ) -> Result<Receipt<'b, J, R>, Why<'b, J, R>>
+        requires rule { (m : Map) → m.blocks ≡ J.blocks → R.statement m → Agrees m self.now.reads
+            → R.statement (overwritten m self.now.writes) }
+        ensures committed { IfOk result (IsCommitted R.statement J.blocks self.now.began (core_of self.now) session.old session.new) }
+        ensures refusal { IfErr result (IsTryRefusal (core_of self.now) session.old) }
+        ensures session { OnErr result (OnlyExtends session.old session.new) }
+    {
+        let journal = self.journal;
+        journal.core.try_commit(rt, session, &self.transaction)
+    }
+}

@@ -1,0 +1,201 @@
+// The journal, and what is no transaction's.
+ghost use Rattle.std.specs.Prelude.{◌≡◌, ◌<◌, IsTrue, IfOk, IfErr, IsOkUnless};
+ghost use mathlib.Core.List.{IsPrefix};
+ghost use Rattle.journal_world.specs.Histories.{is_trusted};
+ghost use Rattle.journal_disk.specs.Disks.{IsSettled};
+ghost use Rattle.journal_disk.specs.Images.{EveryImage};
+ghost use Rattle.journal_history.specs.Tokens.{made, IsExact, OnlyExtends};
+ghost use Rattle.journal_core.specs.Cores.{Leaves};
+ghost use Rattle.journal_core.specs.Openings.{IsOpenRefusal, IsHandedBack};
+ghost use Rattle.journal_twophase.specs.Journals.{BeginsWith, IsKnown, IsSessionRefusal, IsLogRefusal, IsInstallRefusal, IsCloseRefusal};
+ghost use Rattle.journal_twophase.specs.Transactions.{begun};
+
+use crate::shared::{SharedCore, Why};
+use crate::txn::Txn;
+use journal_block::Block;
+use journal_core::{Cause, Stat};
+use journal_disk::{BlockDisk, MemDisk};
+use journal_history::{Book, Front, Naming, Session};
+use journal_lockmap::LockMap;
+use journal_world::{Layout, MapRule, Refusal, Refused, Step};
+use std::alloc::Global;
+use std::marker::Model;
+use std::sync::Wait;
+
+/// A journal over a disk, lent the book of its history, which threads share by `&`. Contracts see the
+/// history at its opening.
+#[derive(Drop)]
+pub struct Journal<'b, D: BlockDisk, R: MapRule, J: Naming> {
+    pub(crate) layout: Layout,
+    pub(crate) slots: LockMap,
+    pub(crate) core: SharedCore<'b, D, R, J>,
+    start: Front<'b, J, R>,
+}
+
+impl<'b, D: BlockDisk, R: MapRule, J: Naming> Model for Journal<'b, D, R, J> {
+    ghost use Rattle.std.specs.Prelude.{◌≡◌, length};
+    ghost use Rattle.journal_twophase.specs.Journals.{JournalState};
+
+    ghost Value = { JournalState };
+
+    ghost view = { λ j. record { start = j.start } };
+
+    ghost invariant = { λ j. (j.layout.blocks ≡ J.blocks) × (length j.start ≡ 1) };
+}
+
+impl<'b, D: BlockDisk, R: MapRule, J: Naming> Journal<'b, D, R, J> {
+    /// Opens a disk on which nothing is pending: begins the book's history with the map that the disk holds,
+    /// where the rule admits it. What lies in the disk's log is read into memory, and nothing is written.
+    ///
+    /// The first that applies of these refuses it: J8 `BadSuper` where the number of blocks is out of range, J7
+    /// `BadLog` where the disk's log is not well formed, J8 where the rule does not hold of the map, J9 `Stale`
+    /// where the book has a history already. J1 `NoMemory` where memory is refused, and J6 `DeviceFailed` where
+    /// the device fails or the rule says so, come where they are met. A refusal hands the disk back, with nothing
+    /// written, and leaves the book as it was.
+    pub fn open(
+        alloc: Global,
+        book: &'b Book<R>,
+        disk: D,
+        rule: &R,
+    ) -> Result<Journal<'b, D, R, J>, Refused<D, Cause<'b, J, R>>>
+        requires book { book.now ≡ J.book }
+        requires blocks { (D.state disk).past.size ≡ J.blocks }
+        requires settled { IsTrue (D.state disk).honest → IsSettled (D.state disk).past }
+        ensures begun { IfOk result (λ journal. BeginsWith R.statement (D.state disk) journal.start) }
+        ensures refusal { IfErr result (λ refused. IsOpenRefusal R.statement (D.state disk) (D.state refused.disk) refused.refusal) }
+        ensures left { IfErr result (λ refused. IsHandedBack (D.state disk) (D.state refused.disk)) }
+    {
+        let Some(layout) = Layout::new(disk.size()) else {
+            return Err(Refused {
+                refusal: Refusal::BadSuper,
+                disk,
+            });
+        };
+        let slots = match LockMap::new(alloc) {
+            Ok(slots) => slots,
+            Err(refusal) => return Err(Refused { refusal, disk }),
+        };
+        // Nothing but the core's opening can be refused from here on, so a refusal leaves the book as it was.
+        let (core, start) = SharedCore::open(alloc, book, disk, rule)?;
+        Ok(Journal {
+            layout,
+            slots,
+            core,
+            start,
+        })
+    }
+
+    /// A session of a number that no session had before and that the history has no commit of. It has seen the
+    /// whole history, which goes on from the journal's opening. It takes no memory.
+    ///
+    /// Answers J11 `Worn` where the number would reach 2^62.
+    pub fn session<W: Wait>(&self, rt: &W) -> Result<Session<'b, J, R>, Why<'b, J, R>>
+        ensures made { IfOk result (λ session. made session ≡ 0) }
+        ensures exact { IfOk result IsExact }
+        ensures start { IfOk result (λ session. IsPrefix self.now.start session.seen) }
+        ensures known { IfOk result (λ session. IsKnown R.statement J.blocks session.seen) }
+        ensures refusal { IfErr result IsSessionRefusal }
+    {
+        let session = self.core.session(rt)?;
+        self.begins(&session);
+        Ok(session)
+    }
+
+    // It tells the proof that what a session has seen begins with the journal's opening, as both are of one
+    // history, and what is known of it.
+    fn begins(&self, session: &Session<'b, J, R>)
+        ensures start { IsPrefix self.now.start session.now.seen }
+        ensures known { IsKnown R.statement J.blocks session.now.seen }
+    {
+        let _seen = session.seen();
+        let mut start = self.start.again();
+        start.see(&session.front());
+    }
+
+    /// A transaction that has done nothing yet, after all of the history as it is now, which the session has
+    /// then seen. It must be ended, by `commit`, `try_commit` or `abort`, and a commit is under this session.
+    /// It waits for nobody and takes no memory.
+    pub fn begin<'j>(
+        &'j self,
+        alloc: Global,
+        session: &mut Session<'b, J, R>,
+    ) -> Txn<'j, 'b, D, R, J>
+        ensures session { OnlyExtends session.old session.new }
+        ensures begun { result ≡ begun session.new.seen }
+    {
+        session.observe();
+        Txn::new(self, alloc, session)
+    }
+
+    /// Does the next thing of the logger, as `Core::log_step` says, with at most one device call that changes
+    /// the disk. It is idle where there is nothing to log and to mark.
+    ///
+    /// Answers J6 `DeviceFailed` where the device failed in this call or before, J9 `Stale` where the history is
+    /// longer than the core's, J11 `Worn` where its length would reach 2^62, and J1 `NoMemory` where memory is
+    /// refused.
+    pub fn log_step<W: Wait>(&self, rt: &W) -> Result<Step, Why<'b, J, R>>
+        ensures { IfErr result IsLogRefusal }
+    {
+        self.core.log_step(rt)
+    }
+
+    /// Does the next thing of the installer, as `Core::install_step` says, with at most one device call that
+    /// changes the disk. It is idle where nothing is logged that is not at home.
+    ///
+    /// Answers J6 `DeviceFailed` where the device failed in this call or before, and J1 `NoMemory` where memory
+    /// is refused.
+    pub fn install_step<W: Wait>(&self, rt: &W) -> Result<Step, Why<'b, J, R>>
+        ensures { IfErr result IsInstallRefusal }
+    {
+        self.core.install_step(rt)
+    }
+
+    /// The numbers of commits and of marks, and where the log on the disk lies.
+    pub fn stat<W: Wait>(&self, rt: &W) -> Stat {
+        self.core.stat(rt)
+    }
+
+    /// Ends the journal, and gives the disk up as it is. The session has then seen the whole history, and each
+    /// image that a crash may leave of the disk opens as the map after a front of it that has every marked
+    /// commit.
+    ///
+    /// Answers J9 `Stale` where the session had seen more of the history than the core, and nothing else. The
+    /// disk is then given up too.
+    pub fn close(self, session: &mut Session<'b, J, R>) -> Result<D, Refused<D, Cause<'b, J, R>>>
+        ensures session { OnlyExtends session.old session.new }
+        ensures trusted { IfOk result (λ disk. is_trusted session.new.seen ≡ (D.state disk).honest) }
+        ensures images { IfOk result (λ disk. IsTrue (D.state disk).honest → EveryImage (D.state disk).past (Leaves session.new.seen)) }
+        ensures refusal { IfErr result (λ refused. IsCloseRefusal refused.refusal) }
+    {
+        let Journal {
+            layout: _,
+            slots: _,
+            core,
+            start: _,
+        } = self;
+        core.close(session)
+    }
+}
+
+impl<'b, R: MapRule, J: Naming> Journal<'b, MemDisk, R, J> {
+    /// Copies a block of the disk as a read of it would. It is no device call.
+    pub fn inspect<W: Wait>(&self, rt: &W, block: u64, into: &mut Block)
+        requires { block < J.blocks }
+    {
+        self.core.inspect(rt, block, into);
+    }
+
+    /// Each block that has pending writes and their number, blocks ascending.
+    ///
+    /// Answers J1 `NoMemory`, and nothing else, where memory for the list is refused.
+    pub fn pending<W: Wait>(&self, rt: &W) -> Result<Vec<(u64, u64)>, Why<'b, J, R>>
+        ensures { IsOkUnless result Refusal.NoMemory }
+    {
+        self.core.pending(rt)
+    }
+
+    /// Makes the k-th device call from now on fail.
+    pub fn fail_in<W: Wait>(&self, rt: &W, k: u64) {
+        self.core.fail_in(rt, k);
+    }
+}

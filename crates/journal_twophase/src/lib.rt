@@ -1,0 +1,27 @@
+//! The journal that threads share, and its transactions.
+//!
+//! A transaction is two-phase: it takes the slot of each address that it reads or overwrites, keeps all its
+//! slots until it ends, and gives them up then. So transactions of disjoint slots go on side by side, and
+//! others wait for one another. Slots are waited for in ascending order only, and a lower one is tried once,
+//! so no two transactions wait for each other.
+//!
+//! The core stands under a lock, which a thread holds for one step: a read, a commit, a step of the logger or
+//! of the installer. Nothing can be said outside of what lies under a lock, so clients know the journal by
+//! histories: the journal shows the one at its opening, a session what it has seen, a receipt where a commit
+//! stands, and an open transaction one at whose end all that it read is what the map gives. What they tell
+//! stays true, since the history only grows.
+//!
+//! `specs/` has what each call does and why it is refused.
+#![tactic(auto)]
+
+mod commit;
+mod journal;
+mod shared;
+mod txn;
+
+pub use journal::Journal;
+pub use shared::Why;
+pub use txn::Txn;
+
+#[cfg(test)]
+mod tests;

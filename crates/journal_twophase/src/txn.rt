@@ -1,0 +1,275 @@
+// Open transactions.
+ghost use Rattle.std.specs.Prelude.{◌≡◌, ◌⊎◌, ◌<◌, [], ◌∷◌, ◌++◌, ℕ, List, None, IsTrue, IfSome, IfOk, IfErr, OnOk, OnErr, IsOkUnless, option_copied, if◌then◌else◌};
+ghost use mathlib.Core.List.{IsPrefix};
+ghost use Rattle.journal_world.specs.declared.address.TheConstants.{SLOTS as SLOT_COUNT};
+ghost use Rattle.journal_world.specs.declared.refusal.Refusal.TheVariants.{DeviceFailed};
+ghost use Rattle.journal_world.specs.Addresses.{is_valid};
+ghost use Rattle.journal_world.specs.Maps.{is_object, value_among, Agrees};
+ghost use Rattle.journal_world.specs.Histories.{is_trusted, latest};
+ghost use Rattle.journal_twophase.specs.Transactions.{TxnState, core_of, begun, holding, holds, holds_above, with_slot, Reads, Overwrites, IsSlotRefusal, IsLookRefusal, IsReadRefusal, IsOverwriteRefusal};
+
+use crate::journal::Journal;
+use crate::shared::Why;
+use journal_core::Transaction;
+use journal_disk::BlockDisk;
+use journal_history::{Front, Naming, Session};
+use journal_lockmap::{Held, LockMap};
+use journal_world::{Addr, MapRule, Refusal, Value, slot_of};
+use std::alloc::{AllocFailed, Global};
+use std::marker::Model;
+use std::sync::Wait;
+
+/// An open transaction. Contracts see what its session had seen when it began, what it has read and
+/// overwritten, a history at whose end all that it read is what the map gives, and the slots that it holds.
+///
+/// It must be ended, by `commit`, `try_commit` or `abort`: it can't be dropped.
+#[must_use]
+pub struct Txn<'j, 'b, D: BlockDisk, R: MapRule, J: Naming> {
+    pub(crate) journal: &'j Journal<'b, D, R, J>,
+    alloc: Global,
+    began: Front<'b, J, R>,
+    pub(crate) transaction: Transaction<'b, J, R>,
+    held: Vec<Held>,
+}
+
+impl<'j, 'b, D: BlockDisk, R: MapRule, J: Naming> Model for Txn<'j, 'b, D, R, J> {
+    ghost use mathlib.Core.List.{IsPrefix};
+    ghost use Rattle.journal_twophase.specs.Transactions.{TxnState};
+
+    ghost Value = { TxnState };
+
+    ghost view = { λ t. record {
+      began = t.began;
+      reads = t.transaction.reads;
+      writes = t.transaction.writes;
+      seen = t.transaction.seen;
+      held = t.held.items;
+    } };
+
+    ghost invariant = { λ t. IsPrefix t.began t.transaction.seen };
+}
+
+impl<'j, 'b, D: BlockDisk, R: MapRule, J: Naming> Txn<'j, 'b, D, R, J> {
+    // One that has done nothing yet, after all that the session has seen.
+    pub(crate) fn new(
+        journal: &'j Journal<'b, D, R, J>,
+        alloc: Global,
+        session: &Session<'b, J, R>,
+    ) -> Txn<'j, 'b, D, R, J>
+        ensures { result ≡ begun session.now.seen }
+    {
+        Txn {
+            journal,
+            alloc,
+            began: session.front(),
+            transaction: Transaction::begin(alloc, session),
+            held: Vec::new(alloc),
+        }
+    }
+
+    /// The history that it has seen last, which goes on from the one at its beginning. All that it has read is
+    /// what the map gives at the end of it, whether the transaction is committed later or not.
+    pub fn front(&self) -> &Front<'b, J, R>
+        ensures seen { result.now ≡ self.now.seen }
+        ensures began { IsPrefix self.now.began self.now.seen }
+        ensures agrees { IsTrue (is_trusted self.now.seen) → Agrees (latest self.now.seen) self.now.reads }
+    {
+        self.transaction.front()
+    }
+
+    /// The address's value: the transaction's own, where it has overwritten it, else what the map gives, which
+    /// it remembers. It takes the address's slot: it waits for one that is greater than all that it holds, and
+    /// tries a lower one once. All that it has read is what the map gives at the end of one history, which it
+    /// has then seen.
+    ///
+    /// The first that applies of these refuses it: J6 `DeviceFailed` where the device failed before, J2
+    /// `BadAddress` where the address is not valid, J5 `Busy` where another holds the slot and this transaction
+    /// a greater one, J9 `Stale` where the transaction has seen more of the history than the core, J10 `Stranger`
+    /// where a commit touched a slot under which the transaction had read, then J1 `NoMemory` where memory is
+    /// refused, or J6 where the device fails in this call. The transaction is then as it was, with the slots
+    /// that it held.
+    pub fn read<W: Wait>(&mut self, rt: &W, addr: Addr) -> Result<Value, Why<'b, J, R>>
+        ensures reads { IfOk result (λ value. Reads (holding self.old addr) addr value self.new) }
+        ensures object { IfOk result (λ value. IsTrue (is_object J.blocks (addr, value))) }
+        ensures agrees { OnOk result (IsTrue (is_trusted self.new.seen) → Agrees (latest self.new.seen) self.new.reads) }
+        ensures refusal { IfErr result (IsReadRefusal J.blocks self.old addr) }
+        ensures same { OnErr result (self.new ≡ self.old) }
+    {
+        let journal = self.journal;
+        if !journal.layout.is_valid(addr) {
+            return Err(self.refused(rt, Refusal::BadAddress));
+        }
+        let took = match self.take(rt, slot_of(addr)) {
+            Ok(took) => took,
+            Err(refusal) => return Err(self.refused(rt, refusal)),
+        };
+        let answer = self.look_up(rt, addr);
+        if answer.is_err() {
+            self.give_back(rt, took);
+        }
+        // It tells the proof that all that was read is what one map gives.
+        let _front = self.front();
+        answer
+    }
+
+    // The refusal of a read that the core was not asked for. An earlier fault comes before it.
+    fn refused<W: Wait>(&self, rt: &W, refusal: Why<'b, J, R>) -> Why<'b, J, R>
+        ensures { (result ≡ refusal.entry) ⊎ (result ≡ DeviceFailed None) }
+    {
+        let journal = self.journal;
+        match journal.core.check_fault(rt) {
+            Ok(()) => refusal,
+            Err(fault) => fault,
+        }
+    }
+
+    // Its own overwrite, else what the map gives, which it remembers. An earlier fault comes before both, and
+    // the core asks for it where the map is asked.
+    fn look_up<W: Wait>(&mut self, rt: &W, addr: Addr) -> Result<Value, Why<'b, J, R>>
+        requires valid { IsTrue (is_valid J.blocks addr) }
+        ensures reads { IfOk result (λ value. Reads self.old addr value self.new) }
+        ensures object { IfOk result (λ value. IsTrue (is_object J.blocks (addr, value))) }
+        ensures refusal { IfErr result (IsLookRefusal (core_of self.old)) }
+        ensures same { OnErr result (self.new ≡ self.old) }
+    {
+        let journal = self.journal;
+        if let Some(own) = self.own(addr) {
+            journal.core.check_fault(rt)?;
+            return Ok(own.clone()?);
+        }
+        journal.core.read(rt, &mut self.transaction, addr)
+    }
+
+    // What it gave the address, if it has overwritten it.
+    fn own(&self, addr: Addr) -> Option<&Value>
+        ensures own { option_copied result ≡ value_among self.now.writes addr }
+        ensures object { IfSome (option_copied result) (λ value. IsTrue (is_object J.blocks (addr, value))) }
+    {
+        // It tells the proof that what it overwrites are objects.
+        let _front = self.transaction.front();
+        self.transaction.own(addr)
+    }
+
+    /// Overwrites the address, in this transaction alone until it is committed. It takes the address's slot, as
+    /// `read` does. It does not ask the device, and goes on where that failed.
+    ///
+    /// The first that applies of these refuses it: J2 `BadAddress` where the address is not valid, J3 `BadSize`
+    /// where the bytes are no value of its kind, J5 `Busy` where another holds the slot and this transaction a
+    /// greater one, then J1 `NoMemory` where memory is refused. The transaction is then as it was, with the
+    /// slots that it held.
+    pub fn overwrite<W: Wait>(
+        &mut self,
+        rt: &W,
+        addr: Addr,
+        bytes: &[u8],
+    ) -> Result<(), Why<'b, J, R>>
+        ensures overwrites { OnOk result (Overwrites (holding self.old addr) addr bytes.now self.new) }
+        ensures object { OnOk result (IsTrue (is_object J.blocks (addr, bytes.now))) }
+        ensures refusal { IfErr result (IsOverwriteRefusal J.blocks self.old addr bytes.now) }
+        ensures same { OnErr result (self.new ≡ self.old) }
+    {
+        let journal = self.journal;
+        let layout = journal.layout;
+        if !layout.is_valid(addr) {
+            return Err(Refusal::BadAddress);
+        }
+        if !layout
+            .kind(addr.block)
+            .is_some_and(|kind| kind.admits(bytes))
+        {
+            return Err(Refusal::BadSize);
+        }
+        let took = self.take(rt, slot_of(addr))?;
+        let answer = self.remember(addr, bytes);
+        if answer.is_err() {
+            self.give_back(rt, took);
+        }
+        answer
+    }
+
+    // Remembers what is to be written.
+    fn remember(&mut self, addr: Addr, bytes: &[u8]) -> Result<(), Why<'b, J, R>>
+        requires object { IsTrue (is_object J.blocks (addr, bytes.now)) }
+        ensures overwrites { OnOk result (Overwrites self.old addr bytes.now self.new) }
+        ensures refusal { IsOkUnless result Refusal.NoMemory }
+        ensures same { OnErr result (self.new ≡ self.old) }
+    {
+        let value = Value::new(bytes.to_vec(self.alloc)?);
+        self.transaction.overwrite(addr, value)?;
+        Ok(())
+    }
+
+    // Takes the slot, and says whether the transaction did not hold it already.
+    fn take<W: Wait>(&mut self, rt: &W, slot: u16) -> Result<bool, Why<'b, J, R>>
+        requires in_range { slot < SLOT_COUNT }
+        ensures taken { OnOk result (self.new ≡ record self.old { held = with_slot self.old.held slot }) }
+        ensures took { IfOk result (λ took. self.new.held ≡ (if took then self.old.held ++ slot ∷ [] else self.old.held)) }
+        ensures refusal { IfErr result (IsSlotRefusal self.old.held slot) }
+        ensures same { OnErr result (self.new ≡ self.old) }
+    {
+        if self.holds(slot) {
+            return Ok(false);
+        }
+        let journal = self.journal;
+        let held = if self.holds_above(slot) {
+            journal.slots.try_acquire(rt, slot)?
+        } else {
+            journal.slots.acquire(rt, slot)
+        };
+        match self.held.push(held) {
+            Ok(()) => Ok(true),
+            Err(AllocFailed { value: held }) => {
+                journal.slots.release(rt, held);
+                Err(Refusal::NoMemory)
+            }
+        }
+    }
+
+    // Whether it holds the slot.
+    fn holds(&self, slot: u16) -> bool
+        ensures { result ≡ holds self.now.held slot }
+    {
+        self.held.iter().any(|held| held.slot() == slot)
+    }
+
+    // Whether it holds a greater one.
+    fn holds_above(&self, slot: u16) -> bool
+        ensures { result ≡ holds_above self.now.held slot }
+    {
+        self.held.iter().any(|held| held.slot() > slot)
+    }
+
+    // Gives back the slot that a refused call took, where it took one.
+    fn give_back<W: Wait>(&mut self, rt: &W, took: bool)
+        ensures { (t : TxnState) (slot : ℕ) → self.old ≡ record t { held = (if took then t.held ++ slot ∷ [] else t.held) } → self.new ≡ t }
+    {
+        if !took {
+            return;
+        }
+        let journal = self.journal;
+        if let Some(held) = self.held.pop() {
+            journal.slots.release(rt, held);
+        }
+    }
+
+    /// Gives the transaction up, with its slots. It takes no memory.
+    pub fn abort<W: Wait>(self, rt: &W) {
+        let Txn {
+            journal,
+            alloc: _,
+            began: _,
+            transaction: _,
+            held,
+        } = self;
+        release_all(rt, &journal.slots, held);
+    }
+}
+
+// Gives all these slots back.
+fn release_all<W: Wait>(rt: &W, slots: &LockMap, held: Vec<Held>) {
+    let mut held = held;
+    while let Some(last) = held.pop() {
+        slots.release(rt, last);
+    }
+    held.destroy_empty();
+}

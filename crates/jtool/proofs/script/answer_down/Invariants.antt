@@ -1,6 +1,0 @@
-use Rattle.jtool.specs.Mounts.{IsAtRest}
-use Rattle.jtool.proofs.script.answer_down.Given as goal
-
--- nothing is pending
-abbrev pub invariant-loop : goal.invariant-loop
-invariant-loop g l = IsAtRest l.fn.layout.blocks l.disk.past

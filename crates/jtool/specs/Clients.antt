@@ -1,0 +1,126 @@
+-- What a command does to the client of an open journal, and what it is answered.
+use Rattle.std.specs.Prelude.{ℕ, ◌≡◌, ◌⊎◌, ◌-◌, ◌^◌, false, true, List, [], replicate, Option, Some, None, Result, Ok, Err, IsSome, MatchOption}
+use Rattle.std.specs.declared.ops.ControlFlow.{ControlFlow}
+use Rattle.std.specs.declared.ops.ControlFlow.TheVariants.{Continue, Break}
+use Rattle.journal_world.specs.declared.address.Addr.{Addr}
+use Rattle.journal_world.specs.declared.refusal.Refusal.{Refusal}
+use Rattle.journal_world.specs.Addresses.{Value}
+use Rattle.journal_history.specs.Tokens.{SessionState, CommitPlace, OnlyExtends}
+use Rattle.journal_core.specs.Causes.{Told}
+use Rattle.journal_twophase.specs.Transactions.{TxnState, core_of, begun, holding, Reads, Overwrites}
+use Rattle.journal_twophase.specs.Commits.{IsCommitted, IsTryRefusal}
+use Rattle.jtool.specs.declared.command.Command.{Command}
+use Rattle.jtool.specs.declared.command.Command.TheVariants as commands
+use Rattle.jtool.specs.declared.command.Choice.{Choice}
+use Rattle.jtool.specs.declared.command.Choice.TheVariants as choices
+use Rattle.jtool.specs.declared.answer.Answer.{Answer}
+use Rattle.jtool.specs.declared.answer.Answer.TheVariants as answers
+use Rattle.jtool.specs.declared.client.Crash.{Crash}
+use Rattle.jtool.specs.Answers.{to_no_command}
+use Rattle.jtool.specs.Commands.{LineSays}
+use Rattle.jtool.specs.Transcripts.{IsAnswerTo}
+
+-- The session, and the transaction that is open
+pub record ClientState : Type 0 where
+  pub session : SessionState
+  pub txn : Option TxnState
+
+-- the transaction that a line finds: the open one, or one that begins, after all that the session has then seen
+abbrev pub Finds : ClientState → TxnState → SessionState → Type 0
+Finds old t session = MatchOption old.txn
+    (OnlyExtends old.session session × (t ≡ begun session.seen))
+    (λ found. (t ≡ found) × (session ≡ old.session))
+
+-- The transaction overwrites the address
+pub record Puts (old : ClientState) (a : Addr) (v : Value) (new : ClientState) : Type 0 where
+  pub found : TxnState
+  pub finds : Finds old found new.session
+  pub left : TxnState
+  pub is_open : new.txn ≡ Some left
+  pub overwrites : Overwrites (holding found a) a v left
+
+-- The transaction is told the value: its own overwrite, where there is one, else what the map gives
+pub record Gets (old : ClientState) (a : Addr) (v : Value) (new : ClientState) : Type 0 where
+  pub found : TxnState
+  pub finds : Finds old found new.session
+  pub left : TxnState
+  pub is_open : new.txn ≡ Some left
+  pub reads : Reads (holding found a) a v left
+
+-- The transaction is open, as it was
+pub record KeepsOpen (old : ClientState) (why : TxnState → Type 0) (new : ClientState) : Type 0 where
+  pub found : TxnState
+  pub finds : Finds old found new.session
+  pub is_open : new.txn ≡ Some found
+  pub refused : why found
+
+-- The transaction was committed, and the answer is the receipt's count
+pub record Commits (t : TxnState) (old : ClientState) (n : ℕ) (new : ClientState) : Type 0 where
+  pub receipt : CommitPlace
+  pub blocks : ℕ
+  pub committed : IsCommitted (λ m. Unit {0}) blocks t.began (core_of t) old.session new.session receipt
+  pub counted : n ≡ receipt.count
+  pub ended : new.txn ≡ None
+
+-- It was refused, and is ended
+pub record RefusesCommit (t : TxnState) (old : ClientState) (why : Refusal Told) (new : ClientState) : Type 0 where
+  pub refused : IsTryRefusal (core_of t) old.session why
+  pub session : OnlyExtends old.session new.session
+  pub ended : new.txn ≡ None
+
+-- what a commit answers, and does to the open transaction
+abbrev pub CommitsOpen : ClientState → Result Answer (Refusal Told) → ClientState → Type 0
+CommitsOpen old (Ok (answers.Committed n)) new = MatchOption old.txn ⊥ (λ t. Commits t old n new)
+CommitsOpen old (Ok answers.NoTransaction) new = (old.txn ≡ None) × (new ≡ old)
+CommitsOpen old (Ok answer) new = ⊥
+CommitsOpen old (Err why) new = MatchOption old.txn ⊥ (λ t. RefusesCommit t old why new)
+
+-- a transaction that is no longer open left the session at least as it was
+abbrev pub EndsOpen : ClientState → ClientState → Type 0
+EndsOpen old new = IsSome old.txn × (new.txn ≡ None) × OnlyExtends old.session new.session
+
+-- What a command is answered, and leaves. `put` and `get` begin a transaction where none is open, also where they are refused
+abbrev pub Obeys : ClientState → Command → Answer → ClientState → Type 0
+Obeys old (commands.Put a v) answers.Done new = Puts old a v.now new
+Obeys old (commands.Put a v) answer new = KeepsOpen old (λ _. Unit {0}) new
+Obeys old (commands.Get a) (answers.Value v) new = Gets old a v new
+Obeys old (commands.Get a) answer new = KeepsOpen old (λ _. Unit {0}) new
+Obeys old commands.Commit (answers.Committed n) new = MatchOption old.txn ⊥ (λ t. Commits t old n new)
+Obeys old commands.Commit answers.NoTransaction new = (old.txn ≡ None) × (new ≡ old)
+Obeys old commands.Commit answer new = EndsOpen old new
+Obeys old commands.Abort answers.Done new = IsSome old.txn × (new ≡ record old { txn = None })
+Obeys old commands.Abort answer new = (answer ≡ answers.NoTransaction) × (old.txn ≡ None) × (new ≡ old)
+Obeys old command answer new = new ≡ old
+
+-- It is an answer to the command, which is so obeyed
+abbrev pub Does : ClientState → Command → Answer → ClientState → Type 0
+Does old command answer new = IsAnswerTo command answer × Obeys old command answer new
+
+-- The numbers choose the image: 0 for each block, the last write of each, or what the line lists
+abbrev pub IsChosen : Choice → List ℕ → Type 0
+IsChosen choices.Stable numbers = numbers ≡ []
+IsChosen choices.Last numbers = (blocks : ℕ) × (numbers ≡ replicate blocks (2 ^ 32 - 1))
+IsChosen (choices.Listed listed) numbers = numbers ≡ listed.now
+
+-- The command is obeyed and answered, or ends the journal by the crash that it names
+abbrev pub Replies : ClientState → Command → ControlFlow Crash Answer → ClientState → Type 0
+Replies old command (Continue answer) new = Does old command answer new
+Replies old (commands.Down choice) (Break crash) new = IsChosen choice crash.numbers.items × (crash.opens ≡ false) × (new ≡ old)
+Replies old (commands.Crash choice) (Break crash) new = IsChosen choice crash.numbers.items × (crash.opens ≡ true) × (new ≡ old)
+Replies old command (Break crash) new = ⊥
+
+-- The line says a command, which is replied to so; or it says none, which changes nothing
+abbrev pub Answers : ClientState → List ℕ → ControlFlow Crash Answer → ClientState → Type 0
+Answers old line reply new =
+    ((command : Command) × LineSays line command × Replies old command reply new)
+    ⊎ (((command : Command) → LineSays line command → ⊥) × (reply ≡ Continue (to_no_command line)) × (new ≡ old))
+
+-- what is answered goes on
+abbrev pub GoesOn : {C : Type 0} → Result Answer (Refusal C) → ControlFlow Crash Answer → Type 0
+GoesOn (Ok answer) flow = flow ≡ Continue answer
+GoesOn (Err why) flow = (told : Refusal (Unit {0})) × (flow ≡ Continue (answers.Refused told))
+
+-- a crash ends the journal, unless it is refused
+abbrev pub Ends : {C : Type 0} → Result Crash (Refusal C) → ControlFlow Crash Answer → Type 0
+Ends (Ok crash) flow = flow ≡ Break crash
+Ends (Err why) flow = (told : Refusal (Unit {0})) × (flow ≡ Continue (answers.Refused told))
