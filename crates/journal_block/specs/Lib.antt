@@ -2,3 +2,4 @@ pub mod Block
 pub mod Lending
 pub mod Updates
 pub mod UpdateLaws
+pub mod BlockLaws

@@ -41,6 +41,18 @@ impl Block {
         Ok(Block { bytes })
     }
 
+    /// A block with the bytes of another.
+    ///
+    /// Answers J1 `NoMemory`, and nothing else, where memory for its bytes is refused.
+    pub fn copied_from<C>(alloc: Global, other: &Block) -> Result<Block, Refusal<C>>
+        ensures contents { IfOk result (λ block. block ≡ other.now) }
+        ensures size { IfOk result (λ block. length block ≡ BLOCK_BYTES) }
+        ensures refusal { IsOkUnless result Refusal.NoMemory }
+    {
+        let bytes = other.as_bytes().to_vec(alloc)?;
+        Ok(Block { bytes })
+    }
+
     /// The bytes, lent.
     pub fn as_bytes(&self) -> &[u8]
         ensures contents { result.now ≡ self.now }

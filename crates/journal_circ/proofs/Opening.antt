@@ -30,9 +30,9 @@ sound p settled large = record {
   homes = λ (no : false ≡ true). let impossible : ⊥ = cc in absurd impossible;
 }
 
-module _ (d d2 : DiskState) (h front : Bytes) (f : Bool) (large : 532 ≤ d.past.size) (settled : IsTrue d.honest → IsSettled d.past) (keeps : Keeps d d2)
-    (same : IsTrue d.honest → d2.past ≡ d.past) (h_is : IsTrue d.honest → h ≡ read_of d.past 0) (front_is : IsTrue d.honest → front ≡ read_of d.past 1) (log : IsLog h front d.past.size) where
-  in_order : IsInOrder (record { disk = d2; header = h; marks = resting (number_at front) (number_at h); next = number_at h; faulted = f })
+module _ (d d2 : DiskState) (h : Bytes) (start : ℕ) (f : Bool) (large : 532 ≤ d.past.size) (settled : IsTrue d.honest → IsSettled d.past) (keeps : Keeps d d2)
+    (same : IsTrue d.honest → d2.past ≡ d.past) (h_is : IsTrue d.honest → h ≡ read_of d.past 0) (start_is : IsTrue d.honest → start ≡ number_at (read_of d.past 1)) (log : IsLog h start d.past.size) where
+  in_order : IsInOrder (record { disk = d2; header = h; marks = resting start (number_at h); next = number_at h; faulted = f })
   in_order = record {
     bounds = record {
       large = omega (arith, large, keeps.size);
@@ -46,17 +46,17 @@ module _ (d d2 : DiskState) (h front : Bytes) (f : Bool) (large : 532 ≤ d.past
       addresses = λ q ge lt. subst (λ (n : ℕ). (513 ≤ address h q) × (address h q < n)) (sym keeps.size) (log.addresses q ge lt);
     };
     sound = λ honest. let was = subst IsTrue keeps.honest honest in
-        subst (λ (p : Past). Sound p h (resting (number_at front) (number_at h))) (sym (same was))
-        (subst (λ (x : Bytes). Sound d.past x (resting (number_at front) (number_at x))) (sym (h_is was))
-        (subst (λ (x : Bytes). Sound d.past (read_of d.past 0) (resting (number_at x) (number_at (read_of d.past 0)))) (sym (front_is was))
+        subst (λ (p : Past). Sound p h (resting start (number_at h))) (sym (same was))
+        (subst (λ (x : Bytes). Sound d.past x (resting start (number_at x))) (sym (h_is was))
+        (subst (λ (n : ℕ). Sound d.past (read_of d.past 0) (resting n (number_at (read_of d.past 0)))) (sym (start_is was))
         (sound d.past (settled was) (omega (arith, large)))));
     headers = λ honest good. let was = subst IsTrue keeps.honest honest in record {
       end = ap (λ (p : Past). number_at (read_of p 0)) (same was) ∙ ap number_at (sym (h_is was));
-      start = ap (λ (p : Past). number_at (read_of p 1)) (same was) ∙ ap number_at (sym (front_is was));
+      start = ap (λ (p : Past). number_at (read_of p 1)) (same was) ∙ sym (start_is was);
     };
   }
 
-  pub opened : (m : Marks) → m ≡ resting (number_at front) (number_at h) → IsInOrder (record { disk = d2; header = h; marks = m; next = m.end; faulted = f })
+  pub opened : (m : Marks) → m ≡ resting start (number_at h) → IsInOrder (record { disk = d2; header = h; marks = m; next = m.end; faulted = f })
   opened m is = subst (λ (k : Marks). IsInOrder (record { disk = d2; header = h; marks = k; next = k.end; faulted = f })) (sym is) in_order
 
 -- where nothing is in flight each image stands for the same

@@ -2,7 +2,9 @@
 use Rattle.std.specs.Prelude.{ℕ, ◌<◌, ◌≤◌, ◌+◌, ◌-◌, ◌*◌, ◌%◌, ◌^◌, List, length, map}
 use Rattle.std.specs.List.{range_with_len}
 use Rattle.journal_block.specs.declared.update.Update.{Update}
-use Rattle.journal_block.specs.Block.{Bytes, u64_at}
+use Rattle.journal_world.specs.declared.address.Kind.TheVariants.{Block}
+use Rattle.journal_world.specs.Addresses.{zeros_of}
+use Rattle.journal_block.specs.Block.{Bytes, with_bytes, u64_bytes, u64_at}
 use Rattle.journal_block.specs.Updates.{Content}
 use Rattle.journal_disk.specs.Disks.{block_at}
 
@@ -17,6 +19,17 @@ address_at p = 8 + 8 * (p % 511)
 -- the address that block 0 has for a position
 abbrev pub address : Bytes → ℕ → ℕ
 address header p = u64_at header (address_at p)
+
+-- block 0 with another end, and with the address of a position
+abbrev pub with_end : Bytes → ℕ → Bytes
+with_end header end = with_bytes header 0 (u64_bytes end)
+
+abbrev pub with_address : Bytes → ℕ → ℕ → Bytes
+with_address header p block = with_bytes header (address_at p) (u64_bytes block)
+
+-- block 1 as the log writes it: the start, and zeros
+abbrev pub start_block : ℕ → Bytes
+start_block start = with_bytes (zeros_of Block) 0 (u64_bytes start)
 
 -- the update of a position, where block 0 and the log blocks are these
 abbrev pub update_at : Bytes → Content → ℕ → Update
@@ -37,12 +50,12 @@ start_of image = u64_at (block_at image 1) 0
 abbrev pub log_in : List Bytes → List Update
 log_in image = updates_from (block_at image 0) (block_at image) (start_of image) (end_of image - start_of image)
 
--- Blocks 0 and 1 describe a log on a disk of n blocks
-pub record IsLog (header front : Bytes) (n : ℕ) : Type 0 where
-  pub ordered : u64_at front 0 ≤ u64_at header 0
-  pub fits : u64_at header 0 ≤ u64_at front 0 + 511
+-- Block 0 describes a log that begins at the position, on a disk of n blocks
+pub record IsLog (header : Bytes) (start n : ℕ) : Type 0 where
+  pub ordered : start ≤ u64_at header 0
+  pub fits : u64_at header 0 ≤ start + 511
   pub small : u64_at header 0 < 2 ^ 62
-  pub addresses : (p : ℕ) → u64_at front 0 ≤ p → p < u64_at header 0 → (513 ≤ address header p) × (address header p < n)
+  pub addresses : (p : ℕ) → start ≤ p → p < u64_at header 0 → (513 ≤ address header p) × (address header p < n)
 
 abbrev pub IsWellFormed : List Bytes → Type 0
-IsWellFormed image = IsLog (block_at image 0) (block_at image 1) (length image)
+IsWellFormed image = IsLog (block_at image 0) (start_of image) (length image)

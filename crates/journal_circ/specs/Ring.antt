@@ -5,7 +5,7 @@ use Rattle.journal_world.specs.declared.refusal.Refusal.TheVariants.{NoMemory, D
 use Rattle.journal_block.specs.declared.update.Update.{Update}
 use Rattle.journal_block.specs.Block.{Bytes, u64_at}
 use Rattle.journal_block.specs.Updates.{Content, with_updates, updates_block}
-use Rattle.journal_disk.specs.Disks.{DiskState, Keeps, HasFailed, read_of}
+use Rattle.journal_disk.specs.Disks.{Event, DiskState, Keeps, HasFailed, read_of, past_after, MayHaveHappened}
 use Rattle.journal_disk.specs.Images.{EveryImage, reading}
 use Rattle.journal_disk.specs.Moments.{LeavesOnly}
 use Rattle.journal_circ.specs.declared.marks.Marks.{Marks}
@@ -65,6 +65,14 @@ pub record Steps (coming : ℕ) (old new : Ring) : Type 0 where
   pub keeps : Keeps old.disk new.disk
   pub moments : IsTrue old.disk.honest → LeavesOnly old.disk.past new.disk.past (StandsForEither old old.marks.end coming)
   pub images : IsTrue new.disk.honest → EveryImage new.disk.past (StandsForEither new new.marks.end new.marks.coming)
+
+-- What a step did to an honest disk: this happened to it, and nothing else
+abbrev pub Happens : Event → DiskState → DiskState → Type 0
+Happens event old new = IsTrue old.honest → new.past ≡ past_after event old.past
+
+-- this may have happened to it, and nothing else
+abbrev pub MayHappen : Event → DiskState → DiskState → Type 0
+MayHappen event old new = IsTrue old.honest → MayHaveHappened event old.past new.past
 
 -- J6, where a call had failed before, or the device failed in this one
 abbrev pub IsFault : Bool → DiskState → DiskState → Refusal Unit → Type 0

@@ -10,11 +10,15 @@ use crate::marks::Marks;
 use journal_block::Block;
 use journal_disk::{BlockDisk, MemDisk};
 use journal_world::Refusal;
+use start_block::StartBlock;
 use std::marker::Model;
 
 pub mod installer;
 pub mod logger;
 mod opening;
+mod start_block;
+
+pub use opening::Opened;
 
 /// A disk with its circular log.
 ///
@@ -27,8 +31,8 @@ pub struct Circ<D: BlockDisk> {
     device: FailStop<D>,
     // Block 0 as the next group has it.
     header: Block,
-    // Block 1 as it is put next, but for its start.
-    front: Block,
+    // Block 1 as it was put last.
+    start_block: StartBlock,
     marks: Marks,
     // The position that is put next.
     next: u64,

@@ -8,8 +8,8 @@ pub const LOG_POSITIONS: u64 = 511;
 pub const FIRST_HOME: u64 = 513;
 /// The block with the log's end and the addresses of its positions.
 pub(crate) const HEADER: u64 = 0;
-/// The block with the log's start.
-pub(crate) const FRONT: u64 = 1;
+/// The block with the log's start, and zeros.
+pub(crate) const START_BLOCK: u64 = 1;
 /// Where the end lies in block 0, and the start in block 1.
 pub(crate) const BOUND_AT: usize = 0;
 

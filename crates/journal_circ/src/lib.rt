@@ -11,9 +11,12 @@
 //! with the whole group; in between it stands for one of the two. The *installer* frees positions:
 //! `put_home` for each home block, `sync_homes`, `put_start`, `sync_start`. It changes nothing that an image
 //! stands for. The steps of the two may come in any order beside each other. Each cycle passes on a state of
-//! its own, an empty token that only the step before it makes, so a step without the barrier that it needs
-//! does not compile. What the token knows is a number of the log's, which the steps of the other cycle
-//! leave.
+//! its own, an empty token: opening the log makes the first, and only the step before makes the next. So a
+//! step without the barrier that it needs does not compile. What the token knows is a number of the log's,
+//! which the steps of the other cycle leave.
+//!
+//! Each step makes one device call, and its contract names it: an honest disk's past has that one event more,
+//! or where the call failed perhaps.
 //!
 //! Once a device call failed, no later step or read makes one: each answers J6 until the disk is opened
 //! again.
@@ -29,7 +32,7 @@ mod marks;
 #[cfg(test)]
 mod tests;
 
-pub use circ::Circ;
 pub use circ::installer::{Freed, HomesPut, HomesSynced, StartPut};
 pub use circ::logger::{EndPut, SlotsPut, SlotsSynced};
+pub use circ::{Circ, Opened};
 pub use layout::{FIRST_HOME, LOG_POSITIONS};

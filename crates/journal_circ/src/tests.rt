@@ -5,7 +5,7 @@ ghost use Rattle.std.specs.Prelude.{◌≡◌, ◌<◌, ◌+◌, [], ◌∷◌, 
 ghost use Rattle.journal_disk.specs.Disks.{IsSettled};
 ghost use Rattle.journal_circ.specs.Ring.{log_of};
 
-use crate::Circ;
+use crate::{Circ, HomesPut, Opened, SlotsPut};
 use journal_block::Block;
 use journal_disk::{BlockDisk, DiskFault, MemDisk};
 use journal_world::{MIN_BLOCKS, Refusal};
@@ -81,15 +81,15 @@ fn disk_with(
 }
 
 // Opens the log of a disk on which nothing is pending.
-fn open(rt: &impl Abort, alloc: Global, disk: MemDisk) -> Run<Circ<MemDisk>>
+fn open(rt: &impl Abort, alloc: Global, disk: MemDisk) -> Run<Opened<MemDisk>>
     requires { IsSettled disk.past }
-    ensures next { IfOk result (λ circ. circ.next ≡ circ.marks.end) }
-    ensures coming { IfOk result (λ circ. circ.marks.coming ≡ circ.marks.end) }
-    ensures freed { IfOk result (λ circ. circ.marks.freed ≡ circ.marks.start) }
+    ensures next { IfOk result (λ opened. opened.circ.next ≡ opened.circ.marks.end) }
+    ensures coming { IfOk result (λ opened. opened.circ.marks.coming ≡ opened.circ.marks.end) }
+    ensures freed { IfOk result (λ opened. opened.circ.marks.freed ≡ opened.circ.marks.start) }
 {
     assert!(rt; disk.size() >= MIN_BLOCKS);
     match Circ::open(alloc, disk) {
-        Ok(circ) => Ok(circ),
+        Ok(opened) => Ok(opened),
         Err(refused) => Err(refused.refusal),
     }
 }
@@ -127,7 +127,7 @@ fn stands(rt: &impl Abort, alloc: Global, disk: MemDisk, block: u64) -> Run<u64>
     requires { IsSettled disk.past }
 {
     let mut bytes = Block::try_new(alloc)?;
-    let mut circ = open(rt, alloc, disk)?;
+    let mut circ = open(rt, alloc, disk)?.circ;
     let number = number_with_updates(rt, &mut circ, block, &mut bytes);
     let _ = circ.into_disk();
     number
@@ -138,9 +138,10 @@ fn log_one(
     rt: &impl Abort,
     alloc: Global,
     circ: &mut Circ<MemDisk>,
+    idle: SlotsPut,
     block: u64,
     number: u64,
-) -> Run<()>
+) -> Run<SlotsPut>
     requires next { circ.old.next ≡ circ.old.marks.end }
     requires coming { circ.old.marks.coming ≡ circ.old.marks.end }
     ensures next { IfOk result (λ _. circ.new.next ≡ circ.new.marks.end) }
@@ -149,12 +150,10 @@ fn log_one(
     assert!(rt; block >= 513 && block < circ.size());
     assert!(rt; circ.end() - circ.start() < 511 && circ.end() < (1 << 62) - 1);
     let from = block_with(rt, alloc, 0, number)?;
-    let idle = circ.logger();
     let put = circ.put_slot(idle, block, &from)?;
     let synced = circ.sync_slots(put)?;
     let end = circ.put_end(synced)?;
-    circ.sync_end(end)?;
-    Ok(())
+    circ.sync_end(end)
 }
 
 // Places of blocks, each with the number there as the disk reads.
@@ -166,11 +165,11 @@ fn reads(rt: &impl Abort, alloc: Global, disk: &MemDisk, places: &[(u64, usize, 
 }
 
 // What changes on the disk where the positions come round.
-fn log_round(rt: &impl Abort, alloc: Global, circ: &mut Circ<MemDisk>) -> Run<()>
+fn log_round(rt: &impl Abort, alloc: Global, circ: &mut Circ<MemDisk>, idle: SlotsPut) -> Run<()>
     requires next { circ.old.next ≡ circ.old.marks.end }
     requires coming { circ.old.marks.coming ≡ circ.old.marks.end }
 {
-    log_one(rt, alloc, circ, 513, 7)?;
+    let idle = log_one(rt, alloc, circ, idle, 513, 7)?;
     let places = [
         (0, 0, 511),
         (0, 4088, 513),
@@ -180,7 +179,7 @@ fn log_round(rt: &impl Abort, alloc: Global, circ: &mut Circ<MemDisk>) -> Run<()
         (2, 0, 0),
     ];
     reads(rt, alloc, circ.disk(), &places)?;
-    log_one(rt, alloc, circ, 599, 8)?;
+    log_one(rt, alloc, circ, idle, 599, 8)?;
     let places = [
         (0, 0, 512),
         (0, 4088, 513),
@@ -193,8 +192,13 @@ fn log_round(rt: &impl Abort, alloc: Global, circ: &mut Circ<MemDisk>) -> Run<()
 }
 
 fn come_round(rt: &impl Abort, alloc: Global) -> Run<()> {
-    let mut circ = open(rt, alloc, disk_with(rt, alloc, 510, 510, 1, 521)?)?;
-    let ran = log_round(rt, alloc, &mut circ);
+    let disk = disk_with(rt, alloc, 510, 510, 1, 521)?;
+    let Opened {
+        mut circ,
+        logger,
+        ..
+    } = open(rt, alloc, disk)?;
+    let ran = log_round(rt, alloc, &mut circ, logger);
     let pending = circ.into_disk().pending::<()>();
     ran?;
     assert_eq!(rt; pending?.len(), 0);
@@ -261,6 +265,7 @@ fn log_with_crashes(
     rt: &impl Abort,
     alloc: Global,
     circ: &mut Circ<MemDisk>,
+    idle: SlotsPut,
     from: &Block,
 ) -> Run<()>
     requires next { circ.old.next ≡ circ.old.marks.end }
@@ -273,7 +278,6 @@ fn log_with_crashes(
         log_of circ.new ≡ record { block = 520; bytes = from.now } ∷ []) }
 {
     assert!(rt; circ.size() > 520 && circ.start() == circ.end() && circ.end() < 511);
-    let idle = circ.logger();
     let put = circ.put_slot(idle, 520, from)?;
     crash(rt, alloc, circ, 0, 0)?;
     let synced = circ.sync_slots(put)?;
@@ -289,6 +293,7 @@ fn install_with_crashes(
     rt: &impl Abort,
     alloc: Global,
     circ: &mut Circ<MemDisk>,
+    idle: HomesPut,
     from: &Block,
 ) -> Run<()>
     requires freed { circ.old.marks.freed ≡ circ.old.marks.start }
@@ -298,7 +303,6 @@ fn install_with_crashes(
 {
     assert!(rt; circ.size() > 520);
     let upto = circ.end();
-    let idle = circ.installer();
     let put = circ.put_home(idle, 520, from)?;
     crash(rt, alloc, circ, 7, 7)?;
     let synced = circ.sync_homes(put)?;
@@ -309,22 +313,34 @@ fn install_with_crashes(
     crash(rt, alloc, circ, 7, 7)
 }
 
-fn both_cycles(rt: &impl Abort, alloc: Global, circ: &mut Circ<MemDisk>, from: &Block) -> Run<()>
+fn both_cycles(
+    rt: &impl Abort,
+    alloc: Global,
+    circ: &mut Circ<MemDisk>,
+    logger: SlotsPut,
+    installer: HomesPut,
+    from: &Block,
+) -> Run<()>
     requires next { circ.old.next ≡ circ.old.marks.end }
     requires coming { circ.old.marks.coming ≡ circ.old.marks.end }
     requires freed { circ.old.marks.freed ≡ circ.old.marks.start }
 {
     crash(rt, alloc, circ, 0, 0)?;
-    log_with_crashes(rt, alloc, circ, from)?;
-    install_with_crashes(rt, alloc, circ, from)?;
+    log_with_crashes(rt, alloc, circ, logger, from)?;
+    install_with_crashes(rt, alloc, circ, installer, from)?;
     assert_eq!(rt; (circ.start(), circ.end()), (9, 9));
     Ok(())
 }
 
 fn cycles(rt: &impl Abort, alloc: Global) -> Run<()> {
     let from = block_with(rt, alloc, 0, 7)?;
-    let mut circ = open(rt, alloc, disk_with(rt, alloc, 8, 8, 1, 520)?)?;
-    let ran = both_cycles(rt, alloc, &mut circ, &from);
+    let disk = disk_with(rt, alloc, 8, 8, 1, 520)?;
+    let Opened {
+        mut circ,
+        logger,
+        installer,
+    } = open(rt, alloc, disk)?;
+    let ran = both_cycles(rt, alloc, &mut circ, logger, installer, &from);
     let _ = circ.into_disk();
     ran
 }
@@ -336,22 +352,24 @@ fn cycles_with_crashes(rt: HostRuntime) {
 }
 
 // What a log answers after a call that failed.
-fn refuse(rt: &impl Abort, circ: &mut Circ<MemDisk>, bytes: &mut Block) {
-    let idle = circ.logger();
-    assert!(rt; circ.sync_slots(idle).is_err());
-    let idle = circ.installer();
-    assert!(rt; circ.sync_homes(idle).is_err());
+fn refuse(rt: &impl Abort, circ: &mut Circ<MemDisk>, installer: HomesPut, bytes: &mut Block) {
+    assert!(rt; circ.sync_homes(installer).is_err());
     assert!(rt; circ.size() > 513);
     assert_eq!(rt; circ.read(513, bytes), Err(Refusal::DeviceFailed(())));
 }
 
 // A barrier that fails, and what follows.
-fn break_down(rt: &impl Abort, circ: &mut Circ<MemDisk>, bytes: &mut Block) {
+fn break_down(rt: &impl Abort, opened: Opened<MemDisk>, bytes: &mut Block) -> MemDisk {
+    let Opened {
+        mut circ,
+        logger,
+        installer,
+    } = opened;
     circ.fail_in(1);
-    let idle = circ.logger();
-    assert!(rt; circ.sync_slots(idle).is_err());
+    assert!(rt; circ.sync_slots(logger).is_err());
     circ.fail_in(1);
-    refuse(rt, circ, bytes);
+    refuse(rt, &mut circ, installer, bytes);
+    circ.into_disk()
 }
 
 // The call that is to fail is still to come, so no call was made.
@@ -363,9 +381,8 @@ fn fails_next(rt: &impl Abort, disk: &mut MemDisk, bytes: &mut Block) {
 
 fn stay_faulted(rt: &impl Abort, alloc: Global) -> Run<()> {
     let mut bytes = Block::try_new(alloc)?;
-    let mut circ = open(rt, alloc, disk_with(rt, alloc, 8, 8, 1, 520)?)?;
-    break_down(rt, &mut circ, &mut bytes);
-    let mut disk = circ.into_disk();
+    let opened = open(rt, alloc, disk_with(rt, alloc, 8, 8, 1, 520)?)?;
+    let mut disk = break_down(rt, opened, &mut bytes);
     fails_next(rt, &mut disk, &mut bytes);
     Ok(())
 }

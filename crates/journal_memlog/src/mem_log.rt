@@ -143,14 +143,18 @@ impl MemLog {
     /// Makes room for `n` fresh blocks, those that do not stand in the tail.
     ///
     /// Answers J1 `NoMemory`, and nothing else, where memory for them is refused. Refused or not, the log is
-    /// as it was, but may have more room.
+    /// as it was, but may have more room where it had too little.
     pub fn reserve<C>(&mut self, n: usize) -> Result<(), Refusal<C>>
         ensures room { OnOk result (n ≤ self.new.room) }
         ensures same { self.new ≡ record self.old { room = self.new.room } }
+        ensures enough { n ≤ self.old.room → self.new ≡ self.old }
         ensures kept { self.old.room ≤ self.new.room }
         ensures sound { IsLog self.new }
         ensures refusal { IsOkUnless result Refusal.NoMemory }
     {
+        if n <= self.updates.capacity() - self.updates.len() {
+            return Ok(());
+        }
         self.updates.reserve(n)?;
         Ok(())
     }

@@ -1,5 +1,5 @@
 -- What is prepared, and what refuses it.
-use Rattle.std.proofs.Common.{◌≡◌, inl, ⊎_elim, ℕ, false, IsTrue, List, length, refl, sym, ap, subst, ◌∙◌, arith}
+use Rattle.std.proofs.Common.{◌≡◌, inl, ℕ, false, IsTrue, List, refl, sym, ap, subst, ◌∙◌, arith}
 use Rattle.journal_world.specs.declared.refusal.Refusal.{Refusal}
 use Rattle.journal_world.specs.declared.refusal.Refusal.TheVariants.{NoMemory, BadAddress, BadSize, TooLarge, Busy, DeviceFailed, BadLog, BadSuper, Stale, Stranger, Worn, Full, Closed, Fenced}
 use Rattle.journal_world.specs.Maps.{Pair, SameMap, are_objects, overwritten}
@@ -7,7 +7,7 @@ use Rattle.journal_block.specs.declared.update.Update.{Update}
 use Rattle.journal_block.specs.Updates.{with_updates}
 use Rattle.journal_memlog.specs.Logs.{next_of, tail_of, fresh_count}
 use Rattle.journal_wal.specs.Wal.{WalState, size_of, tail_length, blocks_now, HasRoom, AreHomes, with_room}
-use Rattle.journal_wal.specs.Rooms.{HasPlaces, IsShortage, IsRefusal}
+use Rattle.journal_wal.specs.Rooms.{HasPlaces, HasRoomFor, IsShortage}
 use Rattle.journal_objlog.specs.Maps.{map_of}
 use Rattle.journal_objlog.specs.ObjectLogs.{map_now, OnlyReads, IsLeft}
 use Rattle.journal_objlog.specs.Writes.{written_blocks, fresh_blocks, CanPrepare, IsWriteRefusal, IsPrepared}
@@ -79,32 +79,23 @@ OnlyReads-room w new is = record {
   stays = λ faulted. ap (λ (v : WalState). v.ring.faulted) is ∙ faulted;
 }
 
--- what passed lacks no room
-lacks_none : (old mid : WalState) (writes : List Pair) (updates : List Update) → CanPrepare old writes → OnlyReads old mid
-    → mid.ring.faulted ≡ false → IsStaged mid writes updates → (refusal : Refusal Unit)
-    → IsShortage mid (length updates) (fresh_count (tail_of mid.log) updates) refusal → ⊥
-lacks_none old mid writes updates can reads fine staged (DeviceFailed cause) short = cc
-lacks_none old mid writes updates can reads fine staged TooLarge short = omega (arith, short.1, staged.blocks.number, can.few)
-lacks_none old mid writes updates can reads fine staged (Worn cause) short =
-    omega (arith, short.2, staged.blocks.fresh, can.small, ap (λ (w : WalState). next_of w.log) reads.same, ap (λ (w : WalState). fresh_blocks w writes) reads.same)
-lacks_none old mid writes updates can reads fine staged (Full cause) short =
-    omega (arith, short.3, staged.blocks.fresh, can.tail, ap tail_length reads.same, ap (λ (w : WalState). fresh_blocks w writes) reads.same)
-lacks_none old mid writes updates can reads fine staged NoMemory short = short
-lacks_none old mid writes updates can reads fine staged BadAddress short = short
-lacks_none old mid writes updates can reads fine staged BadSize short = short
-lacks_none old mid writes updates can reads fine staged Busy short = short
-lacks_none old mid writes updates can reads fine staged BadLog short = short
-lacks_none old mid writes updates can reads fine staged BadSuper short = short
-lacks_none old mid writes updates can reads fine staged (Stale cause) short = short
-lacks_none old mid writes updates can reads fine staged (Stranger cause) short = short
-lacks_none old mid writes updates can reads fine staged (Closed cause) short = short
-lacks_none old mid writes updates can reads fine staged Fenced short = short
+-- what passed has its places after reads too
+pub has_places : (old mid : WalState) (writes : List Pair) → CanPrepare old writes → OnlyReads old mid → mid.ring.faulted ≡ false
+    → HasPlaces mid (written_blocks writes) (fresh_blocks old writes)
+has_places old mid writes can reads fine = record {
+  fine = fine;
+  few = can.few;
+  small = omega (arith, can.small, ap (λ (w : WalState). next_of w.log) reads.same);
+  tail = omega (arith, can.tail, ap tail_length reads.same);
+}
 
--- only memory can refuse what passed
-pub refused_room : (old mid : WalState) (writes : List Pair) (updates : List Update) → CanPrepare old writes → OnlyReads old mid
-    → mid.ring.faulted ≡ false → IsStaged mid writes updates → (refusal : Refusal Unit) → IsRefusal mid updates refusal → refusal ≡ NoMemory
-refused_room old mid writes updates can reads fine staged refusal is =
-    ⊎_elim (λ short. absurd (lacks_none old mid writes updates can reads fine staged refusal short)) (λ memory. memory.1) is
+-- what is staged has the room that was made for so many
+pub has_room : (old mid new : WalState) (writes : List Pair) (updates : List Update) → OnlyReads old mid → IsStaged mid writes updates
+    → new ≡ with_room mid new.log.room → HasRoomFor new (written_blocks writes) (fresh_blocks old writes) → HasRoom new updates
+has_room old mid new writes updates reads staged is room = room updates
+    (subst (λ (w : WalState). AreHomes (size_of w) updates) (sym is) staged.blocks.homes)
+    staged.blocks.number
+    (ap (λ (w : WalState). fresh_count (tail_of w.log) updates) is ∙ staged.blocks.fresh ∙ ap (λ (w : WalState). fresh_blocks w writes) reads.same)
 
 -- what is staged, and has room, is prepared
 pub prepared : (n : ℕ) (mid new : WalState) (writes : List Pair) (updates : List Update) → IsSound n mid → IsStaged mid writes updates

@@ -7,3 +7,4 @@ pub mod Reading
 pub mod Writes
 pub mod Soundness
 pub mod Staging
+pub mod Places

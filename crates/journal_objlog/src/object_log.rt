@@ -4,7 +4,7 @@ ghost use Rattle.journal_disk.specs.Disks.{Keeps, IsSettled};
 ghost use Rattle.journal_disk.specs.Images.{EveryImage, reading};
 ghost use Rattle.journal_circ.specs.Log.{IsWellFormed};
 ghost use Rattle.journal_circ.specs.Ring.{IsReason};
-ghost use Rattle.journal_wal.specs.Wal.{IsOpened, log_steps, tail_length, size_of};
+ghost use Rattle.journal_wal.specs.Wal.{IsOpened, IsWithin, log_steps, tail_length, size_of};
 ghost use Rattle.journal_objlog.specs.Maps.{OpensAs};
 ghost use Rattle.journal_objlog.specs.ObjectLogs.{map_now};
 
@@ -57,6 +57,8 @@ impl<D: BlockDisk> ObjectLog<D> {
             (λ refused. (D.state refused.disk).past ≡ (D.state disk).past) }
         ensures well_formed { IsTrue (D.state disk).honest → IfOk result (λ _. IsWellFormed (reading (D.state disk).past)) }
         ensures opened { IfOk result IsOpened }
+        // The bounds are those that the disk tells.
+        ensures bounds { IsTrue (D.state disk).honest → IfOk result (IsWithin (reading (D.state disk).past)) }
         ensures blocks { IfOk result (λ log. (map_now log).blocks ≡ layout.blocks) }
         // Each image opens as the map now.
         ensures images { IsTrue (D.state disk).honest → IfOk result (λ log.

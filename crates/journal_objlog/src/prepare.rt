@@ -3,10 +3,11 @@ ghost use Rattle.std.specs.Prelude.{◌≡◌, IsTrue, IsErr, OnOk, IfOk, IfErr,
 ghost use Rattle.journal_world.specs.Maps.{Pair, SameMap, overwritten};
 ghost use Rattle.journal_wal.specs.Wal.{Appends};
 ghost use Rattle.journal_objlog.specs.ObjectLogs.{map_now, map_cut, map_logged, KeepsMaps, MayCrash, OnlyReads, IsLeft};
+ghost use Rattle.journal_objlog.specs.Places.{places_of};
 ghost use Rattle.journal_objlog.specs.Writes.{CanPrepare, IsWriteRefusal, IsPrepareRefusal, IsReady, IsPrepared};
 
 use crate::object_log::ObjectLog;
-use crate::writes::{addresses_are_valid, values_are_objects};
+use crate::writes::{Places, judge};
 use journal_block::Update;
 use journal_disk::BlockDisk;
 use journal_world::{Objects, Refusal};
@@ -49,9 +50,9 @@ impl<D: BlockDisk> ObjectLog<D> {
         ensures maps { IsTrue self.old.ring.disk.honest → KeepsMaps self.old self.new }
         ensures crash { MayCrash self.old self.new }
     {
-        self.check(writes)?;
+        let places = self.check(writes)?;
         let updates = self.stage(writes)?;
-        self.wal.reserve(&updates)?;
+        self.wal.reserve_places(places.blocks, places.fresh)?;
         Ok(Prepared { updates })
     }
 
@@ -69,22 +70,26 @@ impl<D: BlockDisk> ObjectLog<D> {
         self.wal.append_reserved(prepared.updates);
     }
 
-    // Refuses what asks for neither memory nor the device: J6 of an earlier fault, J2, J3, J4, J11 and J12.
-    fn check(&self, writes: &Objects) -> Result<(), Refusal<()>>
+    // Refuses what asks for neither memory nor the device: J6 of an earlier fault, J2, J3, J4, J11 and J12. Tells
+    // how many places the writes take.
+    fn check(&self, writes: &Objects) -> Result<Places, Refusal<()>>
         ensures ok { OnOk result (CanPrepare self.now writes.now) }
+        ensures places { IfOk result (λ places. places ≡ places_of self.now writes.now) }
         ensures refusal { IfErr result (IsWriteRefusal self.now writes.now) }
         ensures crash { MayCrash self.now self.now }
     {
         if self.wal.is_faulted() {
             return Err(Refusal::DeviceFailed(()));
         }
-        if !addresses_are_valid(&self.layout, writes) {
+        let (valid, objects) = judge(&self.layout, writes);
+        if !valid {
             return Err(Refusal::BadAddress);
         }
-        if !values_are_objects(&self.layout, writes) {
+        if !objects {
             return Err(Refusal::BadSize);
         }
-        let (blocks, fresh) = self.count_blocks(writes);
-        self.wal.check_room(blocks, fresh)
+        let places = self.count_blocks(writes);
+        self.wal.check_room(places.blocks, places.fresh)?;
+        Ok(places)
     }
 }

@@ -1,7 +1,7 @@
 // The steps of the logger and of the installer.
 ghost use Rattle.std.specs.Prelude.{◌≡◌, IsTrue, IsErr, OnOk, OnErr, IfOk, IfErr, true, false};
 ghost use Rattle.journal_circ.specs.Ring.{IsFault};
-ghost use Rattle.journal_wal.specs.Wal.{LogAnswers, InstallAnswers, IsInstallFault};
+ghost use Rattle.journal_wal.specs.Wal.{LogAnswers, InstallAnswers, IsInstallFault, Tries, TriesAhead, log_call};
 ghost use Rattle.journal_objlog.specs.ObjectLogs.{KeepsMaps, LogsMaps, MayCrash};
 
 use crate::object_log::ObjectLog;
@@ -25,6 +25,8 @@ impl<D: BlockDisk> ObjectLog<D> {
         ensures ok { IfOk result (λ step. LogAnswers self.old step self.new) }
         ensures maps { IsTrue self.old.ring.disk.honest → IfOk result (λ step. LogsMaps self.old step self.new) }
         ensures err { OnErr result (self.new.ring.faulted ≡ true) }
+        ensures err_log { OnErr result (self.new.log ≡ self.old.log) }
+        ensures tries { OnErr result (Tries (log_call self.old) self.old.ring.disk self.new.ring.disk) }
         ensures err_maps { IsTrue self.old.ring.disk.honest → OnErr result (KeepsMaps self.old self.new) }
         ensures crash { MayCrash self.old self.new }
     {
@@ -43,6 +45,7 @@ impl<D: BlockDisk> ObjectLog<D> {
         ensures faulted { IsTrue self.old.ring.faulted → IsErr result × (self.new ≡ self.old) }
         ensures fine { OnOk result ((self.old.ring.faulted ≡ false) × (self.new.ring.faulted ≡ false)) }
         ensures ok { IfOk result (λ step. InstallAnswers self.old step self.new) }
+        ensures tries { OnErr result (TriesAhead self.old self.new) }
         ensures maps { IsTrue self.old.ring.disk.honest → KeepsMaps self.old self.new }
         ensures crash { MayCrash self.old self.new }
     {

@@ -1,5 +1,6 @@
 // What writes are: their addresses, their values and their blocks.
 ghost use Rattle.std.specs.Prelude.{◌≡◌, ◌≤◌, ◌↔◌, IsTrue, Some};
+ghost use Rattle.journal_world.specs.Addresses.{is_valid};
 ghost use Rattle.journal_world.specs.Maps.{is_object, are_objects};
 ghost use Rattle.journal_wal.specs.Wal.{size_of};
 ghost use Rattle.journal_objlog.specs.Writes.{are_valid, written_blocks, fresh_blocks};
@@ -8,46 +9,46 @@ use crate::object_log::ObjectLog;
 use journal_disk::BlockDisk;
 use journal_world::{Addr, Layout, Objects, Value};
 
-/// Whether each write's address is valid.
-pub(crate) fn addresses_are_valid(layout: &Layout, writes: &Objects) -> bool
-    ensures { result ≡ are_valid layout.now.blocks writes.now }
-{
-    for (addr, _) in writes.iter() {
-        if !layout.is_valid(*addr) {
-            return false;
-        }
-    }
-    true
+/// How many distinct blocks writes are in, and how many of these do not stand in the tail.
+#[derive(Clone, Copy)]
+pub(crate) struct Places {
+    pub(crate) blocks: usize,
+    pub(crate) fresh: usize,
 }
 
-/// Whether each write is of a value of its address's kind.
-pub(crate) fn values_are_objects(layout: &Layout, writes: &Objects) -> bool
-    ensures { result ≡ are_objects layout.now.blocks writes.now }
+/// Whether each write's address is valid, and where so, whether each value is of its address's kind.
+pub(crate) fn judge(layout: &Layout, writes: &Objects) -> (bool, bool)
+    ensures valid { result.0 ≡ are_valid layout.now.blocks writes.now }
+    ensures objects { IsTrue result.0 → result.1 ≡ are_objects layout.now.blocks writes.now }
 {
+    let mut objects = true;
     for (addr, value) in writes.iter() {
-        if !value_is_object(layout, *addr, value) {
-            return false;
+        if !layout.is_valid(*addr) {
+            return (false, false);
         }
+        objects &= is_admitted(layout, *addr, value);
     }
-    true
+    (true, objects)
 }
 
-fn value_is_object(layout: &Layout, addr: Addr, value: &Value) -> bool
+// Whether the value is of the kind of the address, which is valid.
+fn is_admitted(layout: &Layout, addr: Addr, value: &Value) -> bool
+    requires { IsTrue (is_valid layout.now.blocks addr) }
     ensures { result ≡ is_object layout.now.blocks (addr, value.now) }
 {
     match layout.kind(addr.block) {
-        Some(kind) => layout.is_valid(addr) && kind.admits(value.bytes()),
+        Some(kind) => kind.admits(value.bytes()),
         None => false,
     }
 }
 
 impl<D: BlockDisk> ObjectLog<D> {
     /// How many distinct blocks are written, and how many of these do not stand in the tail.
-    pub(crate) fn count_blocks(&self, writes: &Objects) -> (usize, usize)
+    pub(crate) fn count_blocks(&self, writes: &Objects) -> Places
         requires { IsTrue (are_objects (size_of self.now) writes.now) }
-        ensures blocks { result.0 ≡ written_blocks writes.now }
-        ensures fresh { result.1 ≡ fresh_blocks self.now writes.now }
-        ensures fewer { result.1 ≤ result.0 }
+        ensures blocks { result.blocks ≡ written_blocks writes.now }
+        ensures fresh { result.fresh ≡ fresh_blocks self.now writes.now }
+        ensures fewer { result.fresh ≤ result.blocks }
     {
         let mut blocks = 0;
         let mut fresh = 0;
@@ -60,7 +61,7 @@ impl<D: BlockDisk> ObjectLog<D> {
             blocks += 1;
             fresh += usize::from(!self.wal.stands(addr.block));
         }
-        (blocks, fresh)
+        Places { blocks, fresh }
     }
 }
 

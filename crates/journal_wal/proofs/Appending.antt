@@ -16,7 +16,7 @@ use Rattle.journal_memlog.specs.Logs.{LogState, tail_of, head_of, absorbed, appe
 use Rattle.journal_memlog.specs.Laws.{tail_of-appended, updated-appended, All-appended, can_take_fresh, length-absorbed_le}
 use Rattle.journal_wal.specs.Wal.{WalState, Logging, log_blocks, log_end, log_sync, log_spent, Crashes, IsCrash, HasRoom, AreHomes, Appends, with_room, size_of, blocks_at}
 use Rattle.journal_wal.specs.States.{updates_to, AreTied, IsInStep, IsLogging}
-use Rattle.journal_wal.specs.Rooms.{HasPlaces, IsShortage, IsRefusal}
+use Rattle.journal_wal.specs.Rooms.{HasPlaces, HasRoomFor, IsShortage, IsRefusal}
 use Rattle.journal_wal.proofs.Lists.{take-take}
 use Rattle.journal_wal.proofs.Frames.{KeepsInstalling, installing_stays}
 use Rattle.journal_wal.proofs.Logger.{Leaves}
@@ -169,6 +169,22 @@ has_room w updates later is homes fresh number has same (Ok unit) room = record 
   tail = subst (λ (l : LogState). length (absorbed (tail_of l) updates) ≤ 255) (sym same)
       (omega (arith, length-absorbed_le (tail_of w.log) updates, has.tail, number));
 }
+
+-- so it has for any of so many blocks
+pub has_room_for : (w : WalState) (blocks fresh : ℕ) (later : LogState) → IsInStep w → HasPlaces w blocks fresh
+    → later ≡ record w.log { room = later.room }
+    → {E : Type 0} (result : Result Unit E) → OnOk result (fresh ≤ later.room) → OnOk result (HasRoomFor (record w { log = later }) blocks fresh)
+has_room_for w blocks fresh later is has same (Err error) room = tt
+has_room_for w blocks fresh later is has same (Ok unit) room = λ updates homes number places.
+    let done : Result Unit Unit = Ok unit in
+    has_room w updates later is homes fresh (sym places ∙ ap (λ (l : LogState). fresh_count (tail_of l) updates) same)
+    (subst (λ (n : ℕ). HasPlaces w n fresh) (sym number) has) same done room
+
+-- and so for these
+pub has_room_of : {E : Type 0} (w : WalState) (updates : List Update) (fresh : ℕ) (result : Result Unit E) → AreHomes (size_of w) updates
+    → fresh ≡ fresh_count (tail_of w.log) updates → OnOk result (HasRoomFor w (length updates) fresh) → OnOk result (HasRoom w updates)
+has_room_of w updates fresh (Ok unit) homes number room = room updates homes refl (sym number)
+has_room_of w updates fresh (Err error) homes number room = tt
 
 -- what lacks room refuses an append
 pub refuses_shortage : (w : WalState) (updates : List Update) (fresh : ℕ) → fresh ≡ fresh_count (tail_of w.log) updates

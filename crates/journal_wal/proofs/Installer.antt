@@ -1,5 +1,5 @@
 -- The steps of the installer's cycle.
-use Rattle.std.proofs.Common.{◌≡◌, ◌≢◌, inl, inr, ⊎_elim, ◌<◌, ◌≤◌, ◌+◌, ◌-◌, ℕ, suc, Bool, true, false, cond, List, [], ◌++◌, take, drop, length-drop, length-take, Some, None, IsTrue, refl, sym, ap, subst, ◌∙◌, arith}
+use Rattle.std.proofs.Common.{◌≡◌, ◌≢◌, inl, inr, ⊎_elim, ◌<◌, ◌≤◌, ◌+◌, ◌-◌, ℕ, suc, Bool, true, false, cond, List, [], ◌∷◌, ◌++◌, take, drop, length-drop, length-take, Some, None, IsTrue, refl, sym, ap, subst, ◌∙◌, arith}
 use Rattle.std.specs.List.{slice_get}
 use Rattle.std.specs.BTreeMap.{is_at}
 use Rattle.std.specs.Ordering.{nat_cmp}
@@ -12,11 +12,12 @@ use Rattle.journal_block.specs.declared.update.Update.{Update}
 use Rattle.journal_block.specs.Block.{Bytes}
 use Rattle.journal_block.specs.Updates.{updated, updates_block}
 use Rattle.journal_block.specs.UpdateLaws.{updated-append, updated-unnamed}
+use Rattle.journal_disk.specs.Disks.{write, DiskState}
 use Rattle.journal_disk.specs.Images.{EveryImage}
-use Rattle.journal_circ.specs.Ring.{Ring, log_of, home_of, Steps, SameHome, SameHomeBut, IsLogged, IsInstalled}
+use Rattle.journal_circ.specs.Ring.{Ring, log_of, home_of, Steps, SameHome, SameHomeBut, IsLogged, IsInstalled, Happens}
 use Rattle.journal_memlog.specs.Logs.{LogState, next_of, trimmed}
-use Rattle.journal_wal.specs.Wal.{WalState, Logging, log_blocks, log_end, log_sync, log_spent, Installing, install_none, install_homes, install_start, install_sync, install_spent, Fails, KeepsBlocks, IsCrash, size_of, blocks_now, blocks_at, SameBlocks, Installs, InstallMoves, install_steps_by, log_steps_by}
-use Rattle.journal_wal.specs.States.{planned, updates_to, IsPlanOf, IsInLog, IsHomeOf, PutsHomes, AreTied, IsInStep, IsLogging, IsInstalling}
+use Rattle.journal_wal.specs.Wal.{WalState, planned, IsPlanOf, Makes, install_call, after_call, Logging, log_blocks, log_end, log_sync, log_spent, Installing, install_none, install_homes, install_start, install_sync, install_spent, Fails, KeepsBlocks, IsCrash, size_of, blocks_now, blocks_at, SameBlocks, Installs, InstallMoves, install_steps_by, log_steps_by}
+use Rattle.journal_wal.specs.States.{updates_to, IsInLog, IsHomeOf, PutsHomes, AreTied, IsInStep, IsLogging, IsInstalling}
 use Rattle.journal_wal.proofs.Lists.{take-take, updates_block-longer}
 use Rattle.journal_wal.proofs.Crashes.{images_of, moments_of, ring_updates}
 use Rattle.journal_wal.proofs.Frames.{keeps_homes, keeps_covered, tied_by}
@@ -177,6 +178,7 @@ module _ (ring now : Ring) (log : LogState) (logging : Logging) where
       }) log_is (ap (λ (r : Ring). r.faulted) is_now),
       record {
         faulted = ap (λ (r : Ring). r.faulted) is_now;
+        log = refl;
         blocks = λ honest. keeps_covered (at ring phase) (at now install_spent) b refl (others honest)
             (omega (arith, is.tied.end_to_next, is.tied.next_to_cut)) is_logged;
       },
@@ -230,6 +232,7 @@ module _ (ring now : Ring) (log : LogState) (logging : Logging) where
     }) log_is (ap (λ (r : Ring). r.faulted) is_now),
     record {
       faulted = ap (λ (r : Ring). r.faulted) is_now;
+      log = refl;
       blocks = λ honest. keeps_homes (at ring phase) (at now install_spent) refl (home honest);
     },
   )
@@ -381,14 +384,26 @@ module _ (ring now : Ring) (log : LogState) (logging : Logging) (upto : ℕ)
           ∙ later honest (next_of log) (omega (arith, position.below, is.tied.end_to_next, is.tied.next_to_cut, is.tied.cut_to_last)) b home_b lt
           ∙ ap (λ (us : List Update). updated us b (home_of ring b)) (take_all (next_of log - log.start) log.updates (omega arith))
 
+-- the device call of a plan is that of its first block
+pub call_home : (log : LogState) (upto : ℕ) (plan rest : List (ℕ × ℕ)) (b q : ℕ) (u : Update) (disk now : DiskState) → plan ≡ (b, q) ∷ rest
+    → slice_get log.updates (q - log.start) ≡ Some u → Happens (write b u.bytes) disk now → Makes (install_call log (install_homes upto plan)) disk now
+call_home log upto plan rest b q u disk now is found happened =
+    subst (λ (es : List (ℕ × ℕ)). Makes (install_call log (install_homes upto es)) disk now) (sym is)
+    (subst (λ (v : Update). Happens (write b v.bytes) disk now) (sym (get_or_from_slice_get log.updates (q - log.start) u (record { block = 0; bytes = [] }) found)) happened)
+
 -- a step of an installing that goes on
 pub installs_on : (ring now : Ring) (log : LogState) (logging : Logging) (before after : Installing) (left : ℕ) → now.next ≡ ring.next
     → install_steps_by before ≡ suc (suc left) → install_steps_by after ≡ suc left
+    → Makes (install_call log before) ring.disk now.disk → after ≡ after_call before
     → (IsTrue ring.disk.honest → KeepsBlocks (record { ring = ring; log = log; logging = logging; installing = before })
     (record { ring = now; log = log; logging = logging; installing = after }))
     → Installs (record { ring = ring; log = log; logging = logging; installing = before })
     (record { ring = now; log = log; logging = logging; installing = after })
-installs_on ring now log logging before after left next was is blocks = record {
+installs_on ring now log logging before after left next was is call is_next blocks = record {
+  ahead = before;
+  is_ahead = record { begins = λ none_left. absurd (omega (arith, was, none_left)); goes_on = λ some. refl };
+  call = call;
+  next = is_next;
   blocks = blocks;
   logging = λ i. log_steps_by logging (log.cut - log.logged) (log.cut - next i);
   moves = subst (λ (n : ℕ). InstallMoves n old new) (sym was) (record { steps = omega (arith, was, is); log = refl });
@@ -402,14 +417,19 @@ installs_on ring now log logging before after left next was is blocks = record {
 
 -- the step that frees positions
 pub installs_freed : (ring now : Ring) (log : LogState) (logging : Logging) (upto : ℕ) → now.next ≡ ring.next → IsInLog log upto
+    → Makes (install_call log (install_sync upto)) ring.disk now.disk
     → (IsTrue ring.disk.honest → KeepsBlocks (record { ring = ring; log = log; logging = logging; installing = install_sync upto })
     (record { ring = now; log = trimmed log upto; logging = logging; installing = install_none }))
     → Installs (record { ring = ring; log = log; logging = logging; installing = install_sync upto })
     (record { ring = now; log = trimmed log upto; logging = logging; installing = install_none })
-installs_freed ring now log logging upto next position blocks = record {
+installs_freed ring now log logging upto next position call blocks = record {
+  ahead = install_sync upto;
+  is_ahead = record { begins = λ none_left. absurd (omega (arith, none_left)); goes_on = λ some. refl };
+  call = call;
+  next = refl;
   blocks = blocks;
   logging = λ i. log_steps_by logging (log.cut - log.logged) (log.cut - next i);
-  moves = record { steps = refl; upto = upto; above = position.above; below = position.below; log = refl };
+  moves = record { steps = refl; upto = upto; upto_is = refl; above = position.above; below = position.below; log = refl };
 }
 
 -- what is logged is planned

@@ -1,18 +1,20 @@
 -- The steps of the logger's cycle.
-use Rattle.std.proofs.Common.{◌≡◌, ◌⊎◌, inl, inr, ⊎_elim, ◌<◌, ◌≤◌, ◌+◌, ◌-◌, ◌^◌, ℕ, zero, suc, false, true, List, [], ◌∷◌, ◌++◌, take, length, length-drop, Some, IsTrue, refl, sym, ap, subst, ◌∙◌, arith}
+use Rattle.std.proofs.Common.{◌≡◌, ◌⊎◌, inl, inr, ⊎_elim, ◌<◌, ◌≤◌, ◌+◌, ◌-◌, ◌^◌, ℕ, zero, suc, false, true, List, [], ◌∷◌, ◌++◌, take, length, length-drop, Option, Some, None, IsTrue, refl, sym, ap, subst, ◌∙◌, arith}
 use Rattle.std.specs.List.{slice_get}
 use Rattle.std.proofs.Math.Seq.{take-suc}
 use Rattle.std.proofs.lemmas.List.{take_all}
 use Rattle.journal_block.specs.Block.{Bytes}
 use Rattle.journal_block.specs.Updates.{updated}
+use Rattle.journal_disk.specs.Disks.{Event, write, barrier}
 use Rattle.journal_disk.specs.Laws.{leaves_none}
 use Rattle.journal_circ.specs.StandsFor.{StandsFor}
 use Rattle.std.proofs.lemmas.Option.{get_or_from_slice_get, slice_get_within}
 use Rattle.journal_block.specs.declared.update.Update.{Update}
 use Rattle.journal_disk.specs.Images.{EveryImage}
-use Rattle.journal_circ.specs.Ring.{Ring, log_of, home_of, Steps, SameHome}
+use Rattle.journal_circ.specs.Log.{log_block, with_address, with_end}
+use Rattle.journal_circ.specs.Ring.{Ring, log_of, home_of, Steps, SameHome, Happens}
 use Rattle.journal_memlog.specs.Logs.{LogState, next_of, tail_of}
-use Rattle.journal_wal.specs.Wal.{WalState, Logging, log_blocks, log_end, log_sync, log_spent, Installing, Crashes, Fails, LogMoves, log_steps, log_steps_by, IsCrash, size_of, blocks_at, blocks_cut, blocks_logged, AreHomes, tail_length, free_positions}
+use Rattle.journal_wal.specs.Wal.{WalState, Logging, log_blocks, log_end, log_sync, log_spent, Installing, Crashes, Fails, LogMoves, log_steps, log_steps_by, log_call, log_call_by, bytes_at, Makes, IsCrash, size_of, blocks_at, blocks_cut, blocks_logged, AreHomes, tail_length, free_positions}
 use Rattle.journal_wal.specs.States.{updates_to, AreTied, IsInStep, IsLogging, IsInstalling}
 use Rattle.journal_wal.proofs.Crashes.{images_of, moments_of}
 use Rattle.journal_wal.proofs.Frames.{keeps_homes, KeepsInstalling, installing_stays, tied_by, keeps_installing}
@@ -63,17 +65,47 @@ steps_in_group : (group left : ℕ) → 0 < group → log_steps_by log_blocks gr
 steps_in_group zero left some = absurd (omega (arith, some))
 steps_in_group (suc group) left some = refl
 
+-- a number that is not 0 is a successor
+more_than_none : (n : ℕ) → 0 < n → n ≡ suc (n - 1)
+more_than_none n some = omega (arith, some)
+
 module _ (ring now : Ring) (log : LogState) (installing : Installing) where
   abbrev pub at : Ring → Logging → WalState
   at r phase = record { ring = r; log = log; logging = phase; installing = installing }
+
+  -- the device calls of a group
+  pub call_block : (u : Update) → log.logged < log.cut → ring.next < log.cut → slice_get log.updates (ring.next - log.start) ≡ Some u
+      → log_call (at ring log_blocks) ≡ Some (write (log_block ring.next) u.bytes)
+  call_block u group left found =
+      (λ i. log_call_by log_blocks (more_than_none (log.cut - log.logged) (omega (arith, group)) i) (more_than_none (log.cut - ring.next) (omega (arith, left)) i)
+      (write (log_block ring.next) (bytes_at log ring.next)) (with_end ring.header log.cut))
+      ∙ ap (λ (v : Update). Some (write (log_block ring.next) v.bytes)) (get_or_from_slice_get log.updates (ring.next - log.start) u (record { block = 0; bytes = [] }) found)
+
+  pub call_barrier : log.logged < log.cut → ring.next ≡ log.cut → log_call (at ring log_blocks) ≡ Some barrier
+  call_barrier group all =
+      (λ i. log_call_by log_blocks (more_than_none (log.cut - log.logged) (omega (arith, group)) i) (none_left i)
+      (write (log_block ring.next) (bytes_at log ring.next)) (with_end ring.header log.cut))
+    where
+      none_left : log.cut - ring.next ≡ 0
+      none_left = omega (arith, all)
+
+  pub call_end : ring.next ≡ log.cut → log_call (at ring log_end) ≡ Some (write 0 (with_end ring.header ring.next))
+  call_end all = ap (λ (n : ℕ). Some (write 0 (with_end ring.header n))) (sym all)
+
+  pub call_none : log.logged ≡ log.cut → log_call (at ring log_blocks) ≡ None
+  call_none rest = λ i. log_call_by log_blocks (nothing i) (log.cut - ring.next) (write (log_block ring.next) (bytes_at log ring.next)) (with_end ring.header log.cut)
+    where
+      nothing : log.cut - log.logged ≡ 0
+      nothing = omega (arith, rest)
 
   -- a log block of the group
   pub block_logged : (u : Update) → IsInStep (at ring log_blocks) → log.logged < log.cut → ring.next < log.cut
       → slice_get log.updates (ring.next - log.start) ≡ Some u → Steps ring.marks.coming ring now
       → (IsTrue ring.disk.honest → log_of now ≡ log_of ring ++ u ∷ []) → (IsTrue ring.disk.honest → SameHome ring now)
-      → now ≡ record ring { disk = now.disk; header = now.header; next = ring.next + 1 }
+      → now ≡ record ring { disk = now.disk; header = with_address ring.header ring.next u.block; next = ring.next + 1 }
+      → Happens (write (log_block ring.next) u.bytes) ring.disk now.disk
       → Leaves (at ring log_blocks) (at now log_blocks) × LogMoves (log_steps (at ring log_blocks)) (at ring log_blocks) (at now log_blocks)
-  block_logged u is group left found steps log_is home is_now = (
+  block_logged u is group left found steps log_is home is_now happened = (
     stepped (at ring log_blocks) now log_blocks installing ring.marks.coming is steps is.tied.coming tied same
         (coming ∙ is.logging ∙ sym end)
         (installing_stays ring now log log keeps installing is.installing),
@@ -81,6 +113,7 @@ module _ (ring now : Ring) (log : LogState) (installing : Installing) where
       steps = omega (arith, before, after, next);
       log = refl;
       blocks = λ honest. keeps_homes (at ring log_blocks) (at now log_blocks) refl (home honest);
+      call = subst (λ (call : Option Event). Makes call ring.disk now.disk) (sym (call_block u group left found)) happened;
       installing = refl;
     }),
   )
@@ -135,7 +168,7 @@ module _ (ring now : Ring) (log : LogState) (installing : Installing) where
         (λ honest. log_is honest ∙ is.log honest ∙ (λ i. take (sym next i - log.start) log.updates))
         faulted
         (installing_stays ring now log log (keeps_installing ring now log steps.keeps start freed homes (λ was. faulted) home) installing is.installing),
-    record { faulted = faulted; blocks = λ honest. keeps_homes (at ring phase) (at now log_spent) refl (home honest) },
+    record { faulted = faulted; log = refl; blocks = λ honest. keeps_homes (at ring phase) (at now log_spent) refl (home honest) },
   )
 
   -- a call that changes no mark
@@ -154,7 +187,7 @@ module _ (ring now : Ring) (log : LogState) (installing : Installing) where
   -- the write of block 0
   pub end_failed : IsInStep (at ring log_end) → Steps ring.next ring now
       → (IsTrue ring.disk.honest → log_of now ≡ log_of ring) → (IsTrue ring.disk.honest → SameHome ring now)
-      → now ≡ record ring { disk = now.disk; header = now.header; marks = record ring.marks { coming = ring.next }; faulted = true }
+      → now ≡ record ring { disk = now.disk; header = with_end ring.header ring.next; marks = record ring.marks { coming = ring.next }; faulted = true }
       → Leaves (at ring log_end) (at now log_spent) × Fails (at ring log_end) (at now log_spent)
   end_failed is steps log_is home is_now =
       failed log_end ring.next is steps (inr (is.logging.2, is.logging.2)) (ap (λ (r : Ring). r.next) is_now)
@@ -168,9 +201,9 @@ module _ (ring now : Ring) (log : LogState) (installing : Installing) where
   pub blocks_synced : IsInStep (at ring log_blocks) → log.logged < log.cut → ring.next ≡ log.cut
       → Steps ring.marks.coming ring now
       → (IsTrue ring.disk.honest → log_of now ≡ log_of ring) → (IsTrue ring.disk.honest → SameHome ring now)
-      → now ≡ record ring { disk = now.disk; marks = record ring.marks { stable = ring.next } }
+      → now ≡ record ring { disk = now.disk; marks = record ring.marks { stable = ring.next } } → Happens barrier ring.disk now.disk
       → Leaves (at ring log_blocks) (at now log_end) × LogMoves (log_steps (at ring log_blocks)) (at ring log_blocks) (at now log_end)
-  blocks_synced is group all steps log_is home is_now = (
+  blocks_synced is group all steps log_is home is_now happened = (
     stepped (at ring log_blocks) now log_end installing ring.marks.coming is steps is.tied.coming
         (tied_by ring now log is.tied steps.keeps.size start end (omega (arith, next)) (omega (arith, next, all))
         (inl (coming ∙ is.logging ∙ is.tied.end)))
@@ -181,6 +214,7 @@ module _ (ring now : Ring) (log : LogState) (installing : Installing) where
       steps = omega (arith, before);
       log = refl;
       blocks = λ honest. keeps_homes (at ring log_blocks) (at now log_end) refl (home honest);
+      call = subst (λ (call : Option Event). Makes call ring.disk now.disk) (sym (call_barrier group all)) happened;
       installing = refl;
     }),
   )
@@ -207,9 +241,10 @@ module _ (ring now : Ring) (log : LogState) (installing : Installing) where
   -- the write of block 0
   pub end_written : IsInStep (at ring log_end) → Steps ring.next ring now
       → (IsTrue ring.disk.honest → log_of now ≡ log_of ring) → (IsTrue ring.disk.honest → SameHome ring now)
-      → now ≡ record ring { disk = now.disk; header = now.header; marks = record ring.marks { coming = ring.next } }
+      → now ≡ record ring { disk = now.disk; header = with_end ring.header ring.next; marks = record ring.marks { coming = ring.next } }
+      → Happens (write 0 (with_end ring.header ring.next)) ring.disk now.disk
       → Leaves (at ring log_end) (at now log_sync) × LogMoves (log_steps (at ring log_end)) (at ring log_end) (at now log_sync)
-  end_written is steps log_is home is_now = (
+  end_written is steps log_is home is_now happened = (
     stepped (at ring log_end) now log_sync installing ring.next is steps (inr (is.logging.2, is.logging.2))
         (tied_by ring now log is.tied steps.keeps.size start end (omega (arith, next)) (omega (arith, next, is.tied.next_to_cut))
         (inr (coming ∙ is.logging.2, next ∙ is.logging.2)))
@@ -220,6 +255,7 @@ module _ (ring now : Ring) (log : LogState) (installing : Installing) where
       steps = refl;
       log = refl;
       blocks = λ honest. keeps_homes (at ring log_end) (at now log_sync) refl (home honest);
+      call = subst (λ (call : Option Event). Makes call ring.disk now.disk) (sym (call_end is.logging.2)) happened;
       installing = refl;
     },
   )
@@ -244,10 +280,10 @@ module _ (ring now : Ring) (log : LogState) (installing : Installing) where
   pub group_ended : (later : LogState) → IsInStep (at ring log_sync) → Steps ring.marks.coming ring now
       → (IsTrue ring.disk.honest → log_of now ≡ log_of ring) → (IsTrue ring.disk.honest → SameHome ring now)
       → now ≡ record ring { disk = now.disk; marks = record ring.marks { end = ring.marks.coming } }
-      → later ≡ record log { logged = now.marks.end }
+      → later ≡ record log { logged = now.marks.end } → Happens barrier ring.disk now.disk
       → Leaves (at ring log_sync) (record { ring = now; log = later; logging = log_blocks; installing = installing })
       × LogMoves (log_steps (at ring log_sync)) (at ring log_sync) (record { ring = now; log = later; logging = log_blocks; installing = installing })
-  group_ended later is steps log_is home is_now later_is = (
+  group_ended later is steps log_is home is_now later_is happened = (
     record {
       sound = record {
         tied = tied;
@@ -269,6 +305,7 @@ module _ (ring now : Ring) (log : LogState) (installing : Installing) where
       cut = λ honest b home_b lt. λ i. updated (updates_to (later_is i) (later_is i).cut) b (home honest b home_b lt i);
       logged = λ honest b home_b lt. (λ i. updated (updates_to (later_is i) (later_is i).logged) b (home honest b home_b lt i))
           ∙ (λ i. updated (updates_to log (end_is i)) b (home_of ring b));
+      call = happened;
       installing = refl;
     },
   )

@@ -1,6 +1,6 @@
 -- The first step of an installing: its plan, and its first home block.
-use Rattle.std.proofs.Common.{◌≡◌, ◌<◌, ◌+◌, ℕ, zero, suc, refl, sym, ap, subst, ◌∙◌, arith}
-use Rattle.journal_wal.specs.Wal.{WalState, Installing, Crashes, Fails, KeepsBlocks, Plans, Installs, InstallMoves, BeginsInstall, InstallsOn, install_steps, distinct_blocks, logged_updates}
+use Rattle.std.proofs.Common.{◌≡◌, inr, ◌<◌, ◌+◌, ℕ, zero, suc, IsTrue, refl, sym, ap, subst, ◌∙◌, arith}
+use Rattle.journal_wal.specs.Wal.{WalState, IsAhead, Makes, Tries, TriesAhead, install_call, after_call, log_steps, Installing, Crashes, Fails, KeepsBlocks, Plans, Installs, InstallMoves, BeginsInstall, InstallsOn, install_steps, distinct_blocks, logged_updates}
 
 -- a plan is no part of what a crash may leave, and none of the blocks
 keeps_planned : (old new : WalState) (installing : Installing) → KeepsBlocks (record old { installing = installing }) new → KeepsBlocks old new
@@ -17,18 +17,27 @@ pub crashes_planned : (old mid new : WalState) → mid ≡ record old { installi
 crashes_planned old mid new same crash = crashes_from old new mid.installing (subst (λ (w : WalState). Crashes w new) same crash)
 
 fails_from : (old new : WalState) (installing : Installing) → Fails (record old { installing = installing }) new → Fails old new
-fails_from old new installing fails = record { faulted = fails.faulted; blocks = λ honest. keeps_planned old new installing (fails.blocks honest) }
+fails_from old new installing fails = record { faulted = fails.faulted; log = fails.log; blocks = λ honest. keeps_planned old new installing (fails.blocks honest) }
 
 pub fails_planned : (old mid new : WalState) → mid ≡ record old { installing = mid.installing } → Fails mid new → Fails old new
 fails_planned old mid new same fails = fails_from old new mid.installing (subst (λ (w : WalState). Fails w new) same fails)
 
-installs_from : (old new : WalState) (installing : Installing) → Installs (record old { installing = installing }) new
-    → InstallMoves (install_steps old) old new → Installs old new
-installs_from old new installing installs moves = record {
-  blocks = λ honest. keeps_planned old new installing (installs.blocks honest);
-  logging = installs.logging;
+-- what was planned is ahead, and the step made its call
+installs_from : (old mid new : WalState) → mid ≡ record old { installing = mid.installing } → IsAhead old mid.installing → 0 < install_steps mid
+    → Installs mid new → InstallMoves (install_steps old) old new → Installs old new
+installs_from old mid new same ahead some installs moves = record {
+  ahead = mid.installing;
+  is_ahead = ahead;
+  call = subst (λ (w : WalState). Makes (install_call w.log mid.installing) w.ring.disk new.ring.disk) same
+      (subst (λ (i : Installing). Makes (install_call mid.log i) mid.ring.disk new.ring.disk) goes_on installs.call);
+  next = installs.next ∙ ap after_call goes_on;
+  blocks = λ honest. keeps_planned old new mid.installing (subst (λ (w : WalState). IsTrue w.ring.disk.honest → KeepsBlocks w new) same installs.blocks honest);
+  logging = installs.logging ∙ ap log_steps same;
   moves = moves;
 }
+  where
+    goes_on : installs.ahead ≡ mid.installing
+    goes_on = installs.is_ahead.goes_on some
 
 began : (old mid new : WalState) (left : ℕ) → mid ≡ record old { installing = mid.installing } → Installs mid new
     → install_steps mid ≡ suc (suc left) → old.log.start < old.log.logged → install_steps mid ≡ distinct_blocks (logged_updates old) + 3
@@ -44,7 +53,14 @@ installs_planned old mid new plans installs = by_steps (install_steps old) refl
     by_steps zero none_yet =
         let begun = plans.begun none_yet in
         let many : install_steps mid ≡ suc (suc (distinct_blocks (logged_updates old) + 1)) = omega (arith, begun.1) in
-        installs_from old new mid.installing (subst (λ (w : WalState). Installs w new) plans.same installs)
+        installs_from old mid new plans.same plans.ahead plans.some installs
         (subst (λ (m : ℕ). InstallMoves m old new) (sym none_yet)
         (began old mid new (distinct_blocks (logged_updates old) + 1) plans.same installs many begun.0 begun.1))
     by_steps (suc n) some = subst (λ (w : WalState). Installs w new) (plans.stays (omega (arith, some))) installs
+
+-- what is tried of a plan is tried of what is ahead
+pub tries_planned : (old mid new : WalState) → Plans old mid → Tries (install_call mid.log mid.installing) mid.ring.disk new.ring.disk → TriesAhead old new
+tries_planned old mid new plans tries = inr (
+  mid.installing,
+  (plans.ahead, subst (λ (w : WalState). Tries (install_call w.log mid.installing) w.ring.disk new.ring.disk) plans.same tries),
+)

@@ -1,6 +1,8 @@
 -- The last position of each block.
 use Rattle.std.proofs.Common.{◌≡◌, ◌≢◌, ⊎_elim, ◌<◌, ◌+◌, ◌-◌, ℕ, eqb, ◌||◌, Bool, true, false, cond, List, [], ◌∷◌, ◌++◌, length, length-append, get_or, Option, Some, None, is_some, refl, sym, ap, subst, ◌∙◌, arith}
 use Rattle.std.specs.List.{slice_get}
+use Rattle.std.specs.List.Sorted.{IsStrictlySortedBy}
+use Rattle.std.specs.Map.{keys_of}
 use Rattle.std.specs.BTreeMap.{is_at}
 use Rattle.std.specs.Ordering.{nat_cmp}
 use Rattle.std.specs.Cmp.{unsigned_ties}
@@ -12,8 +14,7 @@ use Rattle.journal_block.specs.declared.update.Update.{Update}
 use Rattle.journal_block.specs.Updates.{updated, updates_block}
 use Rattle.journal_block.specs.UpdateLaws.{updated-append}
 use Rattle.journal_memlog.specs.Laws.{updates_block-append}
-use Rattle.journal_wal.specs.Wal.{distinct_blocks}
-use Rattle.journal_wal.specs.States.{planned, IsLast, IsPlanOf}
+use Rattle.journal_wal.specs.Wal.{planned, distinct_blocks, IsLast, IsPlanOf}
 
 none : Update
 none = record { block = 0; bytes = [] }
@@ -74,8 +75,8 @@ is_last-kept us u start b q last other = record {
 -- where a plan has no block but those of some updates, one more update adds its own
 pub plan-added : (us : List Update) (u : Update) (start : ℕ) (old new : List (ℕ × ℕ)) → IsPlanOf us start old
     → ((b : ℕ) → planned new b ≡ cond (is_at (nat_cmp u.block) b) (Some (start + length us)) (planned old b))
-    → IsPlanOf (us ++ u ∷ []) start new
-plan-added us u start old new plan is = record {
+    → IsStrictlySortedBy nat_cmp (keys_of new) → IsPlanOf (us ++ u ∷ []) start new
+plan-added us u start old new plan is ascending = record {
   last = λ b q has. ⊎_elim
       (λ (here : b ≡ u.block).
       let q_is : q ≡ start + length us = some_same q (start + length us) (sym has ∙ at_here b here) in
@@ -90,6 +91,7 @@ plan-added us u start old new plan is = record {
       ∙ ap (λ (t : Bool). t || (eqb u.block b || false)) (plan.none b (sym (elsewhere b other) ∙ has))
       ∙ ap (λ (t : Bool). t || false) (ne_eqb u.block b (λ same. other (sym same))))
       (cases_eq b u.block);
+  ascending = ascending;
 }
   where
     some_same : (p q : ℕ) → Some p ≡ Some q → p ≡ q
@@ -108,9 +110,11 @@ plan-added us u start old new plan is = record {
 
 -- no plan for no updates
 pub plan-none : (start : ℕ) → IsPlanOf [] start []
+unfolding IsStrictlySortedBy
 plan-none start = record {
   last = λ b q has. let impossible : ⊥ = none_some q has in absurd impossible;
   none = λ b has. refl;
+  ascending = tt;
 }
   where
     none_some : (q : ℕ) → None ≡ Some q → ⊥

@@ -4,7 +4,7 @@ use Rattle.journal_world.specs.declared.refusal.Refusal.{Refusal}
 use Rattle.journal_world.specs.declared.refusal.Refusal.TheVariants.{NoMemory, TooLarge, DeviceFailed, Worn, Full}
 use Rattle.journal_block.specs.declared.update.Update.{Update}
 use Rattle.journal_memlog.specs.Logs.{next_of, tail_of, fresh_count}
-use Rattle.journal_wal.specs.Wal.{WalState, tail_length}
+use Rattle.journal_wal.specs.Wal.{WalState, AreHomes, HasRoom, size_of, tail_length}
 
 -- Nothing but memory refuses updates of so many blocks, of which so many do not stand in the tail
 pub record HasPlaces (w : WalState) (blocks fresh : ℕ) : Type 0 where
@@ -12,6 +12,11 @@ pub record HasPlaces (w : WalState) (blocks fresh : ℕ) : Type 0 where
   pub few : blocks ≤ 128
   pub small : next_of w.log + fresh < 2 ^ 62
   pub tail : tail_length w + fresh ≤ 255
+
+-- Any updates of so many blocks, of which so many do not stand in the tail, can be appended
+abbrev pub HasRoomFor : WalState → ℕ → ℕ → Type 0
+HasRoomFor w blocks fresh = (updates : List Update) → AreHomes (size_of w) updates → length updates ≡ blocks
+    → fresh_count (tail_of w.log) updates ≡ fresh → HasRoom w updates
 
 -- Why they are refused without asking for memory: the first of these that holds
 abbrev pub IsShortage : WalState → ℕ → ℕ → Refusal Unit → Type 0

@@ -1,12 +1,7 @@
 -- What holds of every write-ahead log: of its numbers, of its two cycles, and of each image of an honest disk.
-use Rattle.std.specs.Prelude.{ℕ, ◌≡◌, ◌⊎◌, ◌<◌, ◌≤◌, ◌+◌, ◌-◌, ◌^◌, true, false, IsTrue, List, length, take, Option, Some, None}
-use Rattle.std.specs.List.{slice_get}
-use Rattle.std.specs.Map.{lookup}
-use Rattle.std.specs.BTreeMap.{is_at}
-use Rattle.std.specs.Ordering.{nat_cmp}
+use Rattle.std.specs.Prelude.{ℕ, ◌≡◌, ◌⊎◌, ◌<◌, ◌≤◌, ◌+◌, ◌-◌, ◌^◌, IsTrue, List, length, take, Some, None}
 use Rattle.journal_block.specs.declared.update.Update.{Update}
-use Rattle.journal_block.specs.Block.{Bytes}
-use Rattle.journal_block.specs.Updates.{updated, updates_block, with_updates}
+use Rattle.journal_block.specs.Updates.{with_updates}
 use Rattle.journal_disk.specs.Images.{EveryImage}
 use Rattle.journal_circ.specs.Ring.{Ring, log_of, home_of}
 use Rattle.journal_memlog.specs.Logs.{LogState, next_of, tail_of}
@@ -14,7 +9,7 @@ use Rattle.journal_wal.specs.declared.disk_log.Logger.{Logger}
 use Rattle.journal_wal.specs.declared.disk_log.Logger.TheVariants.{Blocks, Synced, EndPut, Spent as LoggerSpent}
 use Rattle.journal_wal.specs.declared.disk_log.Installer.{Installer}
 use Rattle.journal_wal.specs.declared.disk_log.Installer.TheVariants.{Resting, Homes, Synced as HomesSynced, StartPut, Spent as InstallerSpent}
-use Rattle.journal_wal.specs.Wal.{Logging, log_blocks, log_end, log_sync, log_spent, Installing, install_none, install_homes, install_start, install_sync, install_spent, WalState, IsCrash, AreHomes}
+use Rattle.journal_wal.specs.Wal.{planned, IsLast, Logging, log_blocks, log_end, log_sync, log_spent, Installing, install_none, install_homes, install_start, install_sync, install_spent, WalState, IsCrash, AreHomes}
 
 -- what the logger's state says, and the installer's
 abbrev pub logging_of : Logger → Logging
@@ -24,27 +19,11 @@ logging_of (EndPut state) = log_sync
 logging_of LoggerSpent = log_spent
 
 abbrev pub installing_of : Installer → Installing
-installing_of Resting = install_none
+installing_of (Resting state) = install_none
 installing_of (Homes state plan) = install_homes plan.upto plan.homes.entries
 installing_of (HomesSynced state upto) = install_start upto
 installing_of (StartPut state upto) = install_sync upto
 installing_of InstallerSpent = install_spent
-
--- the position that a plan has for a block
-abbrev pub planned : List (ℕ × ℕ) → ℕ → Option ℕ
-planned plan b = lookup (is_at (nat_cmp b)) plan
-
--- Of the updates, the first of which is at position `start`, that at position q is the last of block b
-pub record IsLast (updates : List Update) (start b q : ℕ) : Type 0 where
-  pub above : start ≤ q
-  pub below : q < start + length updates
-  pub named : updates_block updates b ≡ true
-  pub here : (u : Update) → slice_get updates (q - start) ≡ Some u → (u.block ≡ b) × ((x : Bytes) → updated updates b x ≡ u.bytes)
-
--- The plan has each block of the updates, with the position of its last one
-pub record IsPlanOf (updates : List Update) (start : ℕ) (plan : List (ℕ × ℕ)) : Type 0 where
-  pub last : (b q : ℕ) → planned plan b ≡ Some q → IsLast updates start b q
-  pub none : (b : ℕ) → planned plan b ≡ None → updates_block updates b ≡ false
 
 -- the updates that are installed, those before a position
 abbrev pub updates_to : LogState → ℕ → List Update

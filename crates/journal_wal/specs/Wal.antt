@@ -1,18 +1,23 @@
 -- What contracts see of a write-ahead log: the blocks now, those that a crash may leave, and what the next steps are.
-use Rattle.std.specs.Prelude.{ℕ, zero, suc, ◌≡◌, ◌⊎◌, ◌<◌, ◌≤◌, ◌+◌, ◌-◌, true, false, IsTrue, if◌then◌else◌, List, [], ◌∷◌, length, take}
-use Rattle.std.specs.List.{All}
+use Rattle.std.specs.Prelude.{ℕ, zero, suc, ◌≡◌, ◌⊎◌, ◌<◌, ◌≤◌, ◌+◌, ◌-◌, true, false, IsTrue, if◌then◌else◌, List, [], ◌∷◌, length, take, slice_index_or, Option, Some, None}
+use Rattle.std.specs.List.{All, slice_get}
+use Rattle.std.specs.List.Sorted.{IsStrictlySortedBy}
+use Rattle.std.specs.Map.{lookup, keys_of}
+use Rattle.std.specs.BTreeMap.{is_at}
+use Rattle.std.specs.Ordering.{nat_cmp}
 use Rattle.journal_world.specs.declared.refusal.Refusal.{Refusal}
 use Rattle.journal_world.specs.declared.refusal.Refusal.TheVariants.{NoMemory, DeviceFailed}
 use Rattle.journal_world.specs.declared.step.Step.{Step}
 use Rattle.journal_world.specs.declared.step.Step.TheVariants.{Idle, Moved}
 use Rattle.journal_block.specs.declared.update.Update.{Update}
 use Rattle.journal_block.specs.Block.{Bytes}
-use Rattle.journal_block.specs.Updates.{Content, with_updates, updates_block}
-use Rattle.journal_disk.specs.Disks.{Keeps, HasFailed}
+use Rattle.journal_block.specs.Updates.{Content, updated, with_updates, updates_block}
+use Rattle.journal_disk.specs.Disks.{Event, write, barrier, DiskState, Keeps, HasFailed}
 use Rattle.journal_disk.specs.Images.{EveryImage}
 use Rattle.journal_disk.specs.Moments.{LeavesOnly}
 use Rattle.journal_circ.specs.StandsFor.{StandsFor}
-use Rattle.journal_circ.specs.Ring.{Ring, home_of}
+use Rattle.journal_circ.specs.Log.{log_block, with_end, start_block, start_of, end_of}
+use Rattle.journal_circ.specs.Ring.{Ring, home_of, Happens, MayHappen}
 use Rattle.journal_memlog.specs.Logs.{LogState, tail_of, absorbed, appended, trimmed, CanTake}
 
 -- What the logger does next
@@ -111,6 +116,51 @@ install_steps_by install_spent = 0
 abbrev pub install_steps : WalState → ℕ
 install_steps w = install_steps_by w.installing
 
+-- the bytes that the log in memory has at a position
+abbrev pub bytes_at : LogState → ℕ → Bytes
+bytes_at log q = (slice_index_or log.updates (q - log.start) (record { block = 0; bytes = [] })).bytes
+
+-- The logger's next device call, where a group is in flight: each of its log blocks, a barrier, block 0 with the end, a barrier
+abbrev pub log_call_by : Logging → ℕ → ℕ → Event → Bytes → Option Event
+log_call_by log_blocks zero left put header = None
+log_call_by log_blocks (suc group) zero put header = Some barrier
+log_call_by log_blocks (suc group) (suc left) put header = Some put
+log_call_by log_end group left put header = Some (write 0 header)
+log_call_by log_sync group left put header = Some barrier
+log_call_by log_spent group left put header = None
+
+abbrev pub log_call : WalState → Option Event
+log_call w = log_call_by w.logging (w.log.cut - w.log.logged) (w.log.cut - w.ring.next)
+    (write (log_block w.ring.next) (bytes_at w.log w.ring.next)) (with_end w.ring.header w.log.cut)
+
+-- The installer's next device call, where it has begun: each home block of its plan, a barrier, block 1 with the start, a barrier
+abbrev pub install_call : LogState → Installing → Option Event
+install_call log install_none = None
+install_call log (install_homes upto []) = Some barrier
+install_call log (install_homes upto (home ∷ plan)) = Some (write home.0 (bytes_at log home.1))
+install_call log (install_start upto) = Some (write 1 (start_block upto))
+install_call log (install_sync upto) = Some barrier
+install_call log install_spent = None
+
+-- what it does next once that is done
+abbrev pub after_call : Installing → Installing
+after_call install_none = install_none
+after_call (install_homes upto []) = install_start upto
+after_call (install_homes upto (home ∷ plan)) = install_homes upto plan
+after_call (install_start upto) = install_sync upto
+after_call (install_sync upto) = install_none
+after_call install_spent = install_spent
+
+-- The device call was made where one was due, and nothing else happened to the disk
+abbrev pub Makes : Option Event → DiskState → DiskState → Type 0
+Makes None old new = IsTrue old.honest → new.past ≡ old.past
+Makes (Some event) old new = Happens event old new
+
+-- It was tried, and may have happened
+abbrev pub Tries : Option Event → DiskState → DiskState → Type 0
+Tries None old new = IsTrue old.honest → new.past ≡ old.past
+Tries (Some event) old new = MayHappen event old new
+
 -- each of the updates is of a block that holds objects
 abbrev pub AreHomes : ℕ → List Update → Type 0
 AreHomes n updates = All (λ u. (513 ≤ u.block) × (u.block < n)) updates
@@ -152,6 +202,7 @@ pub record Reads (old new : WalState) : Type 0 where
 -- A device call failed
 pub record Fails (old new : WalState) : Type 0 where
   pub faulted : new.ring.faulted ≡ true
+  pub log : new.log ≡ old.log
   pub blocks : IsTrue old.ring.disk.honest → KeepsBlocks old new
 
 -- The tail was cut into a group, without a device call
@@ -170,6 +221,7 @@ pub record LogsOn (old new : WalState) : Type 0 where
   pub steps : log_steps new + 1 ≡ log_steps old
   pub log : new.log ≡ old.log
   pub blocks : IsTrue old.ring.disk.honest → KeepsBlocks old new
+  pub call : Makes (log_call old) old.ring.disk new.ring.disk
   pub installing : new.installing ≡ old.installing
 
 -- The cycle of the group in flight ended
@@ -179,6 +231,7 @@ pub record EndsGroup (old new : WalState) : Type 0 where
   pub now : IsTrue old.ring.disk.honest → SameBlocks (size_of old) (blocks_now new) (blocks_now old)
   pub cut : IsTrue old.ring.disk.honest → SameBlocks (size_of old) (blocks_cut new) (blocks_cut old)
   pub logged : IsTrue old.ring.disk.honest → SameBlocks (size_of old) (blocks_logged new) (blocks_cut old)
+  pub call : Makes (log_call old) old.ring.disk new.ring.disk
   pub installing : new.installing ≡ old.installing
 
 -- What a step of the logger that moves does, where so many steps are left of the group in flight
@@ -206,6 +259,29 @@ distinct_blocks (u ∷ later) = (if updates_block later u.block then 0 else 1) +
 abbrev pub logged_updates : WalState → List Update
 logged_updates w = take (w.log.logged - w.log.start) w.log.updates
 
+-- the position that a plan has for a block
+abbrev pub planned : List (ℕ × ℕ) → ℕ → Option ℕ
+planned plan b = lookup (is_at (nat_cmp b)) plan
+
+-- Of the updates, the first of which is at position `start`, that at position q is the last of block b
+pub record IsLast (updates : List Update) (start b q : ℕ) : Type 0 where
+  pub above : start ≤ q
+  pub below : q < start + length updates
+  pub named : updates_block updates b ≡ true
+  pub here : (u : Update) → slice_get updates (q - start) ≡ Some u → (u.block ≡ b) × ((x : Bytes) → updated updates b x ≡ u.bytes)
+
+-- The plan has each block of the updates, with the position of its last one, blocks ascending
+pub record IsPlanOf (updates : List Update) (start : ℕ) (plan : List (ℕ × ℕ)) : Type 0 where
+  pub last : (b q : ℕ) → planned plan b ≡ Some q → IsLast updates start b q
+  pub none : (b : ℕ) → planned plan b ≡ None → updates_block updates b ≡ false
+  pub ascending : IsStrictlySortedBy nat_cmp (keys_of plan)
+
+-- What the installer has ahead: what it has begun, or where it has begun nothing a plan of all that is logged
+pub record IsAhead (w : WalState) (ahead : Installing) : Type 0 where
+  pub begins : install_steps w ≡ 0
+      → (plan : List (ℕ × ℕ)) × (IsPlanOf (logged_updates w) w.log.start plan × (ahead ≡ install_homes w.log.logged plan))
+  pub goes_on : 0 < install_steps w → ahead ≡ w.installing
+
 -- Installing begins: the first home block of those that are logged
 pub record BeginsInstall (old new : WalState) : Type 0 where
   pub some : old.log.start < old.log.logged
@@ -217,10 +293,11 @@ pub record InstallsOn (old new : WalState) : Type 0 where
   pub steps : install_steps new + 1 ≡ install_steps old
   pub log : new.log ≡ old.log
 
--- The positions up to one that was logged are free
+-- The positions up to the one that was planned are free
 pub record Frees (old new : WalState) : Type 0 where
   pub steps : install_steps new ≡ 0
   pub upto : ℕ
+  pub upto_is : old.installing ≡ install_sync upto
   pub above : old.log.start ≤ upto
   pub below : upto ≤ old.log.logged
   pub log : new.log ≡ trimmed old.log upto
@@ -236,17 +313,27 @@ pub record IsInstallIdle (w : WalState) : Type 0 where
   pub steps : install_steps w ≡ 0
   pub empty : w.log.start ≡ w.log.logged
 
--- A step of the installer that moved changes no block, and leaves the group in flight
+-- A step of the installer that moved makes the call that it has ahead, changes no block, and leaves the group in flight
 pub record Installs (old new : WalState) : Type 0 where
+  pub ahead : Installing
+  pub is_ahead : IsAhead old ahead
+  pub call : Makes (install_call old.log ahead) old.ring.disk new.ring.disk
+  pub next : new.installing ≡ after_call ahead
   pub blocks : IsTrue old.ring.disk.honest → KeepsBlocks old new
   pub logging : log_steps new ≡ log_steps old
   pub moves : InstallMoves (install_steps old) old new
+
+-- A step of the installer that was refused made no device call, or tried the one that it had ahead
+abbrev pub TriesAhead : WalState → WalState → Type 0
+TriesAhead old new =
+    (new ≡ old) ⊎ ((ahead : Installing) × (IsAhead old ahead × Tries (install_call old.log ahead) old.ring.disk new.ring.disk))
 
 -- The blocks to be installed are planned, where nothing is being installed
 pub record Plans (old new : WalState) : Type 0 where
   pub same : new ≡ record old { installing = new.installing }
   pub some : 0 < install_steps new
   pub begun : install_steps old ≡ 0 → (old.log.start < old.log.logged) × (install_steps new ≡ distinct_blocks (logged_updates old) + 3)
+  pub ahead : IsAhead old new.installing
   pub stays : 0 < install_steps old → new ≡ old
 
 -- why a step of the installer is refused, and what is left
@@ -260,6 +347,11 @@ IsInstallFault old new other = ⊥
 abbrev pub InstallAnswers : WalState → Step → WalState → Type 0
 InstallAnswers old Idle new = IsInstallIdle old × (new ≡ old)
 InstallAnswers old Moved new = Installs old new
+
+-- The log begins and ends where an image of the disk tells
+pub record IsWithin (image : List Bytes) (w : WalState) : Type 0 where
+  pub start : w.log.start ≡ start_of image
+  pub end : w.log.logged ≡ end_of image
 
 -- Nothing is in flight, and the tail is empty
 pub record IsOpened (w : WalState) : Type 0 where

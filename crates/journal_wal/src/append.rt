@@ -1,9 +1,9 @@
 // Updates enter the tail.
-ghost use Rattle.std.specs.Prelude.{ℕ, ◌≡◌, ◌≤◌, ◌<◌, OnOk, OnErr, IfErr, length};
+ghost use Rattle.std.specs.Prelude.{ℕ, ◌≡◌, ◌≤◌, ◌<◌, OnOk, OnErr, IfErr, IsOkUnless, length};
 ghost use Rattle.journal_memlog.specs.Logs.{HasDistinctBlocks, fresh_count, tail_of};
 ghost use Rattle.journal_wal.specs.Wal.{Crashes, AreHomes, HasRoom, Appends, with_room, size_of};
 ghost use Rattle.journal_block.specs.Updates.{updates_block};
-ghost use Rattle.journal_wal.specs.Rooms.{HasPlaces, IsShortage, IsRefusal};
+ghost use Rattle.journal_wal.specs.Rooms.{HasPlaces, HasRoomFor, IsShortage, IsRefusal};
 
 use crate::wal::Wal;
 use journal_block::Update;
@@ -69,17 +69,35 @@ impl<D: BlockDisk> Wal<D> {
 
     /// Makes room for the updates, so that `append_reserved` takes them, as long as no other call comes between.
     ///
-    /// Refusals are those of `append`. Refused or not, the log is as it was, but may have more room in memory.
+    /// Refusals are those of `append`. Refused or not, the log is as it was, but may have more room in memory
+    /// where it had too little.
     pub fn reserve(&mut self, updates: &[Update]) -> Result<(), Refusal<()>>
         requires homes { AreHomes (size_of self.old) updates.now }
         requires distinct { HasDistinctBlocks updates.now }
         ensures room { OnOk result (HasRoom self.new updates.now) }
         ensures refusal { IfErr result (IsRefusal self.old updates.now) }
         ensures same { self.new ≡ with_room self.old self.new.log.room }
+        ensures enough { fresh_count (tail_of self.old.log) updates.now ≤ self.old.log.room → self.new ≡ self.old }
         ensures crash { Crashes self.old self.new }
     {
         let fresh = count_fresh(&self.memory, updates);
         self.check_room(updates.len(), fresh)?;
+        self.reserve_places(updates.len(), fresh)
+    }
+
+    /// Makes room for updates of so many blocks, of which so many are fresh, where `check_room` admits them.
+    /// `append_reserved` takes them then, as long as no other call comes between.
+    ///
+    /// Answers J1 `NoMemory`, and nothing else, where memory is refused. Refused or not, the log is as it was,
+    /// but may have more room in memory where it had too little.
+    pub fn reserve_places(&mut self, blocks: usize, fresh: usize) -> Result<(), Refusal<()>>
+        requires { HasPlaces self.old blocks fresh }
+        ensures room { OnOk result (HasRoomFor self.new blocks fresh) }
+        ensures refusal { IsOkUnless result Refusal.NoMemory }
+        ensures same { self.new ≡ with_room self.old self.new.log.room }
+        ensures enough { fresh ≤ self.old.log.room → self.new ≡ self.old }
+        ensures crash { Crashes self.old self.new }
+    {
         self.memory.reserve(fresh)
     }
 

@@ -28,7 +28,7 @@ pub(crate) enum Logger {
 #[derive(Drop)]
 pub(crate) enum Installer {
     /// Nothing is being installed.
-    Resting,
+    Resting(HomesPut),
     /// Home blocks are put, one a step.
     Homes(HomesPut, Plan),
     /// All of them are stable, up to this position.

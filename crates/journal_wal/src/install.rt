@@ -2,12 +2,12 @@
 ghost use Rattle.std.specs.Prelude.{ℕ, ◌≡◌, ◌≤◌, ◌<◌, ◌↔◌, false, IsTrue, IsErr, OnOk, OnErr, IfOk, IfErr};
 ghost use Rattle.journal_circ.specs.Ring.{IsFault};
 ghost use Rattle.journal_memlog.specs.Logs.{trimmed};
-ghost use Rattle.journal_wal.specs.Wal.{Crashes, Fails, InstallAnswers, Installs, install_steps, IsInstallIdle, IsInstallFault, Plans};
+ghost use Rattle.journal_wal.specs.Wal.{Crashes, Fails, InstallAnswers, Installs, install_steps, install_call, IsInstallIdle, IsInstallFault, Plans, Tries, TriesAhead};
 
 use crate::disk_log::Installer;
 use crate::plan::Plan;
 use crate::wal::Wal;
-use journal_circ::Freed;
+use journal_circ::{Freed, HomesPut};
 use journal_disk::BlockDisk;
 use journal_memlog::MemLog;
 use journal_world::{Refusal, Step};
@@ -26,6 +26,7 @@ impl<D: BlockDisk> Wal<D> {
         ensures faulted { IsTrue self.old.ring.faulted → IsErr result × (self.new ≡ self.old) }
         ensures fine { OnOk result ((self.old.ring.faulted ≡ false) × (self.new.ring.faulted ≡ false)) }
         ensures ok { IfOk result (λ step. InstallAnswers self.old step self.new) }
+        ensures tries { OnErr result (TriesAhead self.old self.new) }
         ensures crash { Crashes self.old self.new }
     {
         if self.on_disk.circ.is_faulted() {
@@ -45,8 +46,8 @@ impl<D: BlockDisk> Wal<D> {
         ensures { IsTrue result ↔ IsInstallIdle self.now }
     {
         let bounds = self.memory.bounds();
-        match self.on_disk.installer {
-            Installer::Resting => bounds.start == bounds.logged,
+        match &self.on_disk.installer {
+            Installer::Resting(_) => bounds.start == bounds.logged,
             _ => false,
         }
     }
@@ -59,12 +60,18 @@ impl<D: BlockDisk> Wal<D> {
         ensures err { IfErr result (λ refusal. (refusal ≡ Refusal.NoMemory) × (install_steps self.old ≡ 0) × (self.new ≡ self.old)
             × (self.old.log.start < self.old.log.logged)) }
     {
-        let Installer::Resting = self.on_disk.installer else {
+        let Installer::Resting(_) = &self.on_disk.installer else {
             return Ok(());
         };
         let upto = self.memory.bounds().logged;
         let plan = Plan::up_to(self.alloc, &self.memory, upto)?;
-        self.on_disk.installer = Installer::Homes(self.on_disk.circ.installer(), plan);
+        // The list stands, so nothing can refuse any more.
+        if let Installer::Resting(state) = mem::replace(
+            &mut self.on_disk.installer,
+            Installer::Spent,
+        ) {
+            self.on_disk.installer = Installer::Homes(state, plan);
+        }
         Ok(())
     }
 
@@ -76,6 +83,8 @@ impl<D: BlockDisk> Wal<D> {
         ensures fine { OnOk result (self.new.ring.faulted ≡ false) }
         ensures ok { OnOk result (Installs self.old self.new) }
         ensures err { OnErr result (Fails self.old self.new) }
+        ensures tries { OnErr result
+            (Tries (install_call self.old.log self.old.installing) self.old.ring.disk self.new.ring.disk) }
         ensures crash { Crashes self.old self.new }
     {
         let circ = &mut self.on_disk.circ;
@@ -92,10 +101,9 @@ impl<D: BlockDisk> Wal<D> {
             }
             Installer::StartPut(state, upto) => {
                 let freed = circ.sync_start(state)?;
-                free(&mut self.memory, freed, upto);
-                Installer::Resting
+                Installer::Resting(free(&mut self.memory, freed, upto))
             }
-            Installer::Resting | Installer::Spent => return Err(Refusal::DeviceFailed(())),
+            Installer::Resting(_) | Installer::Spent => return Err(Refusal::DeviceFailed(())),
         };
         self.on_disk.installer = next;
         Ok(())
@@ -103,10 +111,11 @@ impl<D: BlockDisk> Wal<D> {
 }
 
 // Drops from memory what the disk has freed, and nothing else.
-fn free(memory: &mut MemLog, _freed: Freed, upto: u64)
+fn free(memory: &mut MemLog, freed: Freed, upto: u64) -> HomesPut
     requires from_start { memory.old.start ≤ upto }
     requires to_logged { upto ≤ memory.old.logged }
     ensures { memory.new ≡ trimmed memory.old upto }
 {
     memory.trim(upto);
+    freed.next_run()
 }

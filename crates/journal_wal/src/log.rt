@@ -1,7 +1,7 @@
 // The logger's cycle: a group becomes durable, whole.
 ghost use Rattle.std.specs.Prelude.{ℕ, ◌≡◌, ◌≤◌, ◌<◌, true, false, IsTrue, IsErr, OnOk, OnErr, IfOk, IfErr};
 ghost use Rattle.journal_circ.specs.Ring.{IsFault};
-ghost use Rattle.journal_wal.specs.Wal.{Crashes, Fails, LogAnswers, log_blocks};
+ghost use Rattle.journal_wal.specs.Wal.{Crashes, Fails, LogAnswers, Tries, log_blocks, log_call};
 
 use crate::disk_log::Logger;
 use crate::wal::Wal;
@@ -22,6 +22,7 @@ impl<D: BlockDisk> Wal<D> {
         ensures fine { OnOk result ((self.old.ring.faulted ≡ false) × (self.new.ring.faulted ≡ false)) }
         ensures ok { IfOk result (λ step. LogAnswers self.old step self.new) }
         ensures err { OnErr result (Fails self.old self.new) }
+        ensures tries { OnErr result (Tries (log_call self.old) self.old.ring.disk self.new.ring.disk) }
         ensures crash { Crashes self.old self.new }
     {
         if self.on_disk.circ.is_faulted() {

@@ -6,13 +6,13 @@ ghost use Rattle.journal_disk.specs.Images.{EveryImage, reading};
 ghost use Rattle.journal_circ.specs.Log.{IsWellFormed};
 ghost use Rattle.journal_circ.specs.StandsFor.{StandsFor};
 ghost use Rattle.journal_circ.specs.Ring.{IsReason, log_of};
-ghost use Rattle.journal_wal.specs.Wal.{IsOpened, AreHomes, size_of, blocks_now};
+ghost use Rattle.journal_wal.specs.Wal.{IsOpened, IsWithin, AreHomes, size_of, blocks_now};
 ghost use Rattle.journal_wal.specs.Recovery.{Recovers, IsRecovered};
 
 use crate::disk_log::{DiskLog, Installer, Logger};
 use crate::wal::Wal;
 use journal_block::{Block, Update};
-use journal_circ::Circ;
+use journal_circ::{Circ, Opened};
 use journal_disk::BlockDisk;
 use journal_memlog::MemLog;
 use journal_world::{Refusal, Refused};
@@ -38,18 +38,24 @@ impl<D: BlockDisk> Wal<D> {
             (λ refused. (D.state refused.disk).past ≡ (D.state disk).past) }
         ensures well_formed { IsTrue (D.state disk).honest → IfOk result (λ _. IsWellFormed (reading (D.state disk).past)) }
         ensures opened { IfOk result IsOpened }
+        // The bounds are those that the disk tells.
+        ensures bounds { IsTrue (D.state disk).honest → IfOk result (IsWithin (reading (D.state disk).past)) }
         ensures images { IsTrue (D.state disk).honest → IfOk result (λ wal.
             EveryImage wal.ring.disk.past (StandsFor (size_of wal) (blocks_now wal))) }
     {
-        let mut circ = Circ::open(alloc, disk)?;
+        let Opened {
+            mut circ,
+            logger,
+            installer,
+        } = Circ::open(alloc, disk)?;
         match recover(alloc, &mut circ) {
             Ok(memory) => Ok(Wal {
                 alloc,
                 memory,
                 on_disk: DiskLog {
-                    logger: Logger::Blocks(circ.logger()),
-                    installer: Installer::Resting,
                     circ,
+                    logger: Logger::Blocks(logger),
+                    installer: Installer::Resting(installer),
                 },
             }),
             Err(refusal) => Err(Refused {

@@ -3,8 +3,8 @@ ghost use Rattle.std.specs.Prelude.{ℕ, ◌≡◌, ◌≤◌, ◌-◌, ◌∷�
 ghost use Rattle.std.specs.BTreeMap.{is_at};
 ghost use Rattle.std.specs.Ordering.{nat_cmp};
 ghost use Rattle.journal_memlog.specs.Logs.{next_of};
-ghost use Rattle.journal_wal.specs.Wal.{distinct_blocks};
-ghost use Rattle.journal_wal.specs.States.{planned, updates_to, IsPlanOf};
+ghost use Rattle.journal_wal.specs.Wal.{planned, distinct_blocks, IsPlanOf};
+ghost use Rattle.journal_wal.specs.States.{updates_to};
 
 use journal_memlog::MemLog;
 use std::alloc::{AllocError, Global};

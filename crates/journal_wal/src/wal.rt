@@ -14,8 +14,9 @@ use std::marker::Model;
 
 /// A write-ahead log over a disk.
 ///
-/// The updates in memory and the log on the disk are apart, and no call but a cut, the end of a cycle and a
-/// read needs both.
+/// The updates in memory and the log on the disk are apart. Updates are appended and cut in memory alone,
+/// where the disk has not failed. A read looks into memory first, and then at the disk. The logger and the
+/// installer write each log block and each home block from memory, and tell it the end of a cycle.
 #[derive(Drop)]
 pub struct Wal<D: BlockDisk> {
     pub(crate) alloc: Global,

@@ -1,16 +1,11 @@
 -- Replies to commands and lines, from what the calls behind them answer.
-use Rattle.std.proofs.Common.{◌≡◌, ◌⊎◌, inl, inr, ℕ, ◌≤◌, nat_lt, Bool, true, false, cond, List, [], ◌∷◌, length, Option, Some, None, Bor, Result, Ok, Err, refl, sym, ap, subst, ◌∙◌}
-use Rattle.std.specs.Prelude.{IfOk, IfErr, IsSome, MatchOption, if◌then◌else◌}
+use Rattle.std.proofs.Common.{◌≡◌, inl, inr, ℕ, Bool, true, false, cond, List, Option, Some, None, Result, Ok, Err, refl, sym, subst}
+use Rattle.std.specs.Prelude.{IfOk}
 use Rattle.std.specs.declared.ops.ControlFlow.{ControlFlow}
 use Rattle.std.specs.declared.ops.ControlFlow.TheVariants.{Continue, Break}
-use Rattle.journal_world.specs.declared.address.Addr.{Addr}
 use Rattle.journal_world.specs.declared.refusal.Refusal.{Refusal}
-use Rattle.journal_world.specs.Addresses.{Value}
-use Rattle.journal_core.specs.Causes.{Told}
-use Rattle.journal_twophase.specs.Transactions.{TxnState}
 use Rattle.jtool.specs.declared.command.Command.{Command}
 use Rattle.jtool.specs.declared.command.Command.TheVariants as commands
-use Rattle.jtool.specs.declared.command.Choice.{Choice}
 use Rattle.jtool.specs.declared.answer.Answer.{Answer}
 use Rattle.jtool.specs.declared.answer.Answer.TheVariants as answers
 use Rattle.jtool.specs.declared.client.Crash.{Crash}
@@ -22,7 +17,7 @@ use Rattle.jtool.specs.declared.up.Opening.{Opening}
 use Rattle.jtool.specs.declared.up.Opening.TheVariants as openings
 use Rattle.jtool.proofs.Talking.{talks_none, talks_more, leaves_join, leaves_opened}
 use Rattle.jtool.specs.Downs.{ObeysDown, AnswersDown}
-use Rattle.jtool.specs.Answers.{to_no_command, Refuses}
+use Rattle.jtool.specs.Answers.{Refuses}
 use Rattle.jtool.specs.Commands.{LineSays}
 use Rattle.jtool.specs.Transcripts.{Streams, IsAnswerTo, IsAnswered, IsOpening, Talks, Asks, AsksOpening, Prints, Leaves, LeavesBy, Opens}
 use Rattle.jtool.specs.Clients.{ClientState, Replies, Answers}

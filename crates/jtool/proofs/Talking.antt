@@ -1,18 +1,15 @@
 -- How what is read and printed adds up, line by line.
-use Rattle.std.proofs.Common.{◌≡◌, ◌⊎◌, inl, inr, ℕ, ◌<◌, Bool, true, false, List, [], ◌∷◌, ◌++◌, length, Option, Some, None, refl, sym, ap, subst, ◌∙◌, arith, append_assoc, append-nil}
+use Rattle.std.proofs.Common.{◌≡◌, ℕ, false, List, [], ◌∷◌, ◌++◌, Option, Some, None, refl, sym, ap, subst, ◌∙◌, append-nil}
 use Rattle.std.specs.Prelude.{IfSome}
-use Rattle.std.specs.List.{flat_map, AllByRecursion}
+use Rattle.std.specs.List.{AllByRecursion}
 use Rattle.std.specs.Io.KnownBytes.{Keeps, Appends}
 use Rattle.std.specs.Io.BufRead.{drop_through}
 use Rattle.std.proofs.KnownBytes.{Appends-nil, Appends-trans}
 use Rattle.std.proofs.lemmas.List.Concat.{flat_map-append}
-use Rattle.jtool.specs.declared.answer.Answer.{Answer}
-use Rattle.jtool.specs.declared.client.Crash.{Crash}
 use Rattle.jtool.specs.declared.script.Next.{Next}
 use Rattle.jtool.specs.declared.script.Next.TheVariants as nexts
-use Rattle.jtool.specs.Answers.{answer_line}
-use Rattle.jtool.specs.Lines.{first_line, kept, TakesLine}
-use Rattle.jtool.specs.Transcripts.{Streams, Turn, IsTurn, IsAnswered, printed, Consists, Talks, Asks, Reads, Prints, Answers, IsTranscript, TalksToTheEnd, IsOpening, AsksOpening, Leaves, LeavesBy, LeavesCrash}
+use Rattle.jtool.specs.Lines.{TakesLine}
+use Rattle.jtool.specs.Transcripts.{Streams, Turn, IsTurn, printed, Consists, Talks, Asks, Reads, Answers, IsTranscript, TalksToTheEnd, AsksOpening, Leaves}
 
 -- ---- lists of turns
 

@@ -1,16 +1,18 @@
 // The installer's cycle: blocks are written home, and then the positions that had them become free.
 ghost use Rattle.std.specs.Prelude.{ℕ, ◌≡◌, ◌⊎◌, ◌<◌, ◌≤◌, ◌-◌, true, false, drop, IsTrue, OnOk, OnErr, IfErr, IsErr, MatchResult};
-ghost use Rattle.journal_circ.specs.Ring.{log_of, home_of, Steps, SameHome, SameHomeBut, SameBlocks, IsFault, IsLogged, IsInstalled};
+ghost use Rattle.journal_disk.specs.Disks.{write, barrier};
+ghost use Rattle.journal_circ.specs.Log.{start_block};
+ghost use Rattle.journal_circ.specs.Ring.{log_of, home_of, Steps, SameHome, SameHomeBut, SameBlocks, IsFault, IsLogged, IsInstalled, Happens, MayHappen};
 
 use crate::Circ;
-use crate::layout::{BOUND_AT, FRONT};
+use crate::layout::START_BLOCK;
 use journal_block::Block;
 use journal_disk::BlockDisk;
 use journal_world::Refusal;
 
 /// Home blocks were put, or none.
 #[derive(Drop)]
-pub struct HomesPut(());
+pub struct HomesPut(pub(super) ());
 
 /// All home blocks that were put are on the disk.
 #[derive(Drop)]
@@ -24,12 +26,15 @@ pub struct StartPut(());
 #[derive(Drop)]
 pub struct Freed(());
 
-impl<D: BlockDisk> Circ<D> {
-    /// The installer's state before a run.
-    pub fn installer(&self) -> HomesPut {
+impl Freed {
+    /// The state in which the next run begins.
+    pub fn next_run(self) -> HomesPut {
+        let Freed(()) = self;
         HomesPut(())
     }
+}
 
+impl<D: BlockDisk> Circ<D> {
     /// Puts a home block that a position up to the end has an update of. An image stands for the same as
     /// before, whatever is put.
     ///
@@ -48,6 +53,8 @@ impl<D: BlockDisk> Circ<D> {
         ensures cause { IfErr result (IsFault self.old.faulted self.old.disk self.new.disk) }
         ensures faulted { IsTrue self.old.faulted → IsErr result × (self.new ≡ self.old) }
         ensures step { Steps self.old.marks.coming self.old self.new }
+        ensures done { OnOk result (Happens (write block from.now) self.old.disk self.new.disk) }
+        ensures call { MayHappen (write block from.now) self.old.disk self.new.disk }
         ensures log { IsTrue self.old.disk.honest → log_of self.new ≡ log_of self.old }
         ensures home { IsTrue self.old.disk.honest → OnOk result (home_of self.new block ≡ from.now) }
         ensures others { IsTrue self.old.disk.honest → SameHomeBut block self.old self.new }
@@ -74,6 +81,8 @@ impl<D: BlockDisk> Circ<D> {
         ensures cause { IfErr result (IsFault self.old.faulted self.old.disk self.new.disk) }
         ensures faulted { IsTrue self.old.faulted → IsErr result × (self.new ≡ self.old) }
         ensures step { Steps self.old.marks.coming self.old self.new }
+        ensures done { OnOk result (Happens barrier self.old.disk self.new.disk) }
+        ensures call { MayHappen barrier self.old.disk self.new.disk }
         ensures log { IsTrue self.old.disk.honest → log_of self.new ≡ log_of self.old }
         ensures home { IsTrue self.old.disk.honest → SameHome self.old self.new }
         ensures ok { OnOk result (self.new ≡ record self.old {
@@ -82,7 +91,8 @@ impl<D: BlockDisk> Circ<D> {
         }) }
         ensures err { OnErr result (self.new ≡ record self.old { disk = self.new.disk; faulted = true }) }
     {
-        self.device.barrier()?; // the home blocks
+        // The home blocks must be stable before block 1 frees their positions.
+        self.device.barrier()?;
         self.marks.homes = true;
         Ok(HomesSynced(()))
     }
@@ -100,6 +110,8 @@ impl<D: BlockDisk> Circ<D> {
         ensures cause { IfErr result (IsFault self.old.faulted self.old.disk self.new.disk) }
         ensures faulted { IsTrue self.old.faulted → IsErr result × (self.new ≡ self.old) }
         ensures step { Steps self.old.marks.coming self.old self.new }
+        ensures done { OnOk result (Happens (write 1 (start_block upto)) self.old.disk self.new.disk) }
+        ensures call { MayHappen (write 1 (start_block upto)) self.old.disk self.new.disk }
         ensures log { IsTrue self.old.disk.honest → log_of self.new ≡ log_of self.old }
         ensures home { IsTrue self.old.disk.honest → SameHome self.old self.new }
         ensures ok { OnOk result (self.new ≡ record self.old {
@@ -113,9 +125,9 @@ impl<D: BlockDisk> Circ<D> {
         })) }
     {
         self.device.check()?;
-        self.front.put_u64(BOUND_AT, upto);
+        self.start_block.put(upto);
         self.marks.freed = upto;
-        self.device.write(FRONT, &self.front)?;
+        self.device.write(START_BLOCK, self.start_block.block())?;
         Ok(StartPut(()))
     }
 
@@ -127,6 +139,8 @@ impl<D: BlockDisk> Circ<D> {
         ensures cause { IfErr result (IsFault self.old.faulted self.old.disk self.new.disk) }
         ensures faulted { IsTrue self.old.faulted → IsErr result × (self.new ≡ self.old) }
         ensures step { Steps self.old.marks.coming self.old self.new }
+        ensures done { OnOk result (Happens barrier self.old.disk self.new.disk) }
+        ensures call { MayHappen barrier self.old.disk self.new.disk }
         ensures log { IsTrue self.old.disk.honest → MatchResult result
             (λ _. log_of self.new ≡ drop (self.old.marks.freed - self.old.marks.start) (log_of self.old))
             (λ _. log_of self.new ≡ log_of self.old) }
@@ -138,7 +152,8 @@ impl<D: BlockDisk> Circ<D> {
         }) }
         ensures err { OnErr result (self.new ≡ record self.old { disk = self.new.disk; faulted = true }) }
     {
-        self.device.barrier()?; // the start
+        // The start must be stable before a freed position is written again.
+        self.device.barrier()?;
         self.marks.start = self.marks.freed;
         Ok(Freed(()))
     }

@@ -1,6 +1,8 @@
 // The logger's cycle: a group of updates is put, and then becomes part of the log at once.
 ghost use Rattle.std.specs.Prelude.{ℕ, ◌≡◌, ◌⊎◌, ◌<◌, ◌≤◌, ◌+◌, ◌^◌, [], ◌∷◌, ◌++◌, true, IsTrue, OnOk, OnErr, IfErr, IsErr, MatchResult};
-ghost use Rattle.journal_circ.specs.Ring.{log_of, Steps, SameHome, IsFault};
+ghost use Rattle.journal_disk.specs.Disks.{write, barrier};
+ghost use Rattle.journal_circ.specs.Log.{log_block, with_address, with_end};
+ghost use Rattle.journal_circ.specs.Ring.{log_of, Steps, SameHome, IsFault, Happens, MayHappen};
 
 use crate::Circ;
 use crate::layout::{BOUND_AT, HEADER, address_at, log_block};
@@ -10,7 +12,7 @@ use journal_world::Refusal;
 
 /// Updates of a group were put, or none.
 #[derive(Drop)]
-pub struct SlotsPut(());
+pub struct SlotsPut(pub(super) ());
 
 /// The log blocks of all updates that were put are on the disk.
 #[derive(Drop)]
@@ -21,11 +23,6 @@ pub struct SlotsSynced(());
 pub struct EndPut(());
 
 impl<D: BlockDisk> Circ<D> {
-    /// The logger's state before a group.
-    pub fn logger(&self) -> SlotsPut {
-        SlotsPut(())
-    }
-
     /// Puts an update into the log block of the next position: `from` becomes the content of block `address`
     /// with the group.
     ///
@@ -43,13 +40,16 @@ impl<D: BlockDisk> Circ<D> {
         ensures cause { IfErr result (IsFault self.old.faulted self.old.disk self.new.disk) }
         ensures faulted { IsTrue self.old.faulted → IsErr result × (self.new ≡ self.old) }
         ensures step { Steps self.old.marks.coming self.old self.new }
+        ensures done { OnOk result
+            (Happens (write (log_block self.old.next) from.now) self.old.disk self.new.disk) }
+        ensures call { MayHappen (write (log_block self.old.next) from.now) self.old.disk self.new.disk }
         ensures log { IsTrue self.old.disk.honest → MatchResult result
             (λ _. log_of self.new ≡ log_of self.old ++ record { block = address; bytes = from.now } ∷ [])
             (λ _. log_of self.new ≡ log_of self.old) }
         ensures home { IsTrue self.old.disk.honest → SameHome self.old self.new }
         ensures ok { OnOk result (self.new ≡ record self.old {
           disk = self.new.disk;
-          header = self.new.header;
+          header = with_address self.old.header self.old.next address;
           next = self.old.next + 1;
         }) }
         ensures err { OnErr result (self.new ≡ record self.old { disk = self.new.disk; faulted = true }) }
@@ -67,6 +67,8 @@ impl<D: BlockDisk> Circ<D> {
         ensures cause { IfErr result (IsFault self.old.faulted self.old.disk self.new.disk) }
         ensures faulted { IsTrue self.old.faulted → IsErr result × (self.new ≡ self.old) }
         ensures step { Steps self.old.marks.coming self.old self.new }
+        ensures done { OnOk result (Happens barrier self.old.disk self.new.disk) }
+        ensures call { MayHappen barrier self.old.disk self.new.disk }
         ensures log { IsTrue self.old.disk.honest → log_of self.new ≡ log_of self.old }
         ensures home { IsTrue self.old.disk.honest → SameHome self.old self.new }
         ensures ok { OnOk result (self.new ≡ record self.old {
@@ -75,7 +77,8 @@ impl<D: BlockDisk> Circ<D> {
         }) }
         ensures err { OnErr result (self.new ≡ record self.old { disk = self.new.disk; faulted = true }) }
     {
-        self.device.barrier()?; // the log blocks
+        // The log blocks must be stable before block 0 names them.
+        self.device.barrier()?;
         self.marks.stable = self.next;
         Ok(SlotsSynced(()))
     }
@@ -90,16 +93,19 @@ impl<D: BlockDisk> Circ<D> {
         ensures cause { IfErr result (IsFault self.old.faulted self.old.disk self.new.disk) }
         ensures faulted { IsTrue self.old.faulted → IsErr result × (self.new ≡ self.old) }
         ensures step { Steps self.old.next self.old self.new }
+        ensures done { OnOk result
+            (Happens (write 0 (with_end self.old.header self.old.next)) self.old.disk self.new.disk) }
+        ensures call { MayHappen (write 0 (with_end self.old.header self.old.next)) self.old.disk self.new.disk }
         ensures log { IsTrue self.old.disk.honest → log_of self.new ≡ log_of self.old }
         ensures home { IsTrue self.old.disk.honest → SameHome self.old self.new }
         ensures ok { OnOk result (self.new ≡ record self.old {
           disk = self.new.disk;
-          header = self.new.header;
+          header = with_end self.old.header self.old.next;
           marks = record self.old.marks { coming = self.old.next };
         }) }
         ensures err { OnErr result (IsTrue self.old.faulted ⊎ (self.new ≡ record self.old {
           disk = self.new.disk;
-          header = self.new.header;
+          header = with_end self.old.header self.old.next;
           marks = record self.old.marks { coming = self.old.next };
           faulted = true;
         })) }
@@ -118,6 +124,8 @@ impl<D: BlockDisk> Circ<D> {
         ensures cause { IfErr result (IsFault self.old.faulted self.old.disk self.new.disk) }
         ensures faulted { IsTrue self.old.faulted → IsErr result × (self.new ≡ self.old) }
         ensures step { Steps self.old.marks.coming self.old self.new }
+        ensures done { OnOk result (Happens barrier self.old.disk self.new.disk) }
+        ensures call { MayHappen barrier self.old.disk self.new.disk }
         ensures log { IsTrue self.old.disk.honest → log_of self.new ≡ log_of self.old }
         ensures home { IsTrue self.old.disk.honest → SameHome self.old self.new }
         ensures ok { OnOk result (self.new ≡ record self.old {
@@ -126,7 +134,8 @@ impl<D: BlockDisk> Circ<D> {
         }) }
         ensures err { OnErr result (self.new ≡ record self.old { disk = self.new.disk; faulted = true }) }
     {
-        self.device.barrier()?; // the end
+        // The end must be stable before the group counts as logged.
+        self.device.barrier()?;
         self.marks.end = self.marks.coming;
         Ok(SlotsPut(()))
     }

@@ -6,9 +6,9 @@ use Rattle.journal_circ.proofs.circ.Circ.open.Goals as goal
 
 pub invariant_of-result : goal.invariant_of-result
 invariant_of-result g c =
-    opened (g.D.BlockDisk.state c.args.disk) (g.D.BlockDisk.state c.read_headers.new.device.disk) c.in-Ok.field-0.header c.in-Ok.field-0.front c.read_headers.new.device.faulted
-    c.requires.in_range c.requires.settled c.read_headers.ensures.keeps c.read_headers.ensures.same c.in-Ok.ensures.header c.in-Ok.ensures.front c.in-Ok.ensures.log
-    c.at_rest-marks.result (c.at_rest-marks.ensures ∙ (λ i. resting (c.get_u64.ensures i) (c.get_u64-in-Ok.ensures i)))
+    opened (g.D.BlockDisk.state c.args.disk) (g.D.BlockDisk.state c.read_headers.new.device.disk) c.in-Ok.field-0.header c.in-Ok.field-0.start c.read_headers.new.device.faulted
+    c.requires.in_range c.requires.settled c.read_headers.ensures.keeps c.read_headers.ensures.same c.in-Ok.ensures.header c.in-Ok.ensures.start c.in-Ok.ensures.log
+    c.at_rest-marks.result (c.at_rest-marks.ensures ∙ (λ i. resting c.in-Ok.field-0.start (c.get_u64.ensures i)))
 
 pub returns-in-Ok-clause-images : goal.returns-in-Ok-clause-images
 returns-in-Ok-clause-images g c = λ honest.

@@ -4,11 +4,14 @@ use Rattle.journal_objlog.proofs.object_log.ObjectLog.check.Goals as goal
 pub returns-then-is_faulted-clause-crash : goal.returns-then-is_faulted-clause-crash
 returns-then-is_faulted-clause-crash g c = still c.self.inside.layout.blocks c.self.inside.wal c.args.self.now c.self.invariant c.self.view_is
 
-pub returns-then-not-addresses_are_valid-clause-crash : goal.returns-then-not-addresses_are_valid-clause-crash
-returns-then-not-addresses_are_valid-clause-crash g c = still c.self.inside.layout.blocks c.self.inside.wal c.args.self.now c.self.invariant c.self.view_is
+pub returns-then-not-valid-clause-crash : goal.returns-then-not-valid-clause-crash
+returns-then-not-valid-clause-crash g c = still c.self.inside.layout.blocks c.self.inside.wal c.args.self.now c.self.invariant c.self.view_is
 
-pub returns-then-not-values_are_objects-clause-crash : goal.returns-then-not-values_are_objects-clause-crash
-returns-then-not-values_are_objects-clause-crash g c = still c.self.inside.layout.blocks c.self.inside.wal c.args.self.now c.self.invariant c.self.view_is
+pub returns-then-not-objects-clause-crash : goal.returns-then-not-objects-clause-crash
+returns-then-not-objects-clause-crash g c = still c.self.inside.layout.blocks c.self.inside.wal c.args.self.now c.self.invariant c.self.view_is
 
 pub returns-clause-crash : goal.returns-clause-crash
 returns-clause-crash g c = still c.self.inside.layout.blocks c.self.inside.wal c.args.self.now c.self.invariant c.self.view_is
+
+pub returns-in_err-check_room-clause-crash : goal.returns-in_err-check_room-clause-crash
+returns-in_err-check_room-clause-crash g c = still c.self.inside.layout.blocks c.self.inside.wal c.args.self.now c.self.invariant c.self.view_is

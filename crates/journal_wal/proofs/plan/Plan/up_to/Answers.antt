@@ -6,8 +6,8 @@ use Rattle.std.proofs.lemmas.List.{length-take-le}
 use Rattle.std.proofs.lemmas.Option.{get_or_from_slice_get, slice_get_within}
 use Rattle.journal_block.specs.declared.update.Update.{Update}
 use Rattle.journal_memlog.specs.declared.bounds.Bounds.{Bounds}
-use Rattle.journal_wal.specs.Wal.{distinct_blocks}
-use Rattle.journal_wal.specs.States.{planned, updates_to, IsPlanOf}
+use Rattle.journal_wal.specs.Wal.{planned, distinct_blocks, IsPlanOf}
+use Rattle.journal_wal.specs.States.{updates_to}
 use Rattle.journal_wal.proofs.Plans.{plan-none, plan-added, plan-length}
 use Rattle.journal_wal.proofs.plan.Plan.up_to.Goals as goal
 
@@ -37,7 +37,8 @@ loop-position-preserved c =
     let plan = c.loop-position.invariant.0 in
     subst (λ (us : List Update). IsPlanOf us log.start c.insert.new.self.entries × (length c.insert.new.self.entries ≡ distinct_blocks us)) (sym more) (
       plan-added (updates_to log c.loop-position.position) u log.start c.loop-position.homes.entries c.insert.new.self.entries plan
-          (λ b. c.in_ok-insert.ensures.updates.0 b ∙ (λ i. cond (is_at (nat_cmp u.block) b) (Some (at i)) (planned c.loop-position.homes.entries b))),
+          (λ b. c.in_ok-insert.ensures.updates.0 b ∙ (λ i. cond (is_at (nat_cmp u.block) b) (Some (at i)) (planned c.loop-position.homes.entries b)))
+          c.insert.ensures.ordered,
       plan-length (updates_to log c.loop-position.position) u log.start c.loop-position.homes.entries (length c.insert.new.self.entries) plan
           c.loop-position.invariant.1
           (c.in_ok-insert.ensures.len ∙ (λ i. length c.loop-position.homes.entries + cond (is_some (c.in_ok-insert.ensures.old i)) 0 1)),

@@ -1,6 +1,6 @@
 use Rattle.std.proofs.Common.{◌≡◌, length}
-use Rattle.journal_wal.specs.Wal.{distinct_blocks}
-use Rattle.journal_wal.specs.States.{updates_to, IsPlanOf}
+use Rattle.journal_wal.specs.Wal.{distinct_blocks, IsPlanOf}
+use Rattle.journal_wal.specs.States.{updates_to}
 use Rattle.journal_wal.proofs.plan.Plan.up_to.Given as goal
 
 abbrev pub invariant-loop-position : goal.invariant-loop-position

@@ -116,16 +116,16 @@ pub invariant_of-self-2 : goal.invariant_of-self-2
 invariant_of-self-2 g c = elim c.match-replace.branch [
   | in-Blocks+in_ok-put_slot-in-Blocks w ↦
       subst (λ s. IsInStep (of_parts s.on_disk.circ s.memory (logging_of c.match-replace.self) (installing_of s.on_disk.installer))) (sym w.self-inside-is)
-      (in_logging w.put_slot.new.self c.self.inside.memory log_blocks (logging_of c.match-replace.self) (installing_of c.self.inside.on_disk.installer) (sym (ap logging_of w.self-is)) (block_logged c.self.inside.on_disk.circ w.put_slot.new.self c.self.inside.memory (installing_of c.self.inside.on_disk.installer) w.at-update.result.now (in_logging c.self.inside.on_disk.circ c.self.inside.memory (logging_of c.self.inside.on_disk.logger) log_blocks (installing_of c.self.inside.on_disk.installer) (ap logging_of (sym w.in-Blocks.ensures.value)) c.self.invariant) (omega (arith, w.if-next-bounds.true, w.next.ensures, ap (λ (b : Bounds). b.cut) c.bounds-bounds.ensures.bounds, c.self.invariant.tied.end_to_next, c.self.invariant.tied.next_to_cut)) (omega (arith, w.if-next-bounds.true, w.next.ensures, ap (λ (b : Bounds). b.cut) c.bounds-bounds.ensures.bounds)) (subst (λ (n : ℕ). slice_get c.self.inside.memory.updates (n - c.self.inside.memory.start) ≡ Some w.at-update.result.now) w.next-in-Blocks.ensures w.at-update.ensures) w.put_slot.ensures.step w.in_ok-put_slot-in-Blocks.ensures.log w.in_ok-put_slot-in-Blocks.ensures.home (w.in_ok-put_slot-in-Blocks.ensures.ok)).0.sound)
+      (in_logging w.put_slot.new.self c.self.inside.memory log_blocks (logging_of c.match-replace.self) (installing_of c.self.inside.on_disk.installer) (sym (ap logging_of w.self-is)) (block_logged c.self.inside.on_disk.circ w.put_slot.new.self c.self.inside.memory (installing_of c.self.inside.on_disk.installer) w.at-update.result.now (in_logging c.self.inside.on_disk.circ c.self.inside.memory (logging_of c.self.inside.on_disk.logger) log_blocks (installing_of c.self.inside.on_disk.installer) (ap logging_of (sym w.in-Blocks.ensures.value)) c.self.invariant) (omega (arith, w.if-next-bounds.true, w.next.ensures, ap (λ (b : Bounds). b.cut) c.bounds-bounds.ensures.bounds, c.self.invariant.tied.end_to_next, c.self.invariant.tied.next_to_cut)) (omega (arith, w.if-next-bounds.true, w.next.ensures, ap (λ (b : Bounds). b.cut) c.bounds-bounds.ensures.bounds)) (subst (λ (n : ℕ). slice_get c.self.inside.memory.updates (n - c.self.inside.memory.start) ≡ Some w.at-update.result.now) w.next-in-Blocks.ensures w.at-update.ensures) w.put_slot.ensures.step w.in_ok-put_slot-in-Blocks.ensures.log w.in_ok-put_slot-in-Blocks.ensures.home w.in_ok-put_slot-in-Blocks.ensures.ok w.in_ok-put_slot-in-Blocks.ensures.done).0.sound)
   | in-Blocks-2+in_ok-sync_slots-in-Blocks-2 w ↦
       subst (λ s. IsInStep (of_parts s.on_disk.circ s.memory (logging_of c.match-replace.self) (installing_of s.on_disk.installer))) (sym w.self-inside-is)
-      (in_logging w.sync_slots.new.self c.self.inside.memory log_end (logging_of c.match-replace.self) (installing_of c.self.inside.on_disk.installer) (sym (ap logging_of w.self-is)) (blocks_synced c.self.inside.on_disk.circ w.sync_slots.new.self c.self.inside.memory (installing_of c.self.inside.on_disk.installer) (in_logging c.self.inside.on_disk.circ c.self.inside.memory (logging_of c.self.inside.on_disk.logger) log_blocks (installing_of c.self.inside.on_disk.installer) (ap logging_of (sym w.in-Blocks-2.ensures.value)) c.self.invariant) (omega (arith, w.if-bounds.true, ap (λ (b : Bounds). b.logged) c.bounds-bounds.ensures.bounds, ap (λ (b : Bounds). b.cut) c.bounds-bounds.ensures.bounds)) (omega (arith, w.if-next-bounds.false, w.next.ensures, ap (λ (b : Bounds). b.cut) c.bounds-bounds.ensures.bounds, c.self.invariant.tied.end_to_next, c.self.invariant.tied.next_to_cut)) w.sync_slots.ensures.step w.in_ok-sync_slots-in-Blocks-2.ensures.log w.in_ok-sync_slots-in-Blocks-2.ensures.home w.in_ok-sync_slots-in-Blocks-2.ensures.ok).0.sound)
+      (in_logging w.sync_slots.new.self c.self.inside.memory log_end (logging_of c.match-replace.self) (installing_of c.self.inside.on_disk.installer) (sym (ap logging_of w.self-is)) (blocks_synced c.self.inside.on_disk.circ w.sync_slots.new.self c.self.inside.memory (installing_of c.self.inside.on_disk.installer) (in_logging c.self.inside.on_disk.circ c.self.inside.memory (logging_of c.self.inside.on_disk.logger) log_blocks (installing_of c.self.inside.on_disk.installer) (ap logging_of (sym w.in-Blocks-2.ensures.value)) c.self.invariant) (omega (arith, w.if-bounds.true, ap (λ (b : Bounds). b.logged) c.bounds-bounds.ensures.bounds, ap (λ (b : Bounds). b.cut) c.bounds-bounds.ensures.bounds)) (omega (arith, w.if-next-bounds.false, w.next.ensures, ap (λ (b : Bounds). b.cut) c.bounds-bounds.ensures.bounds, c.self.invariant.tied.end_to_next, c.self.invariant.tied.next_to_cut)) w.sync_slots.ensures.step w.in_ok-sync_slots-in-Blocks-2.ensures.log w.in_ok-sync_slots-in-Blocks-2.ensures.home w.in_ok-sync_slots-in-Blocks-2.ensures.ok w.in_ok-sync_slots-in-Blocks-2.ensures.done).0.sound)
   | in-Synced+in_ok-put_end-in-Synced w ↦
       subst (λ s. IsInStep (of_parts s.on_disk.circ s.memory (logging_of c.match-replace.self) (installing_of s.on_disk.installer))) (sym w.self-inside-is)
-      (in_logging w.put_end.new.self c.self.inside.memory log_sync (logging_of c.match-replace.self) (installing_of c.self.inside.on_disk.installer) (sym (ap logging_of w.self-is)) (end_written c.self.inside.on_disk.circ w.put_end.new.self c.self.inside.memory (installing_of c.self.inside.on_disk.installer) (in_logging c.self.inside.on_disk.circ c.self.inside.memory (logging_of c.self.inside.on_disk.logger) log_end (installing_of c.self.inside.on_disk.installer) (ap logging_of (sym w.in-Synced.ensures.value)) c.self.invariant) w.put_end.ensures.step w.in_ok-put_end-in-Synced.ensures.log w.in_ok-put_end-in-Synced.ensures.home w.in_ok-put_end-in-Synced.ensures.ok).0.sound)
+      (in_logging w.put_end.new.self c.self.inside.memory log_sync (logging_of c.match-replace.self) (installing_of c.self.inside.on_disk.installer) (sym (ap logging_of w.self-is)) (end_written c.self.inside.on_disk.circ w.put_end.new.self c.self.inside.memory (installing_of c.self.inside.on_disk.installer) (in_logging c.self.inside.on_disk.circ c.self.inside.memory (logging_of c.self.inside.on_disk.logger) log_end (installing_of c.self.inside.on_disk.installer) (ap logging_of (sym w.in-Synced.ensures.value)) c.self.invariant) w.put_end.ensures.step w.in_ok-put_end-in-Synced.ensures.log w.in_ok-put_end-in-Synced.ensures.home w.in_ok-put_end-in-Synced.ensures.ok w.in_ok-put_end-in-Synced.ensures.done).0.sound)
   | in-EndPut+in_ok-state-in-EndPut w ↦
       subst (λ s. IsInStep (of_parts s.on_disk.circ s.memory (logging_of c.match-replace.self) (installing_of s.on_disk.installer))) (sym w.self-inside-is)
-      (in_logging w.sync_end.new.self w.logged.new.self log_blocks (logging_of c.match-replace.self) (installing_of c.self.inside.on_disk.installer) (sym (ap logging_of w.self-is)) (group_ended c.self.inside.on_disk.circ w.sync_end.new.self c.self.inside.memory (installing_of c.self.inside.on_disk.installer) w.logged.new.self (in_logging c.self.inside.on_disk.circ c.self.inside.memory (logging_of c.self.inside.on_disk.logger) log_sync (installing_of c.self.inside.on_disk.installer) (ap logging_of (sym w.in-EndPut.ensures.value)) c.self.invariant) w.sync_end.ensures.step w.in_ok-state-in-EndPut.ensures.log w.in_ok-state-in-EndPut.ensures.home w.in_ok-state-in-EndPut.ensures.ok (w.logged.ensures.log ∙ (λ i. record c.self.inside.memory { logged = w.end.ensures.end i }))).0.sound)
+      (in_logging w.sync_end.new.self w.logged.new.self log_blocks (logging_of c.match-replace.self) (installing_of c.self.inside.on_disk.installer) (sym (ap logging_of w.self-is)) (group_ended c.self.inside.on_disk.circ w.sync_end.new.self c.self.inside.memory (installing_of c.self.inside.on_disk.installer) w.logged.new.self (in_logging c.self.inside.on_disk.circ c.self.inside.memory (logging_of c.self.inside.on_disk.logger) log_sync (installing_of c.self.inside.on_disk.installer) (ap logging_of (sym w.in-EndPut.ensures.value)) c.self.invariant) w.sync_end.ensures.step w.in_ok-state-in-EndPut.ensures.log w.in_ok-state-in-EndPut.ensures.home w.in_ok-state-in-EndPut.ensures.ok (w.logged.ensures.log ∙ (λ i. record c.self.inside.memory { logged = w.end.ensures.end i })) w.in_ok-state-in-EndPut.ensures.done).0.sound)
 ]
 
 pub returns-clause-crash : goal.returns-clause-crash
@@ -133,19 +133,19 @@ returns-clause-crash g c = elim c.match-replace.branch [
   | in-Blocks+in_ok-put_slot-in-Blocks w ↦
       subst (λ s. (Crashes) c.args.self.now (of_parts s.on_disk.circ s.memory (logging_of c.match-replace.self) (installing_of s.on_disk.installer))) (sym w.self-inside-is)
       (logged_from (Crashes) c.args.self.now c.self.inside.on_disk.circ w.put_slot.new.self c.self.inside.memory c.self.inside.memory (logging_of c.self.inside.on_disk.logger) log_blocks (logging_of c.match-replace.self) log_blocks (installing_of c.self.inside.on_disk.installer) c.self.view_is (ap logging_of (sym w.in-Blocks.ensures.value)) (ap logging_of w.self-is)
-      (block_logged c.self.inside.on_disk.circ w.put_slot.new.self c.self.inside.memory (installing_of c.self.inside.on_disk.installer) w.at-update.result.now (in_logging c.self.inside.on_disk.circ c.self.inside.memory (logging_of c.self.inside.on_disk.logger) log_blocks (installing_of c.self.inside.on_disk.installer) (ap logging_of (sym w.in-Blocks.ensures.value)) c.self.invariant) (omega (arith, w.if-next-bounds.true, w.next.ensures, ap (λ (b : Bounds). b.cut) c.bounds-bounds.ensures.bounds, c.self.invariant.tied.end_to_next, c.self.invariant.tied.next_to_cut)) (omega (arith, w.if-next-bounds.true, w.next.ensures, ap (λ (b : Bounds). b.cut) c.bounds-bounds.ensures.bounds)) (subst (λ (n : ℕ). slice_get c.self.inside.memory.updates (n - c.self.inside.memory.start) ≡ Some w.at-update.result.now) w.next-in-Blocks.ensures w.at-update.ensures) w.put_slot.ensures.step w.in_ok-put_slot-in-Blocks.ensures.log w.in_ok-put_slot-in-Blocks.ensures.home (w.in_ok-put_slot-in-Blocks.ensures.ok)).0.crash)
+      (block_logged c.self.inside.on_disk.circ w.put_slot.new.self c.self.inside.memory (installing_of c.self.inside.on_disk.installer) w.at-update.result.now (in_logging c.self.inside.on_disk.circ c.self.inside.memory (logging_of c.self.inside.on_disk.logger) log_blocks (installing_of c.self.inside.on_disk.installer) (ap logging_of (sym w.in-Blocks.ensures.value)) c.self.invariant) (omega (arith, w.if-next-bounds.true, w.next.ensures, ap (λ (b : Bounds). b.cut) c.bounds-bounds.ensures.bounds, c.self.invariant.tied.end_to_next, c.self.invariant.tied.next_to_cut)) (omega (arith, w.if-next-bounds.true, w.next.ensures, ap (λ (b : Bounds). b.cut) c.bounds-bounds.ensures.bounds)) (subst (λ (n : ℕ). slice_get c.self.inside.memory.updates (n - c.self.inside.memory.start) ≡ Some w.at-update.result.now) w.next-in-Blocks.ensures w.at-update.ensures) w.put_slot.ensures.step w.in_ok-put_slot-in-Blocks.ensures.log w.in_ok-put_slot-in-Blocks.ensures.home w.in_ok-put_slot-in-Blocks.ensures.ok w.in_ok-put_slot-in-Blocks.ensures.done).0.crash)
   | in-Blocks-2+in_ok-sync_slots-in-Blocks-2 w ↦
       subst (λ s. (Crashes) c.args.self.now (of_parts s.on_disk.circ s.memory (logging_of c.match-replace.self) (installing_of s.on_disk.installer))) (sym w.self-inside-is)
       (logged_from (Crashes) c.args.self.now c.self.inside.on_disk.circ w.sync_slots.new.self c.self.inside.memory c.self.inside.memory (logging_of c.self.inside.on_disk.logger) log_blocks (logging_of c.match-replace.self) log_end (installing_of c.self.inside.on_disk.installer) c.self.view_is (ap logging_of (sym w.in-Blocks-2.ensures.value)) (ap logging_of w.self-is)
-      (blocks_synced c.self.inside.on_disk.circ w.sync_slots.new.self c.self.inside.memory (installing_of c.self.inside.on_disk.installer) (in_logging c.self.inside.on_disk.circ c.self.inside.memory (logging_of c.self.inside.on_disk.logger) log_blocks (installing_of c.self.inside.on_disk.installer) (ap logging_of (sym w.in-Blocks-2.ensures.value)) c.self.invariant) (omega (arith, w.if-bounds.true, ap (λ (b : Bounds). b.logged) c.bounds-bounds.ensures.bounds, ap (λ (b : Bounds). b.cut) c.bounds-bounds.ensures.bounds)) (omega (arith, w.if-next-bounds.false, w.next.ensures, ap (λ (b : Bounds). b.cut) c.bounds-bounds.ensures.bounds, c.self.invariant.tied.end_to_next, c.self.invariant.tied.next_to_cut)) w.sync_slots.ensures.step w.in_ok-sync_slots-in-Blocks-2.ensures.log w.in_ok-sync_slots-in-Blocks-2.ensures.home w.in_ok-sync_slots-in-Blocks-2.ensures.ok).0.crash)
+      (blocks_synced c.self.inside.on_disk.circ w.sync_slots.new.self c.self.inside.memory (installing_of c.self.inside.on_disk.installer) (in_logging c.self.inside.on_disk.circ c.self.inside.memory (logging_of c.self.inside.on_disk.logger) log_blocks (installing_of c.self.inside.on_disk.installer) (ap logging_of (sym w.in-Blocks-2.ensures.value)) c.self.invariant) (omega (arith, w.if-bounds.true, ap (λ (b : Bounds). b.logged) c.bounds-bounds.ensures.bounds, ap (λ (b : Bounds). b.cut) c.bounds-bounds.ensures.bounds)) (omega (arith, w.if-next-bounds.false, w.next.ensures, ap (λ (b : Bounds). b.cut) c.bounds-bounds.ensures.bounds, c.self.invariant.tied.end_to_next, c.self.invariant.tied.next_to_cut)) w.sync_slots.ensures.step w.in_ok-sync_slots-in-Blocks-2.ensures.log w.in_ok-sync_slots-in-Blocks-2.ensures.home w.in_ok-sync_slots-in-Blocks-2.ensures.ok w.in_ok-sync_slots-in-Blocks-2.ensures.done).0.crash)
   | in-Synced+in_ok-put_end-in-Synced w ↦
       subst (λ s. (Crashes) c.args.self.now (of_parts s.on_disk.circ s.memory (logging_of c.match-replace.self) (installing_of s.on_disk.installer))) (sym w.self-inside-is)
       (logged_from (Crashes) c.args.self.now c.self.inside.on_disk.circ w.put_end.new.self c.self.inside.memory c.self.inside.memory (logging_of c.self.inside.on_disk.logger) log_end (logging_of c.match-replace.self) log_sync (installing_of c.self.inside.on_disk.installer) c.self.view_is (ap logging_of (sym w.in-Synced.ensures.value)) (ap logging_of w.self-is)
-      (end_written c.self.inside.on_disk.circ w.put_end.new.self c.self.inside.memory (installing_of c.self.inside.on_disk.installer) (in_logging c.self.inside.on_disk.circ c.self.inside.memory (logging_of c.self.inside.on_disk.logger) log_end (installing_of c.self.inside.on_disk.installer) (ap logging_of (sym w.in-Synced.ensures.value)) c.self.invariant) w.put_end.ensures.step w.in_ok-put_end-in-Synced.ensures.log w.in_ok-put_end-in-Synced.ensures.home w.in_ok-put_end-in-Synced.ensures.ok).0.crash)
+      (end_written c.self.inside.on_disk.circ w.put_end.new.self c.self.inside.memory (installing_of c.self.inside.on_disk.installer) (in_logging c.self.inside.on_disk.circ c.self.inside.memory (logging_of c.self.inside.on_disk.logger) log_end (installing_of c.self.inside.on_disk.installer) (ap logging_of (sym w.in-Synced.ensures.value)) c.self.invariant) w.put_end.ensures.step w.in_ok-put_end-in-Synced.ensures.log w.in_ok-put_end-in-Synced.ensures.home w.in_ok-put_end-in-Synced.ensures.ok w.in_ok-put_end-in-Synced.ensures.done).0.crash)
   | in-EndPut+in_ok-state-in-EndPut w ↦
       subst (λ s. (Crashes) c.args.self.now (of_parts s.on_disk.circ s.memory (logging_of c.match-replace.self) (installing_of s.on_disk.installer))) (sym w.self-inside-is)
       (logged_from (Crashes) c.args.self.now c.self.inside.on_disk.circ w.sync_end.new.self c.self.inside.memory w.logged.new.self (logging_of c.self.inside.on_disk.logger) log_sync (logging_of c.match-replace.self) log_blocks (installing_of c.self.inside.on_disk.installer) c.self.view_is (ap logging_of (sym w.in-EndPut.ensures.value)) (ap logging_of w.self-is)
-      (group_ended c.self.inside.on_disk.circ w.sync_end.new.self c.self.inside.memory (installing_of c.self.inside.on_disk.installer) w.logged.new.self (in_logging c.self.inside.on_disk.circ c.self.inside.memory (logging_of c.self.inside.on_disk.logger) log_sync (installing_of c.self.inside.on_disk.installer) (ap logging_of (sym w.in-EndPut.ensures.value)) c.self.invariant) w.sync_end.ensures.step w.in_ok-state-in-EndPut.ensures.log w.in_ok-state-in-EndPut.ensures.home w.in_ok-state-in-EndPut.ensures.ok (w.logged.ensures.log ∙ (λ i. record c.self.inside.memory { logged = w.end.ensures.end i }))).0.crash)
+      (group_ended c.self.inside.on_disk.circ w.sync_end.new.self c.self.inside.memory (installing_of c.self.inside.on_disk.installer) w.logged.new.self (in_logging c.self.inside.on_disk.circ c.self.inside.memory (logging_of c.self.inside.on_disk.logger) log_sync (installing_of c.self.inside.on_disk.installer) (ap logging_of (sym w.in-EndPut.ensures.value)) c.self.invariant) w.sync_end.ensures.step w.in_ok-state-in-EndPut.ensures.log w.in_ok-state-in-EndPut.ensures.home w.in_ok-state-in-EndPut.ensures.ok (w.logged.ensures.log ∙ (λ i. record c.self.inside.memory { logged = w.end.ensures.end i })) w.in_ok-state-in-EndPut.ensures.done).0.crash)
 ]
 
 pub returns-clause-ok : goal.returns-clause-ok
@@ -153,17 +153,17 @@ returns-clause-ok g c = elim c.match-replace.branch [
   | in-Blocks+in_ok-put_slot-in-Blocks w ↦
       subst (λ s. (Moves) c.args.self.now (of_parts s.on_disk.circ s.memory (logging_of c.match-replace.self) (installing_of s.on_disk.installer))) (sym w.self-inside-is)
       (logged_from (Moves) c.args.self.now c.self.inside.on_disk.circ w.put_slot.new.self c.self.inside.memory c.self.inside.memory (logging_of c.self.inside.on_disk.logger) log_blocks (logging_of c.match-replace.self) log_blocks (installing_of c.self.inside.on_disk.installer) c.self.view_is (ap logging_of (sym w.in-Blocks.ensures.value)) (ap logging_of w.self-is)
-      (block_logged c.self.inside.on_disk.circ w.put_slot.new.self c.self.inside.memory (installing_of c.self.inside.on_disk.installer) w.at-update.result.now (in_logging c.self.inside.on_disk.circ c.self.inside.memory (logging_of c.self.inside.on_disk.logger) log_blocks (installing_of c.self.inside.on_disk.installer) (ap logging_of (sym w.in-Blocks.ensures.value)) c.self.invariant) (omega (arith, w.if-next-bounds.true, w.next.ensures, ap (λ (b : Bounds). b.cut) c.bounds-bounds.ensures.bounds, c.self.invariant.tied.end_to_next, c.self.invariant.tied.next_to_cut)) (omega (arith, w.if-next-bounds.true, w.next.ensures, ap (λ (b : Bounds). b.cut) c.bounds-bounds.ensures.bounds)) (subst (λ (n : ℕ). slice_get c.self.inside.memory.updates (n - c.self.inside.memory.start) ≡ Some w.at-update.result.now) w.next-in-Blocks.ensures w.at-update.ensures) w.put_slot.ensures.step w.in_ok-put_slot-in-Blocks.ensures.log w.in_ok-put_slot-in-Blocks.ensures.home (w.in_ok-put_slot-in-Blocks.ensures.ok)).1)
+      (block_logged c.self.inside.on_disk.circ w.put_slot.new.self c.self.inside.memory (installing_of c.self.inside.on_disk.installer) w.at-update.result.now (in_logging c.self.inside.on_disk.circ c.self.inside.memory (logging_of c.self.inside.on_disk.logger) log_blocks (installing_of c.self.inside.on_disk.installer) (ap logging_of (sym w.in-Blocks.ensures.value)) c.self.invariant) (omega (arith, w.if-next-bounds.true, w.next.ensures, ap (λ (b : Bounds). b.cut) c.bounds-bounds.ensures.bounds, c.self.invariant.tied.end_to_next, c.self.invariant.tied.next_to_cut)) (omega (arith, w.if-next-bounds.true, w.next.ensures, ap (λ (b : Bounds). b.cut) c.bounds-bounds.ensures.bounds)) (subst (λ (n : ℕ). slice_get c.self.inside.memory.updates (n - c.self.inside.memory.start) ≡ Some w.at-update.result.now) w.next-in-Blocks.ensures w.at-update.ensures) w.put_slot.ensures.step w.in_ok-put_slot-in-Blocks.ensures.log w.in_ok-put_slot-in-Blocks.ensures.home w.in_ok-put_slot-in-Blocks.ensures.ok w.in_ok-put_slot-in-Blocks.ensures.done).1)
   | in-Blocks-2+in_ok-sync_slots-in-Blocks-2 w ↦
       subst (λ s. (Moves) c.args.self.now (of_parts s.on_disk.circ s.memory (logging_of c.match-replace.self) (installing_of s.on_disk.installer))) (sym w.self-inside-is)
       (logged_from (Moves) c.args.self.now c.self.inside.on_disk.circ w.sync_slots.new.self c.self.inside.memory c.self.inside.memory (logging_of c.self.inside.on_disk.logger) log_blocks (logging_of c.match-replace.self) log_end (installing_of c.self.inside.on_disk.installer) c.self.view_is (ap logging_of (sym w.in-Blocks-2.ensures.value)) (ap logging_of w.self-is)
-      (blocks_synced c.self.inside.on_disk.circ w.sync_slots.new.self c.self.inside.memory (installing_of c.self.inside.on_disk.installer) (in_logging c.self.inside.on_disk.circ c.self.inside.memory (logging_of c.self.inside.on_disk.logger) log_blocks (installing_of c.self.inside.on_disk.installer) (ap logging_of (sym w.in-Blocks-2.ensures.value)) c.self.invariant) (omega (arith, w.if-bounds.true, ap (λ (b : Bounds). b.logged) c.bounds-bounds.ensures.bounds, ap (λ (b : Bounds). b.cut) c.bounds-bounds.ensures.bounds)) (omega (arith, w.if-next-bounds.false, w.next.ensures, ap (λ (b : Bounds). b.cut) c.bounds-bounds.ensures.bounds, c.self.invariant.tied.end_to_next, c.self.invariant.tied.next_to_cut)) w.sync_slots.ensures.step w.in_ok-sync_slots-in-Blocks-2.ensures.log w.in_ok-sync_slots-in-Blocks-2.ensures.home w.in_ok-sync_slots-in-Blocks-2.ensures.ok).1)
+      (blocks_synced c.self.inside.on_disk.circ w.sync_slots.new.self c.self.inside.memory (installing_of c.self.inside.on_disk.installer) (in_logging c.self.inside.on_disk.circ c.self.inside.memory (logging_of c.self.inside.on_disk.logger) log_blocks (installing_of c.self.inside.on_disk.installer) (ap logging_of (sym w.in-Blocks-2.ensures.value)) c.self.invariant) (omega (arith, w.if-bounds.true, ap (λ (b : Bounds). b.logged) c.bounds-bounds.ensures.bounds, ap (λ (b : Bounds). b.cut) c.bounds-bounds.ensures.bounds)) (omega (arith, w.if-next-bounds.false, w.next.ensures, ap (λ (b : Bounds). b.cut) c.bounds-bounds.ensures.bounds, c.self.invariant.tied.end_to_next, c.self.invariant.tied.next_to_cut)) w.sync_slots.ensures.step w.in_ok-sync_slots-in-Blocks-2.ensures.log w.in_ok-sync_slots-in-Blocks-2.ensures.home w.in_ok-sync_slots-in-Blocks-2.ensures.ok w.in_ok-sync_slots-in-Blocks-2.ensures.done).1)
   | in-Synced+in_ok-put_end-in-Synced w ↦
       subst (λ s. (Moves) c.args.self.now (of_parts s.on_disk.circ s.memory (logging_of c.match-replace.self) (installing_of s.on_disk.installer))) (sym w.self-inside-is)
       (logged_from (Moves) c.args.self.now c.self.inside.on_disk.circ w.put_end.new.self c.self.inside.memory c.self.inside.memory (logging_of c.self.inside.on_disk.logger) log_end (logging_of c.match-replace.self) log_sync (installing_of c.self.inside.on_disk.installer) c.self.view_is (ap logging_of (sym w.in-Synced.ensures.value)) (ap logging_of w.self-is)
-      (end_written c.self.inside.on_disk.circ w.put_end.new.self c.self.inside.memory (installing_of c.self.inside.on_disk.installer) (in_logging c.self.inside.on_disk.circ c.self.inside.memory (logging_of c.self.inside.on_disk.logger) log_end (installing_of c.self.inside.on_disk.installer) (ap logging_of (sym w.in-Synced.ensures.value)) c.self.invariant) w.put_end.ensures.step w.in_ok-put_end-in-Synced.ensures.log w.in_ok-put_end-in-Synced.ensures.home w.in_ok-put_end-in-Synced.ensures.ok).1)
+      (end_written c.self.inside.on_disk.circ w.put_end.new.self c.self.inside.memory (installing_of c.self.inside.on_disk.installer) (in_logging c.self.inside.on_disk.circ c.self.inside.memory (logging_of c.self.inside.on_disk.logger) log_end (installing_of c.self.inside.on_disk.installer) (ap logging_of (sym w.in-Synced.ensures.value)) c.self.invariant) w.put_end.ensures.step w.in_ok-put_end-in-Synced.ensures.log w.in_ok-put_end-in-Synced.ensures.home w.in_ok-put_end-in-Synced.ensures.ok w.in_ok-put_end-in-Synced.ensures.done).1)
   | in-EndPut+in_ok-state-in-EndPut w ↦
       subst (λ s. (Moves) c.args.self.now (of_parts s.on_disk.circ s.memory (logging_of c.match-replace.self) (installing_of s.on_disk.installer))) (sym w.self-inside-is)
       (logged_from (Moves) c.args.self.now c.self.inside.on_disk.circ w.sync_end.new.self c.self.inside.memory w.logged.new.self (logging_of c.self.inside.on_disk.logger) log_sync (logging_of c.match-replace.self) log_blocks (installing_of c.self.inside.on_disk.installer) c.self.view_is (ap logging_of (sym w.in-EndPut.ensures.value)) (ap logging_of w.self-is)
-      (group_ended c.self.inside.on_disk.circ w.sync_end.new.self c.self.inside.memory (installing_of c.self.inside.on_disk.installer) w.logged.new.self (in_logging c.self.inside.on_disk.circ c.self.inside.memory (logging_of c.self.inside.on_disk.logger) log_sync (installing_of c.self.inside.on_disk.installer) (ap logging_of (sym w.in-EndPut.ensures.value)) c.self.invariant) w.sync_end.ensures.step w.in_ok-state-in-EndPut.ensures.log w.in_ok-state-in-EndPut.ensures.home w.in_ok-state-in-EndPut.ensures.ok (w.logged.ensures.log ∙ (λ i. record c.self.inside.memory { logged = w.end.ensures.end i }))).1)
+      (group_ended c.self.inside.on_disk.circ w.sync_end.new.self c.self.inside.memory (installing_of c.self.inside.on_disk.installer) w.logged.new.self (in_logging c.self.inside.on_disk.circ c.self.inside.memory (logging_of c.self.inside.on_disk.logger) log_sync (installing_of c.self.inside.on_disk.installer) (ap logging_of (sym w.in-EndPut.ensures.value)) c.self.invariant) w.sync_end.ensures.step w.in_ok-state-in-EndPut.ensures.log w.in_ok-state-in-EndPut.ensures.home w.in_ok-state-in-EndPut.ensures.ok (w.logged.ensures.log ∙ (λ i. record c.self.inside.memory { logged = w.end.ensures.end i })) w.in_ok-state-in-EndPut.ensures.done).1)
 ]

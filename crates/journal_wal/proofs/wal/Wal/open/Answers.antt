@@ -3,17 +3,17 @@ use Rattle.journal_wal.proofs.Opening.{opened_sound, stands_now}
 use Rattle.journal_wal.proofs.wal.Wal.open.Goals as goal
 
 pub invariant_of-result : goal.invariant_of-result
-invariant_of-result g c = (opened_sound c.in_ok-circ.circ c.recover.new.circ c.in-Ok.memory c.in_ok-circ.ensures.ok c.recover.ensures.disk
+invariant_of-result g c = (opened_sound c.in_ok-circ.field-0.circ c.recover.new.circ c.in-Ok.memory c.in_ok-circ.ensures.ok c.recover.ensures.disk
     c.in-Ok.ensures.memory c.in-Ok.ensures.fine c.recover.ensures.ordered c.recover.ensures.fits c.recover.ensures.small
     (λ honest. c.in_ok-circ.ensures.images (subst IsTrue c.in_ok-circ.ensures.keeps.honest honest))).0
 
 pub returns-in-Ok-clause-opened : goal.returns-in-Ok-clause-opened
-returns-in-Ok-clause-opened g c = (opened_sound c.in_ok-circ.circ c.recover.new.circ c.in-Ok.memory c.in_ok-circ.ensures.ok c.recover.ensures.disk
+returns-in-Ok-clause-opened g c = (opened_sound c.in_ok-circ.field-0.circ c.recover.new.circ c.in-Ok.memory c.in_ok-circ.ensures.ok c.recover.ensures.disk
     c.in-Ok.ensures.memory c.in-Ok.ensures.fine c.recover.ensures.ordered c.recover.ensures.fits c.recover.ensures.small
     (λ honest. c.in_ok-circ.ensures.images (subst IsTrue c.in_ok-circ.ensures.keeps.honest honest))).1
 
 pub returns-in-Ok-clause-images : goal.returns-in-Ok-clause-images
-returns-in-Ok-clause-images g c = λ honest. stands_now c.in_ok-circ.circ c.recover.new.circ c.in-Ok.memory c.in_ok-circ.ensures.ok c.recover.ensures.disk
+returns-in-Ok-clause-images g c = λ honest. stands_now c.in_ok-circ.field-0.circ c.recover.new.circ c.in-Ok.memory c.in_ok-circ.ensures.ok c.recover.ensures.disk
     c.in-Ok.ensures.memory c.in-Ok.ensures.fine c.recover.ensures.ordered c.recover.ensures.fits c.recover.ensures.small
     (λ honest. c.in_ok-circ.ensures.images (subst IsTrue c.in_ok-circ.ensures.keeps.honest honest))
     (subst IsTrue (sym (c.recover.ensures.disk.keeps.honest ∙ c.in_ok-circ.ensures.keeps.honest)) honest)

@@ -1,4 +1,4 @@
-use Rattle.std.proofs.Common.{refl, sym, ap, ◌∙◌, subst, arith}
+use Rattle.std.proofs.Common.{ap, subst, arith}
 use Rattle.std.proofs.lemmas.Bool.Decides.{nat_tests}
 use Rattle.jtool.specs.Lines.{LinesState, TakesPiece}
 use Rattle.jtool.proofs.LineEnds.{none_taken, taken_kept, taken_more, taken_whole, taken_end}
