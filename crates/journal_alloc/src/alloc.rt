@@ -1,0 +1,105 @@
+// Numbers, each out or not.
+ghost use Rattle.std.specs.Prelude.{ℕ, ◌≡◌, ◌+◌, ◌<◌, ◌≤◌, ◌^◌, ◌↔◌, true, false, IsTrue, IfSome, IfNone, Some, vec_len, length, slice_get};
+ghost use Rattle.journal_alloc.specs.Numbers.{IsOut, IsFree, IsLowestFree, AreOutBelow, with_out};
+
+use std::marker::Model;
+
+/// Numbers from a first one on, each out or not. Contracts see the first, and the list that says which are.
+#[derive(Debug, Drop)]
+pub struct Alloc {
+    first: u64,
+    out: Vec<bool>,
+    // All places below this one are out, so the lowest that is not stands here or above.
+    start: usize,
+}
+
+impl Model for Alloc {
+    ghost use Rattle.std.specs.Prelude.{◌+◌, ◌<◌, ◌≤◌, ◌^◌, length};
+    ghost use Rattle.journal_alloc.specs.Numbers.{Numbers, AreOutBelow};
+
+    ghost Value = { Numbers };
+
+    ghost view = { λ alloc. record { first = alloc.first; out = alloc.out.items } };
+
+    ghost invariant = { λ alloc. (alloc.first + length alloc.out.items < 2 ^ 64)
+        × (alloc.start ≤ length alloc.out.items) × AreOutBelow alloc.out.items alloc.start };
+}
+
+impl Alloc {
+    /// The numbers from `first` on, as many as the list is long. Number `first + i` is out where `out[i]` is
+    /// yes.
+    pub fn new(first: u64, out: Vec<bool>) -> Alloc
+        requires in_range { first + vec_len out < 2 ^ 64 }
+        ensures numbers { result ≡ record { first = first; out = out.items } }
+    {
+        Alloc {
+            first,
+            out,
+            start: 0,
+        }
+    }
+
+    /// Hands out the lowest number that is not out. It is out then, and the others stay.
+    ///
+    /// `None`, and nothing changes, where all are out.
+    pub fn take(&mut self) -> Option<u64>
+        ensures lowest { IfSome result (IsLowestFree self.old) }
+        ensures taken { IfSome result (λ n. self.new ≡ with_out self.old n true) }
+        ensures none { IfNone result ((n : ℕ) → IsFree self.old n → ⊥) }
+        ensures unchanged { IfNone result (self.new ≡ self.old) }
+    {
+        let place = first_free(&self.out, self.start);
+        self.start = place;
+        if place == self.out.len() {
+            return None;
+        }
+        self.out[place] = true;
+        Some(self.first + place as u64)
+    }
+
+    /// Takes a number back, and says whether it was out. It is not out then, and the others stay.
+    ///
+    /// Where it was not out, or is none of these numbers, nothing changes.
+    pub fn give(&mut self, n: u64) -> bool
+        ensures out { IsTrue result ↔ IsOut self.old n }
+        ensures given { IsTrue result → self.new ≡ with_out self.old n false }
+        ensures unchanged { result ≡ false → self.new ≡ self.old }
+    {
+        let Some(place) = self.place_of(n) else {
+            return false;
+        };
+        if !self.out[place] {
+            return false;
+        }
+        self.out[place] = false;
+        self.start = self.start.min(place);
+        true
+    }
+
+    // Where the number stands in the list.
+    fn place_of(&self, n: u64) -> Option<usize>
+        ensures place { IfSome result (λ place. (self.now.first + place ≡ n) × (place < length self.now.out)) }
+        ensures none { IfNone result (self.now.first ≤ n → self.now.first + length self.now.out ≤ n) }
+    {
+        if n < self.first || n - self.first >= self.out.len() as u64 {
+            return None;
+        }
+        Some((n - self.first) as usize)
+    }
+}
+
+// The first place from this one on that is not out, or the length where all are.
+fn first_free(out: &[bool], start: usize) -> usize
+    requires in_range { start ≤ length out.now }
+    requires below { AreOutBelow out.now start }
+    ensures in_range { result ≤ length out.now }
+    ensures below { AreOutBelow out.now result }
+    ensures free { result < length out.now → slice_get out.now result ≡ Some false }
+{
+    for place in start..out.len() {
+        if !out[place] {
+            return place;
+        }
+    }
+    out.len()
+}
