@@ -1,0 +1,78 @@
+-- The bytes after a file's size.
+use Rattle.std.proofs.Common.{ℕ, zero, suc, ◌≡◌, ◌<◌, ◌≤◌, ◌-◌, List, [], ◌∷◌, ◌++◌, length, take, drop, replicate, refl, sym, ap, subst, ◌∙◌, arith, lit≤}
+use Rattle.std.proofs.lemmas.List.{length-take-le, length-drop, take-append-drop, take_at, drop_at}
+use Rattle.std.proofs.lemmas.List.Elements.{All-head, All-tail, All-nil, All-cons}
+use Rattle.std.specs.Prelude.{◌↔◌, Bool, IsTrue}
+use Rattle.std.proofs.lemmas.Bool.Decides.{nat_tests}
+use Rattle.journal_world.specs.declared.layout.TheConstants.{FIRST_DATA}
+use Rattle.journal_world.specs.declared.moment.TheConstants.{MAX_NANOS}
+use Rattle.journal_world.specs.Maps.{Map, is_object}
+use Rattle.journal_inode.specs.declared.node.FileNode.{FileNode}
+use Rattle.journal_inode.specs.declared.node.TheConstants.{FILE_BYTES}
+use Rattle.journal_inode.specs.Places.{addr_of}
+use Rattle.journal_inode.specs.Places.Object.{block}
+use Rattle.journal_inode.specs.Sound.{front_of, superblock_of, stored, IsSoundFile}
+use Rattle.journal_inode.specs.Admitting.{AllZero}
+
+-- so many zeros
+abbrev pub zeros : ℕ → List ℕ
+zeros n = replicate n 0
+
+pub zeros-AllZero : (xs : List ℕ) → AllZero xs → xs ≡ zeros (length xs)
+zeros-AllZero [] all = refl
+zeros-AllZero (x ∷ xs) all =
+    ap (λ y. y ∷ xs) (All-head (λ (y : ℕ). y ≡ 0) x xs all) ∙ ap (λ ys. 0 ∷ ys) (zeros-AllZero xs (All-tail (λ (y : ℕ). y ≡ 0) x xs all))
+
+pub AllZero-zeros : (n : ℕ) → AllZero (zeros n)
+AllZero-zeros zero = All-nil (λ (y : ℕ). y ≡ 0)
+AllZero-zeros (suc n) = All-cons (λ (y : ℕ). y ≡ 0) 0 (zeros n) refl (AllZero-zeros n)
+
+pub padded-AllZero : (v : List ℕ) (k s : ℕ) → length v ≡ k → s ≤ k → AllZero (drop s v) → v ≡ take s v ++ zeros (k - s)
+padded-AllZero v k s whole small all =
+    sym (take-append-drop s v)
+    ∙ ap (λ ys. take s v ++ ys) (zeros-AllZero (drop s v) all)
+    ∙ ap (λ n. take s v ++ zeros n) (length-drop s v ∙ ap (λ n. n - s) whole)
+
+pub AllZero-padded : (v : List ℕ) (n s : ℕ) → length (take s v) ≡ s → v ≡ take s v ++ zeros n → AllZero (drop s v)
+AllZero-padded v n s whole padded =
+    subst AllZero (sym (ap (drop s) padded ∙ drop_at (take s v) (zeros n) s whole)) (AllZero-zeros n)
+
+-- a data block's value has 4096 bytes
+pub length-block : (blocks b : ℕ) (v : List ℕ) → FIRST_DATA ≤ b → b < blocks → IsTrue (is_object blocks (addr_of (block b), v)) → length v ≡ FILE_BYTES
+length-block blocks b v from to is = grind (arith, nat_tests)
+
+-- a file whose numbers are within bounds is sound where the bytes from its size on are zero
+pub tail_decides : (m : Map) (f : FileNode) (v tail : List ℕ) (b : Bool) → stored m f ≡ v → length v ≡ FILE_BYTES → 1 ≤ f.generation → f.size ≤ FILE_BYTES
+    → FIRST_DATA ≤ f.block → f.block < m.blocks → f.mtime.nanos ≤ MAX_NANOS → tail ≡ drop f.size v → (IsTrue b ↔ AllZero tail) → IsTrue b ↔ IsSoundFile m f
+tail_decides m f v tail b here whole born small from to timed is_tail decides = (
+  (λ is. record {
+    born = born;
+    small = small;
+    data_block = from;
+    on_disk = to;
+    timed = timed;
+    whole = ap (λ x. length (take f.size x)) here ∙ length-take-le f.size v (subst (λ n. f.size ≤ n) (sym whole) small);
+    padded = here ∙ padded-AllZero v FILE_BYTES f.size whole small (subst AllZero is_tail (decides.0 is)) ∙ ap (λ x. take f.size x ++ zeros (FILE_BYTES - f.size)) (sym here);
+  }),
+  (λ sound. decides.1 (subst AllZero (sym is_tail)
+      (AllZero-padded v (FILE_BYTES - f.size) f.size (subst (λ x. length (take f.size x) ≡ f.size) here sound.whole)
+      (subst (λ x. x ≡ take f.size x ++ zeros (FILE_BYTES - f.size)) here sound.padded)))),
+)
+
+length-front : (blocks : ℕ) → length (front_of blocks) ≡ 24
+unfolding front_of
+length-front blocks = refl
+
+-- the bytes of the superblock begin with its front
+pub superblock_begins : (bytes : List ℕ) (blocks : ℕ) → bytes ≡ superblock_of blocks → take 24 bytes ≡ front_of blocks
+unfolding superblock_of
+superblock_begins bytes blocks is = ap (take 24) is ∙ take_at (front_of blocks) _ 24 (length-front blocks)
+
+-- with that front, they are the superblock's where the rest is zero
+pub superblock_decides : (bytes tail : List ℕ) (blocks : ℕ) (b : Bool) → length bytes ≡ 4096 → take 24 bytes ≡ front_of blocks → tail ≡ drop 24 bytes → (IsTrue b ↔ AllZero tail) → IsTrue b ↔ (bytes ≡ superblock_of blocks)
+unfolding superblock_of
+superblock_decides bytes tail blocks b whole front is_tail decides = (
+  (λ is. padded-AllZero bytes 4096 24 whole (lit≤ tt) (subst AllZero is_tail (decides.0 is)) ∙ ap (λ x. x ++ zeros (4096 - 24)) front),
+  (λ is. decides.1 (subst AllZero (sym is_tail)
+      (AllZero-padded bytes (4096 - 24) 24 (ap length front ∙ length-front blocks) (is ∙ ap (λ x. x ++ zeros (4096 - 24)) (sym front))))),
+)

@@ -1,0 +1,15 @@
+use Rattle.std.proofs.lemmas.Bool.{false≢true}
+use Rattle.journal_inode.proofs.Admitted.{none_admitted, some_admitted}
+use Rattle.journal_inode.proofs.rule.SoundFilesMapRule.admit.Goals as goal
+
+pub returns-in-None-clause-admitted : goal.returns-in-None-clause-admitted
+returns-in-None-clause-admitted g c = λ trusted. (
+  (λ no. absurd (false≢true no)),
+  (λ sound. absurd (none_admitted _ _ _ _ _ _ c.has_superblock.ensures.same_map c.has_superblock.ensures.same_trust c.in_ok-owners.ensures.sound c.in-None.is trusted sound)),
+)
+
+pub returns-in-Some-clause-admitted : goal.returns-in-Some-clause-admitted
+returns-in-Some-clause-admitted g c =
+    some_admitted (λ v. v.items) _ _ _ _ _ _ _ _ _ _ _ c.has_superblock.ensures.same_map c.owners.ensures.same_map c.has_superblock.ensures.same_trust c.owners.ensures.same_trust
+    c.in_ok-has_superblock.ensures.sound c.if-not-branch.false c.in_ok-owners.ensures.sound c.in-Some.is c.in_ok-owners.ensures.whole
+    c.are_bits_sound.ensures.sound c.deref.ensures.value

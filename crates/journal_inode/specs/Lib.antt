@@ -1,0 +1,6 @@
+pub mod Places
+pub mod Nodes
+pub mod Sound
+pub mod Admitting
+pub mod SameFiles
+pub mod Formats

@@ -1,0 +1,56 @@
+-- An inode and its 128 bytes.
+use Rattle.std.specs.Prelude.{ℕ, ◌<◌, ◌+◌, ◌^◌, ◌==◌, if◌then◌else◌, List, ◌++◌, length, take, drop, replicate, slice_range}
+use Rattle.std.specs.Int.{w32, w64, to_le_bytes, from_le_bytes}
+use Rattle.journal_world.specs.Addresses.{Value}
+use Rattle.journal_inode.specs.declared.node.Time.{Time}
+use Rattle.journal_inode.specs.declared.node.FileNode.{FileNode}
+use Rattle.journal_inode.specs.declared.node.Node.{Node}
+use Rattle.journal_inode.specs.declared.node.Node.TheVariants.{Free, Root, File}
+
+-- a piece over the bytes from a place on
+abbrev pub with_piece : List ℕ → ℕ → List ℕ → List ℕ
+with_piece bytes at piece = take at bytes ++ piece ++ drop (at + length piece) bytes
+
+abbrev pub no_time : Time
+no_time = record { secs = 0; nanos = 0 }
+
+-- kind, generation, size, block, seconds, nanoseconds, little-endian, and zeros
+unfoldable pub bytes_of_fields : ℕ → ℕ → ℕ → ℕ → Time → Value
+bytes_of_fields kind generation size block mtime =
+    to_le_bytes w32 kind ++ to_le_bytes w32 generation ++ to_le_bytes w64 size ++ to_le_bytes w64 block
+    ++ to_le_bytes w32 mtime.secs ++ to_le_bytes w32 mtime.nanos ++ replicate 96 0
+
+-- the bytes of an inode: kind 0 is free, 1 a directory, 2 a file
+abbrev pub bytes_of : Node → Value
+bytes_of (Free generation) = bytes_of_fields 0 generation 0 0 no_time
+bytes_of (Root mtime) = bytes_of_fields 1 1 0 0 mtime
+bytes_of (File f) = bytes_of_fields 2 f.generation f.size f.block f.mtime
+
+-- the numbers of 4 and of 8 bytes from a place on
+unfoldable pub word_at : Value → ℕ → ℕ
+word_at v at = from_le_bytes w32 (slice_range v at (at + 4))
+
+unfoldable pub long_at : Value → ℕ → ℕ
+long_at v at = from_le_bytes w64 (slice_range v at (at + 8))
+
+abbrev pub time_at : Value → ℕ → Time
+time_at v at = record { secs = word_at v at; nanos = word_at v (at + 4) }
+
+abbrev pub file_from : Value → FileNode
+file_from v = record { generation = word_at v 4; size = long_at v 8; block = long_at v 16; mtime = time_at v 24 }
+
+-- the inode of which these are the bytes, if they are an inode's
+unfoldable pub node_of : Value → Node
+node_of v =
+    if word_at v 0 == 2 then File (file_from v)
+    else if word_at v 0 == 1 then Root (time_at v 24)
+    else Free (word_at v 4)
+
+abbrev pub IsTime : Time → Type 0
+IsTime t = (t.secs < 2 ^ 32) × (t.nanos < 2 ^ 32)
+
+-- the numbers of the inode fit their bytes
+abbrev pub Fits : Node → Type 0
+Fits (Free generation) = generation < 2 ^ 32
+Fits (Root mtime) = IsTime mtime
+Fits (File f) = (f.generation < 2 ^ 32) × (f.size < 2 ^ 64) × (f.block < 2 ^ 64) × IsTime f.mtime

@@ -1,0 +1,201 @@
+// Whether the files of a map are sound.
+ghost use Rattle.std.specs.Prelude.{ℕ, ◌≡◌, ◌<◌, ◌≤◌, ◌+◌, ◌↔◌, length, IsTrue, IfOk, IfErr, IfSome, MatchOption};
+ghost use Rattle.journal_inode.specs.Sound.{superblock_of, node_at, IsInPlace, IsSoundFile};
+ghost use Rattle.journal_world.specs.Refusals.{IsOfReading};
+ghost use Rattle.journal_inode.specs.Places.{object};
+ghost use Rattle.journal_inode.specs.Places.Object.{superblock};
+ghost use Rattle.journal_inode.specs.Admitting.{IsSoundInode, IsDataBlock, HasDataBlocks, AreSoundBelow, AreOwners, Claims, bit_asked, AreBitsBelow};
+
+use crate::superblock::{are_zero, is_superblock};
+use crate::{FILE_BYTES, FileNode, INODES, Node, bit_addr, block_addr, inode_addr};
+use journal_world::{
+    Addr, BLOCK_BITS, FIRST_DATA, MAX_NANOS, MapRule, ObjectReader, Refusal, SUPERBLOCK,
+};
+use std::alloc::Global;
+
+/// The rule of sound files: the superblock is the disk's, each inode is in its place, each file is sound, no
+/// two files have one block, and the bitmap says which data blocks are taken.
+///
+/// It keeps an allocator, for the table of the blocks that files have.
+#[derive(Clone, Copy, Debug)]
+pub struct SoundFiles {
+    alloc: Global,
+}
+
+impl SoundFiles {
+    /// The rule, with the allocator that `admit` takes memory from.
+    pub fn new(alloc: Global) -> SoundFiles {
+        SoundFiles { alloc }
+    }
+}
+
+impl MapRule for SoundFiles {
+    ghost use Rattle.journal_inode.specs.Sound.{Sound};
+    ghost use Rattle.journal_inode.specs.SameFiles.{Sound-same};
+
+    ghost statement = { Sound };
+
+    ghost respects = { Sound-same };
+
+    fn admit<O: ObjectReader>(&self, reader: &mut O) -> Result<bool, Refusal<O::Cause>> {
+        if !has_superblock(reader)? {
+            return Ok(false);
+        }
+        match owners(reader, self.alloc)? {
+            None => Ok(false),
+            Some(owners) => are_bits_sound(reader, &owners),
+        }
+    }
+}
+
+// Whether the superblock is that of the disk. The map stays.
+fn has_superblock<O: ObjectReader>(reader: &mut O) -> Result<bool, Refusal<O::Cause>>
+    ensures sound { IsTrue (O.trusted reader.old) → IfOk result (λ has.
+        IsTrue has ↔ (object (O.map reader.old) superblock ≡ superblock_of (O.map reader.old).blocks)) }
+    ensures refused { IfErr result (IsOfReading (O.failed reader.new)) }
+    ensures stays_failed { IsTrue (O.failed reader.old) → IsTrue (O.failed reader.new) }
+    ensures same_map { O.map reader.new ≡ O.map reader.old }
+    ensures same_trust { O.trusted reader.new ≡ O.trusted reader.old }
+{
+    let blocks = reader.layout().blocks;
+    let addr = Addr {
+        block: SUPERBLOCK,
+        off: 0,
+    };
+    let value = reader.read(addr)?;
+    Ok(is_superblock(value.bytes(), blocks))
+}
+
+// Whether the inode may have the number i.
+fn is_in_place(i: u32, node: Node) -> bool
+    ensures { IsTrue result ↔ IsInPlace i node }
+{
+    match node {
+        Node::Free(generation) => i >= 2 || i == 0 && generation == 0,
+        Node::Root(mtime) => i == 1 && mtime.nanos <= MAX_NANOS,
+        Node::File(_) => i >= 2,
+    }
+}
+
+// Whether a file is sound by itself. The map stays.
+fn is_file_sound<O: ObjectReader>(reader: &mut O, file: FileNode) -> Result<bool, Refusal<O::Cause>>
+    ensures sound { IsTrue (O.trusted reader.old) → IfOk result (λ sound.
+        IsTrue sound ↔ IsSoundFile (O.map reader.old) file) }
+    ensures in_range { IfOk result (λ sound. IsTrue sound → IsDataBlock (O.map reader.old).blocks file.block) }
+    ensures refused { IfErr result (IsOfReading (O.failed reader.new)) }
+    ensures stays_failed { IsTrue (O.failed reader.old) → IsTrue (O.failed reader.new) }
+    ensures same_map { O.map reader.new ≡ O.map reader.old }
+    ensures same_trust { O.trusted reader.new ≡ O.trusted reader.old }
+{
+    let blocks = reader.layout().blocks;
+    if file.generation == 0 || file.size > FILE_BYTES || file.mtime.nanos > MAX_NANOS {
+        return Ok(false);
+    }
+    if file.block < FIRST_DATA || file.block >= blocks {
+        return Ok(false);
+    }
+    let value = reader.read(block_addr(file.block))?;
+    Ok(are_zero(&value.bytes()[file.size as usize..]))
+}
+
+// The inode of a number, or `None` where it is not sound. The map stays.
+fn sound_inode<O: ObjectReader>(reader: &mut O, i: u32) -> Result<Option<Node>, Refusal<O::Cause>>
+    requires { i < INODES }
+    ensures sound { IsTrue (O.trusted reader.old) → IfOk result (λ found.
+        MatchOption found (IsSoundInode (O.map reader.old) i → ⊥)
+        (λ node. (node_at (O.map reader.old) i ≡ node) × IsSoundInode (O.map reader.old) i)) }
+    ensures in_range { IfOk result (λ found. IfSome found (HasDataBlocks (O.map reader.old).blocks)) }
+    ensures refused { IfErr result (IsOfReading (O.failed reader.new)) }
+    ensures stays_failed { IsTrue (O.failed reader.old) → IsTrue (O.failed reader.new) }
+    ensures same_map { O.map reader.new ≡ O.map reader.old }
+    ensures same_trust { O.trusted reader.new ≡ O.trusted reader.old }
+{
+    let value = reader.read(inode_addr(i))?;
+    let node = Node::read(value.bytes());
+    if node.bytes().as_slice() != value.bytes() || !is_in_place(i, node) {
+        return Ok(None);
+    }
+    if let Node::File(file) = node {
+        if !is_file_sound(reader, file)? {
+            return Ok(None);
+        }
+    }
+    Ok(Some(node))
+}
+
+// The table of owners, which says of each data block whether a file has it; `None` where an inode is not sound, or
+// two files have one block. The map stays.
+fn owners<O: ObjectReader>(
+    reader: &mut O,
+    alloc: Global,
+) -> Result<Option<Vec<bool>>, Refusal<O::Cause>>
+    ensures sound { IsTrue (O.trusted reader.old) → IfOk result (λ found.
+        MatchOption found (AreSoundBelow (O.map reader.old) INODES → ⊥)
+        (λ owners. AreSoundBelow (O.map reader.old) INODES × AreOwners (O.map reader.old) INODES owners.items)) }
+    ensures whole { IfOk result (λ found. IfSome found (λ owners.
+        FIRST_DATA + length owners.items ≡ (O.map reader.old).blocks)) }
+    ensures refused { IfErr result (IsOfReading (O.failed reader.new)) }
+    ensures stays_failed { IsTrue (O.failed reader.old) → IsTrue (O.failed reader.new) }
+    ensures same_map { O.map reader.new ≡ O.map reader.old }
+    ensures same_trust { O.trusted reader.new ≡ O.trusted reader.old }
+{
+    let blocks = reader.layout().blocks;
+    let mut owners = vec![in alloc; false; (blocks - FIRST_DATA) as usize]?;
+    for i in 0..INODES {
+        let Some(node) = sound_inode(reader, i)? else {
+            return Ok(None);
+        };
+        if !claim(&mut owners, node) {
+            return Ok(None);
+        }
+    }
+    Ok(Some(owners))
+}
+
+// Notes the blocks of an inode as owned; no where one of them is owned already.
+fn claim(owners: &mut Vec<bool>, node: Node) -> bool
+    requires { HasDataBlocks (FIRST_DATA + length owners.old.items) node }
+    ensures claims { Claims node owners.old.items owners.new.items result }
+    ensures length { length owners.new.items ≡ length owners.old.items }
+{
+    match node {
+        Node::File(file) => {
+            let place = (file.block - FIRST_DATA) as usize;
+            if owners[place] {
+                return false;
+            }
+            owners[place] = true;
+            true
+        }
+        _ => true,
+    }
+}
+
+// Whether each bit of the bitmap is as the table says, and set past its end. The map stays.
+fn are_bits_sound<O: ObjectReader>(
+    reader: &mut O,
+    owners: &[bool],
+) -> Result<bool, Refusal<O::Cause>>
+    ensures sound { IsTrue (O.trusted reader.old) → IfOk result (λ sound.
+        IsTrue sound ↔ AreBitsBelow (O.map reader.old) owners.now BLOCK_BITS) }
+    ensures refused { IfErr result (IsOfReading (O.failed reader.new)) }
+    ensures stays_failed { IsTrue (O.failed reader.old) → IsTrue (O.failed reader.new) }
+    ensures same_map { O.map reader.new ≡ O.map reader.old }
+    ensures same_trust { O.trusted reader.new ≡ O.trusted reader.old }
+{
+    for k in 0..BLOCK_BITS {
+        let value = reader.read(bit_addr(FIRST_DATA + u64::from(k)))?;
+        if !is_bit_asked(value.bytes(), owners, k as usize) {
+            return Ok(false);
+        }
+    }
+    Ok(true)
+}
+
+// Whether a bit's value is the one that the table asks for.
+fn is_bit_asked(bytes: &[u8], owners: &[bool], k: usize) -> bool
+    ensures { IsTrue result ↔ (bytes.now ≡ bit_asked owners.now k) }
+{
+    let is_taken = k >= owners.len() || owners[k];
+    bytes.len() == 1 && bytes[0] == u8::from(is_taken)
+}

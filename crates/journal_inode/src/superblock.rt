@@ -1,0 +1,54 @@
+// The superblock.
+ghost use Rattle.std.specs.Prelude.{◌≡◌, ◌↔◌, length, IsTrue};
+ghost use Rattle.journal_world.specs.declared.layout.TheConstants.{BLOCK_BYTES};
+ghost use Rattle.journal_inode.specs.Sound.{front_of, superblock_of};
+ghost use Rattle.journal_inode.specs.Admitting.{AllZero};
+
+use crate::node::put;
+
+/// What a superblock begins with.
+const MAGIC: &[u8; 8] = b"GJNLDSK1";
+/// The version of the format.
+const VERSION: u64 = 1;
+/// Where the version lies.
+const VERSION_AT: usize = 8;
+/// Where the number of blocks lies.
+const BLOCKS_AT: usize = 16;
+/// How many bytes of a superblock are not all zero.
+pub(crate) const FRONT_BYTES: usize = 24;
+
+// The name of the format, its version and the number of blocks.
+pub(crate) fn front(blocks: u64) -> [u8; FRONT_BYTES]
+    ensures { result ≡ front_of blocks }
+{
+    let mut front = [0; FRONT_BYTES];
+    put(&mut front, 0, MAGIC);
+    put(&mut front, VERSION_AT, &VERSION.to_le_bytes());
+    put(&mut front, BLOCKS_AT, &blocks.to_le_bytes());
+    front
+}
+
+// Whether these are the bytes of the superblock.
+pub(crate) fn is_superblock(bytes: &[u8], blocks: u64) -> bool
+    requires { length bytes.now ≡ BLOCK_BYTES }
+    ensures { IsTrue result ↔ (bytes.now ≡ superblock_of blocks) }
+{
+    let front = front(blocks);
+    if !are_same(&bytes[..FRONT_BYTES], &front) {
+        return false;
+    }
+    are_zero(&bytes[FRONT_BYTES..])
+}
+
+fn are_same(left: &[u8], right: &[u8]) -> bool
+    ensures { IsTrue result ↔ (left.now ≡ right.now) }
+{
+    left == right
+}
+
+// Whether all bytes are zero.
+pub(crate) fn are_zero(bytes: &[u8]) -> bool
+    ensures { IsTrue result ↔ AllZero bytes.now }
+{
+    bytes.iter().all(|byte| *byte == 0)
+}
