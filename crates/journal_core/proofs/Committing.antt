@@ -21,7 +21,8 @@ use Rattle.journal_core.specs.Tallies.{Pairs, made_among, SameTally, CountsOne, 
 use Rattle.journal_core.specs.Causes.{Told}
 use Rattle.journal_core.specs.Cores.{CoreState, IsKept}
 use Rattle.journal_core.specs.Transactions.{TransactionState}
-use Rattle.journal_core.specs.Commits.{IsCommitted, IsAdded, HasSeen, IsStrange, IsWorn, MayCommit, CanPrepare, CanCommit, IsPreparingRefusal, IsCommitRefusal}
+use Rattle.journal_core.specs.Commits.{IsCommitted, IsAdded, HasSeen, IsWorn, MayCommit, CanPrepare, CanCommit, IsPreparingRefusal, IsCommitRefusal}
+use Rattle.journal_core.specs.Steps.{IsStrange}
 use Rattle.journal_core.proofs.Keeping.{commits_of-other, Rests, kept_commit}
 use Rattle.journal_core.specs.Cores.{disk_of}
 use Rattle.journal_objlog.specs.ObjectLogs.{is_faulted as is_log_faulted}
@@ -118,10 +119,10 @@ module _ (blocks : ℕ) (c : CoreState) (kept : IsKept blocks c) (begun : c.hist
       → Appends c.objects prepared objects → MayCrash c.objects objects
       → (IsTrue (disk_of c).honest → (writes : List Pair) → IsPrepared c.objects prepared writes → SameMap (map_now objects) (overwritten (map_now c.objects) writes))
       → SameMap (map_cut objects) (map_cut c.objects) → SameMap (map_logged objects) (map_logged c.objects)
-      → IsKept blocks (record { objects = objects; history = history; cut = c.cut; logged = c.logged; next = next })
+      → IsKept blocks (record { objects = objects; history = history; cut = c.cut; logged = c.logged; next = next; closed = c.closed })
   kept_added t prepared objects history next added raised ready appends crash now cut logged =
-      subst (λ (n : ℕ). IsKept blocks (record { objects = objects; history = history; cut = c.cut; logged = c.logged; next = n })) (sym raised)
-      (subst (λ (h : List Entry). IsKept blocks (record { objects = objects; history = h; cut = c.cut; logged = c.logged; next = max c.next (t.session + 1) })) (sym added)
+      subst (λ (n : ℕ). IsKept blocks (record { objects = objects; history = history; cut = c.cut; logged = c.logged; next = n; closed = c.closed })) (sym raised)
+      (subst (λ (h : List Entry). IsKept blocks (record { objects = objects; history = h; cut = c.cut; logged = c.logged; next = max c.next (t.session + 1); closed = c.closed })) (sym added)
       (kept_commit blocks c kept begun t objects crash (λ honest. now honest t.writes ready) cut logged (rests_append c.objects prepared objects appends)))
 
 -- a session that has seen more is worn as before
@@ -150,6 +151,7 @@ module _ (old : CoreState) (s seen : SessionState) (t : TransactionState) (exten
   refuses_writes new may NoMemory why = can_after old s seen t extends may why
   refuses_writes new may (DeviceFailed cause) why = record {
     unexplained = why.unexplained;
+    not_closed = why.not_closed;
     fault = ⊎_elim (λ was. inl was) (λ failed. inr (can_after old s seen t extends may failed.0, failed.1)) why.fault;
     faulted = why.faulted;
     others = why.others;
@@ -210,3 +212,8 @@ err_extends (Err e) a b c first second = extends_on a b c first second
 pub on_ok : {T E P Q : Type 0} (r : Result T E) → OnOk r P → (P → Q) → OnOk r Q
 on_ok (Ok value) holds go = go holds
 on_ok (Err e) holds go = tt
+
+-- what holds anyway holds at a refusal
+pub OnErr-any : {T E P : Type 0} (r : Result T E) → P → OnErr r P
+OnErr-any (Ok value) holds = tt
+OnErr-any (Err e) holds = holds

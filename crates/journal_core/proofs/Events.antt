@@ -7,7 +7,7 @@ use Rattle.journal_world.specs.Histories.{is_trusted, latest}
 use Rattle.journal_objlog.specs.ObjectLogs.{OnlyReads}
 use Rattle.journal_history.specs.Tokens.{SessionState, CommitPlace}
 use Rattle.journal_core.specs.Causes.{Told}
-use Rattle.journal_core.specs.Cores.{CoreState, Crashes, is_faulted}
+use Rattle.journal_core.specs.Cores.{CoreState, Crashes, IsRunning}
 use Rattle.journal_core.specs.Transactions.{TransactionState}
 use Rattle.journal_core.specs.Steps.{LogAnswers, IsLogRefusal, InstallAnswers, IsInstallRefusal}
 use Rattle.journal_core.specs.Commits.{IsCommitted, CanCommit, IsCommitRefusal}
@@ -15,27 +15,27 @@ use Rattle.journal_core.specs.Interleavings.{AnswersCommit, AnswersLog, AnswersI
 
 module _ (old new : CoreState) (crash : Crashes old new) where
   pub answers_log : (r : Result Step (Refusal Told)) → IfOk r (λ step. LogAnswers old step new)
-      → OnOk r ((is_faulted old ≡ false) × (is_faulted new ≡ false)) → IfErr r (IsLogRefusal old new) → AnswersLog old r new
-  answers_log (Ok step) did fine refusal = record { did = did; fine = fine; crash = crash }
-  answers_log (Err why) did fine refusal = record { refusal = refusal; crash = crash }
+      → OnOk r (IsRunning old × IsRunning new) → IfErr r (IsLogRefusal old new) → AnswersLog old r new
+  answers_log (Ok step) did running refusal = record { did = did; running = running; crash = crash }
+  answers_log (Err why) did running refusal = record { refusal = refusal; crash = crash }
 
   pub answers_install : (r : Result Step (Refusal Told)) → IfOk r (λ step. InstallAnswers old step new)
-      → OnOk r ((is_faulted old ≡ false) × (is_faulted new ≡ false)) → IfErr r (IsInstallRefusal old new) → AnswersInstall old r new
-  answers_install (Ok step) did fine refusal = record { did = did; fine = fine; crash = crash }
-  answers_install (Err why) did fine refusal = record { refusal = refusal; crash = crash }
+      → OnOk r (IsRunning old × IsRunning new) → IfErr r (IsInstallRefusal old new) → AnswersInstall old r new
+  answers_install (Ok step) did running refusal = record { did = did; running = running; crash = crash }
+  answers_install (Err why) did running refusal = record { refusal = refusal; crash = crash }
 
   pub answers_commit : (session after : SessionState) (t : TransactionState) (r : Result CommitPlace (Refusal Told)) → OnOk r (CanCommit old session t)
       → OnOk r (IsCommitted t.reads t.writes session after old new) → OnOk r (IsTrue (is_trusted old.history) → Agrees (latest old.history) t.reads)
-      → OnOk r (is_faulted new ≡ false) → IfErr r (IsCommitRefusal old session t new) → OnErr r (new ≡ record old { objects = new.objects })
+      → OnOk r (IsRunning new) → IfErr r (IsCommitRefusal old session t new) → OnErr r (new ≡ record old { objects = new.objects })
       → OnErr r (OnlyReads old.objects new.objects) → AnswersCommit old session t r new after
-  answers_commit session after t (Ok place) can committed agrees fine refusal same reads = record {
+  answers_commit session after t (Ok place) can committed agrees running refusal same reads = record {
     can = can;
     committed = committed;
     agrees = agrees;
-    fine = fine;
+    running = running;
     crash = crash;
   }
-  answers_commit session after t (Err why) can committed agrees fine refusal same reads = record {
+  answers_commit session after t (Err why) can committed agrees running refusal same reads = record {
     refusal = refusal;
     reads = reads;
     others = same;

@@ -1,5 +1,5 @@
 -- Each step keeps what the core keeps, and leaves of its disk only fronts of its history.
-use Rattle.std.proofs.Common.{false, ◌==◌, Bool, cond, max, ◌≡◌, ◌≢◌, inr, ⊎_elim, ◌<◌, ◌≤◌, ◌+◌, ℕ, List, [], ◌∷◌, ◌++◌, take, length, IsTrue, refl, sym, ap, subst, ◌∙◌, arith}
+use Rattle.std.proofs.Common.{true, false, ◌==◌, Bool, cond, max, ◌≡◌, ◌≢◌, inr, ⊎_elim, ◌<◌, ◌≤◌, ◌+◌, ℕ, List, [], ◌∷◌, ◌++◌, take, length, IsTrue, refl, sym, ap, subst, ◌∙◌, arith}
 use Rattle.std.proofs.lemmas.List.{take-append-le, append-nil}
 use Rattle.std.proofs.lemmas.Bool.{ne_eqb}
 use Rattle.std.specs.List.{filter}
@@ -233,7 +233,7 @@ module _ (blocks : ℕ) (c : CoreState) (kept : IsKept blocks c) where
 pub kept_opened : (blocks : ℕ) (objects : WalState) (m : Map) → size_of objects ≡ blocks → SameMap (map_now objects) m → m.blocks ≡ blocks
     → objects.log.logged ≡ objects.log.cut → tail_length objects ≡ 0
     → (IsTrue (log_disk objects).honest → EveryImage (log_disk objects).past (OpensAs (map_now objects)))
-    → IsKept blocks (record { objects = objects; history = opening m (log_disk objects).honest ∷ []; cut = 0; logged = 0; next = 0 })
+    → IsKept blocks (record { objects = objects; history = opening m (log_disk objects).honest ∷ []; cut = 0; logged = 0; next = 0; closed = false })
 kept_opened blocks objects m size same on_disk none empty images = record {
   size = size;
   on_disk = on_disk;
@@ -284,6 +284,21 @@ pub crashes_seen : (blocks : ℕ) (inside now new : CoreState) → IsKept blocks
     → new.objects ≡ inside.objects → Crashes now new
 crashes_seen blocks inside now new before is kept same =
     subst (λ (c : CoreState). Crashes c new) is (crashes_same blocks inside new before kept same)
+
+-- the core is stopped
+pub kept_closed : (blocks : ℕ) (c : CoreState) → IsKept blocks c → IsKept blocks (record c { closed = true })
+kept_closed blocks c kept = record {
+  size = kept.size;
+  on_disk = kept.on_disk;
+  trusted = kept.trusted;
+  marked = kept.marked;
+  logged_to_cut = kept.logged_to_cut;
+  cut_to_count = kept.cut_to_count;
+  rest = kept.rest;
+  tied = kept.tied;
+  images = kept.images;
+  fresh = kept.fresh;
+}
 
 -- a further session
 pub kept_session : (blocks : ℕ) (c : CoreState) → IsKept blocks c → IsKept blocks (record c { next = c.next + 1 })

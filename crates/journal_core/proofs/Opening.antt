@@ -75,7 +75,7 @@ module _ (disk : DiskState) (opened objects : WalState) (keeps : Keeps disk (log
   module _ (rule : Map → Type 0) (fine : is_log_faulted objects ≡ false) where
     pub begins : IsInRange disk → (history : List Entry) → history ≡ opening (map_now objects) (log_disk objects).honest ∷ []
         → (IsTrue (log_disk objects).honest → rule (map_now objects))
-        → Begins rule disk (record { objects = objects; history = history; cut = 0; logged = 0; next = 0 })
+        → Begins rule disk (record { objects = objects; history = history; cut = 0; logged = 0; next = 0; closed = false })
     begins range history is ruled = record {
       map = map_now objects;
       range = range;
@@ -91,13 +91,14 @@ module _ (disk : DiskState) (opened objects : WalState) (keeps : Keeps disk (log
       cut = refl;
       logged = refl;
       next = refl;
+      running = (refl, fine);
     }
 
     pub kept_begun : (blocks : ℕ) (history : List Entry) → history ≡ opening (map_now objects) (log_disk objects).honest ∷ [] → size_of objects ≡ blocks
-        → IsKept blocks (record { objects = objects; history = history; cut = 0; logged = 0; next = 0 })
+        → IsKept blocks (record { objects = objects; history = history; cut = 0; logged = 0; next = 0; closed = false })
     kept_begun blocks history is size =
         let now : AtRest objects = rests_still opened objects reads fine rest in
-        subst (λ (h : List Entry). IsKept blocks (record { objects = objects; history = h; cut = 0; logged = 0; next = 0 })) (sym is)
+        subst (λ (h : List Entry). IsKept blocks (record { objects = objects; history = h; cut = 0; logged = 0; next = 0; closed = false })) (sym is)
         (kept_opened blocks objects (map_now objects) size (SameMap-refl (map_now objects)) (map_of-blocks (size_of objects) (blocks_now objects) ∙ size)
         now.cut now.tail
         (λ honest. images_read opened objects reads (opened_honest (subst IsTrue honest_is honest)) (images (subst IsTrue honest_is honest))))

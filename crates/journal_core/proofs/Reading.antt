@@ -13,7 +13,7 @@ use Rattle.journal_core.specs.Cores.{CoreState, IsKept}
 use Rattle.journal_core.specs.Transactions.{TransactionState, AreUnmoved}
 use Rattle.journal_core.specs.Steps.{MayRead, IsReadRefusal}
 use Rattle.journal_core.specs.Commits.{IsMovedRefusal}
-use Rattle.journal_core.specs.Cores.{is_faulted}
+use Rattle.journal_core.specs.Cores.{IsRunning}
 
 -- the layout is that of the disk
 pub size_kept : (blocks : ℕ) (c : CoreState) → IsKept blocks c → (n : ℕ) → n ≡ (map_now c.objects).blocks → n ≡ blocks
@@ -22,11 +22,11 @@ size_kept blocks c kept n is = is ∙ map_of-blocks (size_of c.objects) (blocks_
 pub valid_as : (n blocks : ℕ) (a : Addr) (r b : Bool) → n ≡ blocks → r ≡ is_valid n a → r ≡ b → is_valid blocks a ≡ b
 valid_as n blocks a r b same told is = ap (λ (m : ℕ). is_valid m a) (sym same) ∙ sym told ∙ is
 
-module _ (blocks : ℕ) (old : CoreState) (t : TransactionState) (a : Addr) (fine : is_faulted old ≡ false) (valid : IsTrue (is_valid blocks a)) where
+module _ (blocks : ℕ) (old : CoreState) (t : TransactionState) (a : Addr) (running : IsRunning old) (valid : IsTrue (is_valid blocks a)) where
   -- what was read before has moved
   refuses_admission : (refusal : Refusal Told) → IsMovedRefusal old t refusal → IsReadRefusal blocks old t a old refusal
   refuses_admission (Stale cause) why = absurd why
-  refuses_admission (Stranger cause) why = (fine, valid, why, refl)
+  refuses_admission (Stranger cause) why = (running, valid, why, refl)
   refuses_admission NoMemory why = absurd why
   refuses_admission BadAddress why = absurd why
   refuses_admission BadSize why = absurd why
@@ -45,7 +45,7 @@ module _ (blocks : ℕ) (old : CoreState) (t : TransactionState) (a : Addr) (fin
   not_admitted (Err refusal) why = refuses_admission refusal why
 
 -- nothing but memory and the device can refuse what is admitted
-pub may_read : {T E : Type 0} (blocks : ℕ) (c : CoreState) (t : TransactionState) (a : Addr) → is_faulted c ≡ false → IsTrue (is_valid blocks a)
+pub may_read : {T E : Type 0} (blocks : ℕ) (c : CoreState) (t : TransactionState) (a : Addr) → IsRunning c → IsTrue (is_valid blocks a)
     → IsPrefix t.seen c.history → (r : Result T E) → OnOk r (AreUnmoved c.history t) → OnOk r (MayRead blocks c t a)
-may_read blocks c t a fine valid later (Ok value) unmoved = record { fine = fine; valid = valid; later = later; unmoved = unmoved }
-may_read blocks c t a fine valid later (Err e) unmoved = tt
+may_read blocks c t a running valid later (Ok value) unmoved = record { running = running; valid = valid; later = later; unmoved = unmoved }
+may_read blocks c t a running valid later (Err e) unmoved = tt

@@ -14,7 +14,7 @@ use Rattle.journal_core.specs.Causes.{Told, raised_of}
 use Rattle.journal_core.specs.Cores.{CoreState}
 use Rattle.journal_core.specs.Commits.{IsPreparingRefusal}
 use Rattle.journal_core.specs.Commits.{CanPrepare as CanPrepareWrites}
-use Rattle.journal_core.specs.Cores.{is_faulted}
+use Rattle.journal_core.specs.Cores.{IsRunning}
 
 -- objects have valid addresses
 valid_of : (blocks : ℕ) (ps : List Pair) → IsTrue (are_objects blocks ps) → IsTrue (are_valid blocks ps)
@@ -24,14 +24,14 @@ valid_of blocks (p ∷ later) objects =
     let own = and_parts (is_valid blocks p.0) (is_value_at (kind_of blocks p.0.block) p.1) parts.0 in
     subst (λ (b : Bool). IsTrue (b && are_valid blocks later)) (sym own.0) (valid_of blocks later parts.1)
 
-module _ (blocks : ℕ) (c : CoreState) (writes : List Pair) (size : size_of c.objects ≡ blocks) (fine : is_faulted c ≡ false)
+module _ (blocks : ℕ) (c : CoreState) (writes : List Pair) (size : size_of c.objects ≡ blocks) (running : IsRunning c)
     (given : IsTrue (are_objects blocks writes)) where
   objects : IsTrue (are_objects (size_of c.objects) writes)
   objects = subst (λ (n : ℕ). IsTrue (are_objects n writes)) (sym size) given
 
   -- what is known of a refusal but J4
   early : (new : WalState) (refusal : Refusal Unit) → IsWriteRefusal c.objects writes refusal → (refusal ≡ TooLarge → ⊥) → written_blocks writes ≤ 128
-  early new (DeviceFailed cause) why other = absurd (false≢true (sym fine ∙ why))
+  early new (DeviceFailed cause) why other = absurd (false≢true (sym running.1 ∙ why))
   early new BadAddress why other = absurd (false≢true (sym why.1 ∙ valid_of (size_of c.objects) writes objects))
   early new BadSize why other = absurd (false≢true (sym why.2 ∙ objects))
   early new TooLarge why other = absurd (other refl)
@@ -57,7 +57,7 @@ module _ (blocks : ℕ) (c : CoreState) (writes : List Pair) (size : size_of c.o
 
   module _ (s : SessionState) (new : WalState) (room : length c.history + 1 < 2 ^ 62) (small : s.number < 2 ^ 62) where
     first_of : (refusal : Refusal Unit) → IsWriteRefusal c.objects writes refusal → IsPreparingRefusal c s writes (record c { objects = new }) (raised_of refusal)
-    first_of (DeviceFailed cause) why = absurd (false≢true (sym fine ∙ why))
+    first_of (DeviceFailed cause) why = absurd (false≢true (sym running.1 ∙ why))
     first_of BadAddress why = absurd (false≢true (sym why.1 ∙ valid_of (size_of c.objects) writes objects))
     first_of BadSize why = absurd (false≢true (sym why.2 ∙ objects))
     first_of TooLarge why = why.2
@@ -99,7 +99,7 @@ module _ (blocks : ℕ) (c : CoreState) (writes : List Pair) (size : size_of c.o
 
     late_of : (refusal : Refusal Unit) → CanPrepare c.objects writes → IsLeft new refusal → IsLateRefusal c.objects new refusal → IsPreparingRefusal c s writes (record c { objects = new }) (raised_of refusal)
     late_of NoMemory can left why = can_prepare can
-    late_of (DeviceFailed cause) can left why = record { unexplained = refl; fault = inr (can_prepare can, why); faulted = left; others = refl }
+    late_of (DeviceFailed cause) can left why = record { unexplained = refl; not_closed = running.0; fault = inr (can_prepare can, why); faulted = left; others = refl }
     late_of BadAddress can left why = absurd why
     late_of BadSize can left why = absurd why
     late_of TooLarge can left why = absurd why

@@ -26,8 +26,8 @@ use Rattle.journal_core.specs.Cores.{CoreState, Leaves, Crashes}
 use Rattle.journal_core.specs.Transactions.{TransactionState, begun}
 use Rattle.journal_core.specs.Steps.{Marks, IsInstallRefusal}
 use Rattle.journal_core.specs.Openings.{Begins}
-use Rattle.journal_core.specs.Interleavings.{Event, Answer, Tells, TellsAll, Mount, Machine, mounted, holds, with_core, with_draft, with_slot, ended, blocks_of, ReadsValue, CommitsDraft, RefusesCommit, LogsStep, AnswersLog, AnswersInstall, AnswersSession, HoldsImage, Ignores, BeginsDraft, TakesSlot, ReadsDraft, OverwritesDraft, Finishes, Logs, HappensUp, HappensDown, Happens, Run, HasHistory, IsUndisturbed}
-use Rattle.journal_core.specs.Interleavings.Event.{begins, takes, reads, overwrites, aborts, joins, logs, installs, crashes, opens}
+use Rattle.journal_core.specs.Interleavings.{Event, Answer, Tells, TellsAll, Mount, Machine, mounted, holds, with_core, with_draft, with_slot, ended, blocks_of, FindsValue, ReadsValue, IsUnread, CommitsDraft, RefusesCommit, LogsStep, AnswersLog, AnswersInstall, AnswersSession, HoldsImage, Ignores, BeginsDraft, TakesSlot, ReadsDraft, OverwritesDraft, Finishes, Logs, HappensUp, HappensDown, Happens, Run, HasHistory, IsUndisturbed}
+use Rattle.journal_core.specs.Interleavings.Event.{begins, takes, reads, overwrites, aborts, joins, stops, logs, installs, crashes, opens}
 use Rattle.journal_core.specs.Interleavings.Event.{commits as finishes}
 use Rattle.journal_core.specs.Interleavings.Answer.{nothing, value, committed, marked, crashed, reopened}
 use Rattle.journal_core.specs.Interleavings.Machine.{up, down}
@@ -41,6 +41,16 @@ pub record IsRunning (rule : Map → Type 0) (c : CoreState) : Type 0 where
   pub images : EveryImage (disk_of c).past (Leaves c.history)
   pub legal : IsLegal rule c.history
   pub some : c.history ≢ []
+
+-- a read that is not answered leaves the history
+unread_same : (blocks : ℕ) (old : CoreState) (t : TransactionState) (a : Addr) (new : CoreState) → IsUnread blocks old t a new → new.history ≡ old.history
+unread_same blocks old t a new it = ⊎_elim
+    (λ refused. ap (λ (c : CoreState). c.history) refused.1.others)
+    (λ other. ⊎_elim
+    (λ found. ap (λ (c : CoreState). c.history) found.1.others)
+    (λ none. ap (λ (c : CoreState). c.history) none.1)
+    other)
+    it
 
 -- and of every mount
 pub record IsUp (rule : Map → Type 0) (m : Mount) : Type 0 where
@@ -167,28 +177,39 @@ module _ (rule : Map → Type 0) where
   goes-takes m actor slot (Some t) None answer new it is free =
       silent m.core.history (with_slot m actor slot) answer new it.0 it.1 refl (slot_taken m actor slot free is)
 
+  -- the core is left as a read that is not answered leaves it
+  unread_up : {t : TransactionState} {a : Addr} (m : Mount) (core : CoreState) → IsUnread (blocks_of m) m.core t a core → IsUp rule m → IsUp rule (with_core m core)
+  unread_up {t} {a} m core it is = ⊎_elim
+      (λ refused. up_on m core is refused.1.crash (ap (λ (c : CoreState). c.history) refused.1.others))
+      (λ other. ⊎_elim
+      (λ found. up_on m core is found.1.crash (ap (λ (c : CoreState). c.history) found.1.others))
+      (λ none. subst (λ (c : CoreState). IsUp rule (with_core m c)) (sym none.1) is)
+      other)
+      it
+
   goes-reads : (m : Mount) (actor : ℕ) (a : Addr) (draft : Option TransactionState) (held : Bool) (answer : Answer) (new : Machine)
       → ReadsDraft m actor a draft held answer new → IsUp rule m → m.drafts actor ≡ draft → holds m actor a ≡ held → Goes rule m.core.history answer new
   goes-reads m actor a None held answer new it is at holder = ignored m answer new it is
   goes-reads m actor a (Some t) false answer new it is at holder = ignored m answer new it is
   goes-reads m actor a (Some t) true nothing new it is at holder =
-      let core : CoreState = it.1.0 in
-      let same : core.history ≡ m.core.history = ap (λ (c : CoreState). c.history) it.1.1.others in
-      silent m.core.history (with_core m core) nothing new refl it.1.2 same (up_on m core is it.1.1.crash same)
+      let core : CoreState = it.0 in
+      let same : core.history ≡ m.core.history = unread_same (blocks_of m) m.core t a core it.1 in
+      silent m.core.history (with_core m core) nothing new refl it.2 same (unread_up m core it.1 is)
   goes-reads m actor a (Some t) true (value b v) new it is at holder =
       let core : CoreState = it.1.0 in
       let after : TransactionState = it.1.1.0 in
       let read : ReadsValue (blocks_of m) m.core t a v core after = it.1.1.1 in
-      let same : core.history ≡ m.core.history = ap (λ (c : CoreState). c.history) read.others in
+      let finds : FindsValue (blocks_of m) m.core t a v core = read.finds in
+      let same : core.history ≡ m.core.history = ap (λ (c : CoreState). c.history) finds.others in
       let sound : IsSound m.core.history m.holders actor after =
-      sound_read m.core.history m.holders actor t after a v read.remembers read.object (read.value is.runs.trusted)
+      sound_read m.core.history m.holders actor t after a v read.remembers finds.object (finds.value is.runs.trusted)
       (is_holder (m.holders (slot_of a)) actor holder) (is.sound actor t at) in
       subst (λ (s : Machine). Goes rule m.core.history (value b v) s) (sym it.1.1.2) (record {
         history = m.core.history;
-        tells = (read.value is.runs.trusted ∙ ap (value_at (latest m.core.history)) (sym it.0), refl);
+        tells = (finds.value is.runs.trusted ∙ ap (value_at (latest m.core.history)) (sym it.0), refl);
         holds = (
           same,
-          draft_kept (with_core m core) actor after (up_on m core is read.crash same)
+          draft_kept (with_core m core) actor after (up_on m core is finds.crash same)
               (subst (λ (h : List Entry). IsSound h m.holders actor after) (sym same) sound),
         );
       })
@@ -289,7 +310,7 @@ refused_install old new (Stale cause) why = absurd why
 refused_install old new (Stranger cause) why = absurd why
 refused_install old new (Worn cause) why = absurd why
 refused_install old new (Full cause) why = absurd why
-refused_install old new (Closed cause) why = absurd why
+refused_install old new (Closed cause) why = ap (λ (c : CoreState). c.history) why.same
 refused_install old new Fenced why = absurd why
 
 installs_same : (old : CoreState) (result : Result Step (Refusal Told)) (new : CoreState) → AnswersInstall old result new → new.history ≡ old.history
@@ -358,6 +379,9 @@ module _ (rule : Map → Type 0) where
       let same = joins_same m.core it.1.0 it.1.1.0 it.1.1.1 in
       silent rule m.core.history (with_core m it.1.1.0) answer new it.0 it.1.1.2 same
       (up_on rule m it.1.1.0 is (joins_crash m.core it.1.0 it.1.1.0 it.1.1.1) same)
+  goes-up m stops answer new it is =
+      let same = ap (λ (c : CoreState). c.history) it.1.1.closed in
+      silent rule m.core.history (with_core m it.1.0) answer new it.0 it.1.2 same (up_on rule m it.1.0 is it.1.1.crash same)
   goes-up m installs answer new it is =
       let same = installs_same m.core it.1.0 it.1.1.0 it.1.1.1 in
       silent rule m.core.history (with_core m it.1.1.0) answer new it.0 it.1.1.2 same
@@ -409,6 +433,7 @@ module _ (rule : Map → Type 0) where
   goes-down image m (aborts actor) answer new it holds = stays-down image m answer new holds it.0 it.1
   goes-down image m (finishes actor) answer new it holds = stays-down image m answer new holds it.0 it.1
   goes-down image m joins answer new it holds = stays-down image m answer new holds it.0 it.1
+  goes-down image m stops answer new it holds = stays-down image m answer new holds it.0 it.1
   goes-down image m logs answer new it holds = stays-down image m answer new holds it.0 it.1
   goes-down image m installs answer new it holds = stays-down image m answer new holds it.0 it.1
   goes-down image m (crashes other) answer new it holds = stays-down image m answer new holds it.0 it.1

@@ -2,7 +2,7 @@
 use Rattle.std.specs.Prelude.{ℕ, ◌≡◌, ◌⊎◌, ◌<◌, ◌≤◌, ◌+◌, ◌^◌, max, false, List, length, Some}
 use mathlib.Core.List.{IsPrefix}
 use Rattle.journal_world.specs.declared.refusal.Refusal.{Refusal}
-use Rattle.journal_world.specs.declared.refusal.Refusal.TheVariants.{NoMemory, TooLarge, DeviceFailed, Stale, Stranger, Worn, Full}
+use Rattle.journal_world.specs.declared.refusal.Refusal.TheVariants.{NoMemory, TooLarge, DeviceFailed, Stale, Stranger, Worn, Full, Closed}
 use Rattle.journal_world.specs.Maps.{Pair, Transaction}
 use Rattle.journal_world.specs.Histories.{commits_of}
 use Rattle.journal_block.specs.declared.update.Update.{Update}
@@ -14,9 +14,9 @@ use Rattle.journal_objlog.specs.Writes.{writes_block, written_blocks, fresh_bloc
 use Rattle.journal_history.specs.Soundness.{IsLonger}
 use Rattle.journal_history.specs.Tokens.{SessionState, made, next_of as numbered, Commits}
 use Rattle.journal_core.specs.Causes.{Told, IsUnexplained}
-use Rattle.journal_core.specs.Cores.{CoreState, is_faulted}
+use Rattle.journal_core.specs.Cores.{CoreState, IsRunning}
 use Rattle.journal_core.specs.Transactions.{TransactionState, AreUnmoved}
-use Rattle.journal_core.specs.Steps.{IsFaulted, IsStale, IsMoved}
+use Rattle.journal_core.specs.Steps.{IsStopped, IsFaulted, IsStale, IsStrange, IsMoved}
 
 -- The log was only read, and then one update of each block that is written was appended to its tail, and no other
 pub record Logs (old new : WalState) (writes : List Pair) : Type 0 where
@@ -38,10 +38,6 @@ pub record HasSeen (c : CoreState) (s : SessionState) (t : TransactionState) : T
   pub shown : IsPrefix s.seen c.history
   pub later : IsPrefix t.seen c.history
 
--- The history has a commit under the session's number that the session did not make
-abbrev pub IsStrange : CoreState → SessionState → Type 0
-IsStrange c s = made s < length (commits_of s.number c.history)
-
 -- The history has a commit that the session or the transaction does not know to be there
 abbrev pub IsUnknown : CoreState → SessionState → TransactionState → Told → Type 0
 IsUnknown c s t cause = ((cause ≡ Some c.history) × IsStrange c s) ⊎ IsMoved c t cause
@@ -56,7 +52,7 @@ IsFull c writes = 255 < tail_length c.objects + fresh_blocks c.objects writes
 
 -- Nothing that is known before the writes are looked at refuses the session's commit
 pub record MayCommit (c : CoreState) (s : SessionState) (t : TransactionState) : Type 0 where
-  pub fine : is_faulted c ≡ false
+  pub running : IsRunning c
   pub seen : HasSeen c s t
   pub own : length (commits_of s.number c.history) ≡ made s
   pub unmoved : AreUnmoved c.history t
@@ -74,9 +70,10 @@ pub record CanCommit (c : CoreState) (s : SessionState) (t : TransactionState) :
 
 -- Why a commit is refused: the first of these that holds, then J1 or a new J6
 abbrev pub IsCommitRefusal : CoreState → SessionState → TransactionState → CoreState → Refusal Told → Type 0
+IsCommitRefusal old s t new (Closed cause) = IsStopped old new cause
 IsCommitRefusal old s t new (DeviceFailed cause) = IsFaulted (CanCommit old s t) old new cause
-IsCommitRefusal old s t new (Stale cause) = (is_faulted old ≡ false) × IsStale old cause
-IsCommitRefusal old s t new (Stranger cause) = (is_faulted old ≡ false) × HasSeen old s t × IsUnknown old s t cause
+IsCommitRefusal old s t new (Stale cause) = IsRunning old × IsStale old cause
+IsCommitRefusal old s t new (Stranger cause) = IsRunning old × HasSeen old s t × IsUnknown old s t cause
 IsCommitRefusal old s t new TooLarge = MayCommit old s t × (128 < written_blocks t.writes)
 IsCommitRefusal old s t new (Worn cause) = MayCommit old s t × (written_blocks t.writes ≤ 128) × IsWorn old s t.writes × IsUnexplained cause
 IsCommitRefusal old s t new (Full cause) = MayCommit old s t × (written_blocks t.writes ≤ 128) × (IsWorn old s t.writes → ⊥)

@@ -20,10 +20,16 @@ pub record CoreState : Type 0 where
   pub logged : ℕ
   -- the number of the next session
   pub next : ℕ
+  -- it was stopped, so that reads, commits, steps and waits are refused from then on
+  pub closed : Bool
 
 -- a device call failed, so that reads, commits and steps are refused until the disk is opened again
 abbrev pub is_faulted : CoreState → Bool
 is_faulted c = is_log_faulted c.objects
+
+-- it was not stopped, and no device call failed
+abbrev pub IsRunning : CoreState → Type 0
+IsRunning c = (c.closed ≡ false) × (is_faulted c ≡ false)
 
 -- the disk that the core lies on
 abbrev pub disk_of : CoreState → DiskState

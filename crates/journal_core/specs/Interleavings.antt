@@ -17,14 +17,14 @@ use Rattle.journal_objlog.specs.Maps.{OpensAs}
 use Rattle.journal_objlog.specs.ObjectLogs.{OnlyReads}
 use Rattle.journal_history.specs.Tokens.{SessionState, CommitPlace, next_of}
 use Rattle.journal_core.specs.Causes.{Told}
-use Rattle.journal_core.specs.Cores.{CoreState, Crashes, is_faulted, disk_of}
-use Rattle.journal_core.specs.Transactions.{TransactionState, begun, AreUnmoved, Remembers, Overwrites}
-use Rattle.journal_core.specs.Steps.{Marks, LogAnswers, IsLogRefusal, InstallAnswers, IsInstallRefusal, MayRead, IsReadRefusal, IsBehind, IsMoved, BeginsSession, IsSessionRefusal}
+use Rattle.journal_core.specs.Cores.{CoreState, Crashes, IsRunning, disk_of}
+use Rattle.journal_core.specs.Transactions.{TransactionState, FoundState, begun, AreUnmoved, Remembers, Overwrites}
+use Rattle.journal_core.specs.Steps.{Marks, LogAnswers, IsLogRefusal, InstallAnswers, IsInstallRefusal, MayRead, IsReadRefusal, IsBehind, IsMoved, BeginsSession, IsSessionRefusal, Stops}
 use Rattle.journal_core.specs.Commits.{IsCommitted, CanCommit, IsCommitRefusal}
 use Rattle.journal_core.specs.Openings.{Begins}
 
 -- An event. The first six are of one actor, and all of these but the first of the transaction that it has open. A slot that
--- it takes is held until the transaction is ended. Then a session is asked for. A step of the logger is the next of: cut a group, put a log block, a
+-- it takes is held until the transaction is ended. Then a session is asked for, and the core is stopped. A step of the logger is the next of: cut a group, put a log block, a
 -- barrier, put `end`, a barrier, a mark; one of the installer the next of: put a home block, a barrier, put `start`, a barrier.
 -- A device call of any of them may fail
 pub data Event : Type 0 where
@@ -35,6 +35,7 @@ pub data Event : Type 0 where
   aborts : ℕ → Event
   commits : ℕ → Event
   joins : Event
+  stops : Event
   logs : Event
   installs : Event
   -- at a moment of a call, or between two, and leaves this image
@@ -111,35 +112,47 @@ ended m actor = record (with_draft m actor None) { holders = λ slot. if is_acto
 
 -- The steps of the core, as events: each step's contract cites what it answers and leaves
 
--- A read was answered, on a disk of so many blocks, and what was read is remembered
-pub record ReadsValue (blocks : ℕ) (old : CoreState) (t : TransactionState) (a : Addr) (v : Value) (new : CoreState) (after : TransactionState) : Type 0 where
+-- A read was answered, on a disk of so many blocks
+pub record FindsValue (blocks : ℕ) (old : CoreState) (t : TransactionState) (a : Addr) (v : Value) (new : CoreState) : Type 0 where
   pub may : MayRead blocks old t a
   pub value : IsTrue (is_trusted old.history) → v ≡ value_at (latest old.history) a
   pub object : IsTrue (is_object blocks (a, v))
+  pub running : IsRunning new
+  pub reads : OnlyReads old.objects new.objects
+  pub others : new ≡ record old { objects = new.objects }
+  pub crash : Crashes old new
+
+-- and what it found is remembered by its transaction, which no one else has
+pub record ReadsValue (blocks : ℕ) (old : CoreState) (t : TransactionState) (a : Addr) (v : Value) (new : CoreState) (after : TransactionState) : Type 0 where
+  pub finds : FindsValue blocks old t a v new
   pub remembers : Remembers t a v old.history after
-  pub fine : is_faulted new ≡ false
-  pub reads : OnlyReads old.objects new.objects
-  pub others : new ≡ record old { objects = new.objects }
-  pub crash : Crashes old new
 
--- A read was refused, and the transaction is as it was
-pub record RefusesRead (blocks : ℕ) (old : CoreState) (t : TransactionState) (a : Addr) (why : Refusal Told) (new : CoreState) (after : TransactionState) : Type 0 where
+-- A read was refused
+pub record RefusesRead (blocks : ℕ) (old : CoreState) (t : TransactionState) (a : Addr) (why : Refusal Told) (new : CoreState) : Type 0 where
   pub refusal : IsReadRefusal blocks old t a new why
-  pub stays : after ≡ t
   pub reads : OnlyReads old.objects new.objects
   pub others : new ≡ record old { objects = new.objects }
   pub crash : Crashes old new
 
-abbrev pub AnswersRead : ℕ → CoreState → TransactionState → Addr → Result Value (Refusal Told) → CoreState → TransactionState → Type 0
-AnswersRead blocks old t a (Ok v) new after = ReadsValue blocks old t a v new after
-AnswersRead blocks old t a (Err why) new after = RefusesRead blocks old t a why new after
+-- what is answered, where the bytes read are these
+abbrev pub AnswersRead : ℕ → CoreState → TransactionState → Addr → Result FoundState (Refusal Told) → Value → CoreState → Type 0
+AnswersRead blocks old t a (Ok found) v new = FindsValue blocks old t a v new
+AnswersRead blocks old t a (Err why) v new = RefusesRead blocks old t a why new
+
+-- what the core did for a read that is answered by a refusal: the core's own, or for want of memory to remember what it
+-- found, or to read into
+abbrev pub IsUnread : ℕ → CoreState → TransactionState → Addr → CoreState → Type 0
+IsUnread blocks old t a new =
+    ((why : Refusal Told) × RefusesRead blocks old t a why new)
+    ⊎ ((v : Value) × FindsValue blocks old t a v new)
+    ⊎ (MayRead blocks old t a × (new ≡ old))
 
 -- The session's next transaction was committed, as it is
 pub record CommitsDraft (old : CoreState) (session : SessionState) (d : TransactionState) (new : CoreState) (after : SessionState) : Type 0 where
   pub can : CanCommit old session d
   pub committed : IsCommitted d.reads d.writes session after old new
   pub agrees : IsTrue (is_trusted old.history) → Agrees (latest old.history) d.reads
-  pub fine : is_faulted new ≡ false
+  pub running : IsRunning new
   pub crash : Crashes old new
 
 -- A commit was refused
@@ -156,7 +169,7 @@ AnswersCommit old session d (Err why) new after = RefusesCommit old session d wh
 -- The logger made a step
 pub record LogsStep (old : CoreState) (step : Step) (new : CoreState) : Type 0 where
   pub did : LogAnswers old step new
-  pub fine : (is_faulted old ≡ false) × (is_faulted new ≡ false)
+  pub running : IsRunning old × IsRunning new
   pub crash : Crashes old new
 
 -- or was refused one
@@ -171,7 +184,7 @@ AnswersLog old (Err why) new = RefusesLog old why new
 -- The installer made a step
 pub record InstallsStep (old : CoreState) (step : Step) (new : CoreState) : Type 0 where
   pub did : InstallAnswers old step new
-  pub fine : (is_faulted old ≡ false) × (is_faulted new ≡ false)
+  pub running : IsRunning old × IsRunning new
   pub crash : Crashes old new
 
 -- or was refused one
@@ -236,7 +249,7 @@ abbrev pub ReadsDraft : Mount → ℕ → Addr → Option TransactionState → B
 ReadsDraft old actor a None held answer new = Ignores old answer new
 ReadsDraft old actor a (Some draft) false answer new = Ignores old answer new
 ReadsDraft old actor a (Some draft) true nothing new =
-    (why : Refusal Told) × ((core : CoreState) × RefusesRead (blocks_of old) old.core draft a why core draft × (new ≡ up (with_core old core)))
+    (core : CoreState) × IsUnread (blocks_of old) old.core draft a core × (new ≡ up (with_core old core))
 ReadsDraft old actor a (Some draft) true (value b v) new =
     (b ≡ a) × ((core : CoreState) × ((after : TransactionState) × ReadsValue (blocks_of old) old.core draft a v core after
     × (new ≡ up (with_draft (with_core old core) actor (Some after)))))
@@ -284,6 +297,7 @@ HappensUp old logs answer new = Logs old answer new
 HappensUp old joins answer new =
     (answer ≡ nothing) × ((result : Result SessionState (Refusal Told)) × ((core : CoreState) × AnswersSession old.core result core
     × (new ≡ up (with_core old core))))
+HappensUp old stops answer new = (answer ≡ nothing) × ((core : CoreState) × Stops old.core core × (new ≡ up (with_core old core)))
 HappensUp old installs answer new =
     (answer ≡ nothing) × ((result : Result Step (Refusal Told)) × ((core : CoreState) × AnswersInstall old.core result core
     × (new ≡ up (with_core old core))))

@@ -13,7 +13,7 @@ use Rattle.journal_wal.specs.Wal.{WalState, IsOpened as AtRest}
 use Rattle.journal_objlog.specs.ObjectLogs.{map_now, disk_of as log_disk}
 use Rattle.journal_objlog.specs.Maps.{OpensAs}
 use Rattle.journal_core.specs.Causes.{Told, IsUnexplained, raised_of}
-use Rattle.journal_core.specs.Cores.{CoreState, disk_of}
+use Rattle.journal_core.specs.Cores.{CoreState, disk_of, IsRunning}
 
 -- the disk is opened with this map: each image of it opens as the map
 abbrev pub HoldsMap : DiskState → Map → Type 0
@@ -38,6 +38,7 @@ pub record Begins (rule : Map → Type 0) (disk : DiskState) (new : CoreState) :
   pub cut : new.cut ≡ 0
   pub logged : new.logged ≡ 0
   pub next : new.next ≡ 0
+  pub running : IsRunning new
 
 -- Why a disk is not opened. The number of blocks comes first, then the log, the rule and the book; J1 and J6 come as they are met
 abbrev pub IsOpenRefusal : (Map → Type 0) → DiskState → DiskState → Refusal Told → Type 0

@@ -3,7 +3,7 @@ use Rattle.std.specs.Prelude.{ℕ, zero, suc, ◌≡◌, ◌⊎◌, ◌<◌, ◌
 use mathlib.Core.List.{IsPrefix}
 use Rattle.journal_world.specs.declared.address.Addr.{Addr}
 use Rattle.journal_world.specs.declared.refusal.Refusal.{Refusal}
-use Rattle.journal_world.specs.declared.refusal.Refusal.TheVariants.{NoMemory, BadAddress, DeviceFailed, Stale, Stranger, Worn}
+use Rattle.journal_world.specs.declared.refusal.Refusal.TheVariants.{NoMemory, BadAddress, DeviceFailed, Stale, Stranger, Worn, Closed}
 use Rattle.journal_world.specs.Addresses.{is_valid}
 use Rattle.journal_disk.specs.Disks.{HasFailed}
 use Rattle.journal_world.specs.declared.step.Step.{Step}
@@ -13,10 +13,10 @@ use Rattle.journal_world.specs.Histories.Entry.{stable}
 use Rattle.journal_wal.specs.Wal.{log_steps, install_steps, tail_length, free_positions, Cuts, EndsGroup, LogsOn, InstallAnswers as WalInstalls}
 use Rattle.journal_objlog.specs.ObjectLogs.{start_of, end_of}
 use Rattle.journal_history.specs.Soundness.{IsLonger}
-use Rattle.journal_history.specs.Tokens.{SessionState}
+use Rattle.journal_history.specs.Tokens.{SessionState, made}
 use Rattle.journal_core.specs.Causes.{Told, IsUnexplained}
 use Rattle.journal_core.specs.Transactions.{TransactionState, AreUnmoved}
-use Rattle.journal_core.specs.Cores.{CoreState, is_faulted, disk_of}
+use Rattle.journal_core.specs.Cores.{CoreState, is_faulted, IsRunning, disk_of, Crashes}
 
 -- The logger
 
@@ -82,9 +82,16 @@ LogAnswers old Moved new = LogMoves (log_steps old.objects) old new
 
 -- Why steps are refused
 
--- J6: the device failed before, or the step came so far and the device failed in it
+-- J13: it was stopped, and is left as it is
+pub record IsStopped (old new : CoreState) (cause : Told) : Type 0 where
+  pub unexplained : IsUnexplained cause
+  pub closed : old.closed ≡ true
+  pub same : new ≡ old
+
+-- J6: it was not stopped, and the device failed before, or the step came so far and the device failed in it
 pub record IsFaulted (reached : Type 0) (old new : CoreState) (cause : Told) : Type 0 where
   pub unexplained : IsUnexplained cause
+  pub not_closed : old.closed ≡ false
   pub fault : IsTrue (is_faulted old) ⊎ (reached × HasFailed (disk_of old) (disk_of new))
   pub faulted : is_faulted new ≡ true
   pub others : new ≡ record old { objects = new.objects }
@@ -101,17 +108,19 @@ IsMarkRefusal old new other = ⊥
 
 -- why a step of the logger is refused, and what is left: a mark is, or the device failed
 abbrev pub IsLogRefusal : CoreState → CoreState → Refusal Told → Type 0
+IsLogRefusal old new (Closed cause) = IsStopped old new cause
 IsLogRefusal old new (DeviceFailed cause) = IsFaulted (Unit {0}) old new cause
 IsLogRefusal old new refusal =
-    (is_faulted old ≡ false) × (log_steps old.objects ≡ 0) × (HasLogged old ⊎ HasUnmarked old) × IsMarkRefusal old new refusal
+    IsRunning old × (log_steps old.objects ≡ 0) × (HasLogged old ⊎ HasUnmarked old) × IsMarkRefusal old new refusal
 
 -- what a step of the installer answers, and does
 abbrev pub InstallAnswers : CoreState → Step → CoreState → Type 0
 InstallAnswers old step new = WalInstalls old.objects step new.objects × (new ≡ record old { objects = new.objects })
 
 abbrev pub IsInstallRefusal : CoreState → CoreState → Refusal Told → Type 0
+IsInstallRefusal old new (Closed cause) = IsStopped old new cause
 IsInstallRefusal old new NoMemory =
-    (is_faulted old ≡ false) × (install_steps old.objects ≡ 0) × (start_of old.objects < end_of old.objects) × (new ≡ old)
+    IsRunning old × (install_steps old.objects ≡ 0) × (start_of old.objects < end_of old.objects) × (new ≡ old)
 IsInstallRefusal old new (DeviceFailed cause) = IsFaulted (Unit {0}) old new cause
 IsInstallRefusal old new other = ⊥
 
@@ -125,7 +134,7 @@ IsMoved c t cause = (cause ≡ Some c.history) × IsPrefix t.seen c.history × (
 
 -- Nothing but memory and the device can refuse the read
 pub record MayRead (blocks : ℕ) (c : CoreState) (t : TransactionState) (a : Addr) : Type 0 where
-  pub fine : is_faulted c ≡ false
+  pub running : IsRunning c
   pub valid : IsTrue (is_valid blocks a)
   pub later : IsPrefix t.seen c.history
   pub unmoved : AreUnmoved c.history t
@@ -133,18 +142,17 @@ pub record MayRead (blocks : ℕ) (c : CoreState) (t : TransactionState) (a : Ad
 -- why an object that may be read is not
 abbrev pub IsFetchRefusal : CoreState → CoreState → Refusal Told → Type 0
 IsFetchRefusal old new (DeviceFailed cause) = IsFaulted (Unit {0}) old new cause
-IsFetchRefusal old new NoMemory = Unit {0}
 IsFetchRefusal old new other = ⊥
 
--- why an object is not read: the first of these that holds, then J1 or a new J6
+-- why an object is not read: the first of these that holds, then a new J6
 abbrev pub IsReadRefusal : ℕ → CoreState → TransactionState → Addr → CoreState → Refusal Told → Type 0
+IsReadRefusal blocks old t addr new (Closed cause) = IsStopped old new cause
 IsReadRefusal blocks old t addr new (DeviceFailed cause) = IsFaulted (MayRead blocks old t addr) old new cause
-IsReadRefusal blocks old t addr new BadAddress = (is_faulted old ≡ false) × (is_valid blocks addr ≡ false)
+IsReadRefusal blocks old t addr new BadAddress = IsRunning old × (is_valid blocks addr ≡ false)
 IsReadRefusal blocks old t addr new (Stale cause) =
-    (is_faulted old ≡ false) × IsTrue (is_valid blocks addr) × IsBehind old t cause × (new ≡ old)
+    IsRunning old × IsTrue (is_valid blocks addr) × IsBehind old t cause × (new ≡ old)
 IsReadRefusal blocks old t addr new (Stranger cause) =
-    (is_faulted old ≡ false) × IsTrue (is_valid blocks addr) × IsMoved old t cause × (new ≡ old)
-IsReadRefusal blocks old t addr new NoMemory = MayRead blocks old t addr
+    IsRunning old × IsTrue (is_valid blocks addr) × IsMoved old t cause × (new ≡ old)
 IsReadRefusal blocks old t addr new other = ⊥
 
 -- A session of a number that no session had before, and that the history has no commit of. It has seen the whole history
@@ -157,6 +165,37 @@ pub record BeginsSession (old : CoreState) (session : SessionState) (new : CoreS
 abbrev pub IsSessionRefusal : CoreState → Refusal Told → Type 0
 IsSessionRefusal c (Worn cause) = (2 ^ 62 ≤ c.next) × IsUnexplained cause
 IsSessionRefusal c other = ⊥
+
+-- It was stopped, and nothing else was done
+pub record Stops (old new : CoreState) : Type 0 where
+  pub closed : new ≡ record old { closed = true }
+  pub crash : Crashes old new
+
+-- why it goes on no more: it was stopped, or a device call failed before
+abbrev pub IsEndRefusal : CoreState → Refusal Told → Type 0
+IsEndRefusal c (Closed cause) = IsUnexplained cause × (c.closed ≡ true)
+IsEndRefusal c (DeviceFailed cause) = IsUnexplained cause × (c.closed ≡ false) × (is_faulted c ≡ true)
+IsEndRefusal c other = ⊥
+
+-- The history has a commit under the session's number that the session did not make
+abbrev pub IsStrange : CoreState → SessionState → Type 0
+IsStrange c s = made s < length (commits_of s.number c.history)
+
+-- it goes on, or the mark stands already
+abbrev pub MayWait : CoreState → ℕ → Type 0
+MayWait c n = IsRunning c ⊎ (n ≤ floor c.history)
+
+-- why a session is not shown the history where it is to be exact then
+abbrev pub IsStrayRefusal : CoreState → SessionState → Refusal Told → Type 0
+IsStrayRefusal c s (Stale cause) = IsStale c cause
+IsStrayRefusal c s (Stranger cause) = IsPrefix s.seen c.history × (cause ≡ Some c.history) × IsStrange c s
+IsStrayRefusal c s other = ⊥
+
+-- why a session is not told whether so many commits are marked: the first of these that holds
+abbrev pub IsWaitRefusal : CoreState → SessionState → ℕ → Refusal Told → Type 0
+IsWaitRefusal c s n (Closed cause) = (floor c.history < n) × IsEndRefusal c (Closed cause)
+IsWaitRefusal c s n (DeviceFailed cause) = (floor c.history < n) × IsEndRefusal c (DeviceFailed cause)
+IsWaitRefusal c s n other = MayWait c n × IsStrayRefusal c s other
 
 -- why a session is not shown the history
 abbrev pub IsShowRefusal : CoreState → Refusal Told → Type 0

@@ -45,6 +45,11 @@ pub record Remembers (old : TransactionState) (a : Addr) (v : Value) (history : 
   pub agrees : (m : Map) → Agrees m old.reads → value_at m a ≡ v → Agrees m new.reads
   pub others : new ≡ record old { reads = new.reads; seen = history }
 
+-- What a read found: an address, and the history at whose end its value was looked up
+pub record FoundState : Type 0 where
+  pub addr : Addr
+  pub seen : List Entry
+
 -- The address is overwritten
 pub record Overwrites (old : TransactionState) (a : Addr) (v : Value) (new : TransactionState) : Type 0 where
   pub writes : SamePairs new.writes ((a, v) ∷ old.writes)

@@ -7,7 +7,7 @@ ghost use Rattle.journal_world.specs.Histories.{is_trusted, commits_of, latest};
 ghost use Rattle.journal_objlog.specs.ObjectLogs.{OnlyReads};
 ghost use Rattle.journal_history.specs.Tokens.{made, next_of, OnlyExtends, IsReceiptFor};
 ghost use Rattle.journal_history.specs.Soundness.{IsLonger};
-ghost use Rattle.journal_core.specs.Cores.{Crashes, is_faulted};
+ghost use Rattle.journal_core.specs.Cores.{Crashes, IsRunning};
 ghost use Rattle.journal_objlog.specs.Writes.{IsPrepared};
 ghost use Rattle.journal_core.specs.Transactions.{AreUnmoved};
 ghost use Rattle.journal_core.specs.Commits.{IsCommitted, IsAdded, HasSeen, CanPrepare, CanCommit, ShowsLonger, IsStaleRefusal, IsCommitRefusal, IsAdmissionFault, IsPreparingRefusal, IsAddingRefusal};
@@ -18,15 +18,16 @@ use crate::state::{Core, LIMIT};
 use crate::transaction::Transaction;
 use journal_disk::BlockDisk;
 use journal_history::{Naming, Receipt, Session};
-use journal_objlog::Prepared;
+use journal_objlog::{Prepared, Spares};
 use journal_world::{MapRule, Objects, Refusal};
 
 impl<'b, D: BlockDisk, R: MapRule, J: Naming> Core<'b, D, R, J> {
     /// Commits the session's next transaction: adds it to the history, which the session has then seen, and
     /// overwrites the map by its writes, in memory. The receipt says where it stands. All memory and all reads
-    /// from the device come before the history grows.
+    /// from the device come before the history grows; it takes what memory the spares have first.
     ///
-    /// The first that applies of these refuses it: J6 `DeviceFailed` where the device failed before, J9 `Stale`
+    /// The first that applies of these refuses it: J13 `Closed` where the core was stopped, J6 `DeviceFailed` where
+    /// the device failed before, J9 `Stale`
     /// where the session or the transaction has seen more of the history than the core, or the history is longer,
     /// J10 `Stranger` where the history has a commit under the session's number that the session did not make, or
     /// a commit touched a slot under which the transaction had read, J4 `TooLarge` where more than 128 distinct
@@ -38,6 +39,7 @@ impl<'b, D: BlockDisk, R: MapRule, J: Naming> Core<'b, D, R, J> {
         &mut self,
         session: &mut Session<'b, J, R>,
         transaction: &Transaction<'b, J, R>,
+        spares: &mut Spares,
     ) -> Result<Receipt<'b, J, R>, Refusal<Cause<'b, J, R>>>
         requires rule { (m : Map) → m.blocks ≡ J.blocks → R.statement m → Agrees m transaction.now.reads
             → R.statement (overwritten m transaction.now.writes) }
@@ -45,7 +47,7 @@ impl<'b, D: BlockDisk, R: MapRule, J: Naming> Core<'b, D, R, J> {
         ensures receipt { IfOk result (IsReceiptFor (next_of session.old transaction.now.reads transaction.now.writes) self.new.history (length self.old.history)) }
         ensures can { OnOk result (CanCommit self.old session.old transaction.now) }
         ensures agrees { OnOk result (IsTrue (is_trusted self.old.history) → Agrees (latest self.old.history) transaction.now.reads) }
-        ensures fine { OnOk result (is_faulted self.new ≡ false) }
+        ensures running { OnOk result (IsRunning self.new) }
         ensures refusal { IfErr result (IsCommitRefusal self.old session.old transaction.now self.new) }
         ensures same { OnErr result (self.new ≡ record self.old { objects = self.new.objects }) }
         ensures left { OnErr result (OnlyReads self.old.objects self.new.objects) }
@@ -54,11 +56,9 @@ impl<'b, D: BlockDisk, R: MapRule, J: Naming> Core<'b, D, R, J> {
         ensures crash { Crashes self.old self.new }
         ensures event { AnswersCommit self.old session.old transaction.now result self.new session.new }
     {
-        if self.objects.is_faulted() {
-            return Err(Refusal::DeviceFailed(Cause::none()));
-        }
+        self.check_running()?;
         self.admit(session, transaction)?;
-        let prepared = self.prepare(session, &transaction.writes)?;
+        let prepared = self.prepare(session, &transaction.writes, spares)?;
         self.add(session, transaction, prepared)
     }
 
@@ -111,19 +111,20 @@ impl<'b, D: BlockDisk, R: MapRule, J: Naming> Core<'b, D, R, J> {
         &mut self,
         session: &Session<'b, J, R>,
         writes: &Objects,
+        spares: &mut Spares,
     ) -> Result<Prepared, Refusal<Cause<'b, J, R>>>
         requires objects { IsTrue (are_objects J.blocks writes.now) }
-        requires fine { is_faulted self.old ≡ false }
+        requires running { IsRunning self.old }
         ensures prepared { IfOk result (λ prepared. IsPrepared self.new.objects prepared writes.now) }
         ensures can { OnOk result (CanPrepare self.old session.now writes.now) }
         ensures room { OnOk result ((length self.old.history + 1 < 2 ^ 62) × (session.now.number < 2 ^ 62)) }
-        ensures fine { OnOk result (is_faulted self.new ≡ false) }
+        ensures running { OnOk result (IsRunning self.new) }
         ensures refusal { IfErr result (IsPreparingRefusal self.old session.now writes.now self.new) }
         ensures others { self.new ≡ record self.old { objects = self.new.objects } }
         ensures reads { OnlyReads self.old.objects self.new.objects }
         ensures crash { Crashes self.old self.new }
     {
-        let prepared = self.objects.prepare(writes);
+        let prepared = self.objects.prepare(writes, spares);
         if is_too_large(&prepared) {
             return Err(Refusal::TooLarge);
         }

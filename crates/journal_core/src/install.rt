@@ -1,6 +1,6 @@
 // A step of the installer.
 ghost use Rattle.std.specs.Prelude.{ℕ, ◌≡◌, true, false, IsTrue, IsErr, IfOk, IfErr, OnOk};
-ghost use Rattle.journal_core.specs.Cores.{Crashes, is_faulted};
+ghost use Rattle.journal_core.specs.Cores.{Crashes, IsRunning};
 ghost use Rattle.journal_core.specs.Steps.{InstallAnswers, IsInstallRefusal};
 ghost use Rattle.journal_core.specs.Interleavings.{AnswersInstall};
 
@@ -15,15 +15,16 @@ impl<'b, D: BlockDisk, R: MapRule, J: Naming> Core<'b, D, R, J> {
     /// home block; makes a barrier; writes block 1; makes a barrier, after which the positions are free. It is
     /// idle where nothing is logged that is not at home. The history stays.
     ///
-    /// Answers J6 `DeviceFailed` where the device failed in this call or before, and J1 `NoMemory` where memory
-    /// for the list of addresses is refused, at the first of these steps.
+    /// Answers J13 `Closed` where the core was stopped, else J6 `DeviceFailed` where the device failed in this call
+    /// or before, and J1 `NoMemory` where memory for the list of addresses is refused, at the first of these steps.
     pub fn install_step(&mut self) -> Result<Step, Refusal<Cause<'b, J, R>>>
         ensures ok { IfOk result (λ step. InstallAnswers self.old step self.new) }
-        ensures fine { OnOk result ((is_faulted self.old ≡ false) × (is_faulted self.new ≡ false)) }
+        ensures running { OnOk result (IsRunning self.old × IsRunning self.new) }
         ensures refusal { IfErr result (IsInstallRefusal self.old self.new) }
         ensures crash { Crashes self.old self.new }
         ensures event { AnswersInstall self.old result self.new }
     {
+        self.check_running()?;
         raise(self.objects.install_step())
     }
 }

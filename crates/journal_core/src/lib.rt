@@ -20,6 +20,7 @@ mod tally;
 mod transaction;
 
 pub use cause::Cause;
+pub use journal_objlog::Spares;
 pub use law::every_interleaving;
 pub use state::{Core, Stat};
-pub use transaction::Transaction;
+pub use transaction::{Found, Transaction};

@@ -1,7 +1,7 @@
 // A step of the logger, or a mark.
 ghost use Rattle.std.specs.Prelude.{ℕ, ◌≡◌, ◌≤◌, ◌<◌, false, true, IsTrue, IsErr, IfOk, IfErr, OnOk, OnErr};
 ghost use Rattle.journal_world.specs.Histories.{count, floor};
-ghost use Rattle.journal_core.specs.Cores.{Crashes, is_faulted};
+ghost use Rattle.journal_core.specs.Cores.{Crashes, IsRunning};
 ghost use Rattle.journal_core.specs.Steps.{LogAnswers, Marks, IsLogRefusal, IsMarkRefusal, CanMark};
 ghost use Rattle.journal_core.specs.Interleavings.{AnswersLog};
 
@@ -15,16 +15,18 @@ impl<'b, D: BlockDisk, R: MapRule, J: Naming> Core<'b, D, R, J> {
     /// Does the next thing of the logger, with at most one device call that changes the disk: the next step of
     /// the group in flight; where its cycle ended, the mark of its commits; a cut; where nothing awaits logging,
     /// the mark of commits that wrote nothing. It is idle where there is none of these.
+    ///
+    /// Answers J13 `Closed` where the core was stopped, else J6 `DeviceFailed` where the device failed in this call
+    /// or before, J9 `Stale` where the history is longer than the core's, and J11 `Worn` where its length would
+    /// reach 2^62. Nothing is then marked.
     pub fn log_step(&mut self) -> Result<Step, Refusal<Cause<'b, J, R>>>
         ensures ok { IfOk result (λ step. LogAnswers self.old step self.new) }
-        ensures fine { OnOk result ((is_faulted self.old ≡ false) × (is_faulted self.new ≡ false)) }
+        ensures running { OnOk result (IsRunning self.old × IsRunning self.new) }
         ensures refusal { IfErr result (IsLogRefusal self.old self.new) }
         ensures crash { Crashes self.old self.new }
         ensures event { AnswersLog self.old result self.new }
     {
-        if self.objects.is_faulted() {
-            return Err(Refusal::DeviceFailed(Cause::none()));
-        }
+        self.check_running()?;
         if self.objects.is_logging() {
             raise(self.objects.log_step())?;
             if !self.objects.is_logging() {

@@ -81,6 +81,7 @@ impl<'b, D: BlockDisk, R: MapRule, J: Naming> Core<'b, D, R, J> {
                 logged: 0,
                 tally: Tally::new(alloc),
                 next: 0,
+                closed: false,
                 slots,
             }),
             Err(refusal) => Err(Refused {

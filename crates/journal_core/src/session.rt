@@ -1,9 +1,10 @@
 // A further session.
-ghost use Rattle.std.specs.Prelude.{◌≡◌, ◌≤◌, ◌^◌, ◌+◌, [], IfOk, IfErr, OnOk, OnErr};
-ghost use Rattle.journal_world.specs.Histories.{commits_of};
-ghost use Rattle.journal_history.specs.Tokens.{OnlyExtends};
+ghost use Rattle.std.specs.Prelude.{◌≡◌, ◌≤◌, ◌^◌, ◌+◌, ◌↔◌, [], length, IsTrue, IfOk, IfErr, OnOk, OnErr};
+ghost use mathlib.Core.List.{IsPrefix};
+ghost use Rattle.journal_world.specs.Histories.{commits_of, floor};
+ghost use Rattle.journal_history.specs.Tokens.{made, IsExact, OnlyExtends};
 ghost use Rattle.journal_core.specs.Cores.{Crashes};
-ghost use Rattle.journal_core.specs.Steps.{BeginsSession, IsSessionRefusal, IsShowRefusal};
+ghost use Rattle.journal_core.specs.Steps.{BeginsSession, Stops, MayWait, IsSessionRefusal, IsShowRefusal, IsWaitRefusal, IsStrayRefusal};
 ghost use Rattle.journal_core.specs.Interleavings.{AnswersSession};
 
 use crate::cause::Cause;
@@ -30,6 +31,60 @@ impl<'b, D: BlockDisk, R: MapRule, J: Naming> Core<'b, D, R, J> {
         let session = self.writer.session(self.next);
         self.next += 1;
         Ok(session)
+    }
+
+    /// Whether so many commits are marked as stable. The session has then seen the whole history, and is exact.
+    ///
+    /// The first that applies of these refuses it, and leaves the session as it was: J13 `Closed` where the core was
+    /// stopped and J6 `DeviceFailed` where the device failed before, both only where so many are not marked; J9
+    /// `Stale` where the history is longer than the core's; J10 `Stranger` where it has a commit under the session's
+    /// number that the session did not make.
+    pub fn wait_step(
+        &self,
+        session: &mut Session<'b, J, R>,
+        n: u64,
+    ) -> Result<bool, Refusal<Cause<'b, J, R>>>
+        ensures answer { IfOk result (λ marked. IsTrue marked ↔ (n ≤ floor self.now.history)) }
+        ensures goes_on { OnOk result (MayWait self.now n) }
+        ensures shown { OnOk result (session.new.seen ≡ self.now.history) }
+        ensures exact { OnOk result (IsExact session.new) }
+        ensures extends { OnlyExtends session.old session.new }
+        ensures refusal { IfErr result (IsWaitRefusal self.now session.old n) }
+        ensures stays { OnErr result (session.new ≡ session.old) }
+    {
+        let marked = n <= self.writer.floor();
+        if !marked {
+            self.check_running()?;
+        }
+        self.check_session(session)?;
+        session.see(&self.writer.front());
+        Ok(marked)
+    }
+
+    // Refuses by J9 where the history is longer than the core's, or the session has seen more, then by J10.
+    fn check_session(&self, session: &Session<'b, J, R>) -> Result<(), Refusal<Cause<'b, J, R>>>
+        ensures seen { OnOk result (IsPrefix session.now.seen self.now.history) }
+        ensures own { OnOk result (length (commits_of session.now.number self.now.history) ≡ made session.now) }
+        ensures refusal { IfErr result (IsStrayRefusal self.now session.now) }
+    {
+        let mut front = self.writer.front();
+        front.see(&session.front());
+        front.observe();
+        if front.len() > self.writer.len() {
+            return Err(Refusal::Stale(Cause::of(front)));
+        }
+        if self.tally.made(session.number()) != session.made() {
+            return Err(Refusal::Stranger(Cause::of(self.writer.front())));
+        }
+        Ok(())
+    }
+
+    /// Stops the core: reads, commits and steps, and waits for marks that do not stand, are refused by J13 from then
+    /// on. Nothing else changes.
+    pub fn stop_step(&mut self)
+        ensures stops { Stops self.old self.new }
+    {
+        self.closed = true;
     }
 
     /// Shows the session the whole history.

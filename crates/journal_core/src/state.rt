@@ -1,19 +1,23 @@
 // The core, and what it tells without a step.
-ghost use Rattle.std.specs.Prelude.{ℕ, ◌≡◌, ◌<◌, ◌↔◌, IsTrue, All};
+ghost use Rattle.std.specs.Prelude.{ℕ, ◌≡◌, ◌<◌, ◌↔◌, IsTrue, IfErr, OnOk, All};
 ghost use Rattle.journal_world.specs.declared.address.TheConstants.{SLOTS as SLOT_COUNT};
 ghost use Rattle.journal_world.specs.Histories.{opened, is_trusted, count, floor, touched};
 ghost use Rattle.journal_disk.specs.Images.{EveryImage};
+ghost use Rattle.journal_wal.specs.Wal.{tail_length};
 ghost use Rattle.journal_objlog.specs.ObjectLogs.{start_of, end_of};
 ghost use Rattle.journal_history.specs.Soundness.{IsSound};
-ghost use Rattle.journal_core.specs.Cores.{Leaves, disk_of};
+ghost use Rattle.journal_core.specs.Cores.{Leaves, Crashes, IsRunning, disk_of};
+ghost use Rattle.journal_core.specs.Steps.{IsLogIdle, IsEndRefusal};
 ghost use Rattle.journal_core.specs.Transactions.{IsCount};
 
+use crate::cause::Cause;
 use crate::slot_counts::SlotCounts;
 use crate::tally::Tally;
+use journal_circ::LOG_POSITIONS;
 use journal_disk::{BlockDisk, MemDisk};
 use journal_history::{Front, Naming, Writer};
 use journal_objlog::ObjectLog;
-use journal_world::MapRule;
+use journal_world::{MapRule, Refusal};
 use std::marker::Model;
 
 /// The history's length and the sessions' numbers stay below this.
@@ -43,6 +47,8 @@ pub struct Core<'b, D: BlockDisk, R: MapRule, J: Naming> {
     // How many commits each session has, and the number of the next one.
     pub(crate) tally: Tally,
     pub(crate) next: u64,
+    // It was stopped.
+    pub(crate) closed: bool,
     // How many commits touched each slot.
     pub(crate) slots: SlotCounts,
 }
@@ -53,10 +59,10 @@ impl<'b, D: BlockDisk, R: MapRule, J: Naming> Model for Core<'b, D, R, J> {
 
     ghost Value = { CoreState };
 
-    ghost view = { λ c. record { objects = c.objects; history = c.writer; cut = c.cut; logged = c.logged; next = c.next } };
+    ghost view = { λ c. record { objects = c.objects; history = c.writer; cut = c.cut; logged = c.logged; next = c.next; closed = c.closed } };
 
     ghost invariant = { λ c.
-        IsKept J.blocks (record { objects = c.objects; history = c.writer; cut = c.cut; logged = c.logged; next = c.next })
+        IsKept J.blocks (record { objects = c.objects; history = c.writer; cut = c.cut; logged = c.logged; next = c.next; closed = c.closed })
         × KeepsCounts c.tally c.slots c.writer };
 }
 
@@ -77,6 +83,45 @@ impl<'b, D: BlockDisk, R: MapRule, J: Naming> Core<'b, D, R, J> {
             start,
             end,
         }
+    }
+
+    /// Refuses by J13 `Closed` where it was stopped, else by J6 `DeviceFailed` where the device failed before, and
+    /// by nothing else. It is no device call.
+    pub fn check_running(&self) -> Result<(), Refusal<Cause<'b, J, R>>>
+        ensures running { OnOk result (IsRunning self.now) }
+        ensures refusal { IfErr result (IsEndRefusal self.now) }
+        ensures crash { Crashes self.now self.now }
+    {
+        if self.closed {
+            return Err(Refusal::Closed(Cause::none()));
+        }
+        if self.objects.is_faulted() {
+            return Err(Refusal::DeviceFailed(Cause::none()));
+        }
+        Ok(())
+    }
+
+    /// Whether the logger has nothing to do: no group is in flight or unmarked, the tail is empty and all commits
+    /// are marked, or the tail has no place in the log.
+    pub fn is_log_idle(&self) -> bool
+        ensures { IsRunning self.now → IsTrue result ↔ IsLogIdle self.now }
+    {
+        if self.objects.is_logging() || self.writer.floor() < self.cut {
+            return false;
+        }
+        let tail = self.objects.tail_len();
+        if tail == 0 {
+            return self.writer.count() <= self.writer.floor();
+        }
+        let (start, end) = self.objects.bounds();
+        LOG_POSITIONS.saturating_sub(end.saturating_sub(start)) < tail
+    }
+
+    /// How many blocks stand in the log's tail, which a cut empties: at most 255.
+    pub fn tail_len(&self) -> u64
+        ensures { result ≡ tail_length self.now.objects }
+    {
+        self.objects.tail_len()
     }
 
     /// How many commits touched the slot: while this stays, so do the values of the slot's addresses.
@@ -124,6 +169,7 @@ impl<'b, D: BlockDisk, R: MapRule, J: Naming> Core<'b, D, R, J> {
     /// leave of it opens as the map after a front of the history that has every marked commit.
     pub fn into_disk(self) -> D
         ensures disk { D.state result ≡ disk_of self.entry }
+        ensures size { (D.state result).past.size ≡ J.blocks }
         ensures trusted { is_trusted self.entry.history ≡ (D.state result).honest }
         ensures images { IsTrue (D.state result).honest → EveryImage (D.state result).past (Leaves self.entry.history) }
     {

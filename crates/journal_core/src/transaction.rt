@@ -8,6 +8,7 @@ ghost use Rattle.journal_world.specs.Histories.{is_trusted, latest, touched as c
 ghost use Rattle.journal_core.specs.Transactions.{begun, AreUnmoved, Remembers, Overwrites};
 
 use journal_history::{Front, Naming, Recorded, Session};
+use journal_objlog::Spares;
 use journal_world::{Addr, MapRule, Objects, Value, slot_of};
 use std::alloc::{AllocError, Global};
 use std::marker::Model;
@@ -33,6 +34,29 @@ impl<'b, J: Naming, R: MapRule> Model for Transaction<'b, J, R> {
     ghost view = { λ t. record { reads = t.reads; writes = t.writes; seen = t.front } };
 
     ghost invariant = { λ t. IsTransaction J.blocks t.counts.items (record { reads = t.reads; writes = t.writes; seen = t.front }) };
+}
+
+/// What a read found, until its transaction remembers it: the address, and the history at whose end its value was
+/// looked up.
+#[derive(Drop)]
+pub struct Found<'b, J: Naming, R: MapRule> {
+    pub(crate) addr: Addr,
+    // How many commits had touched the address's slot.
+    pub(crate) touched: u64,
+    pub(crate) front: Front<'b, J, R>,
+}
+
+impl<'b, J: Naming, R: MapRule> Model for Found<'b, J, R> {
+    ghost use Rattle.std.specs.Prelude.{◌≡◌};
+    ghost use Rattle.journal_world.specs.Addresses.{slot_of};
+    ghost use Rattle.journal_world.specs.Histories.{touched as count_touched};
+    ghost use Rattle.journal_core.specs.Transactions.{FoundState};
+
+    ghost Value = { FoundState };
+
+    ghost view = { λ f. record { addr = f.addr; seen = f.front } };
+
+    ghost invariant = { λ f. f.touched ≡ count_touched f.front (slot_of f.addr) };
 }
 
 impl<'b, J: Naming, R: MapRule> Recorded for Transaction<'b, J, R> {
@@ -73,6 +97,11 @@ impl<'b, J: Naming, R: MapRule> Transaction<'b, J, R> {
         self.writes.get(addr)
     }
 
+    /// Memory for its writes to be made ready in, as far as there is any.
+    pub fn spares(&self, alloc: Global) -> Spares {
+        Spares::for_writes(alloc, &self.writes)
+    }
+
     /// Gives the address this value, in place of one that it gave it before. After an `Err` all is as before.
     pub fn overwrite(&mut self, addr: Addr, value: Value) -> Result<(), AllocError>
         requires object { IsTrue (is_object J.blocks (addr, value)) }
@@ -82,9 +111,26 @@ impl<'b, J: Naming, R: MapRule> Transaction<'b, J, R> {
         self.writes.insert(addr, value)
     }
 
+    /// Remembers the value that a read found. After an `Err` all is as before.
+    pub fn remember(&mut self, found: Found<'b, J, R>, value: &Value) -> Result<(), AllocError>
+        requires object { IsTrue (is_object J.blocks (found.addr, value.now)) }
+        requires value { IsTrue (is_trusted found.seen) → value.now ≡ value_at (latest found.seen) found.addr }
+        requires later { IsPrefix self.old.seen found.seen }
+        requires unmoved { AreUnmoved found.seen self.old }
+        ensures ok { OnOk result (Remembers self.old found.entry.addr value.now found.entry.seen self.new) }
+        ensures err { OnErr result (self.new ≡ self.old) }
+    {
+        let Found {
+            addr,
+            touched,
+            front,
+        } = found;
+        self.remember_at(addr, value, touched, front)
+    }
+
     // Remembers what was read of the address at the end of the front, and how many commits had touched its slot.
     // After an `Err` all is as before.
-    pub(crate) fn remember(
+    fn remember_at(
         &mut self,
         addr: Addr,
         value: &Value,

@@ -112,8 +112,8 @@ impl<'b, J: Naming, R: MapRule> Front<'b, J, R> {
         Front::new(book, len, seen)
     }
 
-    // Sees the history as it is.
-    pub(crate) fn observe(&mut self)
+    /// Sees the history as it is now.
+    pub fn observe(&mut self)
         ensures { IsPrefix self.old self.new }
     {
         *self = Front::at_head(self.book, self.seen.again());

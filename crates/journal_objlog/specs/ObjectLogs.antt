@@ -76,13 +76,17 @@ abbrev pub IsLeft : WalState → Refusal Unit → Type 0
 IsLeft new (DeviceFailed cause) = new.ring.faulted ≡ true
 IsLeft new other = new.ring.faulted ≡ false
 
--- Why an object is not read: the first of these that holds, then J1 or a new J6
-abbrev pub IsReadRefusal : WalState → Addr → WalState → Refusal Unit → Type 0
-IsReadRefusal old addr new (DeviceFailed cause) =
+-- Why an object is not looked up: the first of these that holds, then a new J6
+abbrev pub IsLookRefusal : WalState → Addr → WalState → Refusal Unit → Type 0
+IsLookRefusal old addr new (DeviceFailed cause) =
     IsTrue old.ring.faulted ⊎ (IsTrue (is_valid (size_of old) addr) × HasFailed old.ring.disk new.ring.disk)
-IsReadRefusal old addr new BadAddress = (old.ring.faulted ≡ false) × (is_valid (size_of old) addr ≡ false)
+IsLookRefusal old addr new BadAddress = (old.ring.faulted ≡ false) × (is_valid (size_of old) addr ≡ false)
+IsLookRefusal old addr new other = ⊥
+
+-- Why an object is not read: for want of memory too, where it may be looked up
+abbrev pub IsReadRefusal : WalState → Addr → WalState → Refusal Unit → Type 0
 IsReadRefusal old addr new NoMemory = (old.ring.faulted ≡ false) × IsTrue (is_valid (size_of old) addr)
-IsReadRefusal old addr new other = ⊥
+IsReadRefusal old addr new other = IsLookRefusal old addr new other
 
 -- The tail was cut: what a crash may leave from now on is the map now
 pub record CutsMap (old new : WalState) : Type 0 where

@@ -13,6 +13,7 @@ mod object_log;
 mod prepare;
 mod read;
 mod rules;
+mod spares;
 mod stage;
 mod steps;
 #[cfg(test)]
@@ -21,3 +22,4 @@ mod writes;
 
 pub use object_log::ObjectLog;
 pub use prepare::Prepared;
+pub use spares::Spares;

@@ -7,6 +7,7 @@ ghost use Rattle.journal_objlog.specs.Places.{places_of};
 ghost use Rattle.journal_objlog.specs.Writes.{CanPrepare, IsWriteRefusal, IsPrepareRefusal, IsReady, IsPrepared};
 
 use crate::object_log::ObjectLog;
+use crate::spares::Spares;
 use crate::writes::{Places, judge};
 use journal_block::Update;
 use journal_disk::BlockDisk;
@@ -31,8 +32,8 @@ impl Model for Prepared {
 
 impl<D: BlockDisk> ObjectLog<D> {
     /// Makes the overwriting of the map by these values ready for `apply`, with all the memory and all the reads
-    /// from the device that it takes. Each block that is written is read at most once, and from the device only
-    /// where it is not in memory and the write is not the whole block.
+    /// from the device that it takes; it takes what memory the spares have first. Each block that is written is
+    /// read at most once, and from the device only where it is not in memory and the write is not the whole block.
     ///
     /// The first that applies of these refuses it: J6 `DeviceFailed` where the device failed before, J2
     /// `BadAddress` where an address is not valid, J3 `BadSize` where a value is not of its address's kind, J4
@@ -40,7 +41,11 @@ impl<D: BlockDisk> ObjectLog<D> {
     /// reach 2^62, J12 `Full` where the tail cannot take the blocks that do not stand in it, then J1 `NoMemory`
     /// where memory is refused, or J6 where the device fails in this call. The maps and what lies on the disk are
     /// as they were, whatever it answers.
-    pub fn prepare(&mut self, writes: &Objects) -> Result<Prepared, Refusal<()>>
+    pub fn prepare(
+        &mut self,
+        writes: &Objects,
+        spares: &mut Spares,
+    ) -> Result<Prepared, Refusal<()>>
         ensures prepared { IfOk result (λ prepared. IsPrepared self.new prepared writes.now) }
         ensures ok { OnOk result (CanPrepare self.old writes.now) }
         ensures refusal { IfErr result (IsPrepareRefusal self.old writes.now self.new) }
@@ -51,7 +56,7 @@ impl<D: BlockDisk> ObjectLog<D> {
         ensures crash { MayCrash self.old self.new }
     {
         let places = self.check(writes)?;
-        let updates = self.stage(writes)?;
+        let updates = self.stage(writes, spares)?;
         self.wal.reserve_places(places.blocks, places.fresh)?;
         Ok(Prepared { updates })
     }

@@ -1,16 +1,16 @@
 // Reading one object.
-ghost use Rattle.std.specs.Prelude.{◌≡◌, false, IsTrue, IsErr, OnOk, IfOk, IfErr};
+ghost use Rattle.std.specs.Prelude.{◌≡◌, false, IsTrue, IsErr, OnOk, OnErr, IfOk, IfErr, length};
 ghost use Rattle.journal_world.specs.Addresses.{is_valid};
-ghost use Rattle.journal_object.specs.Objects.{object_at};
+ghost use Rattle.journal_object.specs.Objects.{object_at, size_at};
+ghost use Rattle.journal_wal.specs.Wal.{size_of};
 ghost use Rattle.journal_world.specs.Maps.{value_at, is_object};
-ghost use Rattle.journal_objlog.specs.ObjectLogs.{map_now, KeepsMaps, MayCrash, OnlyReads, IsLeft, IsReadRefusal};
+ghost use Rattle.journal_objlog.specs.ObjectLogs.{map_now, KeepsMaps, MayCrash, OnlyReads, IsLeft, IsLookRefusal, IsReadRefusal};
 
 use crate::object_log::ObjectLog;
 use journal_block::Block;
 use journal_disk::BlockDisk;
 use journal_object::load;
 use journal_world::{Addr, Layout, Refusal, Value};
-use std::alloc::{AllocError, Global};
 
 impl<D: BlockDisk> ObjectLog<D> {
     /// The value of the map now at the address, a value of the address's kind. Its block is read from the device
@@ -31,6 +31,50 @@ impl<D: BlockDisk> ObjectLog<D> {
         ensures maps { IsTrue self.old.ring.disk.honest → KeepsMaps self.old self.new }
         ensures crash { MayCrash self.old self.new }
     {
+        let mut bytes = self.room_for(addr)?;
+        self.read_into(addr, &mut bytes)?;
+        Ok(Value::new(bytes))
+    }
+
+    // Zeros in the number of bytes that the address's object has. Refuses by J6 of an earlier fault, by J2 and
+    // then by J1.
+    fn room_for(&self, addr: Addr) -> Result<Vec<u8>, Refusal<()>>
+        ensures size { IfOk result (λ bytes. length bytes.items ≡ size_at (size_of self.now) addr) }
+        ensures fine { OnOk result (self.now.ring.faulted ≡ false) }
+        ensures refusal { IfErr result (IsReadRefusal self.now addr self.now) }
+        ensures left { IfErr result (IsLeft self.now) }
+        ensures crash { MayCrash self.now self.now }
+    {
+        if self.wal.is_faulted() {
+            return Err(Refusal::DeviceFailed(()));
+        }
+        if !self.layout.is_valid(addr) {
+            return Err(Refusal::BadAddress);
+        }
+        let size = match self.layout.kind(addr.block) {
+            Some(kind) => kind.bytes(),
+            None => 0,
+        };
+        Ok(vec![in self.alloc; 0u8; size]?)
+    }
+
+    /// Reads that value into bytes that are as many as the address's object has, and takes no memory.
+    ///
+    /// The first that applies of these refuses it: J6 `DeviceFailed` where the device failed before, J2
+    /// `BadAddress` where the address is not valid, then J6 where the device fails in this call. The maps and
+    /// what lies on the disk are as they were, whatever it answers.
+    pub fn read_into(&mut self, addr: Addr, into: &mut [u8]) -> Result<(), Refusal<()>>
+        requires size { IsTrue (is_valid (size_of self.old) addr) → length into.old ≡ size_at (size_of self.old) addr }
+        ensures value { IsTrue self.old.ring.disk.honest → OnOk result (into.new ≡ value_at (map_now self.old) addr) }
+        ensures object { OnOk result (IsTrue (is_object (map_now self.old).blocks (addr, into.new))) }
+        ensures fine { OnOk result ((self.old.ring.faulted ≡ false) × (self.new.ring.faulted ≡ false)) }
+        ensures refusal { IfErr result (IsLookRefusal self.old addr self.new) }
+        ensures faulted { IsTrue self.old.ring.faulted → IsErr result × (self.new ≡ self.old) }
+        ensures reads { OnlyReads self.old self.new }
+        ensures left { IfErr result (IsLeft self.new) }
+        ensures maps { IsTrue self.old.ring.disk.honest → KeepsMaps self.old self.new }
+        ensures crash { MayCrash self.old self.new }
+    {
         if self.wal.is_faulted() {
             return Err(Refusal::DeviceFailed(()));
         }
@@ -38,24 +82,21 @@ impl<D: BlockDisk> ObjectLog<D> {
             return Err(Refusal::BadAddress);
         }
         if let Some(block) = self.wal.latest(addr.block) {
-            return Ok(object_in(self.alloc, &self.layout, block, addr)?);
+            load_object(&self.layout, block, addr, into);
+            return Ok(());
         }
         self.wal.read(addr.block, &mut self.spare)?;
-        Ok(object_in(self.alloc, &self.layout, &self.spare, addr)?)
+        load_object(&self.layout, &self.spare, addr, into);
+        Ok(())
     }
 }
 
-// The object that the block has at the address.
-fn object_in(alloc: Global, layout: &Layout, block: &Block, addr: Addr) -> Result<Value, AllocError>
-    requires { IsTrue (is_valid layout.now.blocks addr) }
-    ensures value { IfOk result (λ value. value ≡ object_at layout.now.blocks block.now addr) }
-    ensures object { IfOk result (λ value. IsTrue (is_object layout.now.blocks (addr, value))) }
+// Reads the object that the block has at the address.
+fn load_object(layout: &Layout, block: &Block, addr: Addr, into: &mut [u8])
+    requires valid { IsTrue (is_valid layout.now.blocks addr) }
+    requires size { length into.old ≡ size_at layout.now.blocks addr }
+    ensures value { into.new ≡ object_at layout.now.blocks block.now addr }
+    ensures object { IsTrue (is_object layout.now.blocks (addr, into.new)) }
 {
-    let size = match layout.kind(addr.block) {
-        Some(kind) => kind.bytes(),
-        None => 0,
-    };
-    let mut bytes = vec![in alloc; 0u8; size]?;
-    load::<()>(layout, block, addr, &mut bytes).unwrap();
-    Ok(Value::new(bytes))
+    load::<()>(layout, block, addr, into).unwrap();
 }

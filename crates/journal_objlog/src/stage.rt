@@ -10,12 +10,14 @@ ghost use Rattle.journal_objlog.specs.ObjectLogs.{MayCrash, OnlyReads};
 ghost use Rattle.journal_objlog.specs.Staging.{IsBelow, IsStaged, IsOpen, RefusesLate, first_update, first_bytes, with_first};
 
 use crate::object_log::ObjectLog;
+use crate::spares::Spares;
 use journal_block::{Block, Update};
 use journal_disk::BlockDisk;
 use journal_object::store;
 use journal_world::{Addr, Kind, Layout, Objects, Refusal, Value};
 use std::alloc::{AllocError, Global};
 use std::marker::Model;
+use std::mem;
 
 /// Updates that are made from the last on. Contracts see them in order.
 #[derive(Drop)]
@@ -34,11 +36,12 @@ impl Model for Backwards {
 }
 
 impl Backwards {
-    fn new(alloc: Global) -> Backwards
+    // None yet, in the room that the spares have for them.
+    fn new(alloc: Global, spares: &mut Spares) -> Backwards
         ensures { result ≡ [] }
     {
         Backwards {
-            updates: Vec::new(alloc),
+            updates: mem::replace(&mut spares.updates, Vec::new(alloc)),
         }
     }
 
@@ -84,7 +87,11 @@ impl Backwards {
 
 impl<D: BlockDisk> ObjectLog<D> {
     /// One update for each block that is written, blocks ascending, with its objects stored.
-    pub(crate) fn stage(&mut self, writes: &Objects) -> Result<Vec<Update>, Refusal<()>>
+    pub(crate) fn stage(
+        &mut self,
+        writes: &Objects,
+        spares: &mut Spares,
+    ) -> Result<Vec<Update>, Refusal<()>>
         requires fine { self.old.ring.faulted ≡ false }
         requires objects { IsTrue (are_objects (size_of self.old) writes.now) }
         ensures staged { IfOk result (λ updates. IsStaged self.new writes.now updates.items) }
@@ -92,17 +99,22 @@ impl<D: BlockDisk> ObjectLog<D> {
         ensures reads { OnlyReads self.old self.new }
         ensures refusal { IfErr result (RefusesLate self.old self.new) }
     {
-        let mut updates = Backwards::new(self.alloc);
+        let mut updates = Backwards::new(self.alloc, spares);
         // From the last on: of two values of one address the first would stand.
         for (addr, value) in writes.iter().rev() {
-            self.open_block(&mut updates, *addr)?;
+            self.open_block(&mut updates, spares, *addr)?;
             updates.store_first(&self.layout, *addr, value);
         }
         Ok(updates.into_updates())
     }
 
     // Makes the first of the updates that of the address's block.
-    fn open_block(&mut self, updates: &mut Backwards, addr: Addr) -> Result<(), Refusal<()>>
+    fn open_block(
+        &mut self,
+        updates: &mut Backwards,
+        spares: &mut Spares,
+        addr: Addr,
+    ) -> Result<(), Refusal<()>>
         requires valid { IsTrue (is_valid (size_of self.old) addr) }
         requires fine { self.old.ring.faulted ≡ false }
         ensures opened { OnOk result ((writes : List Pair) → IsStaged self.old writes updates.old
@@ -114,7 +126,7 @@ impl<D: BlockDisk> ObjectLog<D> {
         if updates.has_first(addr.block) {
             return Ok(());
         }
-        let bytes = self.block_before(addr)?;
+        let bytes = self.block_before(spares, addr)?;
         let update = Update {
             block: addr.block,
             bytes,
@@ -124,7 +136,7 @@ impl<D: BlockDisk> ObjectLog<D> {
     }
 
     // The block of an address that is to be overwritten. Where all of it is, it is not read.
-    fn block_before(&mut self, addr: Addr) -> Result<Block, Refusal<()>>
+    fn block_before(&mut self, spares: &mut Spares, addr: Addr) -> Result<Block, Refusal<()>>
         requires valid { IsTrue (is_valid (size_of self.old) addr) }
         requires fine { self.old.ring.faulted ≡ false }
         ensures crash { MayCrash self.old self.new }
@@ -135,7 +147,7 @@ impl<D: BlockDisk> ObjectLog<D> {
         ensures reads { OnlyReads self.old self.new }
         ensures refusal { IfErr result (RefusesLate self.old self.new) }
     {
-        let mut block = Block::try_new(self.alloc)?;
+        let mut block = spares.take(self.alloc)?;
         if self.layout.kind(addr.block) == Some(Kind::Block) {
             return Ok(block);
         }

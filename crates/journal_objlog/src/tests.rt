@@ -4,7 +4,7 @@
 ghost use Rattle.std.specs.Prelude.{◌≡◌};
 ghost use Rattle.journal_disk.specs.Disks.{IsSettled};
 
-use crate::ObjectLog;
+use crate::{ObjectLog, Spares};
 use journal_disk::{BlockDisk, MemDisk};
 use journal_world::{Addr, Layout, MapRule, ObjectReader, Objects, Refusal, Step, Value};
 use std::alloc::Global;
@@ -86,7 +86,8 @@ fn overwrite_plain(alloc: Global, plain: &mut Objects, fills: &[Fill]) -> Run<()
 fn overwrite(rt: &impl Abort, alloc: Global, log: &mut Log, fills: &[Fill]) -> Run<()> {
     let mut writes = Objects::new(alloc);
     overwrite_plain(alloc, &mut writes, fills)?;
-    let prepared = log.prepare(&writes)?;
+    let mut spares = Spares::for_writes(alloc, &writes);
+    let prepared = log.prepare(&writes, &mut spares)?;
     assert!(rt; prepared.updates.is_sorted_by(|a, b| a.block < b.block));
     log.apply(prepared);
     Ok(())

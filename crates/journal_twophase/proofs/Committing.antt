@@ -1,5 +1,5 @@
 -- What a commit of the core says to a transaction and to its session.
-use Rattle.std.proofs.Common.{◌≡◌, ◌≢◌, ℕ, IsTrue, List, [], ◌∷◌, ◌++◌, length, Some, slice_get, Result, Ok, Err, IfOk, sym, ap, subst, ◌∙◌}
+use Rattle.std.proofs.Common.{◌≡◌, ◌≢◌, ℕ, IsTrue, List, [], ◌∷◌, ◌++◌, length, Some, slice_get, Result, Ok, Err, IfOk, IfErr, sym, ap, subst, ◌∙◌}
 use mathlib.Core.List.{IsPrefix}
 use Rattle.journal_world.specs.declared.refusal.Refusal.{Refusal}
 use Rattle.journal_world.specs.Maps.{Map, Transaction, Agrees}
@@ -14,6 +14,9 @@ use Rattle.journal_core.specs.Transactions.{TransactionState}
 use Rattle.journal_core.specs.Interleavings.{AnswersCommit}
 use Rattle.journal_twophase.specs.Journals.{IsKnown}
 use Rattle.journal_twophase.specs.Commits.{IsCommitted}
+use Rattle.journal_twophase.specs.declared.waiting.WaitFault.{WaitFault}
+use Rattle.journal_twophase.specs.declared.waiting.WaitFault.TheVariants.{Refused, Unsure}
+use Rattle.journal_twophase.specs.Waits.{CommitsAndWaits, IsWaitFault}
 use Rattle.journal_twophase.proofs.Knowing.{some_before, ruled_before, blocks_before}
 
 module _ (rule : Map → Type 0) (blocks : ℕ) where
@@ -70,3 +73,25 @@ module _ (rule : Map → Type 0) (blocks : ℕ) where
     known = is.known;
     receipt = is.receipt;
   }
+
+  -- and the same of one that then waited
+  waits_from : (began : List Entry) (t : TransactionState) (s new : SessionState) (place : CommitPlace) → IsPrefix began t.seen
+      → CommitsAndWaits rule blocks t.seen t s new place → CommitsAndWaits rule blocks began t s new place
+  waits_from began t s new place begins is = record {
+    then = is.then;
+    committed = since_begin began t s is.then (Ok place) begins is.committed;
+    later = is.later;
+    exact = is.exact;
+    known = is.known;
+  }
+
+  pub waits_since : {N E : Type 0} (began : List Entry) (t : TransactionState) (s new : SessionState) (answer : Result (CommitPlace × N) E) → IsPrefix began t.seen
+      → IfOk answer (λ done. CommitsAndWaits rule blocks t.seen t s new done.0) → IfOk answer (λ done. CommitsAndWaits rule blocks began t s new done.0)
+  waits_since began t s new (Ok done) begins is = waits_from began t s new done.0 begins is
+  waits_since began t s new (Err fault) begins is = tt
+
+  pub fault_since : {T : Type 0} (began : List Entry) (t : TransactionState) (s new : SessionState) (answer : Result T (WaitFault CommitPlace Told)) → IsPrefix began t.seen
+      → IfErr answer (IsWaitFault rule blocks t.seen t s new) → IfErr answer (IsWaitFault rule blocks began t s new)
+  fault_since began t s new (Ok done) begins is = tt
+  fault_since began t s new (Err (Refused why)) begins is = is
+  fault_since began t s new (Err (Unsure place why)) begins is = (waits_from began t s new place begins is.0, is.1)

@@ -1,14 +1,18 @@
 -- What a look-up says to the reader of an address.
-use Rattle.std.proofs.Common.{◌≡◌, ℕ, Bool, true, false, cond, IsTrue, List, [], ◌∷◌, Option, Some, None, IfSome, Result, Ok, Err, IfErr, refl, sym, subst}
+use Rattle.std.proofs.Common.{◌≡◌, ℕ, Bool, true, false, cond, IsTrue, List, [], ◌∷◌, Option, Some, None, IfSome, Result, Ok, Err, IfErr, refl, sym, ap, subst, ◌∙◌}
+use mathlib.Core.List.{IsPrefix}
 use Rattle.std.proofs.lemmas.Bool.{and_parts}
 use Rattle.journal_world.specs.declared.address.Addr.{Addr}
 use Rattle.journal_world.specs.declared.refusal.Refusal.{Refusal}
 use Rattle.journal_world.specs.declared.refusal.Refusal.TheVariants.{NoMemory, BadAddress, BadSize, TooLarge, Busy, DeviceFailed, BadLog, BadSuper, Stale, Stranger, Worn, Full, Closed, Fenced}
 use Rattle.journal_world.specs.Addresses.{Value, is_valid, is_same}
-use Rattle.journal_world.specs.Maps.{Pair, value_among, is_object, are_objects}
+use Rattle.journal_world.specs.Maps.{Pair, SamePairs, value_among, value_at, is_object, are_objects}
+use Rattle.journal_world.specs.Histories.{Entry, is_trusted, latest}
+use Rattle.journal_world.proofs.Prefixes.{IsPrefix-trans}
 use Rattle.journal_world.proofs.Lookups.{same_addr}
 use Rattle.journal_core.specs.Causes.{Told}
-use Rattle.journal_twophase.specs.Transactions.{TxnState, core_of, holding, IsLookRefusal, IsReadRefusal}
+use Rattle.journal_core.specs.Transactions.{TransactionState, FoundState, Remembers}
+use Rattle.journal_twophase.specs.Transactions.{TxnState, core_of, holding, Finds, Learns, IsLookRefusal, IsReadRefusal}
 
 -- what objects give an address is an object
 value_among-object : (blocks : ℕ) (ps : List Pair) (a : Addr) (v : Value) → IsTrue (are_objects blocks ps) → value_among ps a ≡ Some v → IsTrue (is_object blocks (a, v))
@@ -32,7 +36,7 @@ own_object blocks ps a None is objects = tt
 own_object blocks ps a (Some v) is objects = value_among-object blocks ps a v objects (sym is)
 
 -- why a transaction reads nothing, whose slot is held
-read_refusal : (blocks : ℕ) (t : TxnState) (a : Addr) (why : Refusal Told) → IsTrue (is_valid blocks a) → IsLookRefusal (core_of t) why → IsReadRefusal blocks t a why
+pub read_refusal : (blocks : ℕ) (t : TxnState) (a : Addr) (why : Refusal Told) → IsTrue (is_valid blocks a) → IsLookRefusal (core_of t) why → IsReadRefusal blocks t a why
 read_refusal blocks t a NoMemory valid look = (valid, look)
 read_refusal blocks t a BadAddress valid look = absurd look
 read_refusal blocks t a BadSize valid look = absurd look
@@ -45,10 +49,31 @@ read_refusal blocks t a (Stale cause) valid look = (valid, look)
 read_refusal blocks t a (Stranger cause) valid look = (valid, look)
 read_refusal blocks t a (Worn cause) valid look = absurd look
 read_refusal blocks t a (Full cause) valid look = absurd look
-read_refusal blocks t a (Closed cause) valid look = absurd look
+read_refusal blocks t a (Closed cause) valid look = look
 read_refusal blocks t a Fenced valid look = absurd look
 
 pub read_refused : (blocks : ℕ) (t held : TxnState) (a : Addr) (answer : Result Value (Refusal Told))
     → held ≡ holding t a → IsTrue (is_valid blocks a) → IfErr answer (IsLookRefusal (core_of held)) → IfErr answer (IsReadRefusal blocks t a)
 read_refused blocks t held a (Ok v) same valid look = tt
 read_refused blocks t held a (Err why) same valid look = read_refusal blocks t a why valid (subst (λ (h : TxnState). IsLookRefusal (core_of h) why) same look)
+
+-- what is found for the open transaction, and remembered, is what it learns
+pub learns : (began : List Entry) (held : List ℕ) (t after : TransactionState) (a : Addr) (v w : Value) (found : FoundState) → Finds t a found
+    → (IsTrue (is_trusted found.seen) → w ≡ value_at (latest found.seen) a) → v ≡ w → Remembers t found.addr v found.seen after
+    → Learns (record { began = began; reads = t.reads; writes = t.writes; seen = t.seen; held = held }) a v
+    (record { began = began; reads = after.reads; writes = after.writes; seen = after.seen; held = held })
+learns began held t after a v w found finds value same remembers = record {
+  value = λ trusted. same ∙ subst (λ (h : List Entry). IsTrue (is_trusted h) → w ≡ value_at (latest h) a) (sym seen) value trusted;
+  reads = subst (λ (b : Addr). SamePairs after.reads ((b, v) ∷ t.reads)) finds.addr remembers.reads;
+  later = subst (IsPrefix t.seen) (sym seen) finds.later;
+  others = λ i. record { began = began; reads = after.reads; writes = (remembers.others i).writes; seen = after.seen; held = held };
+}
+  where
+    seen : after.seen ≡ found.seen
+    seen = ap (λ (u : TransactionState). u.seen) remembers.others
+
+-- what it has seen goes on from its beginning
+pub later_on : (began : List Entry) (t after : TransactionState) (a : Addr) (v : Value) (found : FoundState) → IsPrefix began t.seen → Finds t a found
+    → Remembers t found.addr v found.seen after → IsPrefix began after.seen
+later_on began t after a v found begins finds remembers =
+    subst (IsPrefix began) (sym (ap (λ (u : TransactionState). u.seen) remembers.others)) (IsPrefix-trans began t.seen found.seen begins finds.later)

@@ -2,7 +2,7 @@
 use Rattle.std.specs.Prelude.{ℕ, ◌≡◌, ◌⊎◌, ◌<◌, ◌≤◌, IsTrue, List, length, Some}
 use mathlib.Core.List.{IsPrefix}
 use Rattle.journal_world.specs.declared.refusal.Refusal.{Refusal}
-use Rattle.journal_world.specs.declared.refusal.Refusal.TheVariants.{NoMemory, TooLarge, DeviceFailed, Stale, Stranger, Worn, Full}
+use Rattle.journal_world.specs.declared.refusal.Refusal.TheVariants.{NoMemory, TooLarge, DeviceFailed, Stale, Stranger, Worn, Full, Closed}
 use Rattle.journal_world.specs.Maps.{Map, Agrees}
 use Rattle.journal_world.specs.Histories.{Entry, is_trusted, latest, commits_of}
 use Rattle.journal_objlog.specs.Writes.{written_blocks}
@@ -35,6 +35,7 @@ ShowsStrange s cause = (history : List Entry) × (cause ≡ Some history) × (ma
 
 -- Why a transaction is not committed at once
 abbrev pub IsTryRefusal : TransactionState → SessionState → Refusal Told → Type 0
+IsTryRefusal t s (Closed cause) = IsUnexplained cause
 IsTryRefusal t s (DeviceFailed cause) = IsUnexplained cause
 IsTryRefusal t s (Stale cause) = IsShown cause
 IsTryRefusal t s (Stranger cause) = ShowsStrange s cause ⊎ ShowsMoved t cause

@@ -1,7 +1,7 @@
 -- What contracts see of a journal that threads share, and why it refuses what is no transaction's.
 use Rattle.std.specs.Prelude.{ℕ, ◌≡◌, IsTrue, List, [], ◌∷◌, Some}
 use Rattle.journal_world.specs.declared.refusal.Refusal.{Refusal}
-use Rattle.journal_world.specs.declared.refusal.Refusal.TheVariants.{NoMemory, DeviceFailed, Stale, Worn}
+use Rattle.journal_world.specs.declared.refusal.Refusal.TheVariants.{NoMemory, DeviceFailed, Stale, Worn, Closed}
 use Rattle.journal_world.specs.Maps.{Map, are_objects}
 use Rattle.journal_world.specs.Histories.{Entry, opened, is_trusted, IsLegal}
 use Rattle.journal_world.specs.Histories.Entry.{opening}
@@ -44,6 +44,7 @@ IsSessionRefusal other = ⊥
 
 -- why a step of the logger is refused
 abbrev pub IsLogRefusal : Refusal Told → Type 0
+IsLogRefusal (Closed cause) = IsUnexplained cause
 IsLogRefusal NoMemory = Unit {0}
 IsLogRefusal (DeviceFailed cause) = IsUnexplained cause
 IsLogRefusal (Stale cause) = IsShown cause
@@ -52,6 +53,7 @@ IsLogRefusal other = ⊥
 
 -- why one of the installer is
 abbrev pub IsInstallRefusal : Refusal Told → Type 0
+IsInstallRefusal (Closed cause) = IsUnexplained cause
 IsInstallRefusal NoMemory = Unit {0}
 IsInstallRefusal (DeviceFailed cause) = IsUnexplained cause
 IsInstallRefusal other = ⊥
@@ -60,3 +62,8 @@ IsInstallRefusal other = ⊥
 abbrev pub IsCloseRefusal : Refusal Told → Type 0
 IsCloseRefusal (Stale cause) = IsShown cause
 IsCloseRefusal other = ⊥
+
+-- why no image of the disk is made
+abbrev pub IsImageRefusal : Refusal Told → Type 0
+IsImageRefusal NoMemory = Unit {0}
+IsImageRefusal other = IsCloseRefusal other

@@ -1,3 +1,4 @@
 pub mod Journals
 pub mod Transactions
 pub mod Commits
+pub mod Waits

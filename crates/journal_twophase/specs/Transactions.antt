@@ -4,12 +4,12 @@ use Rattle.std.specs.List.{list_any}
 use mathlib.Core.List.{IsPrefix}
 use Rattle.journal_world.specs.declared.address.Addr.{Addr}
 use Rattle.journal_world.specs.declared.refusal.Refusal.{Refusal}
-use Rattle.journal_world.specs.declared.refusal.Refusal.TheVariants.{NoMemory, BadAddress, BadSize, Busy, DeviceFailed, Stale, Stranger}
+use Rattle.journal_world.specs.declared.refusal.Refusal.TheVariants.{NoMemory, BadAddress, BadSize, Busy, DeviceFailed, Stale, Stranger, Closed}
 use Rattle.journal_world.specs.Addresses.{Value, kind_of, is_valid, slot_of}
 use Rattle.journal_world.specs.Maps.{Pair, SamePairs, value_among, value_at, is_value_at, is_object}
 use Rattle.journal_world.specs.Histories.{Entry, is_trusted, latest}
 use Rattle.journal_core.specs.Causes.{Told, IsUnexplained}
-use Rattle.journal_core.specs.Transactions.{TransactionState, AreUnmoved}
+use Rattle.journal_core.specs.Transactions.{TransactionState, FoundState, AreUnmoved}
 
 pub record TxnState : Type 0 where
   -- what its session had seen of the history when it began
@@ -69,6 +69,19 @@ pub record Overwrites (old : TxnState) (a : Addr) (v : Value) (new : TxnState) :
 abbrev pub ShowsMoved : TransactionState → Told → Type 0
 ShowsMoved t cause = (history : List Entry) × (cause ≡ Some history) × IsPrefix t.seen history × (AreUnmoved history t → ⊥)
 
+-- What a read found for the transaction: the address's value at the end of a history that goes on from what it has seen,
+-- in which no commit touched a slot under which it read
+pub record Finds (t : TransactionState) (a : Addr) (found : FoundState) : Type 0 where
+  pub addr : found.addr ≡ a
+  pub later : IsPrefix t.seen found.seen
+  pub unmoved : AreUnmoved found.seen t
+
+-- why the journal goes on no more: it was stopped, or the device failed before
+abbrev pub IsEndRefusal : Refusal Told → Type 0
+IsEndRefusal (Closed cause) = IsUnexplained cause
+IsEndRefusal (DeviceFailed cause) = IsUnexplained cause
+IsEndRefusal other = ⊥
+
 -- Why a slot is not taken
 abbrev pub IsSlotRefusal : List ℕ → ℕ → Refusal Told → Type 0
 IsSlotRefusal held slot Busy = IsBelow slot held
@@ -77,6 +90,7 @@ IsSlotRefusal held slot other = ⊥
 
 -- Why an object whose slot is held is not read
 abbrev pub IsLookRefusal : TransactionState → Refusal Told → Type 0
+IsLookRefusal t (Closed cause) = IsUnexplained cause
 IsLookRefusal t (DeviceFailed cause) = IsUnexplained cause
 IsLookRefusal t (Stale cause) = cause ≡ Some t.seen
 IsLookRefusal t (Stranger cause) = ShowsMoved t cause
@@ -85,6 +99,7 @@ IsLookRefusal t other = ⊥
 
 -- Why an address is not read
 abbrev pub IsReadRefusal : ℕ → TxnState → Addr → Refusal Told → Type 0
+IsReadRefusal blocks t a (Closed cause) = IsUnexplained cause
 IsReadRefusal blocks t a (DeviceFailed cause) = IsUnexplained cause
 IsReadRefusal blocks t a BadAddress = is_valid blocks a ≡ false
 IsReadRefusal blocks t a Busy = IsTrue (is_valid blocks a) × IsBelow (slot_of a) t.held

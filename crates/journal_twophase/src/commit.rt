@@ -4,9 +4,11 @@ ghost use Rattle.journal_world.specs.Maps.{Map, Agrees, overwritten};
 ghost use Rattle.journal_history.specs.Tokens.{OnlyExtends};
 ghost use Rattle.journal_twophase.specs.Transactions.{core_of};
 ghost use Rattle.journal_twophase.specs.Commits.{IsCommitted, IsTryRefusal, IsCommitRefusal};
+ghost use Rattle.journal_twophase.specs.Waits.{IsStable, CommitsAndWaits, IsWaitFault};
 
 use crate::shared::Why;
 use crate::txn::Txn;
+use crate::waiting::Waited;
 use journal_disk::BlockDisk;
 use journal_history::{Naming, Receipt, Session};
 use journal_world::MapRule;
@@ -18,7 +20,8 @@ impl<'j, 'b, D: BlockDisk, R: MapRule, J: Naming> Txn<'j, 'b, D, R, J> {
     /// that the session had seen when the transaction began, where the map gives all that was read. It waits
     /// while the log's tail has no room. The transaction is ended either way, and its slots are given up.
     ///
-    /// The first that applies of these refuses it: J6 `DeviceFailed` where the device failed before, J9 `Stale`
+    /// The first that applies of these refuses it: J13 `Closed` where the journal was stopped, J6 `DeviceFailed` where
+    /// the device failed before, J9 `Stale`
     /// where the history is longer than the core's, J10 `Stranger` where the history has a commit under the
     /// session's number that the session did not make, or a commit touched a slot under which the transaction
     /// had read, J4 `TooLarge` where more than 128 distinct blocks are written, J11 `Worn` where the history's
@@ -60,6 +63,33 @@ impl<'j, 'b, D: BlockDisk, R: MapRule, J: Naming> Txn<'j, 'b, D, R, J> {
         answer
     }
 
+    /// Commits the transaction as `commit` does, and waits until it is stable: until a mark says that it is on the
+    /// disk, so that no crash loses it. Its slots are given up before it waits. The note covers it; the session has
+    /// seen the mark, and is exact.
+    ///
+    /// Answers `Refused` where `commit` would refuse it: the history then lacks it. Answers `Unsure` where it stands
+    /// in the history, by the receipt, but the wait is refused: by J13 `Closed` where the journal was stopped, by J6
+    /// `DeviceFailed` where the device failed, by J9 `Stale` where the history is longer than the core's, by J10
+    /// `Stranger` where it has a commit under the session's number that the session did not make. The session is
+    /// exact then too.
+    pub fn commit_wait<W: Wait>(self, rt: &W, session: &mut Session<'b, J, R>) -> Waited<'b, J, R>
+        requires rule { (m : Map) → m.blocks ≡ J.blocks → R.statement m → Agrees m self.reads
+            → R.statement (overwritten m self.writes) }
+        ensures committed { IfOk result (λ done. CommitsAndWaits R.statement J.blocks self.entry.began (core_of self.entry) session.old session.new done.0) }
+        ensures stable { IfOk result (λ done. IsStable done.0.count done.1 session.new) }
+        ensures fault { IfErr result (IsWaitFault R.statement J.blocks self.entry.began (core_of self.entry) session.old session.new) }
+    {
+        let Txn {
+            journal,
+            alloc,
+            began: _,
+            transaction,
+            held,
+        } = self;
+        let mut spares = transaction.spares(alloc);
+        journal.core.commit_wait(rt, session, &transaction, &mut spares, &journal.slots, held)
+    }
+
     // Commits it, with its slots held.
     fn commit_with_slots<W: Wait>(
         &self,
@@ -73,7 +103,10 @@ impl<'j, 'b, D: BlockDisk, R: MapRule, J: Naming> Txn<'j, 'b, D, R, J> {
         ensures session { OnErr result (OnlyExtends session.old session.new) }
     {
         let journal = self.journal;
-        journal.core.commit(rt, session, &self.transaction)
+        let mut spares = self.transaction.spares(self.alloc);
+        journal
+            .core
+            .commit(rt, session, &self.transaction, &mut spares)
     }
 
     // Commits it without waiting for room, with its slots held.
@@ -89,6 +122,9 @@ impl<'j, 'b, D: BlockDisk, R: MapRule, J: Naming> Txn<'j, 'b, D, R, J> {
         ensures session { OnErr result (OnlyExtends session.old session.new) }
     {
         let journal = self.journal;
-        journal.core.try_commit(rt, session, &self.transaction)
+        let mut spares = self.transaction.spares(self.alloc);
+        journal
+            .core
+            .try_commit(rt, session, &self.transaction, &mut spares)
     }
 }

@@ -1,13 +1,14 @@
 // The journal, and what is no transaction's.
-ghost use Rattle.std.specs.Prelude.{◌≡◌, ◌<◌, IsTrue, IfOk, IfErr, IsOkUnless};
+ghost use Rattle.std.specs.Prelude.{◌≡◌, ◌<◌, IsTrue, IfOk, IfErr, OnOk, IsOkUnless};
 ghost use mathlib.Core.List.{IsPrefix};
-ghost use Rattle.journal_world.specs.Histories.{is_trusted};
+ghost use Rattle.journal_world.specs.Histories.{is_trusted, count};
 ghost use Rattle.journal_disk.specs.Disks.{IsSettled};
 ghost use Rattle.journal_disk.specs.Images.{EveryImage};
 ghost use Rattle.journal_history.specs.Tokens.{made, IsExact, OnlyExtends};
 ghost use Rattle.journal_core.specs.Cores.{Leaves};
 ghost use Rattle.journal_core.specs.Openings.{IsOpenRefusal, IsHandedBack};
-ghost use Rattle.journal_twophase.specs.Journals.{BeginsWith, IsKnown, IsSessionRefusal, IsLogRefusal, IsInstallRefusal, IsCloseRefusal};
+ghost use Rattle.journal_twophase.specs.Journals.{BeginsWith, IsKnown, IsSessionRefusal, IsLogRefusal, IsInstallRefusal, IsCloseRefusal, IsImageRefusal};
+ghost use Rattle.journal_twophase.specs.Waits.{IsStable, IsWaitRefusal};
 ghost use Rattle.journal_twophase.specs.Transactions.{begun};
 
 use crate::shared::{SharedCore, Why};
@@ -15,7 +16,7 @@ use crate::txn::Txn;
 use journal_block::Block;
 use journal_core::{Cause, Stat};
 use journal_disk::{BlockDisk, MemDisk};
-use journal_history::{Book, Front, Naming, Session};
+use journal_history::{Book, Front, Naming, Receipt, Session, StableNote};
 use journal_lockmap::LockMap;
 use journal_world::{Layout, MapRule, Refusal, Refused, Step};
 use std::alloc::Global;
@@ -130,7 +131,7 @@ impl<'b, D: BlockDisk, R: MapRule, J: Naming> Journal<'b, D, R, J> {
     /// Does the next thing of the logger, as `Core::log_step` says, with at most one device call that changes
     /// the disk. It is idle where there is nothing to log and to mark.
     ///
-    /// Answers J6 `DeviceFailed` where the device failed in this call or before, J9 `Stale` where the history is
+    /// Answers J13 `Closed` where the journal was stopped, J6 `DeviceFailed` where the device failed in this call or before, J9 `Stale` where the history is
     /// longer than the core's, J11 `Worn` where its length would reach 2^62, and J1 `NoMemory` where memory is
     /// refused.
     pub fn log_step<W: Wait>(&self, rt: &W) -> Result<Step, Why<'b, J, R>>
@@ -142,8 +143,8 @@ impl<'b, D: BlockDisk, R: MapRule, J: Naming> Journal<'b, D, R, J> {
     /// Does the next thing of the installer, as `Core::install_step` says, with at most one device call that
     /// changes the disk. It is idle where nothing is logged that is not at home.
     ///
-    /// Answers J6 `DeviceFailed` where the device failed in this call or before, and J1 `NoMemory` where memory
-    /// is refused.
+    /// Answers J13 `Closed` where the journal was stopped, J6 `DeviceFailed` where the device failed in this call or
+    /// before, and J1 `NoMemory` where memory is refused.
     pub fn install_step<W: Wait>(&self, rt: &W) -> Result<Step, Why<'b, J, R>>
         ensures { IfErr result IsInstallRefusal }
     {
@@ -155,6 +156,81 @@ impl<'b, D: BlockDisk, R: MapRule, J: Naming> Journal<'b, D, R, J> {
         self.core.stat(rt)
     }
 
+    /// Waits until the commit of the receipt is stable: until a mark says that it is on the disk, so that no crash
+    /// loses it. The session has then seen the mark, and is exact.
+    ///
+    /// The first that applies of these refuses it: J13 `Closed` where the journal was stopped and J6 `DeviceFailed`
+    /// where the device failed, both only where no mark covers the receipt; J9 `Stale` where the history is longer
+    /// than the core's, J10 `Stranger` where it has a commit under the session's number that the session did not make.
+    pub fn wait_stable<W: Wait>(
+        &self,
+        rt: &W,
+        session: &mut Session<'b, J, R>,
+        receipt: &Receipt<'b, J, R>,
+    ) -> Result<StableNote<'b, J, R>, Why<'b, J, R>>
+        ensures stable { IfOk result (λ note. IsStable receipt.now.count note session.new) }
+        ensures exact { OnOk result (IsExact session.new) }
+        ensures session { OnlyExtends session.old session.new }
+        ensures refusal { IfErr result (IsWaitRefusal session.new) }
+    {
+        self.core.wait_stable(rt, session, receipt.count())
+    }
+
+    /// Waits until all commits are stable that the session has seen, as `wait_stable` does, and those that the journal
+    /// has besides. Where the session has seen no more than the opening, it waits for nothing.
+    ///
+    /// It is refused as `wait_stable` is.
+    pub fn flush<W: Wait>(
+        &self,
+        rt: &W,
+        session: &mut Session<'b, J, R>,
+    ) -> Result<StableNote<'b, J, R>, Why<'b, J, R>>
+        ensures stable { IfOk result (λ note. IsStable (count session.old.seen) note session.new) }
+        ensures exact { OnOk result (IsExact session.new) }
+        ensures session { OnlyExtends session.old session.new }
+        ensures refusal { IfErr result (IsWaitRefusal session.new) }
+    {
+        self.core.flush(rt, session)
+    }
+
+    /// Stops the journal: reads, commits and steps, and waits for marks that do not stand, are refused by J13 `Closed`
+    /// from then on. Whoever waits is woken.
+    pub fn stop<W: Wait>(&self, rt: &W) {
+        self.core.stop(rt);
+    }
+
+    /// Does the next thing of the installer as `install_step` does, but only where more than 256 positions of the log
+    /// are used. It is idle otherwise, so that the device's time is the logger's until the log needs room.
+    ///
+    /// It is refused as `install_step` is.
+    pub fn install_where_crowded<W: Wait>(&self, rt: &W) -> Result<Step, Why<'b, J, R>>
+        ensures { IfErr result IsInstallRefusal }
+    {
+        self.core.install_where_crowded(rt)
+    }
+
+    /// Waits until `log_step` has something to do or is refused for good: a commit was made, positions of a full log
+    /// became free, the journal was stopped, or the device failed.
+    pub fn await_log_work<W: Wait>(&self, rt: &W) {
+        self.core.await_log_work(rt);
+    }
+
+    /// Waits until `install_where_crowded` has something to do or is refused for good.
+    pub fn await_install_work<W: Wait>(&self, rt: &W) {
+        self.core.await_install_work(rt);
+    }
+
+    /// Ends the journal, and gives the disk up as it is. For whoever has a session, `close` says more.
+    pub fn into_disk(self) -> D {
+        let Journal {
+            layout: _,
+            slots: _,
+            core,
+            start: _,
+        } = self;
+        core.into_disk()
+    }
+
     /// Ends the journal, and gives the disk up as it is. The session has then seen the whole history, and each
     /// image that a crash may leave of the disk opens as the map after a front of it that has every marked
     /// commit.
@@ -163,6 +239,7 @@ impl<'b, D: BlockDisk, R: MapRule, J: Naming> Journal<'b, D, R, J> {
     /// disk is then given up too.
     pub fn close(self, session: &mut Session<'b, J, R>) -> Result<D, Refused<D, Cause<'b, J, R>>>
         ensures session { OnlyExtends session.old session.new }
+        ensures size { IfOk result (λ disk. (D.state disk).past.size ≡ J.blocks) }
         ensures trusted { IfOk result (λ disk. is_trusted session.new.seen ≡ (D.state disk).honest) }
         ensures images { IfOk result (λ disk. IsTrue (D.state disk).honest → EveryImage (D.state disk).past (Leaves session.new.seen)) }
         ensures refusal { IfErr result (λ refused. IsCloseRefusal refused.refusal) }
@@ -192,6 +269,26 @@ impl<'b, R: MapRule, J: Naming> Journal<'b, MemDisk, R, J> {
         ensures { IsOkUnless result Refusal.NoMemory }
     {
         self.core.pending(rt)
+    }
+
+    /// A copy of the disk as a crash would leave it now, by a choice as of `MemDisk::crash`. The session has then seen
+    /// the whole history, and the image opens as the map after a front of it that has every marked commit.
+    ///
+    /// Answers J9 `Stale` where the session had seen more of the history than the core, else J1 `NoMemory` where
+    /// memory for the image is refused.
+    pub fn image<W: Wait>(
+        &self,
+        rt: &W,
+        session: &mut Session<'b, J, R>,
+        choice: &[u32],
+    ) -> Result<MemDisk, Why<'b, J, R>>
+        ensures session { OnlyExtends session.old session.new }
+        ensures size { IfOk result (λ image. image.past.size ≡ J.blocks) }
+        ensures settled { IfOk result (λ image. IsSettled image.past) }
+        ensures stands { IfOk result (λ image. IsTrue (is_trusted session.new.seen) → Leaves session.new.seen image.past.first) }
+        ensures refusal { IfErr result IsImageRefusal }
+    {
+        self.core.image(rt, session, choice)
     }
 
     /// Makes the k-th device call from now on fail.

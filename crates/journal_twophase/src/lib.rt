@@ -18,10 +18,12 @@ mod commit;
 mod journal;
 mod shared;
 mod txn;
+mod waiting;
 
 pub use journal::Journal;
 pub use shared::Why;
 pub use txn::Txn;
+pub use waiting::{WaitFault, Waited};
 
 #[cfg(test)]
 mod tests;

@@ -2,12 +2,13 @@
 mod gated_disk;
 mod one_thread;
 mod threads;
+mod waits;
 
 ghost use Rattle.std.specs.Prelude.{◌≡◌};
 
 use super::{Journal, Txn, Why};
 use journal_disk::{BlockDisk, MemDisk};
-use journal_history::{Book, Naming, Receipt, Session};
+use journal_history::{Book, Naming, Receipt, Session, StableNote};
 use journal_world::{Addr, AnyMap, Refusal, Step};
 use std::alloc::Global;
 use std::process::Abort;
@@ -21,6 +22,8 @@ type OpenTxn<'j, 'b, D, J> = Txn<'j, 'b, D, AnyMap, J>;
 type Client<'b, J> = Session<'b, J, AnyMap>;
 
 type Reason<'b, J> = Why<'b, J, AnyMap>;
+
+type Note<'b, J> = StableNote<'b, J, AnyMap>;
 
 /// The first objects of four blocks. The last two have slots 137 and 9.
 const BIT: Addr = Addr { block: 514, off: 0 };
@@ -84,6 +87,7 @@ fn number_of<T: Drop, C: Drop>(answer: Result<T, Refusal<C>>) -> u64 {
         Err(Refusal::Busy) => 5,
         Err(Refusal::DeviceFailed(_)) => 6,
         Err(Refusal::Full(_)) => 12,
+        Err(Refusal::Closed(_)) => 13,
         Err(_) => 14,
     }
 }

@@ -1,12 +1,12 @@
 // Open transactions.
-ghost use Rattle.std.specs.Prelude.{◌≡◌, ◌⊎◌, ◌<◌, [], ◌∷◌, ◌++◌, ℕ, List, None, IsTrue, IfSome, IfOk, IfErr, OnOk, OnErr, IsOkUnless, option_copied, if◌then◌else◌};
+ghost use Rattle.std.specs.Prelude.{◌≡◌, ◌⊎◌, ◌<◌, [], ◌∷◌, ◌++◌, ℕ, List, length, IsTrue, IfSome, IfOk, IfErr, OnOk, OnErr, IsOkUnless, option_copied, if◌then◌else◌};
 ghost use mathlib.Core.List.{IsPrefix};
 ghost use Rattle.journal_world.specs.declared.address.TheConstants.{SLOTS as SLOT_COUNT};
-ghost use Rattle.journal_world.specs.declared.refusal.Refusal.TheVariants.{DeviceFailed};
 ghost use Rattle.journal_world.specs.Addresses.{is_valid};
 ghost use Rattle.journal_world.specs.Maps.{is_object, value_among, Agrees};
+ghost use Rattle.journal_object.specs.Objects.{size_at};
 ghost use Rattle.journal_world.specs.Histories.{is_trusted, latest};
-ghost use Rattle.journal_twophase.specs.Transactions.{TxnState, core_of, begun, holding, holds, holds_above, with_slot, Reads, Overwrites, IsSlotRefusal, IsLookRefusal, IsReadRefusal, IsOverwriteRefusal};
+ghost use Rattle.journal_twophase.specs.Transactions.{TxnState, core_of, begun, holding, holds, holds_above, with_slot, Learns, Reads, Overwrites, IsSlotRefusal, IsLookRefusal, IsEndRefusal, IsReadRefusal, IsOverwriteRefusal};
 
 use crate::journal::Journal;
 use crate::shared::Why;
@@ -15,7 +15,7 @@ use journal_disk::BlockDisk;
 use journal_history::{Front, Naming, Session};
 use journal_lockmap::{Held, LockMap};
 use journal_world::{Addr, MapRule, Refusal, Value, slot_of};
-use std::alloc::{AllocFailed, Global};
+use std::alloc::{AllocError, AllocFailed, Global};
 use std::marker::Model;
 use std::sync::Wait;
 
@@ -26,10 +26,10 @@ use std::sync::Wait;
 #[must_use]
 pub struct Txn<'j, 'b, D: BlockDisk, R: MapRule, J: Naming> {
     pub(crate) journal: &'j Journal<'b, D, R, J>,
-    alloc: Global,
-    began: Front<'b, J, R>,
+    pub(crate) alloc: Global,
+    pub(crate) began: Front<'b, J, R>,
     pub(crate) transaction: Transaction<'b, J, R>,
-    held: Vec<Held>,
+    pub(crate) held: Vec<Held>,
 }
 
 impl<'j, 'b, D: BlockDisk, R: MapRule, J: Naming> Model for Txn<'j, 'b, D, R, J> {
@@ -82,12 +82,12 @@ impl<'j, 'b, D: BlockDisk, R: MapRule, J: Naming> Txn<'j, 'b, D, R, J> {
     /// tries a lower one once. All that it has read is what the map gives at the end of one history, which it
     /// has then seen.
     ///
-    /// The first that applies of these refuses it: J6 `DeviceFailed` where the device failed before, J2
-    /// `BadAddress` where the address is not valid, J5 `Busy` where another holds the slot and this transaction
-    /// a greater one, J9 `Stale` where the transaction has seen more of the history than the core, J10 `Stranger`
-    /// where a commit touched a slot under which the transaction had read, then J1 `NoMemory` where memory is
-    /// refused, or J6 where the device fails in this call. The transaction is then as it was, with the slots
-    /// that it held.
+    /// The first that applies of these refuses it: J13 `Closed` where the journal was stopped, J6 `DeviceFailed` where
+    /// the device failed before, J2 `BadAddress` where the address is not valid, J5 `Busy` where another holds the
+    /// slot and this transaction a greater one, J9 `Stale` where the transaction has seen more of the history than
+    /// the core, J10 `Stranger` where a commit touched a slot under which the transaction had read, then J1
+    /// `NoMemory` where memory is refused, or J6 where the device fails in this call. The transaction is then as it
+    /// was, with the slots that it held.
     pub fn read<W: Wait>(&mut self, rt: &W, addr: Addr) -> Result<Value, Why<'b, J, R>>
         ensures reads { IfOk result (λ value. Reads (holding self.old addr) addr value self.new) }
         ensures object { IfOk result (λ value. IsTrue (is_object J.blocks (addr, value))) }
@@ -97,11 +97,12 @@ impl<'j, 'b, D: BlockDisk, R: MapRule, J: Naming> Txn<'j, 'b, D, R, J> {
     {
         let journal = self.journal;
         if !journal.layout.is_valid(addr) {
-            return Err(self.refused(rt, Refusal::BadAddress));
+            return Err(self.unless_ended(rt, Refusal::BadAddress));
         }
         let took = match self.take(rt, slot_of(addr)) {
             Ok(took) => took,
-            Err(refusal) => return Err(self.refused(rt, refusal)),
+            Err(Refusal::NoMemory) => return Err(self.no_memory(rt, addr)),
+            Err(refusal) => return Err(self.unless_ended(rt, refusal)),
         };
         let answer = self.look_up(rt, addr);
         if answer.is_err() {
@@ -112,19 +113,30 @@ impl<'j, 'b, D: BlockDisk, R: MapRule, J: Naming> Txn<'j, 'b, D, R, J> {
         answer
     }
 
-    // The refusal of a read that the core was not asked for. An earlier fault comes before it.
-    fn refused<W: Wait>(&self, rt: &W, refusal: Why<'b, J, R>) -> Why<'b, J, R>
-        ensures { (result ≡ refusal.entry) ⊎ (result ≡ DeviceFailed None) }
+    // The refusal of a read that the core was not asked for. That the journal goes on no more comes before it.
+    fn unless_ended<W: Wait>(&self, rt: &W, refusal: Why<'b, J, R>) -> Why<'b, J, R>
+        ensures { (result ≡ refusal.entry) ⊎ IsEndRefusal result }
     {
         let journal = self.journal;
-        match journal.core.check_fault(rt) {
+        match journal.core.check_running(rt) {
             Ok(()) => refusal,
-            Err(fault) => fault,
+            Err(ended) => ended,
         }
     }
 
-    // Its own overwrite, else what the map gives, which it remembers. An earlier fault comes before both, and
-    // the core asks for it where the map is asked.
+    // The refusal of a read for which there is no memory. All that would refuse it otherwise comes before.
+    fn no_memory<W: Wait>(&self, rt: &W, addr: Addr) -> Why<'b, J, R>
+        requires valid { IsTrue (is_valid J.blocks addr) }
+        ensures { IsLookRefusal (core_of self.now) result }
+    {
+        let journal = self.journal;
+        match journal.core.check_read(rt, &self.transaction, addr) {
+            Ok(()) => Refusal::NoMemory,
+            Err(refusal) => refusal,
+        }
+    }
+
+    // Its own overwrite, else what the map gives, which it remembers.
     fn look_up<W: Wait>(&mut self, rt: &W, addr: Addr) -> Result<Value, Why<'b, J, R>>
         requires valid { IsTrue (is_valid J.blocks addr) }
         ensures reads { IfOk result (λ value. Reads self.old addr value self.new) }
@@ -134,10 +146,48 @@ impl<'j, 'b, D: BlockDisk, R: MapRule, J: Naming> Txn<'j, 'b, D, R, J> {
     {
         let journal = self.journal;
         if let Some(own) = self.own(addr) {
-            journal.core.check_fault(rt)?;
+            journal.core.check_running(rt)?;
             return Ok(own.clone()?);
         }
-        journal.core.read(rt, &mut self.transaction, addr)
+        match self.room_for(addr) {
+            Ok(room) => self.look_in_map(rt, addr, room),
+            Err(_) => Err(self.no_memory(rt, addr)),
+        }
+    }
+
+    // Zeros in the number of bytes that the address's object has.
+    fn room_for(&self, addr: Addr) -> Result<Vec<u8>, AllocError>
+        ensures { IfOk result (λ room. length room.items ≡ size_at J.blocks addr) }
+    {
+        let journal = self.journal;
+        let size = match journal.layout.kind(addr.block) {
+            Some(kind) => kind.bytes(),
+            None => 0,
+        };
+        Ok(vec![in self.alloc; 0u8; size]?)
+    }
+
+    // What the map gives, which it remembers. Only the look-up has the core's lock: the value's memory and the copy
+    // that is remembered are made outside of it.
+    fn look_in_map<W: Wait>(
+        &mut self,
+        rt: &W,
+        addr: Addr,
+        room: Vec<u8>,
+    ) -> Result<Value, Why<'b, J, R>>
+        requires valid { IsTrue (is_valid J.blocks addr) }
+        requires size { length room.items ≡ size_at J.blocks addr }
+        ensures learns { IfOk result (λ value. Learns self.old addr value self.new) }
+        ensures object { IfOk result (λ value. IsTrue (is_object J.blocks (addr, value))) }
+        ensures refusal { IfErr result (IsLookRefusal (core_of self.old)) }
+        ensures same { OnErr result (self.new ≡ self.old) }
+    {
+        let journal = self.journal;
+        let mut bytes = room;
+        let found = journal.core.read(rt, &self.transaction, addr, &mut bytes)?;
+        let value = Value::new(bytes);
+        self.transaction.remember(found, &value)?;
+        Ok(value)
     }
 
     // What it gave the address, if it has overwritten it.
@@ -266,7 +316,7 @@ impl<'j, 'b, D: BlockDisk, R: MapRule, J: Naming> Txn<'j, 'b, D, R, J> {
 }
 
 // Gives all these slots back.
-fn release_all<W: Wait>(rt: &W, slots: &LockMap, held: Vec<Held>) {
+pub(crate) fn release_all<W: Wait>(rt: &W, slots: &LockMap, held: Vec<Held>) {
     let mut held = held;
     while let Some(last) = held.pop() {
         slots.release(rt, last);

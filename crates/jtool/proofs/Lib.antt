@@ -11,4 +11,5 @@ pub mod Listing
 pub mod Verbs
 pub mod Words
 pub mod Talking
+pub mod Ending
 pub mod Replying

@@ -1,25 +1,56 @@
 -- Where a line ends, in what was taken of the input piece by piece.
-use Rattle.std.proofs.Common.{◌≡◌, ◌≢◌, ℕ, zero, suc, ◌+◌, ◌-◌, ◌<◌, ◌≤◌, Bool, true, false, cond, not, List, [], ◌∷◌, ◌++◌, length, Option, Some, None, refl, sym, ap, ◌∙◌, arith, take, drop, subst, append_assoc, append-nil, length-append}
-use Rattle.std.specs.Prelude.{◌==◌, IfSome, if◌then◌else◌, nat_lt, min, position, unwrap_or}
-use Rattle.std.specs.List.{AllByRecursion, position_or_len}
+use Rattle.std.proofs.Common.{◌≡◌, ◌≢◌, ℕ, zero, suc, ◌+◌, ◌-◌, ◌<◌, ◌≤◌, Bool, true, false, cond, not, List, [], ◌∷◌, ◌++◌, length, Option, Some, None, refl, sym, ap, ◌∙◌, arith, take, drop, subst, get_or, append_assoc, append-nil, length-append, take-append-drop}
+use Rattle.std.specs.Prelude.{if◌then◌else◌}
+use Rattle.std.specs.Prelude.{◌==◌, IfSome, nat_lt, min, position}
+use Rattle.std.specs.List.{position_or_len}
 use Rattle.std.specs.Io.BufRead.{drop_through}
-use Rattle.std.specs.Io.KnownBytes.{Keeps, IsAtEnd, prepend_known}
+use Rattle.std.specs.Io.KnownBytes.{Keeps, Consumes, IsAtEnd, prepend_known}
+use Rattle.std.proofs.KnownBytes.{Consumes-nil, Consumes-trans}
 use Rattle.std.proofs.lemmas.Bool.Decides.{nat_tests}
-use Rattle.std.proofs.lemmas.List.{take_all, length-take}
-use Rattle.std.proofs.lemmas.List.Sums.{prefix_len-le-length}
-use Rattle.jtool.specs.Lines.{LinesState, first_line, kept, TakesLine, Advances, TakesPiece}
+use Rattle.std.proofs.lemmas.List.{take_all, take_more, take_min, length-take, get_or-take}
+use Rattle.std.proofs.lemmas.List.Elements.{recursion_from_All}
+use Rattle.std.proofs.lemmas.List.Quantifiers.{position-Some}
+use Rattle.std.proofs.lemmas.List.Sums.{fails_before_first}
+use Rattle.jtool.specs.declared.line.Piece.{Piece}
+use Rattle.jtool.specs.declared.line.Piece.TheVariants as pieces
+use Rattle.jtool.specs.Lines.{LinesState, first_line, kept, TakesLine, Advances, NoBreak, TakesBytes, TakesPiece, Shows}
 
-abbrev pub NoBreak : List ℕ → Type 0
-NoBreak xs = AllByRecursion (λ b. b ≢ 10) xs
+-- ---- what is shown of the input
 
-no_break_join : (xs ys : List ℕ) → NoBreak xs → NoBreak ys → NoBreak (xs ++ ys)
-no_break_join [] ys p q = q
-no_break_join (x ∷ xs) ys p q = (p.0, no_break_join xs ys p.1 q)
+abbrev pub is_break : ℕ → Bool
+is_break b = b == 10
 
-other : (x : ℕ) → x ≢ 10 → (x == 10) ≡ false
+other : (x : ℕ) → x ≢ 10 → is_break x ≡ false
 other x h = grind (arith, nat_tests)
 
--- ---- a line of which all was taken
+unbroken : (xs : List ℕ) → ((k d : ℕ) → k < length xs → is_break (get_or xs k d) ≡ false) → NoBreak xs
+unbroken xs h = recursion_from_All (λ b. b ≢ 10) xs (λ k d lt is. let none = h k d lt in grind (arith, nat_tests))
+
+pub shows_whole : (xs : List ℕ) (n : ℕ) → position is_break xs ≡ Some n → Shows xs n pieces.Whole
+shows_whole xs n is =
+    let (low, here, before) = position-Some is_break xs n 0 is in
+    let newline : get_or xs n 0 ≡ 10 = grind (arith, nat_tests) in (
+      take_more xs n 0 low ∙ ap (λ b. take n xs ++ b ∷ []) newline,
+      unbroken (take n xs) (λ k d lt.
+          let below : k < n = omega (arith, lt, length-take n xs) in
+          ap is_break (get_or-take n xs k d below) ∙ (position-Some is_break xs n d is).2 k below),
+    )
+
+pub shows_part : (xs : List ℕ) → position is_break xs ≡ None → 0 < length xs → Shows xs (length xs) pieces.Part
+shows_part xs is some = (some, refl, unbroken xs (λ k d lt. fails_before_first is_break xs k d (omega (arith, lt, late (nat_lt (position_or_len is_break xs) (length xs)) refl is))))
+  where
+    late : (t : Bool) → nat_lt (position_or_len is_break xs) (length xs) ≡ t → cond t (Some (position_or_len is_break xs)) None ≡ None → length xs ≤ position_or_len is_break xs
+    late true e h = cc h
+    late false e h = grind (arith, nat_tests)
+
+-- where a read showed nothing, there was no more
+pub end_from_shown : (old mid : Option (List ℕ)) (shown buffer : List ℕ) → Keeps old mid → IfSome mid (λ xs. length shown ≡ 0 → xs ≡ []) → IfSome mid (λ _. length shown ≤ length buffer)
+    → buffer ≡ [] → IsAtEnd old
+end_from_shown None mid shown buffer kept end fits none = tt
+end_from_shown (Some xs) None shown buffer kept end fits none = absurd kept
+end_from_shown (Some xs) (Some ys) shown buffer kept end fits none = sym kept ∙ end (omega (arith, fits, ap length none))
+
+-- ---- pieces of a line
 
 line_before : (xs ys : List ℕ) → NoBreak xs → first_line (xs ++ 10 ∷ ys) ≡ xs
 line_before [] ys h = refl
@@ -29,286 +60,158 @@ rest_behind : (xs ys : List ℕ) → NoBreak xs → drop_through 10 (xs ++ 10 �
 rest_behind [] ys h = refl
 rest_behind (x ∷ xs) ys h = ap (λ t. cond t (xs ++ 10 ∷ ys) (drop_through 10 (xs ++ 10 ∷ ys))) (other x h.0) ∙ rest_behind xs ys h.1
 
-last_line : (xs : List ℕ) → NoBreak xs → first_line xs ≡ xs
-last_line [] h = refl
-last_line (x ∷ xs) h = ap (λ t. cond t [] (x ∷ first_line xs)) (other x h.0) ∙ ap (λ l. x ∷ l) (last_line xs h.1)
+last_line : (xs : List ℕ) → NoBreak xs → (first_line xs ≡ xs) × (drop_through 10 xs ≡ [])
+last_line [] h = (refl, refl)
+last_line (x ∷ xs) h =
+    let (line, rest) = last_line xs h.1 in
+    (ap (λ t. cond t [] (x ∷ first_line xs)) (other x h.0) ∙ ap (λ l. x ∷ l) line, ap (λ t. cond t xs (drop_through 10 xs)) (other x h.0) ∙ rest)
 
-nothing_behind : (xs : List ℕ) → NoBreak xs → drop_through 10 xs ≡ []
-nothing_behind [] h = refl
-nothing_behind (x ∷ xs) h = ap (λ t. cond t xs (drop_through 10 xs)) (other x h.0) ∙ nothing_behind xs h.1
-
--- ---- what is kept of it
+no_break_join : (xs ys : List ℕ) → NoBreak xs → NoBreak ys → NoBreak (xs ++ ys)
+no_break_join [] ys p q = q
+no_break_join (x ∷ xs) ys p q = (p.0, no_break_join xs ys p.1 q)
 
 take-join : (n : ℕ) (xs ys : List ℕ) → take n (take n xs ++ ys) ≡ take n (xs ++ ys)
 take-join zero xs ys = refl
 take-join (suc n) [] ys = refl
 take-join (suc n) (x ∷ xs) ys = ap (λ l. x ∷ l) (take-join n xs ys)
 
-take_none : (n : ℕ) (xs : List ℕ) → 0 < n → length (take n xs) ≡ 0 → xs ≡ []
-take_none zero xs some h = absurd (omega arith)
-take_none (suc n) [] some h = refl
-take_none (suc n) (x ∷ xs) some h = absurd (omega arith)
-
-kept-nil : kept [] ≡ []
+kept-join : (line xs ys now : List ℕ) → line ≡ kept xs → now ≡ kept (line ++ ys) → now ≡ kept (xs ++ ys)
 unfolding kept
-kept-nil = refl
-
-kept-join : (xs ys : List ℕ) → kept (kept xs ++ ys) ≡ kept (xs ++ ys)
-unfolding kept
-kept-join xs ys = take-join 20001 xs ys
+kept-join line xs ys now was is = is ∙ ap (λ l. take 20001 (l ++ ys)) was ∙ take-join 20001 xs ys
 
 kept_none : (xs : List ℕ) → length (kept xs) ≡ 0 → xs ≡ []
 unfolding kept
-kept_none xs h = take_none 20001 xs (omega arith) h
+kept_none [] h = refl
+kept_none (x ∷ xs) h = absurd (omega (arith, h, length-take 20001 (x ∷ xs)))
 
-kept_some : (xs : List ℕ) → length (kept xs) ≢ 0 → 0 < length xs
+kept_some : (xs : List ℕ) → 0 < length (kept xs) → 0 < length xs
 unfolding kept
 kept_some xs h = omega (arith, h, length-take 20001 xs)
-
--- ---- pieces of a line
 
 -- Bytes of the line were taken since old
 pub record HasTaken (old new : LinesState) : Type 0 where
   pub taken : List ℕ
-  pub unbroken : NoBreak taken
-  pub line : new.line ≡ kept taken
-  pub left : IfSome old.left (λ xs. (rest : List ℕ) × (new.left ≡ Some rest) × (xs ≡ taken ++ rest))
+  pub so_far : TakesBytes taken taken (record { left = old.left; line = [] }) new
 
 pub none_taken : (old new : LinesState) → new.line ≡ [] → new.left ≡ old.left → HasTaken old new
-none_taken old new empty same = record { taken = []; unbroken = tt; line = empty ∙ sym kept-nil; left = by_case old.left same }
-  where
-    by_case : (known : Option (List ℕ)) → new.left ≡ known → IfSome known (λ xs. (rest : List ℕ) × (new.left ≡ Some rest) × (xs ≡ rest))
-    by_case None e = tt
-    by_case (Some xs) e = (xs, e, refl)
-
--- what is left of a known input stays known
-rest_kept : (a b c : Option (List ℕ)) (taken : List ℕ) → IfSome a (λ xs. (rest : List ℕ) × (b ≡ Some rest) × (xs ≡ taken ++ rest)) → Keeps b c → IfSome a (λ xs. (rest : List ℕ) × (c ≡ Some rest) × (xs ≡ taken ++ rest))
-rest_kept None b c taken h k = tt
-rest_kept (Some xs) b None taken (rest, is, all) k = absurd (subst (λ (o : Option (List ℕ)). Keeps o None) is k)
-rest_kept (Some xs) b (Some ys) taken (rest, is, all) k = (ys, refl, all ∙ ap (λ l. taken ++ l) (sym (subst (λ (o : Option (List ℕ)). Keeps o (Some ys)) is k)))
-
--- a read of the input takes nothing of it
-pub taken_kept : (old mid new : LinesState) → HasTaken old mid → Keeps mid.left new.left → new.line ≡ mid.line → HasTaken old new
-taken_kept old mid new h k same = record {
-  taken = h.taken;
-  unbroken = h.unbroken;
-  line = same ∙ h.line;
-  left = rest_kept old.left mid.left new.left h.taken h.left k;
-}
-
-join_line : (line taken piece now : List ℕ) → line ≡ kept taken → now ≡ kept (line ++ piece) → now ≡ kept (taken ++ piece)
-join_line line taken piece now was is = is ∙ ap (λ l. kept (l ++ piece)) was ∙ kept-join taken piece
-
--- a piece without the newline
-pub taken_more : (old mid new : LinesState) → HasTaken old mid → TakesPiece mid new false → HasTaken old new
-taken_more old mid new h (piece, unbroken, line, left) = record {
-  taken = h.taken ++ piece;
-  unbroken = no_break_join h.taken piece h.unbroken unbroken;
-  line = join_line mid.line h.taken piece new.line h.line line;
-  left = by_case old.left mid.left h.left left;
-}
-  where
-    by_case : (a b : Option (List ℕ)) → IfSome a (λ xs. (rest : List ℕ) × (b ≡ Some rest) × (xs ≡ h.taken ++ rest))
-        → IfSome b (λ xs. (rest : List ℕ) × (new.left ≡ Some rest) × (xs ≡ piece ++ rest))
-        → IfSome a (λ xs. (rest : List ℕ) × (new.left ≡ Some rest) × (xs ≡ (h.taken ++ piece) ++ rest))
-    by_case None b p q = tt
-    by_case (Some xs) None p q = cc p.1
-    by_case (Some xs) (Some ys) (rest, is, all) (more, now, them) =
-        (more, now, all ∙ ap (λ l. h.taken ++ l) (cc is ∙ them) ∙ sym (append_assoc h.taken piece more))
-
--- the last piece, with the newline
-pub taken_whole : (old mid new : LinesState) → HasTaken old mid → TakesPiece mid new true → Advances old new true
-taken_whole old mid new h (piece, unbroken, line, left) = by_case old.left mid.left h.left left
-  where
-    all : List ℕ
-    all = h.taken ++ piece
-
-    all_unbroken : NoBreak all
-    all_unbroken = no_break_join h.taken piece h.unbroken unbroken
-
-    is_kept : new.line ≡ kept all
-    is_kept = join_line mid.line h.taken piece new.line h.line line
-
-    told : (xs more : List ℕ) → new.left ≡ Some more → xs ≡ all ++ 10 ∷ more → TakesLine xs new.line new.left
-    told xs more now is = record {
-      some = omega (arith, ap length is, length-append all (10 ∷ more));
-      line = is_kept ∙ ap kept (sym (ap first_line is ∙ line_before all more all_unbroken));
-      left = now ∙ ap (λ l. Some l) (sym (ap (drop_through 10) is ∙ rest_behind all more all_unbroken));
-    }
-
-    by_case : (a b : Option (List ℕ)) → IfSome a (λ xs. (rest : List ℕ) × (b ≡ Some rest) × (xs ≡ h.taken ++ rest))
-        → IfSome b (λ xs. (rest : List ℕ) × (new.left ≡ Some rest) × (xs ≡ piece ++ 10 ∷ rest))
-        → IfSome a (λ xs. TakesLine xs new.line new.left)
-    by_case None b p q = tt
-    by_case (Some xs) None p q = cc p.1
-    by_case (Some xs) (Some ys) (rest, is, before) (more, now, them) =
-        told xs more now (before ∙ ap (λ l. h.taken ++ l) (cc is ∙ them) ∙ sym (append_assoc h.taken piece (10 ∷ more)))
-
--- ---- the end of the input
-
-whole_taken : (old mid new : Option (List ℕ)) (taken : List ℕ) → IfSome old (λ xs. (rest : List ℕ) × (mid ≡ Some rest) × (xs ≡ taken ++ rest)) → Keeps mid new → IsAtEnd mid
-    → IfSome old (λ xs. (xs ≡ taken) × (new ≡ Some []))
-whole_taken None mid new taken p k end = tt
-whole_taken (Some xs) None new taken p k end = cc p.1
-whole_taken (Some xs) (Some ys) None taken p k end = absurd k
-whole_taken (Some xs) (Some ys) (Some zs) taken (rest, is, all) k end =
-    let none : rest ≡ [] = cc in
-    (all ∙ ap (λ l. taken ++ l) none ∙ append-nil taken, ap (λ l. Some l) (k ∙ end))
-
--- there was no line any more
-taken_nothing : (old mid new : LinesState) → HasTaken old mid → Keeps mid.left new.left → IsAtEnd mid.left → new.line ≡ mid.line → length new.line ≡ 0
-    → Advances old new false
-taken_nothing old mid new h k end same empty = by_case old.left (whole_taken old.left mid.left new.left h.taken h.left k end)
-  where
-    none : h.taken ≡ []
-    none = kept_none h.taken (sym (ap length (same ∙ h.line)) ∙ empty)
-
-    by_case : (known : Option (List ℕ)) → IfSome known (λ xs. (xs ≡ h.taken) × (new.left ≡ Some [])) → IfSome known (λ xs. (xs ≡ []) × (new.left ≡ Some []))
-    by_case None p = tt
-    by_case (Some xs) p = (p.0 ∙ none, p.1)
-
--- the last line has no newline
-taken_last : (old mid new : LinesState) → HasTaken old mid → Keeps mid.left new.left → IsAtEnd mid.left → new.line ≡ mid.line → length new.line ≢ 0
-    → Advances old new true
-taken_last old mid new h k end same some = by_case old.left (whole_taken old.left mid.left new.left h.taken h.left k end)
-  where
-    is_kept : new.line ≡ kept h.taken
-    is_kept = same ∙ h.line
-
-    by_case : (known : Option (List ℕ)) → IfSome known (λ xs. (xs ≡ h.taken) × (new.left ≡ Some [])) → IfSome known (λ xs. TakesLine xs new.line new.left)
-    by_case None p = tt
-    by_case (Some xs) p = record {
-      some = omega (arith, kept_some h.taken (λ none. some (ap length is_kept ∙ none)), ap length p.0);
-      line = is_kept ∙ ap kept (sym (ap first_line p.0 ∙ last_line h.taken h.unbroken));
-      left = p.1 ∙ ap (λ l. Some l) (sym (ap (drop_through 10) p.0 ∙ nothing_behind h.taken h.unbroken));
-    }
-
--- so where the input ended, a line was read if it has bytes
-pub taken_end : (old mid new : LinesState) (is_empty : Bool) → HasTaken old mid → Keeps mid.left new.left → IsAtEnd mid.left → new.line ≡ mid.line
-    → (is_empty ≡ true → length new.line ≡ 0) → (is_empty ≡ false → length new.line ≢ 0) → Advances old new (not is_empty)
-taken_end old mid new true h k end same empty some = taken_nothing old mid new h k end same (empty refl)
-taken_end old mid new false h k end same empty some = taken_last old mid new h k end same (some refl)
-
--- ---- where a piece ends
-
-abbrev pub is_break : ℕ → Bool
-is_break b = b == 10
-
--- where the first newline is, or how many bytes there are
-abbrev pub break_at : List ℕ → ℕ
-break_at xs = position_or_len is_break xs
-
-break_at-cons : (x : ℕ) (xs : List ℕ) (t : Bool) → (x == 10) ≡ t → break_at (x ∷ xs) ≡ cond t 0 (suc (break_at xs))
-break_at-cons x xs true e = ap (λ t. cond (not t) (1 + break_at xs) 0) e
-break_at-cons x xs false e = ap (λ t. cond (not t) (1 + break_at xs) 0) e ∙ omega arith
-
-differs : (x : ℕ) → (x == 10) ≡ false → x ≢ 10
-differs x e = grind (arith, nat_tests)
-
--- no byte before the first newline is one
-pub piece_unbroken : (xs : List ℕ) → NoBreak (take (break_at xs) xs)
-piece_unbroken [] = tt
-piece_unbroken (x ∷ xs) = by_test (x == 10) refl (piece_unbroken xs)
-  where
-    by_test : (t : Bool) → (x == 10) ≡ t → NoBreak (take (break_at xs) xs) → NoBreak (take (break_at (x ∷ xs)) (x ∷ xs))
-    by_test true e h = subst (λ n. NoBreak (take n (x ∷ xs))) (sym (break_at-cons x xs true e)) tt
-    by_test false e h = subst (λ n. NoBreak (take n (x ∷ xs))) (sym (break_at-cons x xs false e)) (differs x e, h)
-
--- the bytes before the first newline, and those behind it
-pub piece_found : (xs : List ℕ) → break_at xs < length xs → xs ≡ take (break_at xs) xs ++ 10 ∷ drop (suc (break_at xs)) xs
-piece_found [] lt = absurd (omega arith)
-piece_found (x ∷ xs) lt = by_test (x == 10) refl (piece_found xs)
-  where
-    Splits : ℕ → Type 0
-    Splits n = x ∷ xs ≡ take n (x ∷ xs) ++ 10 ∷ drop (suc n) (x ∷ xs)
-
-    by_test : (t : Bool) → (x == 10) ≡ t → (break_at xs < length xs → xs ≡ take (break_at xs) xs ++ 10 ∷ drop (suc (break_at xs)) xs) → Splits (break_at (x ∷ xs))
-    by_test true e h =
-        let is : x ≡ 10 = grind (arith, nat_tests) in
-        subst Splits (sym (break_at-cons x xs true e)) (ap (λ b. b ∷ xs) is)
-    by_test false e h =
-        let here = break_at-cons x xs false e in
-        subst Splits (sym here) (ap (λ l. x ∷ l) (h (omega (arith, lt, here))))
-
-take_nil : (n : ℕ) (xs : List ℕ) → xs ≡ [] → take n xs ≡ []
-take_nil zero xs e = refl
-take_nil (suc n) xs e = ap (take (suc n)) e
-
-take_min : (m n : ℕ) (xs : List ℕ) (k : ℕ) → k ≡ min m n → take k xs ≡ take n (take m xs)
-take_min zero n xs zero e = sym (take_nil n [] refl)
-take_min (suc m) zero xs zero e = refl
-take_min (suc m) (suc n) xs zero e = absurd (omega arith)
-take_min zero n xs (suc k) e = absurd (omega arith)
-take_min (suc m) zero xs (suc k) e = absurd (omega arith)
-take_min (suc m) (suc n) [] (suc k) e = refl
-take_min (suc m) (suc n) (x ∷ xs) (suc k) e = ap (λ l. x ∷ l) (take_min m n xs k (omega arith))
-
--- what is kept of a line and of its next piece
-kept_piece : (shown : List ℕ) (end room : ℕ) (l : List ℕ) (n : ℕ) → length l ≤ n → room ≡ n - length l → l ++ take (min end room) shown ≡ take n (l ++ take end shown)
-kept_piece shown end room [] n fits is = take_min end n shown (min end room) (omega (arith, is))
-kept_piece shown end room (x ∷ l) zero fits is = absurd (omega arith)
-kept_piece shown end room (x ∷ l) (suc n) fits is = ap (λ t. x ∷ t) (kept_piece shown end room l n (omega arith) (omega arith))
-
-none_from : (n : ℕ) (xs : List ℕ) → length xs ≤ n → drop n xs ≡ []
-none_from zero [] h = refl
-none_from zero (x ∷ xs) h = absurd (omega arith)
-none_from (suc n) [] h = refl
-none_from (suc n) (x ∷ xs) h = none_from n xs (omega arith)
-
--- what a buffer showed, as a piece of a line and what is behind it
-shown_piece : (shown more : List ℕ) (end : ℕ) (is_whole : Bool) → end ≡ break_at shown → is_whole ≡ nat_lt end (length shown)
-    → shown ++ more ≡ take end shown ++ cond is_whole (10 ∷ (drop (end + 1) shown ++ more)) (drop (end + 1) shown ++ more)
-shown_piece shown more end true here whole =
-    let lt : break_at shown < length shown = grind (arith, nat_tests) in
-    let next : break_at shown + 1 ≡ suc (break_at shown) = omega arith in
-    subst (λ n. shown ++ more ≡ take n shown ++ 10 ∷ (drop (n + 1) shown ++ more)) (sym here)
-    (ap (λ l. l ++ more) (piece_found shown lt) ∙ append_assoc (take (break_at shown) shown) (10 ∷ drop (suc (break_at shown)) shown) more
-    ∙ ap (λ n. take (break_at shown) shown ++ 10 ∷ (drop n shown ++ more)) (sym next))
-shown_piece shown more end false here whole =
-    let late : length shown ≤ end = grind (arith, nat_tests) in
-    ap (λ l. l ++ more) (sym (take_all end shown late)) ∙ ap (λ l. take end shown ++ (l ++ more)) (sym (none_from (end + 1) shown (omega (arith, late))))
-
--- what is taken where a buffer showed this, and then lost all up to the newline
-pub takes_piece : (known later : Option (List ℕ)) (old_size new_size : ℕ) (shown rest line now : List ℕ) (end room : ℕ) (is_whole : Bool)
-    → later ≡ known → new_size ≡ old_size → rest ≡ drop (end + 1) shown → end ≡ break_at shown → is_whole ≡ nat_lt end (length shown)
-    → now ≡ line ++ take (min end room) shown → length line ≤ 20001 → room ≡ 20001 - length line
-    → (piece : List ℕ) × NoBreak piece × (now ≡ kept (line ++ piece))
-    × IfSome (if old_size == 0 then None else prepend_known shown known) (λ xs. (more : List ℕ)
-    × ((if new_size == 0 then None else prepend_known rest later) ≡ Some more) × (xs ≡ piece ++ (if is_whole then 10 ∷ more else more)))
 unfolding kept
-takes_piece known later old_size new_size shown rest line now end room is_whole same size left here whole is fits free = (
-  take end shown,
-  subst (λ n. NoBreak (take n shown)) (sym here) (piece_unbroken shown),
-  is ∙ kept_piece shown end room line 20001 fits free,
-  subst (λ (o : Option (List ℕ)). IfSome (if old_size == 0 then None else prepend_known shown known) (λ xs. (more : List ℕ)
-      × ((if new_size == 0 then None else prepend_known rest o) ≡ Some more) × (xs ≡ take end shown ++ (if is_whole then 10 ∷ more else more))))
-      (sym same) (by_size (old_size == 0) refl known),
-)
+none_taken old new empty same = record {
+  taken = [];
+  so_far = record { unbroken = tt; line = empty; left = subst (λ (o : Option (List ℕ)). Consumes old.left o []) (sym same) (Consumes-nil old.left) };
+}
+
+pieces_join : (a b c : LinesState) (xs ys all : List ℕ) → TakesBytes xs xs a b → TakesBytes ys all b c → TakesBytes (xs ++ ys) (xs ++ all) a c
+pieces_join a b c xs ys all p q = record {
+  unbroken = no_break_join xs ys p.unbroken q.unbroken;
+  line = kept-join b.line (a.line ++ xs) ys c.line p.line q.line ∙ ap kept (append_assoc a.line xs ys);
+  left = Consumes-trans a.left b.left c.left xs all p.left q.left;
+}
+
+pub taken_more : (old mid new : LinesState) → HasTaken old mid → TakesPiece mid new pieces.Part → HasTaken old new
+taken_more old mid new h (bytes, some, piece) = record { taken = h.taken ++ bytes; so_far = pieces_join _ mid new h.taken bytes bytes h.so_far piece }
+
+pub taken_whole : (old mid new : LinesState) → HasTaken old mid → TakesPiece mid new pieces.Whole → Advances old new true
+taken_whole old mid new h (bytes, piece) = by_case old.left new.left whole.left
   where
-    Left : Bool → Option (List ℕ) → Type 0
-    Left t o = IfSome (cond t None (prepend_known shown o)) (λ xs. (more : List ℕ)
-        × ((if new_size == 0 then None else prepend_known rest o) ≡ Some more) × (xs ≡ take end shown ++ (if is_whole then 10 ∷ more else more)))
+    line : List ℕ
+    line = h.taken ++ bytes
 
-    by_size : (t : Bool) → (old_size == 0) ≡ t → (o : Option (List ℕ)) → Left t o
-    by_size true e o = tt
-    by_size false e None = tt
-    by_size false e (Some ys) =
-        let open_too : (new_size == 0) ≡ false = ap (λ n. n == 0) size ∙ e in (
-          drop (end + 1) shown ++ ys,
-          ap (λ t. cond t None (Some (rest ++ ys))) open_too ∙ ap (λ l. Some (l ++ ys)) left,
-          shown_piece shown ys end is_whole here whole,
-        )
+    whole : TakesBytes line (h.taken ++ (bytes ++ 10 ∷ [])) (record { left = old.left; line = [] }) new
+    whole = pieces_join _ mid new h.taken bytes (bytes ++ 10 ∷ []) h.so_far piece
 
-last : (m n k : ℕ) → m ≤ n → nat_lt m n ≡ false → k ≡ n → k ≡ m
-last m n k le e is = grind (arith, nat_tests)
+    by_case : (a b : Option (List ℕ)) → Consumes a b (h.taken ++ (bytes ++ 10 ∷ [])) → IfSome a (λ xs. TakesLine xs new.line b)
+    by_case None b left = tt
+    by_case (Some xs) None left = absurd left
+    by_case (Some xs) (Some ys) left =
+        let all : xs ≡ line ++ 10 ∷ ys = left ∙ rw (append_assoc, append_assoc, append_assoc) refl in
+        record {
+          some = omega (arith, ap length all, length-append line (10 ∷ ys));
+          line = whole.line ∙ ap kept (sym (ap first_line all ∙ line_before line ys whole.unbroken));
+          left = ap (λ l. Some l) (sym (ap (drop_through 10) all ∙ rest_behind line ys whole.unbroken));
+        }
 
--- where the first newline is, by the place that a search finds
-pub break_from_position : (xs : List ℕ) (found : Option ℕ) (at : ℕ) → found ≡ position is_break xs → at ≡ unwrap_or found (length xs) → (at ≡ break_at xs) × (at ≤ length xs)
-break_from_position xs found at is answer = by_test (nat_lt (break_at xs) (length xs)) refl (answer ∙ ap (λ o. unwrap_or o (length xs)) is)
+-- the input ended: there was a line where bytes were taken
+pub taken_end : (old mid new : LinesState) (is_empty : Bool) → HasTaken old mid → TakesPiece mid new pieces.End → is_empty ≡ (length new.line == 0) → Advances old new (not is_empty)
+taken_end old mid new is_empty start (piece, end) test = by_test is_empty test
   where
-    within : break_at xs ≤ length xs
-    within = prefix_len-le-length (λ x. not (is_break x)) xs
+    taken : List ℕ
+    taken = start.taken
 
-    by_test : (t : Bool) → nat_lt (break_at xs) (length xs) ≡ t → at ≡ unwrap_or (cond t (Some (break_at xs)) None) (length xs) → (at ≡ break_at xs) × (at ≤ length xs)
-    by_test true e h = (h, omega (arith, h, within))
-    by_test false e h = (last (break_at xs) (length xs) at within e h, omega (arith, h))
+    h : TakesBytes taken taken (record { left = old.left; line = [] }) mid
+    h = start.so_far
+
+    is_kept : new.line ≡ kept taken
+    is_kept = kept-join mid.line taken [] new.line h.line piece.line ∙ ap kept (append-nil taken)
+
+    all : (a b c : Option (List ℕ)) → Consumes a b taken → IsAtEnd b → Consumes b c [] → IfSome a (λ xs. (xs ≡ taken) × (c ≡ Some []))
+    all None b c p e q = tt
+    all (Some xs) None c p e q = absurd p
+    all (Some xs) (Some ys) None p e q = absurd q
+    all (Some xs) (Some ys) (Some zs) p e q = (p ∙ ap (λ l. taken ++ l) e ∙ append-nil taken, ap (λ l. Some l) (sym q ∙ e))
+
+    told : (a : Option (List ℕ)) (P : List ℕ → Type 0) → ((xs : List ℕ) → xs ≡ taken → new.left ≡ Some [] → P xs) → IfSome a (λ xs. (xs ≡ taken) × (new.left ≡ Some [])) → IfSome a P
+    told None P f h = tt
+    told (Some xs) P f h = f xs h.0 h.1
+
+    by_test : (t : Bool) → t ≡ (length new.line == 0) → Advances old new (not t)
+    by_test true is =
+        let none : taken ≡ [] = kept_none taken (sym (ap length is_kept) ∙ grind (arith, nat_tests)) in
+        told old.left _ (λ xs same rest. (same ∙ none, rest)) (all old.left mid.left new.left h.left end piece.left)
+    by_test false is =
+        let (line, behind) = last_line taken h.unbroken in
+        told old.left _ (λ xs same rest. record {
+          some = omega (arith, kept_some taken (grind (arith, nat_tests, ap length is_kept)), ap length same);
+          line = is_kept ∙ ap kept (sym (ap first_line same ∙ line));
+          left = rest ∙ ap (λ l. Some l) (sym (ap (drop_through 10) same ∙ behind));
+        }) (all old.left mid.left new.left h.left end piece.left)
+
+-- ---- a piece, from what was shown
+
+kept_more : (n : ℕ) (l p : List ℕ) → length l ≤ n → l ++ take (n - length l) p ≡ take n (l ++ p)
+kept_more n [] p fits = let all : n - 0 ≡ n = omega arith in ap (λ k. take k p) all
+kept_more zero (x ∷ l) p fits = absurd (omega arith)
+kept_more (suc n) (x ∷ l) p fits =
+    let less : suc n - suc (length l) ≡ n - length l = omega arith in
+    ap (λ k. x ∷ (l ++ take k p)) less ∙ ap (λ t. x ∷ t) (kept_more n l p (omega arith))
+
+consumes_kept : (a b c : Option (List ℕ)) (bs : List ℕ) → Keeps a b → Consumes b c bs → Consumes a c bs
+consumes_kept None b c bs k p = tt
+consumes_kept (Some x) None c bs k p = absurd k
+consumes_kept (Some x) (Some y) None bs k p = absurd p
+consumes_kept (Some x) (Some y) (Some z) bs k p = sym k ∙ p
+
+-- what a reader has left, behind bytes that its buffer lost
+pub consumed : (known later : Option (List ℕ)) (size size' n : ℕ) (shown rest : List ℕ) → later ≡ known → size' ≡ size → rest ≡ drop n shown
+    → Consumes (if size == 0 then None else prepend_known shown known) (if size' == 0 then None else prepend_known rest later) (take n shown)
+consumed known later size size' n shown rest same sized left = rw (same, sized, left) (by_test (size == 0) known)
+  where
+    by_test : (t : Bool) (o : Option (List ℕ)) → Consumes (cond t None (prepend_known shown o)) (cond t None (prepend_known (drop n shown) o)) (take n shown)
+    by_test true o = tt
+    by_test false None = tt
+    by_test false (Some ys) = ap (λ l. l ++ ys) (sym (take-append-drop n shown)) ∙ append_assoc (take n shown) (drop n shown) ys
+
+pub takes_piece : (piece : Piece) (before mid after : Option (List ℕ)) (shown line now : List ℕ) (n room : ℕ) → Keeps before mid → (shown ≡ [] → IsAtEnd before)
+    → Consumes mid after (take (n + 1) shown) → Shows shown n piece → length line ≤ 20001 → room ≡ 20001 - length line
+    → now ≡ line ++ take (min room (length (take n shown))) (take n shown)
+    → TakesPiece (record { left = before; line = line }) (record { left = after; line = now }) piece
+unfolding kept
+takes_piece piece before mid after shown line now n room keeps end consumes shows fits free is = by_piece piece shows
+  where
+    all : Consumes before after (take (n + 1) shown)
+    all = consumes_kept before mid after _ keeps consumes
+
+    is_kept : now ≡ take 20001 (line ++ take n shown)
+    is_kept = is ∙ ap (λ l. line ++ l) (take_min room (take n shown)) ∙ ap (λ k. line ++ take k (take n shown)) free ∙ kept_more 20001 line (take n shown) fits
+
+    none : n ≡ 0 → shown ≡ [] → take n shown ≡ []
+    none e h = ap (λ k. take k shown) e
+
+    by_piece : (p : Piece) → Shows shown n p → TakesPiece (record { left = before; line = line }) (record { left = after; line = now }) p
+    by_piece pieces.Part (some, whole, none_in) =
+        let here : take n shown ≡ shown = take_all n shown (omega (arith, whole)) in
+        let beyond : take (n + 1) shown ≡ shown = take_all (n + 1) shown (omega (arith, whole)) in
+        (shown, omega (arith, whole, some), record { unbroken = none_in; line = is_kept ∙ ap (λ l. take 20001 (line ++ l)) here; left = subst (Consumes before after) beyond all })
+    by_piece pieces.Whole (newline, none_in) =
+        (take n shown, record { unbroken = none_in; line = is_kept; left = subst (Consumes before after) newline all })
+    by_piece pieces.End (zero', nothing) =
+        (record { unbroken = tt; line = is_kept ∙ ap (λ l. take 20001 (line ++ l)) (none zero' nothing); left = subst (Consumes before after) (ap (take (n + 1)) nothing ∙ take_all (n + 1) [] (omega arith)) all }, end nothing)

@@ -1,6 +1,6 @@
 -- How what is read and printed adds up, line by line.
-use Rattle.std.proofs.Common.{◌≡◌, ℕ, false, List, [], ◌∷◌, ◌++◌, Option, Some, None, refl, sym, ap, subst, ◌∙◌, append-nil}
-use Rattle.std.specs.Prelude.{IfSome}
+use Rattle.std.proofs.Common.{◌≡◌, ℕ, Bool, true, false, List, [], ◌∷◌, ◌++◌, Option, Some, None, refl, sym, ap, subst, ◌∙◌, append-nil}
+use Rattle.std.specs.Prelude.{IfSome, ◌||◌}
 use Rattle.std.specs.List.{AllByRecursion}
 use Rattle.std.specs.Io.KnownBytes.{Keeps, Appends}
 use Rattle.std.specs.Io.BufRead.{drop_through}
@@ -9,7 +9,7 @@ use Rattle.std.proofs.lemmas.List.Concat.{flat_map-append}
 use Rattle.jtool.specs.declared.script.Next.{Next}
 use Rattle.jtool.specs.declared.script.Next.TheVariants as nexts
 use Rattle.jtool.specs.Lines.{TakesLine}
-use Rattle.jtool.specs.Transcripts.{Streams, Turn, IsTurn, printed, Consists, Talks, Asks, Reads, Answers, IsTranscript, TalksToTheEnd, AsksOpening, Leaves}
+use Rattle.jtool.specs.Transcripts.{Streams, Turn, IsTurn, printed, is_bad, some_bad, Consists, Talks, Asks, Reads, Answers, IsTranscript, TalksToTheEnd, AsksOpening, Leaves}
 
 -- ---- lists of turns
 
@@ -21,10 +21,21 @@ consists_join : (xs : List ℕ) (ts us : List Turn) (ys zs : List ℕ) → Consi
 consists_join xs [] us ys zs p q = subst (λ l. Consists l us zs) p q
 consists_join xs (t ∷ ts) us ys zs (some, line, rest) q = (some, line, consists_join (drop_through 10 xs) ts us ys zs rest q)
 
+-- ---- bad lines
+
+or_none : (a : Bool) → a ≡ (a || false)
+or_none true = refl
+or_none false = refl
+
+bad_join : (a : Bool) (ts us : List Turn) → ((a || some_bad ts) || some_bad us) ≡ (a || some_bad (ts ++ us))
+bad_join true ts us = refl
+bad_join false [] us = refl
+bad_join false (t ∷ ts) us = bad_join (is_bad t.answer) ts us
+
 -- ---- nothing was read
 
 pub talks_none : (a : Streams) → Talks a a
-talks_none a = record { turns = []; answered = tt; read = by_case a.left refl; printed = Appends-nil a.held }
+talks_none a = record { turns = []; answered = tt; read = by_case a.left refl; printed = Appends-nil a.held; bad = or_none a.bad }
   where
     by_case : (known : Option (List ℕ)) → a.left ≡ known → IfSome known (λ xs. (ys : List ℕ) × (a.left ≡ Some ys) × (ys ≡ xs))
     by_case None e = tt
@@ -45,6 +56,7 @@ talks_join a b c p q = record {
   answered = turns_join p.turns q.turns p.answered q.answered;
   read = read_join a.left b.left c.left p.turns q.turns p.read q.read;
   printed = subst (Appends a.held c.held) (sym (flat_map-append printed p.turns q.turns)) (Appends-trans a.held b.held c.held _ _ p.printed q.printed);
+  bad = q.bad ∙ ap (λ t. t || some_bad q.turns) p.bad ∙ bad_join a.bad p.turns q.turns;
 }
 
 -- ---- one line
@@ -70,6 +82,7 @@ talks_line a b c asks answers =
       read = subst (λ (o : Option (List ℕ)). IfSome a.left (λ xs. (ys : List ℕ) × (o ≡ Some ys) × Consists xs (turn ∷ []) ys))
           (sym answers.prints.left) (one_line a.left turn b.left asks.read);
       printed = subst (Appends a.held c.held) (sym (append-nil _)) (appended a.held b.held c.held _ asks.quiet answers.prints.printed);
+      bad = answers.prints.bad ∙ ap (λ t. t || is_bad answers.answer) asks.bad ∙ ap (λ t. a.bad || t) (or_none (is_bad answers.answer));
     }
 
 -- it was read and answered behind others
@@ -80,7 +93,7 @@ talks_more a b c d talks asks answers = talks_join a b d talks (talks_line b c d
 
 -- nothing was left to read
 pub talks_end : (a b c : Streams) → Talks a b → Reads b c false → TalksToTheEnd a c
-talks_end a b c talks (none, quiet) = (talks_join a b c talks idle, by_case a.left b.left talks.read none)
+talks_end a b c talks (none, quiet, same) = (talks_join a b c talks idle, by_case a.left b.left talks.read none)
   where
     idle_read : (known : Option (List ℕ)) → IfSome known (λ xs. (xs ≡ []) × (c.left ≡ Some [])) → IfSome known (λ xs. (ys : List ℕ) × (c.left ≡ Some ys) × (ys ≡ xs))
     idle_read None p = tt
@@ -92,7 +105,7 @@ talks_end a b c talks (none, quiet) = (talks_join a b c talks idle, by_case a.le
     idle_printed (Some x) (Some y) k = k ∙ sym (append-nil x)
 
     idle : Talks b c
-    idle = record { turns = []; answered = tt; read = idle_read b.left none; printed = idle_printed b.held c.held quiet }
+    idle = record { turns = []; answered = tt; read = idle_read b.left none; printed = idle_printed b.held c.held quiet; bad = same ∙ or_none b.bad }
 
     by_case : (o p : Option (List ℕ)) → IfSome o (λ xs. (ys : List ℕ) × (p ≡ Some ys) × Consists xs talks.turns ys) → IfSome p (λ xs. (xs ≡ []) × (c.left ≡ Some []))
         → IfSome o (λ _. c.left ≡ Some [])
@@ -124,22 +137,16 @@ leaves_opened next a b c d (mid, talks, asks, opens) answers leaves =
     leaves_join next a c d (talks_more a mid b c talks asks answers) leaves
 
 -- all lines were answered
-pub transcript_from_end : (a b : Streams) → TalksToTheEnd a b → IsTranscript a.left a.held b.held
-transcript_from_end a b (talks, end) = record {
+pub transcript_from_end : (a b : Streams) (left : Option (List ℕ)) (bad : Bool) → TalksToTheEnd a b → a.left ≡ left → a.bad ≡ false → b.bad ≡ bad → IsTranscript left a.held b.held bad
+transcript_from_end a b left bad (talks, end) first good after = record {
   turns = talks.turns;
   answered = talks.answered;
-  read = by_case a.left talks.read end;
+  read = subst (λ (o : Option (List ℕ)). IfSome o (λ xs. Consists xs talks.turns [])) first (by_case a.left talks.read end);
   printed = talks.printed;
+  bad_lines = sym after ∙ talks.bad ∙ ap (λ t. t || some_bad talks.turns) good;
 }
   where
     by_case : (known : Option (List ℕ)) → IfSome known (λ xs. (ys : List ℕ) × (b.left ≡ Some ys) × Consists xs talks.turns ys) → IfSome known (λ _. b.left ≡ Some [])
         → IfSome known (λ xs. Consists xs talks.turns [])
     by_case None p q = tt
     by_case (Some xs) (ys, is, all) q = subst (λ l. Consists xs talks.turns l) (cc) all
-
--- the same, of streams that began and ended so
-pub transcript_of : (a b : Streams) (left held final : Option (List ℕ)) → TalksToTheEnd a b → a.left ≡ left → a.held ≡ held → b.held ≡ final → IsTranscript left held final
-transcript_of a b left held final talks first before after =
-    subst (λ (f : Option (List ℕ)). IsTranscript left held f) after
-    (subst (λ (h : Option (List ℕ)). IsTranscript left h b.held) before
-    (subst (λ (l : Option (List ℕ)). IsTranscript l a.held b.held) first (transcript_from_end a b talks)))

@@ -1,13 +1,15 @@
 -- What a command does to the client of an open journal, and what it is answered.
-use Rattle.std.specs.Prelude.{ℕ, ◌≡◌, ◌⊎◌, ◌-◌, ◌^◌, false, true, List, [], replicate, Option, Some, None, Result, Ok, Err, IsSome, MatchOption}
+use Rattle.std.specs.Prelude.{ℕ, ◌≡◌, ◌⊎◌, ◌<◌, ◌≤◌, ◌-◌, ◌^◌, false, true, List, [], length, replicate, Option, Some, None, Result, Ok, Err, IsSome, MatchOption, unwrap_or}
 use Rattle.std.specs.declared.ops.ControlFlow.{ControlFlow}
 use Rattle.std.specs.declared.ops.ControlFlow.TheVariants.{Continue, Break}
 use Rattle.journal_world.specs.declared.address.Addr.{Addr}
 use Rattle.journal_world.specs.declared.refusal.Refusal.{Refusal}
+use Rattle.journal_world.specs.declared.refusal.Refusal.TheVariants.{NoMemory}
 use Rattle.journal_world.specs.Addresses.{Value}
 use Rattle.journal_history.specs.Tokens.{SessionState, CommitPlace, OnlyExtends}
 use Rattle.journal_core.specs.Causes.{Told}
-use Rattle.journal_twophase.specs.Transactions.{TxnState, core_of, begun, holding, Reads, Overwrites}
+use Rattle.journal_twophase.specs.Journals.{IsLogRefusal, IsInstallRefusal}
+use Rattle.journal_twophase.specs.Transactions.{TxnState, core_of, begun, holding, Reads, Overwrites, IsReadRefusal, IsOverwriteRefusal}
 use Rattle.journal_twophase.specs.Commits.{IsCommitted, IsTryRefusal}
 use Rattle.jtool.specs.declared.command.Command.{Command}
 use Rattle.jtool.specs.declared.command.Command.TheVariants as commands
@@ -16,9 +18,10 @@ use Rattle.jtool.specs.declared.command.Choice.TheVariants as choices
 use Rattle.jtool.specs.declared.answer.Answer.{Answer}
 use Rattle.jtool.specs.declared.answer.Answer.TheVariants as answers
 use Rattle.jtool.specs.declared.client.Crash.{Crash}
-use Rattle.jtool.specs.Answers.{to_no_command}
+use Rattle.jtool.specs.declared.steps.Actor.{Actor}
+use Rattle.jtool.specs.declared.steps.Actor.TheVariants as actors
+use Rattle.jtool.specs.Answers.{to_no_command, Refuses}
 use Rattle.jtool.specs.Commands.{LineSays}
-use Rattle.jtool.specs.Transcripts.{IsAnswerTo}
 
 -- The session, and the transaction that is open
 pub record ClientState : Type 0 where
@@ -75,26 +78,59 @@ CommitsOpen old (Ok answers.NoTransaction) new = (old.txn ≡ None) × (new ≡ 
 CommitsOpen old (Ok answer) new = ⊥
 CommitsOpen old (Err why) new = MatchOption old.txn ⊥ (λ t. RefusesCommit t old why new)
 
--- a transaction that is no longer open left the session at least as it was
-abbrev pub EndsOpen : ClientState → ClientState → Type 0
-EndsOpen old new = IsSome old.txn × (new.txn ≡ None) × OnlyExtends old.session new.session
+-- so many steps, at most, where a number stands there
+abbrev pub most_of : Option ℕ → ℕ
+most_of most = unwrap_or most 18446744073709551615
 
--- What a command is answered, and leaves. `put` and `get` begin a transaction where none is open, also where they are refused
-abbrev pub Obeys : ClientState → Command → Answer → ClientState → Type 0
-Obeys old (commands.Put a v) answers.Done new = Puts old a v.now new
-Obeys old (commands.Put a v) answer new = KeepsOpen old (λ _. Unit {0}) new
-Obeys old (commands.Get a) (answers.Value v) new = Gets old a v new
-Obeys old (commands.Get a) answer new = KeepsOpen old (λ _. Unit {0}) new
-Obeys old commands.Commit (answers.Committed n) new = MatchOption old.txn ⊥ (λ t. Commits t old n new)
-Obeys old commands.Commit answers.NoTransaction new = (old.txn ≡ None) × (new ≡ old)
-Obeys old commands.Commit answer new = EndsOpen old new
-Obeys old commands.Abort answers.Done new = IsSome old.txn × (new ≡ record old { txn = None })
-Obeys old commands.Abort answer new = (answer ≡ answers.NoTransaction) × (old.txn ≡ None) × (new ≡ old)
-Obeys old command answer new = new ≡ old
+-- why a step is refused
+abbrev pub IsStepRefusal : Actor → Refusal Told → Type 0
+IsStepRefusal actors.Logger why = IsLogRefusal why
+IsStepRefusal actors.Installer why = IsInstallRefusal why
+IsStepRefusal actors.Waiter why = IsLogRefusal why ⊎ IsInstallRefusal why
 
--- It is an answer to the command, which is so obeyed
-abbrev pub Does : ClientState → Command → Answer → ClientState → Type 0
-Does old command answer new = IsAnswerTo command answer × Obeys old command answer new
+-- why a command is refused that looks at no transaction
+abbrev pub IsRefusal : Command → Refusal Told → Type 0
+IsRefusal commands.Wait why = IsStepRefusal actors.Waiter why
+IsRefusal (commands.Log most) why = IsStepRefusal actors.Logger why
+IsRefusal (commands.Install most) why = IsStepRefusal actors.Installer why
+IsRefusal commands.Pend why = why ≡ NoMemory
+IsRefusal (commands.Disk block at len) why = why ≡ NoMemory
+IsRefusal (commands.Down choice) why = why ≡ NoMemory
+IsRefusal (commands.Crash choice) why = why ≡ NoMemory
+IsRefusal command why = ⊥
+
+-- the answer is a refusal, which may come
+abbrev pub IsRefused : (Refusal Told → Type 0) → Answer → Type 0
+IsRefused may_come answer = (why : Refusal Told) × may_come why × Refuses why answer
+
+-- what a command gives that is done and looks at no transaction, of a journal over so many blocks
+abbrev pub Gives : ℕ → Command → Answer → Type 0
+Gives blocks commands.Wait (answers.Stable n) = Unit {0}
+Gives blocks (commands.Log most) (answers.Logged n) = n ≤ most_of most
+Gives blocks (commands.Install most) (answers.Installed n) = n ≤ most_of most
+Gives blocks commands.Stat (answers.Stat stat) = Unit {0}
+Gives blocks commands.Pend (answers.Pending pending) = Unit {0}
+Gives blocks (commands.Disk block at len) (answers.Value v) = (block < blocks) × (length v ≡ len)
+Gives blocks (commands.Disk block at len) answers.BadLine = block < blocks → ⊥
+Gives blocks (commands.Fail call) answers.Done = Unit {0}
+Gives blocks commands.Open answers.Up = Unit {0}
+Gives blocks (commands.Poke block at v) answers.Up = block < blocks
+Gives blocks (commands.Poke block at v) answers.BadLine = block < blocks → ⊥
+Gives blocks command answer = ⊥
+
+-- What a command is answered, and leaves, of a journal over so many blocks. `put` and `get` begin a transaction where none is
+-- open, also where they are refused
+abbrev pub Obeys : ℕ → ClientState → Command → Answer → ClientState → Type 0
+Obeys blocks old (commands.Put a v) answers.Done new = Puts old a v.now new
+Obeys blocks old (commands.Put a v) answer new = KeepsOpen old (λ t. IsRefused (IsOverwriteRefusal blocks t a v.now) answer) new
+Obeys blocks old (commands.Get a) (answers.Value v) new = Gets old a v new
+Obeys blocks old (commands.Get a) answer new = KeepsOpen old (λ t. IsRefused (IsReadRefusal blocks t a) answer) new
+Obeys blocks old commands.Commit (answers.Committed n) new = MatchOption old.txn ⊥ (λ t. Commits t old n new)
+Obeys blocks old commands.Commit answers.NoTransaction new = (old.txn ≡ None) × (new ≡ old)
+Obeys blocks old commands.Commit answer new = MatchOption old.txn ⊥ (λ t. IsRefused (λ why. RefusesCommit t old why new) answer)
+Obeys blocks old commands.Abort answers.Done new = IsSome old.txn × (new ≡ record old { txn = None })
+Obeys blocks old commands.Abort answer new = (answer ≡ answers.NoTransaction) × (old.txn ≡ None) × (new ≡ old)
+Obeys blocks old command answer new = (Gives blocks command answer ⊎ IsRefused (IsRefusal command) answer) × (new ≡ old)
 
 -- The numbers choose the image: 0 for each block, the last write of each, or what the line lists
 abbrev pub IsChosen : Choice → List ℕ → Type 0
@@ -103,24 +139,24 @@ IsChosen choices.Last numbers = (blocks : ℕ) × (numbers ≡ replicate blocks 
 IsChosen (choices.Listed listed) numbers = numbers ≡ listed.now
 
 -- The command is obeyed and answered, or ends the journal by the crash that it names
-abbrev pub Replies : ClientState → Command → ControlFlow Crash Answer → ClientState → Type 0
-Replies old command (Continue answer) new = Does old command answer new
-Replies old (commands.Down choice) (Break crash) new = IsChosen choice crash.numbers.items × (crash.opens ≡ false) × (new ≡ old)
-Replies old (commands.Crash choice) (Break crash) new = IsChosen choice crash.numbers.items × (crash.opens ≡ true) × (new ≡ old)
-Replies old command (Break crash) new = ⊥
+abbrev pub Replies : ℕ → ClientState → Command → ControlFlow Crash Answer → ClientState → Type 0
+Replies blocks old command (Continue answer) new = Obeys blocks old command answer new
+Replies blocks old (commands.Down choice) (Break crash) new = IsChosen choice crash.numbers.items × (crash.opens ≡ false) × (new ≡ old)
+Replies blocks old (commands.Crash choice) (Break crash) new = IsChosen choice crash.numbers.items × (crash.opens ≡ true) × (new ≡ old)
+Replies blocks old command (Break crash) new = ⊥
 
 -- The line says a command, which is replied to so; or it says none, which changes nothing
-abbrev pub Answers : ClientState → List ℕ → ControlFlow Crash Answer → ClientState → Type 0
-Answers old line reply new =
-    ((command : Command) × LineSays line command × Replies old command reply new)
+abbrev pub Answers : ℕ → ClientState → List ℕ → ControlFlow Crash Answer → ClientState → Type 0
+Answers blocks old line reply new =
+    ((command : Command) × LineSays line command × Replies blocks old command reply new)
     ⊎ (((command : Command) → LineSays line command → ⊥) × (reply ≡ Continue (to_no_command line)) × (new ≡ old))
 
 -- what is answered goes on
 abbrev pub GoesOn : {C : Type 0} → Result Answer (Refusal C) → ControlFlow Crash Answer → Type 0
 GoesOn (Ok answer) flow = flow ≡ Continue answer
-GoesOn (Err why) flow = (told : Refusal (Unit {0})) × (flow ≡ Continue (answers.Refused told))
+GoesOn (Err why) flow = (answer : Answer) × Refuses why answer × (flow ≡ Continue answer)
 
 -- a crash ends the journal, unless it is refused
 abbrev pub Ends : {C : Type 0} → Result Crash (Refusal C) → ControlFlow Crash Answer → Type 0
 Ends (Ok crash) flow = flow ≡ Break crash
-Ends (Err why) flow = (told : Refusal (Unit {0})) × (flow ≡ Continue (answers.Refused told))
+Ends (Err why) flow = (answer : Answer) × Refuses why answer × (flow ≡ Continue answer)

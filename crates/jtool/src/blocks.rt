@@ -42,8 +42,8 @@ pub fn overwrite(
     sync(disk)
 }
 
-/// Writes a block.
-pub fn write(disk: &mut MemDisk, block: u64, bytes: &Block) -> Result<(), Refusal<()>>
+// Writes a block.
+fn write(disk: &mut MemDisk, block: u64, bytes: &Block) -> Result<(), Refusal<()>>
     requires block { block < disk.old.past.size }
     ensures size { disk.new.past.size ≡ disk.old.past.size }
     ensures written { OnOk result (disk.new.past ≡ past_after (written block bytes.now) disk.old.past) }
@@ -56,8 +56,8 @@ pub fn write(disk: &mut MemDisk, block: u64, bytes: &Block) -> Result<(), Refusa
     }
 }
 
-/// Makes what was written stable.
-pub fn sync(disk: &mut MemDisk) -> Result<(), Refusal<()>>
+// Makes what was written stable.
+fn sync(disk: &mut MemDisk) -> Result<(), Refusal<()>>
     ensures size { disk.new.past.size ≡ disk.old.past.size }
     ensures synced { OnOk result (disk.new.past ≡ past_after barrier disk.old.past) }
     ensures left { OnErr result (disk.new.past ≡ disk.old.past) }

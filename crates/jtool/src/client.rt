@@ -1,10 +1,10 @@
 // Commands to an open journal, obeyed one after another.
-ghost use Rattle.std.specs.Prelude.{◌≡◌, ◌≤◌, ◌+◌, nat_lt, if◌then◌else◌, None, Some, IsNone, IfOk, IfErr};
+ghost use Rattle.std.specs.Prelude.{◌≡◌, ◌≤◌, ◌+◌, nat_lt, if◌then◌else◌, None, Some, IsNone, IfOk, IfErr, IsOkUnless};
 ghost use Rattle.journal_world.specs.Addresses.{Value};
+ghost use Rattle.journal_twophase.specs.Journals.{IsSessionRefusal};
 ghost use Rattle.journal_twophase.specs.Transactions.{IsOverwriteRefusal, IsReadRefusal};
 ghost use Rattle.jtool.specs.Commands.{IsInside};
-ghost use Rattle.jtool.specs.Transcripts.{most_of, IsAnswerTo};
-ghost use Rattle.jtool.specs.Clients.{Finds, Puts, Gets, KeepsOpen, CommitsOpen, IsChosen, Does, Replies, Answers, GoesOn, Ends};
+ghost use Rattle.jtool.specs.Clients.{most_of, Finds, Puts, Gets, KeepsOpen, CommitsOpen, IsChosen, IsStepRefusal, Gives, Obeys, Replies, Answers, GoesOn, Ends};
 
 use crate::answer::Answer;
 use crate::blocks::bytes_of;
@@ -66,6 +66,7 @@ impl<'j, 'b, J: Naming> Client<'j, 'b, J> {
     ) -> Result<Client<'j, 'b, J>, Why<'b, J, AnyMap>>
         requires blocks { blocks ≡ J.blocks }
         ensures nothing { IfOk result (λ client. client.txn ≡ None) }
+        ensures refused { IfErr result IsSessionRefusal }
     {
         Ok(Client {
             alloc,
@@ -83,7 +84,7 @@ impl<'j, 'b, J: Naming> Client<'j, 'b, J> {
         line: &[u8],
         room: &mut Room,
     ) -> ControlFlow<Crash, Answer>
-        ensures { Answers self.old line.now result self.new }
+        ensures { Answers J.blocks self.old line.now result self.new }
     {
         match Command::read(line, room) {
             Some(command) => self.obey(rt, command),
@@ -94,7 +95,7 @@ impl<'j, 'b, J: Naming> Client<'j, 'b, J> {
     // Does what the command says, likewise.
     fn obey<W: Wait>(&mut self, rt: &W, command: Command<'_>) -> ControlFlow<Crash, Answer>
         requires inside { IsInside command }
-        ensures { Replies self.old command.entry result self.new }
+        ensures { Replies J.blocks self.old command.entry result self.new }
     {
         match command {
             Command::Put { addr, value } => goes_on(self.put(rt, addr, value)),
@@ -102,8 +103,8 @@ impl<'j, 'b, J: Naming> Client<'j, 'b, J> {
             Command::Commit => goes_on(self.commit(rt)),
             Command::Abort => ControlFlow::Continue(self.abort(rt)),
             Command::Wait => goes_on(self.wait(rt)),
-            Command::Log { most } => goes_on(self.log(rt, steps_of(most))),
-            Command::Install { most } => goes_on(self.install(rt, steps_of(most))),
+            Command::Log { most } => goes_on(self.log(rt, most)),
+            Command::Install { most } => goes_on(self.install(rt, most)),
             Command::Stat => ControlFlow::Continue(self.stat(rt)),
             Command::Pend => goes_on(self.pend(rt)),
             Command::Disk { block, at, len } => goes_on(self.disk(rt, block, at, len)),
@@ -164,7 +165,7 @@ impl<'j, 'b, J: Naming> Client<'j, 'b, J> {
     }
 
     fn abort<W: Wait>(&mut self, rt: &W) -> Answer
-        ensures { Does self.old Command.Abort result self.new }
+        ensures { Obeys J.blocks self.old Command.Abort result self.new }
     {
         let Some(txn) = self.txn.take() else {
             return Answer::NoTransaction;
@@ -174,34 +175,40 @@ impl<'j, 'b, J: Naming> Client<'j, 'b, J> {
     }
 
     fn wait<W: Wait>(&self, rt: &W) -> Answered<'b, J>
-        ensures { IfOk result (IsAnswerTo Command.Wait) }
+        ensures answered { IfOk result (Gives J.blocks Command.Wait) }
+        ensures refused { IfErr result (IsStepRefusal Actor.Waiter) }
     {
         drive(rt, self.journal, Actor::Waiter, u64::MAX)?;
         Ok(Answer::Stable(self.journal.stat(rt).floor))
     }
 
-    fn log<W: Wait>(&self, rt: &W, most: u64) -> Answered<'b, J>
-        ensures { IfOk result (IsAnswerTo (Command.Log (Some most))) }
+    fn log<W: Wait>(&self, rt: &W, most: Option<u32>) -> Answered<'b, J>
+        ensures answered { IfOk result (Gives J.blocks (Command.Log most)) }
+        ensures refused { IfErr result (IsStepRefusal Actor.Logger) }
     {
-        Ok(Answer::Logged(drive(rt, self.journal, Actor::Logger, most)?))
+        let moved = drive(rt, self.journal, Actor::Logger, steps_of(most))?;
+        Ok(Answer::Logged(moved))
     }
 
-    fn install<W: Wait>(&self, rt: &W, most: u64) -> Answered<'b, J>
-        ensures { IfOk result (IsAnswerTo (Command.Install (Some most))) }
+    fn install<W: Wait>(&self, rt: &W, most: Option<u32>) -> Answered<'b, J>
+        ensures answered { IfOk result (Gives J.blocks (Command.Install most)) }
+        ensures refused { IfErr result (IsStepRefusal Actor.Installer) }
     {
-        let moved = drive(rt, self.journal, Actor::Installer, most)?;
+        let moved = drive(rt, self.journal, Actor::Installer, steps_of(most))?;
         Ok(Answer::Installed(moved))
     }
 
     fn pend<W: Wait>(&self, rt: &W) -> Answered<'b, J>
-        ensures { IfOk result (IsAnswerTo Command.Pend) }
+        ensures answered { IfOk result (Gives J.blocks Command.Pend) }
+        ensures refused { IsOkUnless result Refusal.NoMemory }
     {
         Ok(Answer::Pending(self.journal.pending(rt)?))
     }
 
     fn disk<W: Wait>(&self, rt: &W, block: u32, at: u32, len: u32) -> Answered<'b, J>
         requires { at + len ≤ 4096 }
-        ensures { IfOk result (IsAnswerTo (Command.Disk block at len)) }
+        ensures answered { IfOk result (Gives J.blocks (Command.Disk block at len)) }
+        ensures refused { IsOkUnless result Refusal.NoMemory }
     {
         if u64::from(block) >= self.blocks {
             return Ok(Answer::BadLine);
@@ -219,7 +226,7 @@ impl<'j, 'b, J: Naming> Client<'j, 'b, J> {
     }
 
     fn stat<W: Wait>(&self, rt: &W) -> Answer
-        ensures { IsAnswerTo Command.Stat result }
+        ensures { Gives J.blocks Command.Stat result }
     {
         Answer::Stat(self.journal.stat(rt))
     }
@@ -244,6 +251,7 @@ impl<'j, 'b, J: Naming> Client<'j, 'b, J> {
     ) -> Result<Crash, Why<'b, J, AnyMap>>
         ensures chosen { IfOk result (λ crash. IsChosen choice.entry crash.numbers.items) }
         ensures opens { IfOk result (λ crash. crash.opens ≡ opens) }
+        ensures refused { IsOkUnless result Refusal.NoMemory }
     {
         let numbers = match choice {
             Choice::Stable => Vec::new(self.alloc),

@@ -3,7 +3,7 @@ ghost use Rattle.std.specs.Prelude.{◌≡◌, ◌≤◌, ◌+◌, ◌<◌, IfOk
 ghost use Rattle.journal_disk.specs.Disks.{IsSettled, read_of};
 ghost use Rattle.jtool.specs.Commands.{IsInside};
 ghost use Rattle.jtool.specs.Downs.{AnswersDown, ObeysDown, Pokes, Shows};
-ghost use Rattle.jtool.specs.Transcripts.{Leaves};
+ghost use Rattle.jtool.specs.Transcripts.{streams, Leaves};
 
 use crate::answer::Answer;
 use crate::ask::Stop;
@@ -19,23 +19,24 @@ use std::alloc::Global;
 use std::io::{Read, Write};
 
 /// Answers line after line, until one opens the disk, on which nothing is pending.
-pub fn run<I: Read + Drop, O: Write + Drop>(
+pub fn run<I: Read + Drop, O: Write>(
     alloc: Global,
     disk: MemDisk,
-    console: &mut Console<I, O>,
+    console: &mut Console<I>,
+    output: &mut O,
 ) -> Result<Next, Stop>
     requires settled { IsSettled disk.past }
-    ensures { IfOk result (λ next. Leaves next console.old console.new) }
+    ensures { IfOk result (λ next. Leaves next (streams console.old (O.contents output.old)) (streams console.new (O.contents output.new))) }
 {
     let mut disk = disk;
     for _ in 0..u64::MAX {
-        if !console.advance()? {
+        if !console.advance(output)? {
             return Ok(Next::End);
         }
         let (left, answer) = answer(alloc, disk, console.lines.line(), &mut console.room);
         disk = left;
         match answer {
-            Some(answer) => console.print(&answer)?,
+            Some(answer) => console.print(&answer, output)?,
             None => return Ok(Next::Open(disk)),
         }
     }

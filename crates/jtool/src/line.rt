@@ -1,8 +1,8 @@
 // The lines of an input, with memory for one of them.
-ghost use Rattle.std.specs.Prelude.{◌≡◌, ◌==◌, ◌≤◌, length, position, false, IfOk};
-ghost use Rattle.std.specs.List.{position_or_len};
+ghost use Rattle.std.specs.Prelude.{◌≡◌, ◌==◌, [], position, IfOk, OnOk};
+ghost use Rattle.std.specs.Io.Buffered.{reader_remaining, reader_buffer};
 ghost use Rattle.std.specs.Io.KnownBytes.{Keeps, IsAtEnd};
-ghost use Rattle.jtool.specs.Lines.{Advances, TakesPiece};
+ghost use Rattle.jtool.specs.Lines.{Advances, Shows, TakesPiece};
 
 use std::alloc::{AllocError, Global};
 use std::io;
@@ -11,6 +11,17 @@ use std::marker::Model;
 
 /// The most bytes of a line, the newline not counted.
 pub const LONGEST: usize = 20000;
+
+/// What was taken of a line.
+#[derive(Clone, Copy)]
+pub enum Piece {
+    /// Bytes of it, behind which it goes on.
+    Part,
+    /// All that was left of it, and its newline.
+    Whole,
+    /// Nothing: the input ended.
+    End,
+}
 
 /// The lines of an input. The memory for a line is taken once.
 ///
@@ -56,11 +67,10 @@ impl<I: Read + Drop> Lines<I> {
     {
         self.line.clear();
         for _ in 0..u64::MAX {
-            if !self.fill()? {
-                return Ok(!self.line.is_empty());
-            }
-            if self.take_piece()? {
-                return Ok(true);
+            match self.take_piece()? {
+                Piece::Part => {}
+                Piece::Whole => return Ok(true),
+                Piece::End => return Ok(!self.line.is_empty()),
             }
         }
         Err(ErrorKind::TimedOut.into())
@@ -73,40 +83,47 @@ impl<I: Read + Drop> Lines<I> {
         &self.line
     }
 
-    // Reads the input once, where nothing of it is at hand. `false` at its end.
-    fn fill(&mut self) -> io::Result<bool>
-        ensures left { Keeps self.old.left self.new.left }
-        ensures line { self.new.line ≡ self.old.line }
-        ensures end { IfOk result (λ more. more ≡ false → IsAtEnd self.old.left) }
-    {
-        match self.input.fill_buf() {
-            Ok(shown) => Ok(!shown.is_empty()),
-            // The next read may give more.
-            Err(error) if error.kind() == ErrorKind::Interrupted => Ok(true),
-            Err(error) => Err(error),
-        }
-    }
-
-    // Takes what is at hand of the line, with its newline. Whether that was there.
-    fn take_piece(&mut self) -> io::Result<bool>
+    // Takes what is at hand of the line, with its newline. Where nothing is at hand, the input is read first.
+    fn take_piece(&mut self) -> io::Result<Piece>
         ensures { IfOk result (TakesPiece self.old self.new) }
     {
+        fill(&mut self.input)?;
         let shown = self.input.buffer();
-        let end = break_at(shown);
-        let is_whole = end < shown.len();
+        let (len, piece) = first_piece(shown);
+        let bytes = &shown[..len];
         let room = LONGEST + 1 - self.line.len();
-        self.line.extend_from_slice(&shown[..end.min(room)])?;
-        self.input.consume(end + 1);
-        Ok(is_whole)
+        self.line
+            .extend_from_slice(&bytes[..room.min(bytes.len())])?;
+        self.input.consume(len + 1);
+        Ok(piece)
     }
 }
 
-// Where the first newline is, or how many bytes there are.
-fn break_at(bytes: &[u8]) -> usize
-    ensures at { result ≡ position_or_len (λ b. b == 10) bytes.now }
-    ensures bound { result ≤ length bytes.now }
+// Reads the input where nothing of it is at hand. Nothing is then at its end alone.
+fn fill<I: Read>(input: &mut BufReader<I>) -> io::Result<()>
+    ensures left { Keeps (reader_remaining I.remaining input.old) (reader_remaining I.remaining input.new) }
+    ensures end { OnOk result (reader_buffer input.new ≡ [] → IsAtEnd (reader_remaining I.remaining input.old)) }
 {
-    first_break(bytes).unwrap_or(bytes.len())
+    for _ in 0..u64::MAX {
+        match input.fill_buf() {
+            Ok(_) => return Ok(()),
+            // The next read may give more.
+            Err(error) if error.kind() == ErrorKind::Interrupted => {}
+            Err(error) => return Err(error),
+        }
+    }
+    Err(ErrorKind::TimedOut.into())
+}
+
+// How many bytes of the line stand in front, and how it goes on.
+fn first_piece(shown: &[u8]) -> (usize, Piece)
+    ensures { Shows shown.now result.0 result.1 }
+{
+    match first_break(shown) {
+        Some(end) => (end, Piece::Whole),
+        None if shown.is_empty() => (0, Piece::End),
+        None => (shown.len(), Piece::Part),
+    }
 }
 
 // Where the first newline is.

@@ -2,8 +2,9 @@
 //! answers the commands that it reads on standard input, a line for a line.
 #![tactic(auto)]
 
-ghost use Rattle.std.specs.Prelude.{◌≡◌, ◌≤◌, ℕ, map, string_bytes, IsErrAnd};
+ghost use Rattle.std.specs.Prelude.{◌≡◌, ◌≢◌, ◌≤◌, ◌==◌, ℕ, map, string_bytes, IsErrAnd};
 ghost use Rattle.jtool.specs.Programs.{Asks, IsSize, status_of};
+ghost use Rattle.jtool.specs.Transcripts.{IsTranscript, Runs};
 
 mod answer;
 mod ask;
@@ -13,7 +14,6 @@ mod client;
 mod command;
 mod console;
 mod down;
-mod format;
 mod line;
 mod number;
 mod refusal;
@@ -49,6 +49,11 @@ pub fn run<W: Wait, I: Read, O: Write, E: Write>(
     // Words that ask for no script that there can be.
     ensures words { ((n : ℕ) → Asks (map string_bytes words.now) n → IsSize n → ⊥) → result ≡ 2 }
     ensures status { result ≤ 2 }
+
+    // Words that ask for one: at status 0 or 2 the output gained the answers of all lines of the input, of which
+    // some is a bad line exactly at 2.
+    ensures script { (n : ℕ) → Asks (map string_bytes words.now) n → IsSize n → result ≢ 1
+        → IsTranscript (I.remaining input.old) (O.contents output.old) (O.contents output.new) (result == 2) }
 {
     match obey(rt, alloc, words, input, output) {
         Ok(()) => 0,
@@ -66,6 +71,8 @@ fn obey<W: Wait, I: Read, O: Write>(
 ) -> Result<(), Fault>
     ensures words { ((n : ℕ) → Asks (map string_bytes words.now) n → IsSize n → ⊥)
         → IsErrAnd result (λ fault. status_of fault ≡ 2) }
+    ensures script { (n : ℕ) → Asks (map string_bytes words.now) n → IsSize n
+        → Runs (I.remaining input.old) (O.contents output.old) (O.contents output.new) result }
 {
     match Ask::read(words)? {
         Ask::Script { blocks } => script::run(rt, alloc, blocks, input, output),

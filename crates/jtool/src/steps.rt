@@ -1,5 +1,6 @@
 // The logger and the installer, driven step by step.
-ghost use Rattle.std.specs.Prelude.{◌≤◌, IfOk};
+ghost use Rattle.std.specs.Prelude.{◌≤◌, IfOk, IfErr};
+ghost use Rattle.jtool.specs.Clients.{IsStepRefusal};
 
 use journal_disk::MemDisk;
 use journal_history::Naming;
@@ -23,7 +24,8 @@ pub fn drive<'b, J: Naming, W: Wait>(
     actor: Actor,
     most: u64,
 ) -> Result<u64, Why<'b, J, AnyMap>>
-    ensures { IfOk result (λ moved. moved ≤ most) }
+    ensures moved { IfOk result (λ moved. moved ≤ most) }
+    ensures refused { IfErr result (IsStepRefusal actor) }
 {
     for moved in 0..most {
         if let Step::Idle = step(rt, journal, actor)? {
@@ -38,7 +40,9 @@ fn step<'b, J: Naming, W: Wait>(
     rt: &W,
     journal: &Journal<'b, MemDisk, AnyMap, J>,
     actor: Actor,
-) -> Result<Step, Why<'b, J, AnyMap>> {
+) -> Result<Step, Why<'b, J, AnyMap>>
+    ensures { IfErr result (IsStepRefusal actor) }
+{
     match actor {
         Actor::Logger => journal.log_step(rt),
         Actor::Installer => journal.install_step(rt),
@@ -51,7 +55,9 @@ fn step<'b, J: Naming, W: Wait>(
 fn wait_step<'b, J: Naming, W: Wait>(
     rt: &W,
     journal: &Journal<'b, MemDisk, AnyMap, J>,
-) -> Result<Step, Why<'b, J, AnyMap>> {
+) -> Result<Step, Why<'b, J, AnyMap>>
+    ensures { IfErr result (IsStepRefusal Actor.Waiter) }
+{
     let stat = journal.stat(rt);
     if stat.floor == stat.commits {
         return Ok(Step::Idle);

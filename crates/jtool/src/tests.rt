@@ -1,5 +1,6 @@
 // The program from end to end: scripts, and what they are answered.
 mod crashes;
+mod examples;
 mod refusals;
 mod rows;
 mod streams;

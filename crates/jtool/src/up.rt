@@ -1,7 +1,7 @@
 // A disk that is up: its journal, from the opening until it is down.
 ghost use Rattle.std.specs.Prelude.{◌≡◌, IfOk, IfSome, OnOk};
 ghost use Rattle.journal_disk.specs.Disks.{IsSettled};
-ghost use Rattle.jtool.specs.Transcripts.{Talks, Opens, Leaves, LeavesCrash, IsOpening, Prints};
+ghost use Rattle.jtool.specs.Transcripts.{streams, Opens, Leaves, LeavesCrash, IsOpening, Prints};
 
 use crate::answer::Answer;
 use crate::ask::Stop;
@@ -28,44 +28,46 @@ pub enum Opening {
 }
 
 /// Opens the disk, with a history of its own, and answers lines until it is down.
-pub fn run<W: Wait, I: Read + Drop, O: Write + Drop>(
+pub fn run<W: Wait, I: Read + Drop, O: Write>(
     rt: &W,
     alloc: Global,
     disk: MemDisk,
     opening: Opening,
-    console: &mut Console<I, O>,
+    console: &mut Console<I>,
+    output: &mut O,
 ) -> Result<Next, Stop>
     requires settled { IsSettled disk.past }
-    ensures { IfOk result (Opens opening console.old console.new) }
+    ensures { IfOk result (Opens opening (streams console.old (O.contents output.old)) (streams console.new (O.contents output.new))) }
 {
     let book: Book<AnyMap> = Book::open::<()>().unwrap();
-    mount::<Brand, W, I, O>(rt, alloc, &book, disk, opening, console)
+    mount::<Brand, W, I, O>(rt, alloc, &book, disk, opening, console, output)
 }
 
 // The same, with the book of the history.
-fn mount<J: Naming, W: Wait, I: Read + Drop, O: Write + Drop>(
+fn mount<J: Naming, W: Wait, I: Read + Drop, O: Write>(
     rt: &W,
     alloc: Global,
     book: &Book<AnyMap>,
     disk: MemDisk,
     opening: Opening,
-    console: &mut Console<I, O>,
+    console: &mut Console<I>,
+    output: &mut O,
 ) -> Result<Next, Stop>
     requires book { book.now ≡ J.book }
     requires blocks { disk.past.size ≡ J.blocks }
     requires settled { IsSettled disk.past }
-    ensures { IfOk result (Opens opening console.old console.new) }
+    ensures { IfOk result (Opens opening (streams console.old (O.contents output.old)) (streams console.new (O.contents output.new))) }
 {
     let blocks = disk.size();
     match Journal::open(alloc, book, disk, &AnyMap) {
         Ok(journal) => {
-            answer_opening(opening, &Answer::Opened, console)?;
-            serve::<J, W, I, O>(rt, alloc, blocks, journal, console)
+            answer_opening(opening, &Answer::Opened, console, output)?;
+            serve::<J, W, I, O>(rt, alloc, blocks, journal, console, output)
         }
         Err(Refused { refusal, disk }) => match opening {
             Opening::First => Err(Stop::refused(refusal)),
             Opening::Asked => {
-                console.print(&Answer::refused(refusal))?;
+                console.print(&Answer::refused(refusal), output)?;
                 Ok(Next::Down(disk))
             }
         },
@@ -73,32 +75,34 @@ fn mount<J: Naming, W: Wait, I: Read + Drop, O: Write + Drop>(
 }
 
 // Answers the line that asked for the opening, where one did.
-fn answer_opening<I: Read + Drop, O: Write + Drop>(
+fn answer_opening<I: Read + Drop, O: Write>(
     opening: Opening,
     answer: &Answer,
-    console: &mut Console<I, O>,
+    console: &mut Console<I>,
+    output: &mut O,
 ) -> Result<(), Stop>
-    ensures first { opening ≡ Opening.First → OnOk result (console.new ≡ console.old) }
-    ensures asked { opening ≡ Opening.Asked → OnOk result (Prints answer.now console.old console.new) }
+    ensures first { opening ≡ Opening.First → OnOk result (streams console.new (O.contents output.new) ≡ streams console.old (O.contents output.old)) }
+    ensures asked { opening ≡ Opening.Asked → OnOk result (Prints answer.now (streams console.old (O.contents output.old)) (streams console.new (O.contents output.new))) }
 {
     match opening {
         Opening::First => Ok(()),
-        Opening::Asked => console.print(answer),
+        Opening::Asked => console.print(answer, output),
     }
 }
 
 // Answers lines until the disk is down, and then closes the journal.
-fn serve<'b, J: Naming, W: Wait, I: Read + Drop, O: Write + Drop>(
+fn serve<'b, J: Naming, W: Wait, I: Read + Drop, O: Write>(
     rt: &W,
     alloc: Global,
     blocks: u64,
     journal: Mount<'b, J>,
-    console: &mut Console<I, O>,
+    console: &mut Console<I>,
+    output: &mut O,
 ) -> Result<Next, Stop>
     requires blocks { blocks ≡ J.blocks }
-    ensures { IfOk result (λ next. Leaves next console.old console.new) }
+    ensures { IfOk result (λ next. Leaves next (streams console.old (O.contents output.old)) (streams console.new (O.contents output.new))) }
 {
-    let (crash, session) = answer_lines(rt, alloc, blocks, &journal, console)?;
+    let (crash, session) = answer_lines(rt, alloc, blocks, &journal, console, output)?;
     let mut session = session;
     let disk = match journal.close(&mut session) {
         Ok(disk) => disk,
@@ -118,45 +122,47 @@ fn serve<'b, J: Naming, W: Wait, I: Read + Drop, O: Write + Drop>(
 }
 
 // Answers lines, in a session that is given back. `None` at the end of the input.
-fn answer_lines<'b, J: Naming, W: Wait, I: Read + Drop, O: Write + Drop>(
+fn answer_lines<'b, J: Naming, W: Wait, I: Read + Drop, O: Write>(
     rt: &W,
     alloc: Global,
     blocks: u64,
     journal: &Mount<'b, J>,
-    console: &mut Console<I, O>,
+    console: &mut Console<I>,
+    output: &mut O,
 ) -> Result<(Option<Crash>, Session<'b, J, AnyMap>), Stop>
     requires blocks { blocks ≡ J.blocks }
-    ensures { IfOk result (λ ended. LeavesCrash ended.0 console.old console.new) }
+    ensures { IfOk result (λ ended. LeavesCrash ended.0 (streams console.old (O.contents output.old)) (streams console.new (O.contents output.new))) }
 {
     let mut client = match Client::new(rt, alloc, blocks, journal) {
         Ok(client) => client,
         Err(why) => return Err(Stop::refused(why)),
     };
-    let crash = answer_each(rt, &mut client, console);
+    let crash = answer_each(rt, &mut client, console, output);
     let session = client.end(rt);
     Ok((crash?, session))
 }
 
 // Answers line after line.
-fn answer_each<'j, 'b, J: Naming, W: Wait, I: Read + Drop, O: Write + Drop>(
+fn answer_each<'j, 'b, J: Naming, W: Wait, I: Read + Drop, O: Write>(
     rt: &W,
     client: &mut Client<'j, 'b, J>,
-    console: &mut Console<I, O>,
+    console: &mut Console<I>,
+    output: &mut O,
 ) -> Result<Option<Crash>, Stop>
-    ensures { IfOk result (λ crash. LeavesCrash crash console.old console.new) }
+    ensures { IfOk result (λ crash. LeavesCrash crash (streams console.old (O.contents output.old)) (streams console.new (O.contents output.new))) }
 {
     for _ in 0..u64::MAX {
-        if !console.advance()? {
+        if !console.advance(output)? {
             return Ok(None);
         }
         match client.answer(rt, console.lines.line(), &mut console.room) {
-            ControlFlow::Continue(answer) => console.print(&answer)?,
+            ControlFlow::Continue(answer) => console.print(&answer, output)?,
             ControlFlow::Break(crash) => {
                 // What comes of the opening answers the line else.
                 if crash.opens {
                     return Ok(Some(crash));
                 }
-                console.print(&Answer::Done)?;
+                console.print(&Answer::Done, output)?;
                 return Ok(Some(crash));
             }
         }

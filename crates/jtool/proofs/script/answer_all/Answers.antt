@@ -5,6 +5,6 @@ use Rattle.jtool.proofs.script.answer_all.Goals as goal
 pub loop-preserved : goal.loop-preserved
 loop-preserved g c =
     elim c.match-next.branch [
-      | in-Open+in_ok-next-in-Open w ↦ rw (w.console-is, w.next-is) (leaves_open _ _ _ _ _ _ w.in-Open.is c.loop.invariant w.in_ok-next-in-Open.ensures)
-      | in-Down+in_ok-next-in-Down w ↦ rw (w.console-is, w.next-is) (leaves_down _ _ _ _ _ _ w.in-Down.is c.loop.invariant w.in_ok-next-in-Down.ensures)
+      | in-Open+in_ok-next-in-Open w ↦ rw (w.console-is, w.output-is, w.next-is) (leaves_open _ _ _ _ _ _ w.in-Open.is c.loop.invariant w.in_ok-next-in-Open.ensures)
+      | in-Down+in_ok-next-in-Down w ↦ rw (w.console-is, w.output-is, w.next-is) (leaves_down _ _ _ _ _ _ w.in-Down.is c.loop.invariant w.in_ok-next-in-Down.ensures)
     ]

@@ -23,7 +23,7 @@ commit-requires-clause-rule g c =
 
 pub returns-in-Err-clause-crash : goal.returns-in-Err-clause-crash
 returns-in-Err-clause-crash g c = crashes_seen g.J.Naming.blocks _ _ _ c.self.invariant.0 c.self.view_is
-    (subst (λ (h : List Entry). IsKept g.J.Naming.blocks (record { objects = c.self.inside.objects; history = h; cut = c.self.inside.cut; logged = c.self.inside.logged; next = c.self.inside.next }))
+    (subst (λ (h : List Entry). IsKept g.J.Naming.blocks (record { objects = c.self.inside.objects; history = h; cut = c.self.inside.cut; logged = c.self.inside.logged; next = c.self.inside.next; closed = c.self.inside.closed }))
     (sym c.in-Err.ensures.unchanged.0) c.self.invariant.0) refl
 
 pub count_one-requires-clause-small : goal.count_one-requires-clause-small
@@ -34,7 +34,7 @@ count_one-requires-clause-small g c =
 pub invariant_of-self-2 : goal.invariant_of-self-2
 invariant_of-self-2 g c =
     let t = next_of c.args.session.now c.args.transaction.now.reads c.args.transaction.now.writes in (
-      kept_added g.J.Naming.blocks (record { objects = c.self.inside.objects; history = c.self.inside.writer; cut = c.self.inside.cut; logged = c.self.inside.logged; next = c.self.inside.next }) c.self.invariant.0 c.len-len.ensures.begun
+      kept_added g.J.Naming.blocks (record { objects = c.self.inside.objects; history = c.self.inside.writer; cut = c.self.inside.cut; logged = c.self.inside.logged; next = c.self.inside.next; closed = c.self.inside.closed }) c.self.invariant.0 c.len-len.ensures.begun
           t c.args.prepared c.apply.new.self c.commit.new.self c.max-self-inside.result c.in-Ok.ensures.committed.added (c.max-self-inside.ensures ∙ ap (λ (n : ℕ). max c.self.inside.next (n + 1)) c.number-number.ensures)
           (subst (λ (s : CoreState). IsPrepared s.objects c.args.prepared c.args.transaction.now.writes) (sym c.self.view_is) c.requires.prepared)
           c.apply.ensures.log c.apply.ensures.crash c.apply.ensures.map c.apply.ensures.cut c.apply.ensures.logged,

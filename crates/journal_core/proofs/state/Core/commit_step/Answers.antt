@@ -7,18 +7,14 @@ use Rattle.journal_history.specs.Tokens.{made}
 use Rattle.journal_core.specs.Causes.{Told}
 use Rattle.journal_core.specs.Transactions.{TransactionState, AreUnmoved}
 use Rattle.journal_core.specs.Commits.{HasSeen, IsPreparingRefusal, IsCommitRefusal}
-use Rattle.journal_core.proofs.Keeping.{crashes_still}
-use Rattle.journal_core.proofs.Committing.{refuses_writes, committed_from, err_extends, on_ok}
+use Rattle.journal_core.proofs.Committing.{refuses_writes, committed_from, err_extends, on_ok, OnErr-any}
 use Rattle.journal_core.proofs.Events.{answers_commit}
-use Rattle.journal_core.specs.Cores.{is_faulted}
+use Rattle.journal_core.specs.Cores.{IsRunning}
 use Rattle.journal_core.proofs.state.Core.commit_step.Goals as goal
-
-pub returns-then-is_faulted-clause-crash : goal.returns-then-is_faulted-clause-crash
-returns-then-is_faulted-clause-crash g c = crashes_still _ _ _ c.self.invariant.0 c.self.view_is
 
 pub returns-in_err-prepared-clause-refusal : goal.returns-in_err-prepared-clause-refusal
 returns-in_err-prepared-clause-refusal g c =
-    let fine : is_faulted c.args.self.now ≡ false = search rules in
+    let running : IsRunning c.args.self.now = search rules in
     let own : length (commits_of c.args.session.now.number c.args.self.now.history) ≡ made c.args.session.now = search rules in
     let seen : HasSeen c.args.self.now c.args.session.now c.args.transaction.now = search rules in
     let unmoved : AreUnmoved c.args.self.now.history c.args.transaction.now = search rules in
@@ -26,12 +22,12 @@ returns-in_err-prepared-clause-refusal g c =
     c.from_residual-in_err-prepared.ensures.1
     (λ (e : Refusal Told) is. subst (λ (r : Refusal Told). IsCommitRefusal c.args.self.now c.args.session.now c.args.transaction.now c.prepare.new.self r) (sym is)
     (refuses_writes c.args.self.now c.args.session.now c.admit.new.session c.args.transaction.now c.admit.ensures.session
-    c.prepare.new.self (record { fine = fine; seen = seen; own = own; unmoved = unmoved }) c.in_err-prepared.field-0.0
+    c.prepare.new.self (record { running = running; seen = seen; own = own; unmoved = unmoved }) c.in_err-prepared.field-0.0
     (subst (λ (u : TransactionState). IsPreparingRefusal c.args.self.now c.admit.new.session u.writes c.prepare.new.self c.in_err-prepared.field-0.0)
     c.transaction.view_is c.in_err-prepared.ensures.refusal)))
 
 pub returns-in_err-admit-clause-crash : goal.returns-in_err-admit-clause-crash
-returns-in_err-admit-clause-crash g c = crashes_still _ _ _ c.self.invariant.0 c.self.view_is
+returns-in_err-admit-clause-crash g c = c.check_running.ensures.crash
 
 pub returns-clause-committed : goal.returns-clause-committed
 returns-clause-committed g c =
@@ -49,18 +45,15 @@ returns-clause-session g c =
 
 -- each as an event
 
-pub returns-then-is_faulted-clause-event : goal.returns-then-is_faulted-clause-event
-returns-then-is_faulted-clause-event g c = record {
-  refusal = search rules;
-  reads = OnlyReads-refl c.args.self.now.objects;
-  others = refl;
-  crash = returns-then-is_faulted-clause-crash g c;
-}
+pub returns-in_err-check_running-clause-event : goal.returns-in_err-check_running-clause-event
+returns-in_err-check_running-clause-event g c =
+    answers_commit _ _ c.check_running.ensures.crash c.args.session.now c.args.session.now c.args.transaction.now c.from_residual.result
+    (search rules) (search rules) (search rules) (search rules) (search rules) (search rules) (OnErr-any c.from_residual.result (OnlyReads-refl c.args.self.now.objects))
 
 pub returns-in_err-admit-clause-event : goal.returns-in_err-admit-clause-event
 returns-in_err-admit-clause-event g c =
-    answers_commit _ _ (returns-in_err-admit-clause-crash g c) c.args.session.now c.admit.new.session c.args.transaction.now c.from_residual.result
-    (search rules) (search rules) (search rules) (search rules) (search rules) (search rules) (search rules)
+    answers_commit _ _ (returns-in_err-admit-clause-crash g c) c.args.session.now c.admit.new.session c.args.transaction.now c.from_residual-in_err-admit.result
+    (search rules) (search rules) (search rules) (search rules) (search rules) (search rules) (OnErr-any c.from_residual-in_err-admit.result (OnlyReads-refl c.args.self.now.objects))
 
 pub returns-clause-event : goal.returns-clause-event
 returns-clause-event g c =

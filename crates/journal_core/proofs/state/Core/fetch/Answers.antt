@@ -7,16 +7,11 @@ use Rattle.journal_core.proofs.state.Core.fetch.Goals as goal
 
 pub invariant_of-self : goal.invariant_of-self
 invariant_of-self g c = (
-  kept_on g.J.Naming.blocks _ c.self.invariant.0 c.read.new.self c.read.ensures.crash c.read.ensures.maps
-      (rests_call c.self.inside.objects c.read.new.self c.read.result c.read.ensures.reads c.read.ensures.faulted),
+  kept_on g.J.Naming.blocks _ c.self.invariant.0 c.read_into.new.self c.read_into.ensures.crash c.read_into.ensures.maps
+      (rests_call c.self.inside.objects c.read_into.new.self c.read_into.result c.read_into.ensures.reads c.read_into.ensures.faulted),
   c.self.invariant.1,
 )
 
 pub returns-clause-crash : goal.returns-clause-crash
 returns-clause-crash g c =
-    crashes_step g.J.Naming.blocks _ _ _ c.self.invariant.0 c.self.view_is (invariant_of-self g c).0 c.read.ensures.crash
-
-pub returns-clause-object : goal.returns-clause-object
-returns-clause-object g c =
-    of_raised (λ (value : Value). IsTrue (is_object g.J.Naming.blocks (c.args.addr, value))) c.read.result c.raise.result c.raise.ensures.only_ok
-    (objects_of g.J.Naming.blocks _ c.self.invariant.0 c.args.addr c.read.result c.read.ensures.object)
+    crashes_step g.J.Naming.blocks _ _ _ c.self.invariant.0 c.self.view_is (invariant_of-self g c).0 c.read_into.ensures.crash

@@ -15,5 +15,9 @@ pub returns-clause-crash : goal.returns-clause-crash
 returns-clause-crash g c =
     crashes_step g.J.Naming.blocks _ _ _ c.self.invariant.0 c.self.view_is (invariant_of-self g c).0 c.install_step.ensures.crash
 
+pub returns-in_err-check_running-clause-event : goal.returns-in_err-check_running-clause-event
+returns-in_err-check_running-clause-event g c =
+    answers_install _ _ c.check_running.ensures.crash c.from_residual.result (search rules) (search rules) (search rules)
+
 pub returns-clause-event : goal.returns-clause-event
 returns-clause-event g c = answers_install _ _ (returns-clause-crash g c) c.raise.result (search rules) (search rules) (search rules)

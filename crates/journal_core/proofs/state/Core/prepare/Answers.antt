@@ -1,12 +1,11 @@
-use Rattle.std.proofs.Common.{inl, inr, length, IfErr, ap, subst, ◌∙◌, arith}
+use Rattle.std.proofs.Common.{inl, inr, length, IfErr, ap, sym, subst, ◌∙◌, arith}
 use Rattle.std.proofs.lemmas.Bool.{false≢true}
-use Rattle.journal_core.specs.Cores.{CoreState}
+use Rattle.journal_core.specs.Cores.{CoreState, IsRunning}
 use Rattle.journal_core.specs.Commits.{IsPreparingRefusal}
 use Rattle.journal_core.proofs.Keeping.{kept_on}
 use Rattle.journal_core.proofs.Stepping.{rests_call, crashes_step}
 use Rattle.journal_core.proofs.Readying.{few_blocks, prepares_not}
 use Rattle.journal_core.proofs.state.Core.prepare.Goals.{then-len-via-then-len, then-len-via-else-len+then-number-ge-LIMIT}
-use Rattle.journal_core.specs.Cores.{is_faulted}
 use Rattle.journal_core.proofs.state.Core.prepare.Goals as goal
 
 pub invariant_of-self-then-len : goal.invariant_of-self-then-len
@@ -32,8 +31,8 @@ returns-then-is_too_large-clause-crash g c =
 
 pub returns-then-len-clause-refusal : goal.returns-then-len-clause-refusal
 returns-then-len-clause-refusal g c = (
-  few_blocks g.J.Naming.blocks (record { objects = c.self.inside.objects; history = c.self.inside.writer; cut = c.self.inside.cut; logged = c.self.inside.logged; next = c.self.inside.next })
-      c.args.writes.now c.self.invariant.0.size (ap is_faulted c.self.view_is ∙ c.requires.fine) c.requires.objects c.prepare-prepared.new.self
+  few_blocks g.J.Naming.blocks (record { objects = c.self.inside.objects; history = c.self.inside.writer; cut = c.self.inside.cut; logged = c.self.inside.logged; next = c.self.inside.next; closed = c.self.inside.closed })
+      c.args.writes.now c.self.invariant.0.size (subst IsRunning (sym c.self.view_is) c.requires.running) c.requires.objects c.prepare-prepared.new.self
       c.prepare-prepared.result c.prepare-prepared.ensures.ok c.prepare-prepared.ensures.refusal
       (λ is. false≢true (c.if-is_too_large.ensures.1 is)),
   elim c.then-len.branch [
@@ -50,10 +49,10 @@ returns-then-len-clause-crash g c =
 
 pub returns-clause-refusal : goal.returns-clause-refusal
 returns-clause-refusal g c =
-    subst (λ (s : CoreState). IfErr c.raise.result (IsPreparingRefusal s c.args.session.now c.args.writes.now (record { objects = c.prepare-prepared.new.self; history = c.self.inside.writer; cut = c.self.inside.cut; logged = c.self.inside.logged; next = c.self.inside.next })))
+    subst (λ (s : CoreState). IfErr c.raise.result (IsPreparingRefusal s c.args.session.now c.args.writes.now (record { objects = c.prepare-prepared.new.self; history = c.self.inside.writer; cut = c.self.inside.cut; logged = c.self.inside.logged; next = c.self.inside.next; closed = c.self.inside.closed })))
     c.self.view_is
-    (prepares_not g.J.Naming.blocks (record { objects = c.self.inside.objects; history = c.self.inside.writer; cut = c.self.inside.cut; logged = c.self.inside.logged; next = c.self.inside.next })
-    c.args.writes.now c.self.invariant.0.size (ap is_faulted c.self.view_is ∙ c.requires.fine) c.requires.objects c.args.session.now
+    (prepares_not g.J.Naming.blocks (record { objects = c.self.inside.objects; history = c.self.inside.writer; cut = c.self.inside.cut; logged = c.self.inside.logged; next = c.self.inside.next; closed = c.self.inside.closed })
+    c.args.writes.now c.self.invariant.0.size (subst IsRunning (sym c.self.view_is) c.requires.running) c.requires.objects c.args.session.now
     c.prepare-prepared.new.self
     (omega (arith, c.if-len.false, c.len.ensures.length)) (omega (arith, c.if-number-ge-LIMIT.false, c.number.ensures))
     c.prepare-prepared.result c.raise.result c.raise.ensures.ok c.raise.ensures.err c.prepare-prepared.ensures.refusal c.prepare-prepared.ensures.left)

@@ -1,23 +1,21 @@
-use Rattle.std.proofs.Common.{◌≡◌, List, ℕ, ap, ◌∙◌, ◌++◌, ◌∷◌, ◌-◌, length, take, subst, arith, nat_lt, Some}
-use Rattle.std.specs.Prelude.{IfSome, if◌then◌else◌}
-use Rattle.std.specs.Io.Buffered.{reader_capacity, reader_buffer, reader_remaining}
-use Rattle.jtool.specs.Lines.{LinesState, kept}
-use Rattle.jtool.proofs.LineEnds.{takes_piece, break_at, NoBreak}
+use Rattle.std.proofs.Common.{◌∙◌, ◌+◌, ◌-◌, ◌++◌, ap, subst, arith, length, take, min}
+use Rattle.std.specs.Io.Buffered.{reader_remaining, reader_capacity, reader_buffer}
+use Rattle.jtool.specs.Lines.{LinesState, Shows, TakesPiece}
+use Rattle.jtool.proofs.LineEnds.{consumed, takes_piece}
 use Rattle.jtool.proofs.line.Lines.take_piece.Goals as goal
 
 pub returns : goal.returns
 returns g c =
-    let input = c.self.inside.input in
+    let left = reader_remaining g.I.Read.remaining in
+    let input = c.fill.new.input in
+    let now = c.consume.new.self in
+    let n = c.first_piece-len.result.0 in
+    let shown = reader_buffer input in
     let line = c.self.inside.line.items in
-    let now = c.extend_from_slice.new.self.items in
     let is = c.buffer-shown.ensures in
-    let is_whole = nat_lt c.break_at-end.result (length c.buffer-shown.result.now) in
-    let all = takes_piece (g.I.Read.remaining input.inner) (g.I.Read.remaining c.consume.new.self.inner) (reader_capacity input) (reader_capacity c.consume.new.self)
-    (reader_buffer input) (reader_buffer c.consume.new.self) line now c.break_at-end.result (20001 - c.len.result) is_whole
-    (ap g.I.Read.remaining c.consume.ensures.inner) c.consume.ensures.capacity c.consume.ensures.buffer (c.break_at-end.ensures.at ∙ ap break_at is)
-    (ap (λ l. nat_lt c.break_at-end.result (length l)) is)
-    (c.in_ok-extend_from_slice.ensures.items ∙ ap (λ l. line ++ take c.min.result l) is ∙ ap (λ n. line ++ take n (reader_buffer input)) c.min.ensures)
-    (omega arith) (omega arith) in
-    subst (λ (s : LinesState). (piece : List ℕ) × NoBreak piece × (now ≡ kept (s.line ++ piece))
-    × IfSome s.left (λ xs. (more : List ℕ) × (reader_remaining g.I.Read.remaining c.consume.new.self ≡ Some more) × (xs ≡ piece ++ (if is_whole then 10 ∷ more else more))))
-    c.self.view_is all
+    let consumes = consumed (g.I.Read.remaining input.inner) (g.I.Read.remaining now.inner) (reader_capacity input) (reader_capacity now) (n + 1) shown (reader_buffer now)
+    (ap g.I.Read.remaining c.consume.ensures.inner) c.consume.ensures.capacity c.consume.ensures.buffer in
+    subst (λ (s : LinesState). TakesPiece s (record { left = left now; line = c.extend_from_slice.new.self.items }) c.first_piece-len.result.1) c.self.view_is
+    (takes_piece c.first_piece-len.result.1 (left c.self.inside.input) (left input) (left now) shown line c.extend_from_slice.new.self.items n (20001 - c.len.result)
+    c.fill.ensures.left (c.in_ok-fill.ensures.end) consumes (subst (λ l. Shows l n c.first_piece-len.result.1) is c.first_piece-len.ensures) (omega arith) (omega arith)
+    (c.in_ok-extend_from_slice.ensures.items ∙ ap (λ l. line ++ take c.min.result (take n l)) is ∙ ap (λ k. line ++ take k (take n shown)) (c.min.ensures ∙ ap (λ l. min (20001 - c.len.result) (length (take n l))) is)))

@@ -7,8 +7,8 @@ use Rattle.journal_world.specs.Maps.{is_object, are_objects}
 use Rattle.journal_world.specs.Histories.{is_trusted}
 use Rattle.journal_core.specs.Transactions.{TransactionState, SlotCount, AreUnmoved}
 use Rattle.journal_core.proofs.Remembering.{slot_small, counts_known, counts_more, remembered, no_count, remembers}
-use Rattle.journal_core.proofs.transaction.Transaction.remember.Goals.{then-lacks, else-lacks}
-use Rattle.journal_core.proofs.transaction.Transaction.remember.Goals as goal
+use Rattle.journal_core.proofs.transaction.Transaction.remember_at.Goals.{then-lacks, else-lacks}
+use Rattle.journal_core.proofs.transaction.Transaction.remember_at.Goals as goal
 
 pub invariant_of-self-2 : goal.invariant_of-self-2
 invariant_of-self-2 g c =

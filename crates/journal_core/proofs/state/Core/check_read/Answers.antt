@@ -6,15 +6,11 @@ use Rattle.journal_core.specs.Transactions.{TransactionState}
 use Rattle.journal_core.specs.Cores.{CoreState}
 use Rattle.journal_core.proofs.Keeping.{crashes_still}
 use Rattle.journal_core.proofs.Reading.{size_kept, valid_as, not_admitted, may_read}
-use Rattle.journal_core.specs.Cores.{is_faulted}
-use Rattle.journal_core.proofs.state.Core.admit_read.Goals as goal
-
-pub returns-then-is_faulted-clause-crash : goal.returns-then-is_faulted-clause-crash
-returns-then-is_faulted-clause-crash g c = crashes_still g.J.Naming.blocks _ _ c.self.invariant.0 c.self.view_is
+use Rattle.journal_core.proofs.state.Core.check_read.Goals as goal
 
 pub returns-then-not-is_valid-clause-refusal : goal.returns-then-not-is_valid-clause-refusal
 returns-then-not-is_valid-clause-refusal g c = (
-  sym (ap is_faulted c.self.view_is) ∙ sym c.is_faulted.ensures ∙ c.if-is_faulted.false,
+  c.in_ok-check_running.ensures.running,
   valid_as c.layout.result.blocks g.J.Naming.blocks c.args.addr c.is_valid.result false (size_kept g.J.Naming.blocks _ c.self.invariant.0 c.layout.result.blocks c.layout.ensures) c.is_valid.ensures c.if-not-is_valid.true,
 )
 
@@ -23,7 +19,7 @@ returns-then-not-is_valid-clause-crash g c = crashes_still g.J.Naming.blocks _ _
 
 pub returns-then-len-clause-refusal : goal.returns-then-len-clause-refusal
 returns-then-len-clause-refusal g c = (
-  sym (ap is_faulted c.self.view_is) ∙ sym c.is_faulted.ensures ∙ c.if-is_faulted.false,
+  c.in_ok-check_running.ensures.running,
   valid_as c.layout.result.blocks g.J.Naming.blocks c.args.addr c.is_valid.result true (size_kept g.J.Naming.blocks _ c.self.invariant.0 c.layout.result.blocks c.layout.ensures) c.is_valid.ensures c.if-not-is_valid.false,
   search rules,
   refl,
@@ -38,7 +34,7 @@ returns-clause-may g c =
     let joined : c.front-front.result ≡ c.see.new.self = IsPrefix-whole c.front-front.result c.see.new.self c.see.ensures.this
     (omega (arith, c.if-len.false, c.len.ensures.length, c.len-2.ensures.length, ap length c.front-front.ensures)) in
     may_read g.J.Naming.blocks c.args.self.now c.args.transaction.now c.args.addr
-    (sym (ap is_faulted c.self.view_is) ∙ sym c.is_faulted.ensures ∙ c.if-is_faulted.false)
+    (c.in_ok-check_running.ensures.running)
     (valid_as c.layout.result.blocks g.J.Naming.blocks c.args.addr c.is_valid.result true (size_kept g.J.Naming.blocks _ c.self.invariant.0 c.layout.result.blocks c.layout.ensures) c.is_valid.ensures c.if-not-is_valid.false)
     (subst (λ (h : List Entry). IsPrefix h c.args.self.now.history) (ap (λ (t : TransactionState). t.seen) c.transaction.view_is)
     (subst (λ (h : List Entry). IsPrefix c.transaction.inside.front h) (sym joined ∙ history) c.see.ensures.that))
@@ -47,7 +43,7 @@ returns-clause-may g c =
 pub returns-clause-refusal : goal.returns-clause-refusal
 returns-clause-refusal g c =
     not_admitted g.J.Naming.blocks c.args.self.now c.args.transaction.now c.args.addr
-    (sym (ap is_faulted c.self.view_is) ∙ sym c.is_faulted.ensures ∙ c.if-is_faulted.false)
+    (c.in_ok-check_running.ensures.running)
     (valid_as c.layout.result.blocks g.J.Naming.blocks c.args.addr c.is_valid.result true (size_kept g.J.Naming.blocks _ c.self.invariant.0 c.layout.result.blocks c.layout.ensures) c.is_valid.ensures c.if-not-is_valid.false)
     c.admit_reads.result c.admit_reads.ensures.refusal
 

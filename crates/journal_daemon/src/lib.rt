@@ -1,0 +1,17 @@
+//! The logger and the installer of a journal, in threads of their own.
+//!
+//! `start` runs both until the journal is stopped. Each makes one step at a time: the logger makes commits stable,
+//! group by group, and the installer brings them home where the log needs room. A thread with nothing to do sleeps
+//! until there is something; none of them polls.
+//!
+//! A thread passes a gate before each step, so that a test can hold it there.
+#![tactic(auto)]
+
+mod steps;
+mod threads;
+
+pub use steps::{Gate, INSTALLER, LOGGER, OneStep, OpenGate};
+pub use threads::start;
+
+#[cfg(test)]
+mod tests;

@@ -1,0 +1,40 @@
+-- What a call that waited for a mark tells, and why one is refused.
+use Rattle.std.specs.Prelude.{ℕ, ◌≡◌, ◌≤◌, List}
+use Rattle.journal_world.specs.declared.refusal.Refusal.{Refusal}
+use Rattle.journal_world.specs.declared.refusal.Refusal.TheVariants.{DeviceFailed, Stale, Stranger, Closed}
+use Rattle.journal_world.specs.Maps.{Map}
+use Rattle.journal_world.specs.Histories.{Entry, floor}
+use Rattle.journal_history.specs.Tokens.{SessionState, CommitPlace, StableCount, OnlyExtends, IsExact}
+use Rattle.journal_core.specs.Causes.{Told, IsUnexplained}
+use Rattle.journal_core.specs.Transactions.{TransactionState}
+use Rattle.journal_twophase.specs.declared.waiting.WaitFault.{WaitFault}
+use Rattle.journal_twophase.specs.declared.waiting.WaitFault.TheVariants.{Refused, Unsure}
+use Rattle.journal_twophase.specs.Journals.{IsKnown, IsShown}
+use Rattle.journal_twophase.specs.Commits.{IsCommitted, IsCommitRefusal, ShowsStrange}
+
+-- The note says that at least so many commits are stable, by a mark in the history that the session has seen
+pub record IsStable (commits : ℕ) (note : StableCount) (session : SessionState) : Type 0 where
+  pub covers : commits ≤ note.count
+  pub marked : note.count ≤ floor session.seen
+  pub front : note.front ≡ session.seen
+
+-- The transaction was committed, and then its session may have seen more. It is exact
+pub record CommitsAndWaits (rule : Map → Type 0) (blocks : ℕ) (began : List Entry) (t : TransactionState) (old new : SessionState) (place : CommitPlace) : Type 0 where
+  pub then : SessionState
+  pub committed : IsCommitted rule blocks began t old then place
+  pub later : OnlyExtends then new
+  pub exact : IsExact new
+  pub known : IsKnown rule blocks new.seen
+
+-- why a session that waits is not told that a mark stands
+abbrev pub IsWaitRefusal : SessionState → Refusal Told → Type 0
+IsWaitRefusal s (Closed cause) = IsUnexplained cause
+IsWaitRefusal s (DeviceFailed cause) = IsUnexplained cause
+IsWaitRefusal s (Stale cause) = IsShown cause
+IsWaitRefusal s (Stranger cause) = ShowsStrange s cause
+IsWaitRefusal s other = ⊥
+
+-- Why a commit that waits for its mark has none: the history lacks it, or it stands there and is not known to be stable
+abbrev pub IsWaitFault : (Map → Type 0) → ℕ → List Entry → TransactionState → SessionState → SessionState → WaitFault CommitPlace Told → Type 0
+IsWaitFault rule blocks began t old new (Refused why) = IsCommitRefusal t old why × OnlyExtends old new
+IsWaitFault rule blocks began t old new (Unsure place why) = CommitsAndWaits rule blocks began t old new place × IsWaitRefusal new why

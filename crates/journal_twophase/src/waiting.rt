@@ -1,0 +1,157 @@
+// Waiting for a mark.
+ghost use Rattle.std.specs.Prelude.{◌≡◌, ◌≤◌, ◌↔◌, IsTrue, IfOk, IfErr, OnOk, OnErr};
+ghost use Rattle.journal_world.specs.Maps.{Map, Agrees, overwritten};
+ghost use Rattle.journal_world.specs.Histories.{count, floor};
+ghost use Rattle.journal_history.specs.Tokens.{IsExact, OnlyExtends};
+ghost use Rattle.journal_twophase.specs.Journals.{IsKnown};
+ghost use Rattle.journal_twophase.specs.Waits.{IsStable, CommitsAndWaits, IsWaitRefusal, IsWaitFault};
+
+use crate::shared::{Shared, SharedCore, Why};
+use crate::txn::release_all;
+use journal_core::{Cause, Core, Spares, Transaction};
+use journal_disk::BlockDisk;
+use journal_history::{Naming, Receipt, Session, StableNote};
+use journal_lockmap::{Held, LockMap};
+use journal_world::{MapRule, Refusal};
+use std::sync::{MutexGuard, Wait};
+
+/// Why a commit that waits to be stable has no note of it.
+#[derive(Debug, Drop)]
+pub enum WaitFault<P, C> {
+    /// The transaction was refused, and the history lacks it.
+    Refused(Refusal<C>),
+    /// It was committed: it stands in the history at this place. But the wait was refused, so it is not known to be
+    /// stable: after a crash it may be there or not.
+    Unsure(P, Refusal<C>),
+}
+
+/// A commit that waited: its receipt and a note, or why it has none.
+pub type Waited<'b, J, R> = Result<
+    (Receipt<'b, J, R>, StableNote<'b, J, R>),
+    WaitFault<Receipt<'b, J, R>, Cause<'b, J, R>>,
+>;
+
+impl<'b, D: BlockDisk, R: MapRule, J: Naming> SharedCore<'b, D, R, J> {
+    // Waits until so many commits are marked as stable. Answers J13, J6, J9 and J10.
+    pub(crate) fn wait_stable<W: Wait>(
+        &self,
+        rt: &W,
+        session: &mut Session<'b, J, R>,
+        commits: u64,
+    ) -> Result<StableNote<'b, J, R>, Why<'b, J, R>>
+        ensures stable { IfOk result (λ note. IsStable commits note session.new) }
+        ensures exact { OnOk result (IsExact session.new) }
+        ensures session { OnlyExtends session.old session.new }
+        ensures refusal { IfErr result (IsWaitRefusal session.new) }
+    {
+        let shared = self.shared.lock(rt);
+        self.wait_in(rt, shared, session, commits)
+    }
+
+    // Waits until all commits are marked that the history has now, or none where the session has seen none. Answers
+    // J13, J6, J9 and J10.
+    pub(crate) fn flush<W: Wait>(
+        &self,
+        rt: &W,
+        session: &mut Session<'b, J, R>,
+    ) -> Result<StableNote<'b, J, R>, Why<'b, J, R>>
+        ensures stable { IfOk result (λ note. IsStable (count session.old.seen) note session.new) }
+        ensures exact { OnOk result (IsExact session.new) }
+        ensures session { OnlyExtends session.old session.new }
+        ensures refusal { IfErr result (IsWaitRefusal session.new) }
+    {
+        let shared = self.shared.lock(rt);
+        let commits = commits_to_flush(&shared.core, session)?;
+        self.wait_in(rt, shared, session, commits)
+    }
+
+    // Waits, with the lock held at first, until so many commits are marked.
+    fn wait_in<'s, W: Wait>(
+        &'s self,
+        rt: &W,
+        shared: MutexGuard<'s, Shared<'b, D, R, J>>,
+        session: &mut Session<'b, J, R>,
+        commits: u64,
+    ) -> Result<StableNote<'b, J, R>, Why<'b, J, R>>
+        ensures stable { IfOk result (λ note. IsStable commits note session.new) }
+        ensures exact { OnOk result (IsExact session.new) }
+        ensures keeps { IsExact session.old → IsExact session.new }
+        ensures session { OnlyExtends session.old session.new }
+        ensures refusal { IfErr result (IsWaitRefusal session.new) }
+    {
+        let mut shared = shared;
+        for _ in rt.forever() {
+            if wait_step(&shared.core, session, commits)? {
+                return Ok(StableNote::new(&session.front(), commits));
+            }
+            shared = self.marked.wait(rt, shared);
+        }
+        unreachable!()
+    }
+
+    // Commits the transaction, gives up its slots, and sleeps in the same hold of the lock until it is stable.
+    pub(crate) fn commit_wait<W: Wait>(
+        &self,
+        rt: &W,
+        session: &mut Session<'b, J, R>,
+        transaction: &Transaction<'b, J, R>,
+        spares: &mut Spares,
+        slots: &LockMap,
+        held: Vec<Held>,
+    ) -> Waited<'b, J, R>
+        requires rule { (m : Map) → m.blocks ≡ J.blocks → R.statement m → Agrees m transaction.now.reads
+            → R.statement (overwritten m transaction.now.writes) }
+        ensures committed { IfOk result (λ done. CommitsAndWaits R.statement J.blocks transaction.now.seen transaction.now session.old session.new done.0) }
+        ensures stable { IfOk result (λ done. IsStable done.0.count done.1 session.new) }
+        ensures fault { IfErr result (IsWaitFault R.statement J.blocks transaction.now.seen transaction.now session.old session.new) }
+    {
+        let (shared, answer) = self.commit_with_room(rt, session, transaction, spares);
+        release_all(rt, slots, held);
+        self.tell_of_commit(&answer, shared.logger_sleeps);
+        let receipt = match answer {
+            Ok(receipt) => receipt,
+            Err(why) => return Err(WaitFault::Refused(why)),
+        };
+        let answer = self.wait_in(rt, shared, session, receipt.count());
+        // It tells the proof what is known of all that the session has then seen.
+        let _seen = session.seen();
+        match answer {
+            Ok(note) => Ok((receipt, note)),
+            Err(why) => Err(WaitFault::Unsure(receipt, why)),
+        }
+    }
+}
+
+// Asks the core whether so many commits are marked.
+fn wait_step<'b, D: BlockDisk, R: MapRule, J: Naming>(
+    core: &Core<'b, D, R, J>,
+    session: &mut Session<'b, J, R>,
+    commits: u64,
+) -> Result<bool, Why<'b, J, R>>
+    ensures marked { IfOk result (λ marked. IsTrue marked → commits ≤ floor session.new.seen) }
+    ensures shown { OnOk result (session.new.seen ≡ core.now.history) }
+    ensures exact { OnOk result (IsExact session.new) }
+    ensures keeps { IsExact session.old → IsExact session.new }
+    ensures session { OnlyExtends session.old session.new }
+    ensures refusal { IfErr result (IsWaitRefusal session.new) }
+{
+    core.wait_step(session, commits)
+}
+
+// How many commits a session waits for that is to have all stable that it has seen: all that there are, which it has
+// then seen, or none where it had seen the opening alone.
+fn commits_to_flush<'b, D: BlockDisk, R: MapRule, J: Naming>(
+    core: &Core<'b, D, R, J>,
+    session: &mut Session<'b, J, R>,
+) -> Result<u64, Why<'b, J, R>>
+    ensures all { IfOk result (λ commits. count session.old.seen ≤ commits) }
+    ensures session { OnlyExtends session.old session.new }
+    ensures refusal { IfErr result (IsWaitRefusal session.new) }
+{
+    let seen = session.seen();
+    wait_step(core, session, 0)?;
+    if seen <= 1 {
+        return Ok(0);
+    }
+    Ok(core.stat().commits)
+}

@@ -1,0 +1,31 @@
+-- How the program ends.
+use Rattle.std.proofs.Common.{◌≡◌, ◌≢◌, ℕ, List, [], Option, Result, Ok, Err, sym, ap, subst, ◌∙◌, arith, get_or}
+use Rattle.std.specs.Prelude.{◌==◌}
+use Rattle.std.proofs.lemmas.Fmt.{decimal_injective}
+use Rattle.jtool.specs.declared.ask.Fault.{Fault}
+use Rattle.jtool.specs.declared.ask.Fault.TheVariants as faults
+use Rattle.jtool.specs.Programs.{Asks, IsSize, CannotBegin, status_of}
+use Rattle.jtool.specs.Transcripts.{IsTranscript, Runs}
+
+-- words that ask for a script begin one
+pub can_begin : (words : List (List ℕ)) (fault : Fault) → CannotBegin words fault → (n : ℕ) → Asks words n → IsSize n → ⊥
+can_begin words faults.Usage none n asks size = none n asks
+can_begin words faults.BadSize (m, other, outside) n asks size =
+    let same : m ≡ n = decimal_injective m n (omega (arith, other.0)) (omega (arith, asks.0)) (ap (λ l. get_or l 1 []) (sym other.1 ∙ asks.1)) in
+    outside (subst IsSize (sym same) size)
+can_begin words faults.BadLine none n asks size = none
+can_begin words (faults.Stopped stop) none n asks size = none
+
+-- what was said of a script's end, by the status
+pub ends_well : (left held new : Option (List ℕ)) (r : Result (Unit {0}) Fault) (done : Unit {0}) → Runs left held new r → r ≡ Ok done → IsTranscript left held new (0 == 2)
+ends_well left held new r done runs is = subst (Runs left held new) is runs
+
+pub ends_by_fault : (left held new : Option (List ℕ)) (r : Result (Unit {0}) Fault) (fault : Fault) (status : ℕ) → Runs left held new r → r ≡ Err fault → status ≡ status_of fault → status ≢ 1
+    → IsTranscript left held new (status == 2)
+ends_by_fault left held new r fault status runs is told other = by_fault fault (subst (Runs left held new) is runs) told
+  where
+    by_fault : (f : Fault) → Runs left held new (Err f) → status ≡ status_of f → IsTranscript left held new (status == 2)
+    by_fault faults.BadLine h e = subst (λ n. IsTranscript left held new (n == 2)) (sym e) h
+    by_fault (faults.Stopped stop) h e = absurd (other e)
+    by_fault faults.Usage h e = absurd h
+    by_fault faults.BadSize h e = absurd h
