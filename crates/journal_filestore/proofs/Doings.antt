@@ -1,0 +1,211 @@
+-- What a transaction's reads and writes come to.
+use Rattle.std.proofs.Common.{ℕ, suc, length, ◌≡◌, ◌<◌, ◌≤◌, Bool, true, false, cond, IsTrue, List, [], ◌∷◌, ◌==◌, get_or, Option, Some, None, Result, Ok, Err, IfOk, OnOk, refl, sym, ap, subst, ◌∙◌, arith}
+use Rattle.std.specs.Prelude.{MatchOption}
+use Rattle.std.proofs.lemmas.Bool.{and_parts, eqb-true}
+use Rattle.std.proofs.lemmas.Bool.Decides.{nat_tests}
+use Rattle.std.proofs.lemmas.List.Elements.{All-head, All-tail}
+use Rattle.journal_world.specs.declared.address.Addr.{Addr}
+use Rattle.journal_world.specs.declared.address.Kind.TheVariants.{Bit}
+use Rattle.journal_world.specs.declared.layout.TheConstants.{FIRST_DATA}
+use Rattle.journal_world.specs.Addresses.{Value, is_value_of, kind_of, is_valid, is_same}
+use Rattle.journal_world.specs.Maps.{Map, Pair, Agrees, SamePairs, value_among, value_at, overwritten, is_object, is_value_at}
+use Rattle.journal_world.proofs.Lookups.{same_addr}
+use Rattle.journal_twophase.specs.Transactions.{TxnState, holding, Reads, Learns, Overwrites as OverwritesAddr}
+use Rattle.journal_inode.specs.Places.{Object, addr_of, IsOnDisk, is_same_object, object}
+use Rattle.journal_inode.specs.Places.Object.{block}
+use Rattle.journal_inode.specs.Sound.{Sound}
+use Rattle.journal_filestore.proofs.Overwrites.{Write, pairs_of, AreOnDisk, Overwrites, Overwrites-pairs, same_addr_of}
+use Rattle.journal_filestore.specs.Files.{Files, files_of}
+use Rattle.journal_filestore.specs.Doing.{Gives, MayBeRead, IsUnread, ReadsOnly, Tells, Writes, Makes, Does}
+
+-- what agrees with a map is given by it
+pub Gives-Agrees : (m : Map) (ps : List Pair) → Agrees m ps → Gives m ps
+Gives-Agrees m [] agrees a v is = let none : None ≡ Some v = is in cc
+Gives-Agrees m (p ∷ ps) agrees a v is =
+    by_test (is_same a p.0) refl (Gives-Agrees m ps (All-tail (λ (q : Pair). value_at m q.0 ≡ q.1) p ps agrees) a v)
+  where
+    by_test : (b : Bool) → is_same a p.0 ≡ b → (value_among ps a ≡ Some v → value_at m a ≡ v) → value_at m a ≡ v
+    by_test true same rest =
+        let first : Some p.1 ≡ Some v = ap (λ t. cond t (Some p.1) (value_among ps a)) (sym same) ∙ is in
+        let value : p.1 ≡ v = cc in
+        ap (value_at m) (same_addr a p.0 same) ∙ All-head (λ (q : Pair). value_at m q.0 ≡ q.1) p ps agrees ∙ value
+    by_test false other rest =
+        rest (ap (λ t. cond t (Some p.1) (value_among ps a)) (sym other) ∙ is)
+
+-- what is among the pairs is not missing
+not_none : {A : Type 0} (o : Option A) (x : A) → o ≡ None → o ≡ Some x → ⊥
+not_none None x none is = absurd (let e : None ≡ Some x = is in cc)
+not_none (Some y) x none is = absurd (let e : Some y ≡ None = none in cc)
+
+-- a transaction that has written nothing learns each read
+pub Learns-first : (old new : TxnState) (a : Addr) (v : Value) → old.writes ≡ [] → Reads (holding old a) a v new → Learns (holding old a) a v new
+Learns-first old new a v none read =
+    subst (λ ws. MatchOption (value_among ws a) (Learns (holding old a) a v new) (λ w. (v ≡ w) × (new ≡ holding old a))) none read
+
+-- a first read tells its value
+Tells-read : (blocks : ℕ) (old new : TxnState) (a : Addr) (v : Value) → value_among old.reads a ≡ None → Learns (holding old a) a v new → Tells blocks old new (λ m. value_at m a ≡ v)
+Tells-read blocks old new a v unread read = record {
+  writes = ap (λ t. t.writes) read.others;
+  before = λ m seen. record {
+    on_disk = seen.on_disk;
+    sound = seen.sound;
+    gives = λ b w is. seen.gives b w (read.reads b ∙ kept b w is (is_same b a) refl);
+  };
+  now = λ m seen. seen.gives a v (read.reads a ∙ ap (λ t. cond t (Some v) (value_among old.reads a)) (same_self a));
+}
+  where
+    same_self : (b : Addr) → is_same b b ≡ true
+    same_self b = grind (arith, nat_tests)
+
+    kept : (b : Addr) (w : Value) → value_among old.reads b ≡ Some w → (t : Bool) → is_same b a ≡ t → cond (is_same b a) (Some v) (value_among old.reads b) ≡ Some w
+    kept b w is true same =
+        absurd (not_none (value_among old.reads a) w unread (ap (value_among old.reads) (sym (same_addr b a same)) ∙ is))
+    kept b w is false other = ap (λ t. cond t (Some v) (value_among old.reads b)) other ∙ is
+
+-- the first read of an object tells its value
+pub Tells-object : (blocks : ℕ) (old new : TxnState) (o : Object) (a : Addr) (v : Value) → a ≡ addr_of o → old.writes ≡ [] → IsUnread old o → Reads (holding old a) a v new → Tells blocks old new (λ m. object m o ≡ v)
+Tells-object blocks old new o a v is none unread read =
+    subst (λ b. Tells blocks old new (λ m. value_at m b ≡ v)) is
+    (Tells-read blocks old new a v (ap (value_among old.reads) is ∙ unread) (Learns-first old new a v none read))
+
+-- and nothing else is read
+pub ReadsOnly-object : (old new : TxnState) (o : Object) (a : Addr) (v : Value) → a ≡ addr_of o → old.writes ≡ [] → Reads (holding old a) a v new → ReadsOnly old new o
+ReadsOnly-object old new o a v is none read b other =
+    (Learns-first old new a v none read).reads b ∙ ap (λ t. cond t (Some v) (value_among old.reads b)) (ap (is_same b) is ∙ other)
+
+-- an object is unread still where another was read
+pub IsUnread-other : (blocks : ℕ) (old new : TxnState) (o p : Object) → IsOnDisk blocks o → IsOnDisk blocks p → is_same_object o p ≡ false → ReadsOnly old new p → IsUnread old o → IsUnread new o
+IsUnread-other blocks old new o p here there other only unread = only (addr_of o) (same_addr_of blocks o p here there ∙ other) ∙ unread
+
+-- at first all objects are unread
+pub IsUnread-first : (t : TxnState) (o : Object) → t.reads ≡ [] → IsUnread t o
+IsUnread-first t o none = ap (λ rs. value_among rs (addr_of o)) none
+
+-- two reads tell both
+pub Tells-both : (blocks : ℕ) (t0 t1 t2 : TxnState) (P Q : Map → Type 0) → Tells blocks t0 t1 P → Tells blocks t1 t2 Q → Tells blocks t0 t2 (λ m. P m × Q m)
+Tells-both blocks t0 t1 t2 P Q first second = record {
+  writes = second.writes ∙ first.writes;
+  before = λ m seen. first.before m (second.before m seen);
+  now = λ m seen. (first.now m (second.before m seen), second.now m seen);
+}
+
+-- what is told may be said otherwise
+pub Tells-like : (blocks : ℕ) (old new : TxnState) (P Q : Map → Type 0) → ((m : Map) → Sound m → P m → Q m) → Tells blocks old new P → Tells blocks old new Q
+Tells-like blocks old new P Q like told = record {
+  writes = told.writes;
+  before = told.before;
+  now = λ m seen. like m seen.sound (told.now m seen);
+}
+
+-- a transaction has overwritten these objects, the last one first
+pub record HasWritten (blocks : ℕ) (t : TxnState) (ws : List Write) : Type 0 where
+  pub pairs : SamePairs t.writes (pairs_of ws)
+  pub on_disk : AreOnDisk blocks ws
+
+pub HasWritten-none : (blocks : ℕ) (t : TxnState) → t.writes ≡ [] → HasWritten blocks t []
+HasWritten-none blocks t none = record { pairs = λ a. ap (λ ws. value_among ws a) none; on_disk = tt }
+
+pub HasWritten-more : (blocks : ℕ) (old new : TxnState) (o : Object) (v : Value) (ws : List Write) → Writes blocks old new o v → HasWritten blocks old ws → HasWritten blocks new ((o, v) ∷ ws)
+HasWritten-more blocks old new o v ws writes had = record {
+  pairs = λ a. writes.pairs a ∙ ap (λ rest. cond (is_same a (addr_of o)) (Some v) rest) (had.pairs a);
+  on_disk = (writes.on_disk, had.on_disk);
+}
+
+-- What a transaction makes, by the objects that it overwrote
+pub Makes-written : (blocks : ℕ) (t0 t1 : TxnState) (Q : Map → Map → Type 0) (ws : List Write) → HasWritten blocks t1 ws
+    → ((m : Map) → MayBeRead blocks t1.reads m → MayBeRead blocks t0.reads m)
+    → ((m n : Map) → MayBeRead blocks t1.reads m → Overwrites m n ws → Q m n)
+    → Makes blocks t0 t1 Q
+Makes-written blocks t0 t1 Q ws written before shows = record {
+  before = before;
+  now = λ m seen. shows m (overwritten m t1.writes) seen
+      (Overwrites-pairs m t1.writes ws (subst (λ b. AreOnDisk b ws) (sym seen.on_disk) written.on_disk) written.pairs);
+}
+
+-- what it makes that only reads
+pub Makes-told : (blocks : ℕ) (t0 t1 : TxnState) (P : Map → Type 0) (Q : Map → Map → Type 0) → t0.writes ≡ [] → Tells blocks t0 t1 P
+    → ((m : Map) → Sound m → P m → Q m m) → Makes blocks t0 t1 Q
+Makes-told blocks t0 t1 P Q none told shows = record {
+  before = told.before;
+  now = λ m seen. subst (λ ws. Q m (overwritten m ws)) (sym (told.writes ∙ none)) (shows m seen.sound (told.now m seen));
+}
+
+-- of any transaction nothing is said
+pub Makes-nothing : (blocks : ℕ) (t : TxnState) → Makes blocks t t (λ m n. Unit {0})
+Makes-nothing blocks t = record { before = λ m seen. seen; now = λ m seen. tt }
+
+-- what is made may be said otherwise
+pub Makes-like : (blocks : ℕ) (t0 t1 : TxnState) (P Q : Map → Map → Type 0) → ((m n : Map) → Sound m → P m n → Q m n) → Makes blocks t0 t1 P → Makes blocks t0 t1 Q
+Makes-like blocks t0 t1 P Q like made = record {
+  before = made.before;
+  now = λ m seen. like m _ seen.sound (made.now m seen);
+}
+
+-- What a transaction does that was told something, and made something of it
+pub Does-made : {A : Type 0} (blocks : ℕ) (case : Files → A → Files → Type 0) (t0 t1 t2 : TxnState) (answer : A) (P : Map → Type 0) (Q : Map → Map → Type 0)
+    → Tells blocks t0 t1 P → Makes blocks t1 t2 Q
+    → ((m n : Map) → Sound m → P m → Q m n → Sound n × case (files_of m) answer (files_of n))
+    → Does blocks case t2.reads t2.writes answer
+Does-made {A} blocks case t0 t1 t2 answer P Q told made shows = record {
+  sound = λ m on_disk sound agrees. (both m on_disk sound agrees).0;
+  answers = λ m on_disk sound agrees. (both m on_disk sound agrees).1;
+}
+  where
+    both : (m : Map) → m.blocks ≡ blocks → Sound m → Agrees m t2.reads
+        → Sound (overwritten m t2.writes) × case (files_of m) answer (files_of (overwritten m t2.writes))
+    both m on_disk sound agrees =
+        let seen : MayBeRead blocks t2.reads m = record { on_disk = on_disk; sound = sound; gives = Gives-Agrees m t2.reads agrees } in
+        shows m (overwritten m t2.writes) sound (told.now m (made.before m seen)) (made.now m seen)
+
+-- a bit's value is its test
+pub bit_value : (v : List ℕ) → is_value_of Bit v ≡ true → v ≡ cond (get_or v 0 0 == 1) 1 0 ∷ []
+bit_value [] is = cc
+bit_value (b ∷ []) is = grind (arith, nat_tests)
+bit_value (b ∷ d ∷ v) is =
+    let e : suc (suc (length v)) ≡ 1 = eqb-true (suc (suc (length v))) 1 (and_parts (suc (suc (length v)) == 1) _ is).0 in
+    absurd (omega arith)
+
+-- nothing more was read
+pub Tells-nothing : (blocks : ℕ) (t : TxnState) → Tells blocks t t (λ m. Unit {0})
+Tells-nothing blocks t = record { writes = refl; before = λ m seen. seen; now = λ m seen. tt }
+
+-- What a transaction does that was told enough to answer, and only read
+pub Does-told : {A : Type 0} (blocks : ℕ) (case : Files → A → Files → Type 0) (old t : TxnState) (answer : A) (P : Map → Type 0) → old.writes ≡ []
+    → Tells blocks old t P → ((m : Map) → Sound m → P m → case (files_of m) answer (files_of m))
+    → Does blocks case t.reads t.writes answer
+Does-told blocks case old t answer P none told shows =
+    Does-made blocks case t t t answer _ _ (Tells-nothing blocks t)
+    (record {
+      before = λ m seen. seen;
+      now = λ m seen. subst (λ ws. Sound (overwritten m ws) × case (files_of m) answer (files_of (overwritten m ws))) (sym (told.writes ∙ none))
+          (seen.sound, shows m seen.sound (told.now m seen));
+    })
+    (λ m n sound nothing both. both)
+
+-- an overwritten address is an object of the disk
+pub Writes-overwritten : (blocks : ℕ) (old new : TxnState) (o : Object) (v : Value) → OverwritesAddr (holding old (addr_of o)) (addr_of o) v new → IsOnDisk blocks o → Writes blocks old new o v
+Writes-overwritten blocks old new o v over here = record {
+  reads = ap (λ t. t.reads) over.others;
+  pairs = over.writes;
+  on_disk = here;
+}
+
+-- a block with a valid address is on the disk
+pub on_disk_block : (blocks b : ℕ) (v : Value) → FIRST_DATA ≤ b → IsTrue (is_object blocks (addr_of (block b), v)) → IsOnDisk blocks (block b)
+on_disk_block blocks b v from is = (from, to)
+  where
+    valid : IsTrue (is_valid blocks (addr_of (block b)))
+    valid = (and_parts (is_valid blocks (addr_of (block b))) (is_value_at (kind_of blocks b) v) is).0
+
+    to : b < blocks
+    to = grind (arith, nat_tests)
+
+-- what holds of each value that a call answers
+pub IfOk-like : {A E : Type 0} (r : Result A E) (P Q : A → Type 0) → ((x : A) → P x → Q x) → IfOk r P → IfOk r Q
+IfOk-like (Ok x) P Q like holds = like x holds
+IfOk-like (Err e) P Q like holds = tt
+
+-- what holds where a call succeeds
+pub OnOk-like : {A E : Type 0} (r : Result A E) (P Q : Type 0) → (P → Q) → OnOk r P → OnOk r Q
+OnOk-like (Ok x) P Q like holds = like holds
+OnOk-like (Err e) P Q like holds = tt

@@ -1,0 +1,6 @@
+use Rattle.journal_filestore.specs.Operations.Op.{answers_remove}
+use Rattle.journal_filestore.proofs.Ending.{IsAnswered-like}
+use Rattle.journal_filestore.proofs.store.FileStore.remove.Goals as goal
+
+pub returns : goal.returns
+returns g c = IsAnswered-like _ _ (λ answer F F2 case now. answers_remove _ _ _ now F F2 answer case) _ _ _ _ c.run.ensures

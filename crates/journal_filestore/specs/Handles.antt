@@ -1,0 +1,60 @@
+-- What a handle names, on the disk and among the files.
+use Rattle.std.specs.Prelude.{ℕ, ◌≡◌, ◌==◌, ◌&&◌, Bool, true, false, Option, Some, None, unwrap_or, if◌then◌else◌}
+use Rattle.journal_world.specs.declared.moment.Moment.{Moment}
+use Rattle.journal_world.specs.Maps.{Map}
+use Rattle.journal_inode.specs.declared.node.Time.{Time}
+use Rattle.journal_inode.specs.declared.node.FileNode.{FileNode}
+use Rattle.journal_inode.specs.declared.node.Node.{Node}
+use Rattle.journal_inode.specs.declared.node.Node.TheVariants.{Free, Root, File}
+use Rattle.journal_inode.specs.Nodes.{Fits}
+use Rattle.journal_inode.specs.Sound.{node_at, content}
+use Rattle.journal_filestore.specs.declared.find.Place.{Place}
+use Rattle.journal_filestore.specs.declared.find.Place.TheVariants.{Gone, Directory, Regular}
+use Rattle.journal_filestore.specs.declared.reply.Found.{Found}
+use Rattle.journal_filestore.specs.declared.settings.Settings.{Settings}
+use Rattle.journal_filestore.specs.declared.settings.How.{How}
+use Rattle.journal_filestore.specs.declared.settings.How.TheVariants.{Unchecked, Guarded, Exclusive}
+use Rattle.journal_filestore.specs.Files.{FileData, is_file_number, files_of}
+use Rattle.journal_filestore.specs.Operations.{attributes_of_node, of_root, target_of, time_after}
+use Rattle.journal_filestore.specs.Operations.Target.{gone, root, file}
+
+-- a moment, as inodes have it
+abbrev pub time_of : Moment → Time
+time_of now = record { secs = now.secs; nanos = now.nanos }
+
+-- the file of an inode
+abbrev pub data_of : Map → FileNode → FileData
+data_of m f = record { bytes = content m f; mtime = f.mtime }
+
+-- the inode of a file, with what is asked for
+abbrev pub set_node : FileNode → Settings → Time → FileNode
+set_node f s now = record f { size = unwrap_or s.size f.size; mtime = time_after s.size s.mtime now f.mtime }
+
+-- what is asked for of a file that is created, and whether it may not be there yet
+abbrev pub asked : How → Option (Settings × Bool)
+asked (Unchecked s) = Some (s, false)
+asked (Guarded s) = Some (s, true)
+asked Exclusive = None
+
+-- a file that was found, from its inode, and the root
+abbrev pub found_node : ℕ → FileNode → Time → Found
+found_node i f mtime = record { generation = f.generation; file = attributes_of_node i f; root = of_root mtime }
+
+-- what an inode is to a handle of this number and generation
+abbrev pub place_of : Node → ℕ → ℕ → Place
+place_of (Free g) i generation = Gone
+place_of (Root t) i generation = if i == 1 && generation == 1 then Directory t else Gone
+place_of (File f) i generation = if f.generation == generation then Regular f else Gone
+
+-- This is what the handle names
+abbrev pub IsAt : ℕ → ℕ → Map → Place → Type 0
+IsAt i generation m Gone = target_of (files_of m) i generation ≡ gone
+IsAt i generation m (Directory t) = (target_of (files_of m) i generation ≡ root) × ((files_of m).root ≡ t)
+IsAt i generation m (Regular f) =
+    (target_of (files_of m) i generation ≡ file i (data_of m f)) × (node_at m i ≡ File f) × (is_file_number i ≡ true)
+
+-- the numbers of a file's inode fit their bytes, and the root alone is a directory
+abbrev pub IsPlace : ℕ → Place → Type 0
+IsPlace i (Regular f) = Fits (File f)
+IsPlace i (Directory t) = i ≡ 1
+IsPlace i Gone = Unit {0}

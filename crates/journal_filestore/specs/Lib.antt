@@ -1,0 +1,6 @@
+pub mod Files
+pub mod Operations
+pub mod Handles
+pub mod Doing
+pub mod Done
+pub mod Mounts

@@ -1,0 +1,67 @@
+// COMMIT.
+ghost use Rattle.std.specs.Prelude.{◌≡◌, true};
+ghost use Rattle.journal_inode.specs.declared.node.Time.{Time};
+ghost use Rattle.journal_filestore.specs.Done.{IsAnswered};
+ghost use Rattle.journal_filestore.specs.Operations.{Op, target_of, commit_case};
+ghost use Rattle.journal_filestore.specs.Operations.Call.{commit};
+ghost use Rattle.journal_filestore.specs.Operations.Reply.{committed};
+
+use crate::find::{Place, find};
+use crate::operation::Operation;
+use crate::reply::attributes_of;
+use crate::space::Space;
+use crate::store::{Answer, FileFault, FileTxn, Why};
+use crate::{Attributes, FileStore, Handle, Status};
+use journal_disk::BlockDisk;
+use journal_history::{Naming, Session};
+use journal_inode::SoundFiles;
+use std::sync::Wait;
+
+// The attributes of a file, once all before is stable.
+#[derive(Drop)]
+pub(crate) struct Commit {
+    handle: Handle,
+}
+
+impl<J: Naming> Operation<J> for Commit {
+    type Reply = Attributes;
+
+    ghost case = { λ w F r F2. (r, F2) ≡ commit_case F (target_of F w.handle.number w.handle.generation) };
+
+    ghost is_waiting = { λ w. true };
+
+    fn waits(&self) -> bool {
+        true
+    }
+
+    fn attempt<'j, 'b, D: BlockDisk, W: Wait>(
+        &self,
+        rt: &W,
+        txn: &mut FileTxn<'j, 'b, D, J>,
+        _space: &mut Space,
+    ) -> Result<Answer<Attributes>, Why<'b, J>> {
+        match find(rt, txn, self.handle)? {
+            Place::Gone => Ok(Err(Status::Stale)),
+            Place::Directory(_) => Ok(Err(Status::Invalid)),
+            Place::Regular(file) => Ok(Ok(attributes_of(self.handle.number, file))),
+        }
+    }
+}
+
+impl<'b, D: BlockDisk, J: Naming> FileStore<'b, D, J> {
+    /// COMMIT (RFC 1813, 3.3.21): the attributes of a file, once all that the session had seen is stable, with all
+    /// that was written before. Its own transaction changes nothing, and waits until it is stable: a mark of it is a
+    /// mark of all commits before it.
+    ///
+    /// The first that holds is answered: `Stale` where the handle's file was removed, `Invalid` on the root.
+    pub fn commit<W: Wait>(
+        &self,
+        rt: &W,
+        session: &mut Session<'b, J, SoundFiles>,
+        handle: Handle,
+    ) -> Result<Answer<Attributes>, FileFault<'b, J>>
+        ensures { IsAnswered true (λ F r F2. (now : Time) → Op (commit handle.number handle.generation) now F (committed r) F2) session.old session.new result }
+    {
+        self.run(rt, session, &Commit { handle })
+    }
+}

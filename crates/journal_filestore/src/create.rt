@@ -1,0 +1,210 @@
+// CREATE.
+ghost use Rattle.std.specs.Prelude.{ℕ, ◌≡◌, ◌<◌, ◌≤◌, Bool, Some, true, false, [], IfOk};
+ghost use Rattle.journal_world.specs.declared.layout.TheConstants.{FIRST_DATA, BLOCK_BITS};
+ghost use Rattle.journal_inode.specs.declared.node.Node.TheVariants.{Free, File};
+ghost use Rattle.journal_inode.specs.Nodes.{Fits};
+ghost use Rattle.journal_inode.specs.Sound.{node_at};
+ghost use Rattle.journal_inode.specs.Places.Object.{block, bit};
+ghost use Rattle.journal_filestore.specs.Files.{is_file_number, files_of};
+ghost use Rattle.journal_filestore.specs.Doing.{IsUnread, Leads, Makes};
+ghost use Rattle.journal_filestore.specs.Done.{IsAnswered};
+ghost use Rattle.journal_filestore.specs.Handles.{time_of, data_of, asked, found_node};
+ghost use Rattle.journal_filestore.specs.Operations.{Op, target_of, create_case, create_new, create_file, is_no_time};
+ghost use Rattle.journal_filestore.specs.Operations.Call.{create};
+ghost use Rattle.journal_filestore.specs.Operations.Reply.{made};
+
+use crate::find::{Place, find};
+use crate::name::number_of;
+use crate::objects::{read_bit, read_node, write_bit, write_block, write_node};
+use crate::operation::Operation;
+use crate::reply::{attributes_of, root_attributes};
+use crate::set_file::{is_no_time, is_too_big, set_file, time_after};
+use crate::space::Space;
+use crate::store::{Answer, FileFault, FileTxn, Why};
+use crate::{FileStore, Found, Handle, How, Settings, Status};
+use journal_alloc::Alloc;
+use journal_disk::BlockDisk;
+use journal_history::{Naming, Session};
+use journal_inode::{FileNode, Node, SoundFiles, Time};
+use journal_world::{Kind, Moment};
+use std::alloc::Global;
+use std::sync::{Mutex, Wait};
+
+// A file of a name, made or set.
+#[derive(Drop)]
+pub(crate) struct Create<'a> {
+    directory: Handle,
+    name: &'a [u8],
+    how: How,
+    moment: Moment,
+    free: &'a Mutex<Alloc>,
+    alloc: Global,
+}
+
+impl<'a, J: Naming> Operation<J> for Create<'a> {
+    type Reply = Found;
+
+    ghost case = { λ w F r F2. (room : Bool) × ((r, F2) ≡ create_case room w.name.now w.how (time_of w.moment) F (target_of F w.directory.number w.directory.generation)) };
+
+    ghost is_waiting = { λ w. true };
+
+    fn waits(&self) -> bool {
+        true
+    }
+
+    fn attempt<'j, 'b, D: BlockDisk, W: Wait>(
+        &self,
+        rt: &W,
+        txn: &mut FileTxn<'j, 'b, D, J>,
+        space: &mut Space,
+    ) -> Result<Answer<Found>, Why<'b, J>> {
+        let root = match find(rt, txn, self.directory)? {
+            Place::Gone => return Ok(Err(Status::Stale)),
+            Place::Regular(_) => return Ok(Err(Status::NotDirectory)),
+            Place::Directory(mtime) => mtime,
+        };
+        let Some((settings, is_guarded)) = asked(self.how) else {
+            return Ok(Err(Status::NotSupported));
+        };
+        let Some(number) = number_of(self.name) else {
+            return Ok(Err(Status::Invalid));
+        };
+        if is_no_time(settings.mtime) {
+            return Ok(Err(Status::Invalid));
+        }
+        match read_node(rt, txn, number)? {
+            Node::Free(last) => self.make(rt, txn, space, root, number, last, settings),
+            Node::File(file) => self.set(rt, txn, root, number, file, settings, is_guarded),
+            Node::Root(_) => Ok(Err(Status::Exists)),
+        }
+    }
+}
+
+// What is asked for, and whether the file may not be there yet.
+fn asked(how: How) -> Option<(Settings, bool)>
+    ensures { result ≡ asked how }
+{
+    match how {
+        How::Unchecked(settings) => Some((settings, false)),
+        How::Guarded(settings) => Some((settings, true)),
+        How::Exclusive => None,
+    }
+}
+
+impl<'a> Create<'a> {
+    // The file is there, and is set, where it may be there.
+    fn set<'j, 'b, D: BlockDisk, J: Naming, W: Wait>(
+        &self,
+        rt: &W,
+        txn: &mut FileTxn<'j, 'b, D, J>,
+        root: Time,
+        number: u32,
+        file: FileNode,
+        settings: Settings,
+        is_guarded: bool,
+    ) -> Result<Answer<Found>, Why<'b, J>>
+        requires number { is_file_number number ≡ true }
+        requires fits { Fits (File file) }
+        requires timed { is_no_time settings.mtime ≡ false }
+        requires unread { FIRST_DATA ≤ file.block → IsUnread txn.old (block file.block) }
+        requires writes { txn.old.writes ≡ [] }
+        ensures { IfOk result (λ answer. Makes J.blocks txn.old txn.new (λ m n. node_at m number ≡ File file → (files_of m).root ≡ root
+            → Leads n answer (create_file true is_guarded settings (time_of self.now.moment) (files_of m) number (Some (data_of m file))))) }
+    {
+        if is_guarded {
+            return Ok(Err(Status::Exists));
+        }
+        if is_too_big(settings.size) {
+            return Ok(Err(Status::TooBig));
+        }
+        let after = set_file(rt, txn, number, file, settings, self.moment)?;
+        Ok(Ok(found(number, after, root)))
+    }
+
+    // The number is free, and gets a file, in a block that is free.
+    fn make<'j, 'b, D: BlockDisk, J: Naming, W: Wait>(
+        &self,
+        rt: &W,
+        txn: &mut FileTxn<'j, 'b, D, J>,
+        space: &mut Space,
+        root: Time,
+        number: u32,
+        last: u32,
+        settings: Settings,
+    ) -> Result<Answer<Found>, Why<'b, J>>
+        requires number { is_file_number number ≡ true }
+        requires timed { is_no_time settings.mtime ≡ false }
+        requires unread { (k : ℕ) → k < BLOCK_BITS → IsUnread txn.old (bit k) }
+        requires writes { txn.old.writes ≡ [] }
+        ensures { IfOk result (λ answer. Makes J.blocks txn.old txn.new (λ m n. node_at m number ≡ Free last → (files_of m).root ≡ root
+            → (room : Bool) × Leads n answer (create_new room settings (time_of self.now.moment) (files_of m) number))) }
+    {
+        if is_too_big(settings.size) {
+            return Ok(Err(Status::TooBig));
+        }
+        if last == u32::MAX {
+            return Ok(Err(Status::NoSpace));
+        }
+        let Some(block) = space.take(rt, self.free) else {
+            return Ok(Err(Status::NoSpace));
+        };
+        if read_bit(rt, txn, block)? {
+            return Ok(Err(Status::NoSpace));
+        }
+        let file = FileNode {
+            generation: last + 1,
+            size: settings.size.unwrap_or(0),
+            block,
+            mtime: time_after(settings, self.moment, Time::at(self.moment)),
+        };
+        let zeros = Kind::Block.zeros(self.alloc)?;
+        write_block(rt, txn, block, zeros.bytes())?;
+        write_bit(rt, txn, block, true)?;
+        write_node(rt, txn, number, &Node::File(file))?;
+        Ok(Ok(found(number, file, root)))
+    }
+}
+
+// A file that was made or set, and the root.
+fn found(number: u32, file: FileNode, root: Time) -> Found
+    ensures { result ≡ found_node number file root }
+{
+    Found {
+        generation: file.generation,
+        file: attributes_of(number, file),
+        root: root_attributes(root),
+    }
+}
+
+impl<'b, D: BlockDisk, J: Naming> FileStore<'b, D, J> {
+    /// CREATE (RFC 1813, 3.3.8): makes a file of a name in the root, of the size given or none and all zeros, with a
+    /// generation that no file of its number had; or sets the file, where it is there and `how` allows it. It waits
+    /// until it is stable.
+    ///
+    /// The first that holds is answered: `Stale` where the handle's file was removed; `NotDirectory` where it is a
+    /// file's; `NotSupported` for `Exclusive`; `Invalid` where the name is not `f` and three digits, from `f002` to `f511`,
+    /// or a time is given that is none; `Exists` where the file is there and `how` is `Guarded`; `TooBig` where the size is
+    /// above `FILE_BYTES`; `NoSpace` where no block is handed out, or the number's generation is at its greatest. Blocks
+    /// that calls at work hold are not handed out, so `NoSpace` may come while one is free.
+    pub fn create<W: Wait>(
+        &self,
+        rt: &W,
+        session: &mut Session<'b, J, SoundFiles>,
+        directory: Handle,
+        name: &[u8],
+        how: How,
+        now: Moment,
+    ) -> Result<Answer<Found>, FileFault<'b, J>>
+        ensures { IsAnswered true (λ F r F2. Op (create directory.number directory.generation name.now how) (time_of now) F (made r) F2) session.old session.new result }
+    {
+        let create = Create {
+            directory,
+            name,
+            how,
+            moment: now,
+            free: &self.free,
+            alloc: self.alloc,
+        };
+        self.run(rt, session, &create)
+    }
+}

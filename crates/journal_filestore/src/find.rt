@@ -1,0 +1,50 @@
+// What a handle names.
+ghost use Rattle.std.specs.Prelude.{◌≡◌, [], IfOk, OnOk};
+ghost use Rattle.journal_inode.specs.Places.Object.{inode};
+ghost use Rattle.journal_filestore.specs.Doing.{Tells, ReadsOnly};
+ghost use Rattle.journal_filestore.specs.Handles.{IsAt, IsPlace, place_of};
+
+use crate::Handle;
+use crate::objects::read_node;
+use crate::store::{FileTxn, Why};
+use journal_disk::BlockDisk;
+use journal_history::Naming;
+use journal_inode::{FileNode, Node, Time};
+use std::sync::Wait;
+
+// What a handle names.
+#[derive(Clone, Copy, Debug, PartialEq, Eq)]
+pub enum Place {
+    // Nothing any more.
+    Gone,
+    // The root.
+    Directory(Time),
+    // A file.
+    Regular(FileNode),
+}
+
+// Finds what a handle names, as a transaction's first step.
+pub(crate) fn find<'j, 'b, D: BlockDisk, J: Naming, W: Wait>(
+    rt: &W,
+    txn: &mut FileTxn<'j, 'b, D, J>,
+    handle: Handle,
+) -> Result<Place, Why<'b, J>>
+    requires reads { txn.old.reads ≡ [] }
+    requires writes { txn.old.writes ≡ [] }
+    ensures told { IfOk result (λ place. Tells J.blocks txn.old txn.new (λ m. IsAt handle.number handle.generation m place)) }
+    ensures reads { OnOk result (ReadsOnly txn.old txn.new (inode handle.number)) }
+    ensures fits { IfOk result (IsPlace handle.number) }
+{
+    let node = read_node(rt, txn, handle.number)?;
+    Ok(place_of(node, handle.number, handle.generation))
+}
+
+fn place_of(node: Node, number: u32, generation: u32) -> Place
+    ensures { result ≡ place_of node number generation }
+{
+    match node {
+        Node::Root(mtime) if number == 1 && generation == 1 => Place::Directory(mtime),
+        Node::File(file) if file.generation == generation => Place::Regular(file),
+        _ => Place::Gone,
+    }
+}

@@ -1,0 +1,65 @@
+// GETATTR.
+ghost use Rattle.std.specs.Prelude.{◌≡◌, false};
+ghost use Rattle.journal_inode.specs.declared.node.Time.{Time};
+ghost use Rattle.journal_filestore.specs.Done.{IsAnswered};
+ghost use Rattle.journal_filestore.specs.Operations.{Op, target_of, getattr_case};
+ghost use Rattle.journal_filestore.specs.Operations.Call.{getattr};
+ghost use Rattle.journal_filestore.specs.Operations.Reply.{got};
+
+use crate::find::{Place, find};
+use crate::operation::Operation;
+use crate::reply::{attributes_of, root_attributes};
+use crate::space::Space;
+use crate::store::{Answer, FileFault, FileTxn, Why};
+use crate::{Attributes, FileStore, Handle, Status};
+use journal_disk::BlockDisk;
+use journal_history::{Naming, Session};
+use journal_inode::SoundFiles;
+use std::sync::Wait;
+
+// The attributes of what a handle names.
+#[derive(Drop)]
+pub(crate) struct GetAttr {
+    handle: Handle,
+}
+
+impl<J: Naming> Operation<J> for GetAttr {
+    type Reply = Attributes;
+
+    ghost case = { λ w F r F2. (r, F2) ≡ getattr_case F (target_of F w.handle.number w.handle.generation) };
+
+    ghost is_waiting = { λ w. false };
+
+    fn waits(&self) -> bool {
+        false
+    }
+
+    fn attempt<'j, 'b, D: BlockDisk, W: Wait>(
+        &self,
+        rt: &W,
+        txn: &mut FileTxn<'j, 'b, D, J>,
+        _space: &mut Space,
+    ) -> Result<Answer<Attributes>, Why<'b, J>> {
+        match find(rt, txn, self.handle)? {
+            Place::Gone => Ok(Err(Status::Stale)),
+            Place::Directory(mtime) => Ok(Ok(root_attributes(mtime))),
+            Place::Regular(file) => Ok(Ok(attributes_of(self.handle.number, file))),
+        }
+    }
+}
+
+impl<'b, D: BlockDisk, J: Naming> FileStore<'b, D, J> {
+    /// GETATTR (RFC 1813, 3.3.1): the attributes of a file or of the root.
+    ///
+    /// Answers `Stale` where the handle's file was removed. It does not wait until it is stable.
+    pub fn getattr<W: Wait>(
+        &self,
+        rt: &W,
+        session: &mut Session<'b, J, SoundFiles>,
+        handle: Handle,
+    ) -> Result<Answer<Attributes>, FileFault<'b, J>>
+        ensures { IsAnswered false (λ F r F2. (now : Time) → Op (getattr handle.number handle.generation) now F (got r) F2) session.old session.new result }
+    {
+        self.run(rt, session, &GetAttr { handle })
+    }
+}

@@ -1,0 +1,49 @@
+//! Files by number, over a journal.
+//!
+//! A file store is a journal under the rule of sound files, and the numbers of the blocks that no file has.
+//! Each operation is one transaction: it reads the inodes that it needs, answers the first case that holds,
+//! and overwrites what changes. Its answer and what it makes of the files are those of that case, between the
+//! map before its commit and the map after it, whatever other threads commit meanwhile.
+//!
+//! An attempt that finds a slot held is given up and made again. Blocks are handed out by `journal_alloc`, under a
+//! lock of its own; a block that an attempt took and did not use comes back, and a block that a commit freed is
+//! handed out again after it. No proof rests on these numbers: a file takes a block only where the block's bit,
+//! read in the same transaction, is clear.
+//!
+//! `specs/Files.antt` says what the files of a map are, `specs/Operations.antt` has the cases of each
+//! operation, and `specs/Done.antt` what an operation is in the history.
+#![tactic(auto)]
+
+mod commit;
+mod create;
+mod fault;
+mod find;
+mod getattr;
+mod handle;
+mod lookup;
+mod mount;
+mod name;
+mod objects;
+mod operation;
+mod portion;
+mod read;
+mod remove;
+mod reply;
+mod set_file;
+mod set_size;
+mod settings;
+mod space;
+mod status;
+mod store;
+mod write;
+
+pub use fault::Fault;
+pub use handle::Handle;
+pub use portion::Portion;
+pub use reply::{Attributes, Changed, Found};
+pub use settings::{How, NewTime, Settings, Stability};
+pub use status::Status;
+pub use store::{Answer, FileFault, FileStore};
+
+#[cfg(test)]
+mod tests;

@@ -1,0 +1,81 @@
+// LOOKUP.
+ghost use Rattle.std.specs.Prelude.{◌≡◌, false};
+ghost use Rattle.journal_inode.specs.declared.node.Time.{Time};
+ghost use Rattle.journal_filestore.specs.Done.{IsAnswered};
+ghost use Rattle.journal_filestore.specs.Operations.{Op, target_of, lookup_case};
+ghost use Rattle.journal_filestore.specs.Operations.Call.{lookup};
+ghost use Rattle.journal_filestore.specs.Operations.Reply.{found};
+
+use crate::find::{Place, find};
+use crate::name::number_of;
+use crate::objects::read_node;
+use crate::operation::Operation;
+use crate::reply::{attributes_of, root_attributes};
+use crate::space::Space;
+use crate::store::{Answer, FileFault, FileTxn, Why};
+use crate::{FileStore, Found, Handle, Status};
+use journal_disk::BlockDisk;
+use journal_history::{Naming, Session};
+use journal_inode::{Node, SoundFiles};
+use std::sync::Wait;
+
+// A file by its name.
+#[derive(Drop)]
+pub(crate) struct Lookup<'a> {
+    directory: Handle,
+    name: &'a [u8],
+}
+
+impl<'a, J: Naming> Operation<J> for Lookup<'a> {
+    type Reply = Found;
+
+    ghost case = { λ w F r F2. (r, F2) ≡ lookup_case w.name.now F (target_of F w.directory.number w.directory.generation) };
+
+    ghost is_waiting = { λ w. false };
+
+    fn waits(&self) -> bool {
+        false
+    }
+
+    fn attempt<'j, 'b, D: BlockDisk, W: Wait>(
+        &self,
+        rt: &W,
+        txn: &mut FileTxn<'j, 'b, D, J>,
+        _space: &mut Space,
+    ) -> Result<Answer<Found>, Why<'b, J>> {
+        let root = match find(rt, txn, self.directory)? {
+            Place::Gone => return Ok(Err(Status::Stale)),
+            Place::Regular(_) => return Ok(Err(Status::NotDirectory)),
+            Place::Directory(mtime) => mtime,
+        };
+        let Some(number) = number_of(self.name) else {
+            return Ok(Err(Status::NoEntry));
+        };
+        let Node::File(file) = read_node(rt, txn, number)? else {
+            return Ok(Err(Status::NoEntry));
+        };
+        Ok(Ok(Found {
+            generation: file.generation,
+            file: attributes_of(number, file),
+            root: root_attributes(root),
+        }))
+    }
+}
+
+impl<'b, D: BlockDisk, J: Naming> FileStore<'b, D, J> {
+    /// LOOKUP (RFC 1813, 3.3.3): the file of a name in the root.
+    ///
+    /// The first that holds is answered: `Stale` where the handle's file was removed, `NotDirectory` where it is a
+    /// file's, `NoEntry` where there is no file of the name. It does not wait until it is stable.
+    pub fn lookup<W: Wait>(
+        &self,
+        rt: &W,
+        session: &mut Session<'b, J, SoundFiles>,
+        directory: Handle,
+        name: &[u8],
+    ) -> Result<Answer<Found>, FileFault<'b, J>>
+        ensures { IsAnswered false (λ F r F2. (now : Time) → Op (lookup directory.number directory.generation name.now) now F (found r) F2) session.old session.new result }
+    {
+        self.run(rt, session, &Lookup { directory, name })
+    }
+}

@@ -1,0 +1,131 @@
+// The objects of files, read and overwritten through a transaction. An operation reads each object once, and reads
+// first and then writes.
+ghost use Rattle.std.specs.Prelude.{ℕ, ◌≡◌, ◌<◌, ◌≤◌, ◌+◌, ◌-◌, ◌↔◌, [], ◌∷◌, length, IsTrue, IfOk, OnOk, if◌then◌else◌};
+ghost use Rattle.journal_world.specs.declared.address.Kind.TheVariants.{Bit};
+ghost use Rattle.journal_world.specs.declared.layout.TheConstants.{FIRST_DATA, BLOCK_BITS};
+ghost use Rattle.journal_world.specs.Addresses.{is_value_of};
+ghost use Rattle.journal_inode.specs.declared.place.TheConstants.{INODES};
+ghost use Rattle.journal_inode.specs.Places.{object};
+ghost use Rattle.journal_inode.specs.Places.Object.{bit, inode, block};
+ghost use Rattle.journal_inode.specs.Nodes.{bytes_of, Fits};
+ghost use Rattle.journal_inode.specs.Sound.{node_at};
+ghost use Rattle.journal_filestore.specs.Doing.{Tells, Writes, IsUnread, ReadsOnly};
+
+use crate::store::{FileTxn, Why};
+use journal_disk::BlockDisk;
+use journal_history::Naming;
+use journal_inode::{Node, bit_addr, block_addr, inode_addr};
+use journal_world::{BLOCK_BITS, FIRST_DATA, Refusal, Value};
+use std::sync::Wait;
+
+// Reads an inode.
+pub(crate) fn read_node<'j, 'b, D: BlockDisk, J: Naming, W: Wait>(
+    rt: &W,
+    txn: &mut FileTxn<'j, 'b, D, J>,
+    number: u32,
+) -> Result<Node, Why<'b, J>>
+    requires number { number < INODES }
+    requires unread { IsUnread txn.old (inode number) }
+    requires writes { txn.old.writes ≡ [] }
+    ensures told { IfOk result (λ node. Tells J.blocks txn.old txn.new (λ m. node_at m number ≡ node)) }
+    ensures reads { OnOk result (ReadsOnly txn.old txn.new (inode number)) }
+    ensures fits { IfOk result Fits }
+{
+    let value = txn.read(rt, inode_addr(number))?;
+    Ok(Node::read(value.bytes()))
+}
+
+// Reads a data block.
+pub(crate) fn read_block<'j, 'b, D: BlockDisk, J: Naming, W: Wait>(
+    rt: &W,
+    txn: &mut FileTxn<'j, 'b, D, J>,
+    number: u64,
+) -> Result<Value, Why<'b, J>>
+    requires unread { FIRST_DATA ≤ number → IsUnread txn.old (block number) }
+    requires writes { txn.old.writes ≡ [] }
+    ensures told { IfOk result (λ value. Tells J.blocks txn.old txn.new (λ m. object m (block number) ≡ value)) }
+    ensures whole { IfOk result (λ value. length value ≡ 4096) }
+    ensures data_block { OnOk result (FIRST_DATA ≤ number) }
+{
+    if number < FIRST_DATA {
+        return Err(Refusal::BadAddress);
+    }
+    txn.read(rt, block_addr(number))
+}
+
+// Reads the bit of a data block: whether it is set.
+pub(crate) fn read_bit<'j, 'b, D: BlockDisk, J: Naming, W: Wait>(
+    rt: &W,
+    txn: &mut FileTxn<'j, 'b, D, J>,
+    number: u64,
+) -> Result<bool, Why<'b, J>>
+    requires unread { (k : ℕ) → k < BLOCK_BITS → IsUnread txn.old (bit k) }
+    requires writes { txn.old.writes ≡ [] }
+    ensures told { IfOk result (λ is_set. Tells J.blocks txn.old txn.new
+        (λ m. object m (bit (number - FIRST_DATA)) ≡ (if is_set then 1 else 0) ∷ [])) }
+    ensures data_block { OnOk result (FIRST_DATA ≤ number) }
+{
+    if !has_bit(number) {
+        return Err(Refusal::BadAddress);
+    }
+    let value = txn.read(rt, bit_addr(number))?;
+    Ok(is_one(value.bytes()))
+}
+
+// Overwrites an inode.
+pub(crate) fn write_node<'j, 'b, D: BlockDisk, J: Naming, W: Wait>(
+    rt: &W,
+    txn: &mut FileTxn<'j, 'b, D, J>,
+    number: u32,
+    node: &Node,
+) -> Result<(), Why<'b, J>>
+    requires { number < INODES }
+    ensures { OnOk result (Writes J.blocks txn.old txn.new (inode number) (bytes_of node.now)) }
+{
+    txn.overwrite(rt, inode_addr(number), &node.bytes())
+}
+
+// Overwrites a data block.
+pub(crate) fn write_block<'j, 'b, D: BlockDisk, J: Naming, W: Wait>(
+    rt: &W,
+    txn: &mut FileTxn<'j, 'b, D, J>,
+    number: u64,
+    bytes: &[u8],
+) -> Result<(), Why<'b, J>>
+    ensures { OnOk result (Writes J.blocks txn.old txn.new (block number) bytes.now) }
+{
+    if number < FIRST_DATA {
+        return Err(Refusal::BadAddress);
+    }
+    txn.overwrite(rt, block_addr(number), bytes)
+}
+
+// Overwrites the bit of a data block.
+pub(crate) fn write_bit<'j, 'b, D: BlockDisk, J: Naming, W: Wait>(
+    rt: &W,
+    txn: &mut FileTxn<'j, 'b, D, J>,
+    number: u64,
+    is_set: bool,
+) -> Result<(), Why<'b, J>>
+    ensures { OnOk result (Writes J.blocks txn.old txn.new (bit (number - FIRST_DATA)) ((if is_set then 1 else 0) ∷ [])) }
+{
+    if !has_bit(number) {
+        return Err(Refusal::BadAddress);
+    }
+    txn.overwrite(rt, bit_addr(number), &[u8::from(is_set)])
+}
+
+// Whether a bit of the bitmap may belong to the block.
+fn has_bit(number: u64) -> bool
+    ensures { IsTrue result ↔ ((FIRST_DATA ≤ number) × (number < FIRST_DATA + BLOCK_BITS)) }
+{
+    FIRST_DATA <= number && number < FIRST_DATA + u64::from(BLOCK_BITS)
+}
+
+// Whether a bit's value is 1.
+pub(crate) fn is_one(bytes: &[u8]) -> bool
+    requires { IsTrue (is_value_of Bit bytes.now) }
+    ensures { bytes.now ≡ (if result then 1 else 0) ∷ [] }
+{
+    bytes[0] == 1
+}

@@ -1,0 +1,71 @@
+// What READ answers.
+ghost use Rattle.std.specs.Prelude.{◌≡◌, ◌≤◌, length, slice_range};
+
+use crate::Attributes;
+use journal_world::Value;
+use std::marker::Model;
+
+/// A portion of a file, with the file's attributes. It holds the file's block, and lends what was asked for.
+#[derive(Debug, Drop)]
+pub struct Portion {
+    file: Attributes,
+    block: Value,
+    from: usize,
+    to: usize,
+    is_end: bool,
+}
+
+impl Model for Portion {
+    ghost use Rattle.std.specs.Prelude.{◌≤◌, length, slice_range};
+    ghost use Rattle.journal_filestore.specs.Operations.{PortionState};
+
+    ghost Value = { PortionState };
+
+    ghost view = { λ p. record { file = p.file; bytes = slice_range p.block p.from p.to; is_end = p.is_end } };
+
+    ghost invariant = { λ p. (p.from ≤ p.to) × (p.to ≤ length p.block) };
+}
+
+impl Portion {
+    // The bytes of a block from one place to another.
+    pub(crate) fn new(
+        file: Attributes,
+        block: Value,
+        from: usize,
+        to: usize,
+        is_end: bool,
+    ) -> Portion
+        requires in_order { from ≤ to }
+        requires in_range { to ≤ length block }
+        ensures { result ≡ record { file = file; bytes = slice_range block from to; is_end = is_end } }
+    {
+        Portion {
+            file,
+            block,
+            from,
+            to,
+            is_end,
+        }
+    }
+
+    /// The file's attributes.
+    pub fn file(&self) -> Attributes
+        ensures { result ≡ self.now.file }
+    {
+        self.file
+    }
+
+    /// The bytes.
+    pub fn bytes(&self) -> &[u8]
+        ensures { result.now ≡ self.now.bytes }
+    {
+        &self.block.bytes()[self.from..self.to]
+    }
+
+    /// Whether they reach the file's end.
+    pub fn is_end(&self) -> bool
+        ensures { result ≡ self.now.is_end }
+    {
+        self.is_end
+    }
+}

@@ -1,0 +1,81 @@
+// REMOVE.
+ghost use Rattle.std.specs.Prelude.{◌≡◌, true};
+ghost use Rattle.journal_inode.specs.declared.node.Time.{Time};
+ghost use Rattle.journal_filestore.specs.Done.{IsAnswered};
+ghost use Rattle.journal_filestore.specs.Operations.{Op, target_of, remove_case};
+ghost use Rattle.journal_filestore.specs.Operations.Call.{remove};
+ghost use Rattle.journal_filestore.specs.Operations.Reply.{removed};
+
+use crate::find::{Place, find};
+use crate::name::number_of;
+use crate::objects::{read_node, write_bit, write_node};
+use crate::operation::Operation;
+use crate::reply::root_attributes;
+use crate::space::Space;
+use crate::store::{Answer, FileFault, FileTxn, Why};
+use crate::{Attributes, FileStore, Handle, Status};
+use journal_disk::BlockDisk;
+use journal_history::{Naming, Session};
+use journal_inode::{Node, SoundFiles};
+use std::sync::Wait;
+
+// A file, removed by its name.
+#[derive(Drop)]
+pub(crate) struct Remove<'a> {
+    directory: Handle,
+    name: &'a [u8],
+}
+
+impl<'a, J: Naming> Operation<J> for Remove<'a> {
+    type Reply = Attributes;
+
+    ghost case = { λ w F r F2. (r, F2) ≡ remove_case w.name.now F (target_of F w.directory.number w.directory.generation) };
+
+    ghost is_waiting = { λ w. true };
+
+    fn waits(&self) -> bool {
+        true
+    }
+
+    fn attempt<'j, 'b, D: BlockDisk, W: Wait>(
+        &self,
+        rt: &W,
+        txn: &mut FileTxn<'j, 'b, D, J>,
+        space: &mut Space,
+    ) -> Result<Answer<Attributes>, Why<'b, J>> {
+        let root = match find(rt, txn, self.directory)? {
+            Place::Gone => return Ok(Err(Status::Stale)),
+            Place::Regular(_) => return Ok(Err(Status::NotDirectory)),
+            Place::Directory(mtime) => mtime,
+        };
+        let Some(number) = number_of(self.name) else {
+            return Ok(Err(Status::NoEntry));
+        };
+        let Node::File(file) = read_node(rt, txn, number)? else {
+            return Ok(Err(Status::NoEntry));
+        };
+        write_node(rt, txn, number, &Node::Free(file.generation))?;
+        write_bit(rt, txn, file.block, false)?;
+        space.free(file.block);
+        Ok(Ok(root_attributes(root)))
+    }
+}
+
+impl<'b, D: BlockDisk, J: Naming> FileStore<'b, D, J> {
+    /// REMOVE (RFC 1813, 3.3.12): removes the file of a name from the root, whose attributes are answered. The number
+    /// keeps its generation, so that no handle of the file names a later one. It waits until it is stable.
+    ///
+    /// The first that holds is answered: `Stale` where the handle's file was removed, `NotDirectory` where it is a
+    /// file's, `NoEntry` where there is no file of the name.
+    pub fn remove<W: Wait>(
+        &self,
+        rt: &W,
+        session: &mut Session<'b, J, SoundFiles>,
+        directory: Handle,
+        name: &[u8],
+    ) -> Result<Answer<Attributes>, FileFault<'b, J>>
+        ensures { IsAnswered true (λ F r F2. (now : Time) → Op (remove directory.number directory.generation name.now) now F (removed r) F2) session.old session.new result }
+    {
+        self.run(rt, session, &Remove { directory, name })
+    }
+}

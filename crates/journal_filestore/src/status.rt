@@ -1,0 +1,25 @@
+// How an operation is answered that is no success.
+
+/// How an operation is answered that is no success: a case of the file service, which leaves the files as they
+/// were. It is an answer like any other, and the operation's transaction is committed.
+#[derive(Clone, Copy, Debug, PartialEq, Eq)]
+pub enum Status {
+    /// There is no file of the name.
+    NoEntry,
+    /// There is a file of the name already.
+    Exists,
+    /// The handle is a file's, and a directory's is needed.
+    NotDirectory,
+    /// An argument has no meaning there.
+    Invalid,
+    /// A file has at most `FILE_BYTES` bytes.
+    TooBig,
+    /// No block is free, or the number has had all its generations.
+    NoSpace,
+    /// The handle's file was removed.
+    Stale,
+    /// The file's time is not the one that the guard says.
+    NotSync,
+    /// It is not supported.
+    NotSupported,
+}

@@ -1,0 +1,210 @@
+// The store: its journal, and the numbers of its free blocks.
+ghost use Rattle.std.specs.Prelude.{◌≡◌, IsTrue, IfOk, OnOk, IfErr};
+ghost use Rattle.journal_world.specs.Maps.{Map, Agrees, overwritten};
+ghost use Rattle.journal_world.specs.Histories.{is_trusted};
+ghost use Rattle.journal_disk.specs.Disks.{IsSettled};
+ghost use Rattle.journal_disk.specs.Images.{EveryImage};
+ghost use Rattle.journal_history.specs.Tokens.{OnlyExtends};
+ghost use Rattle.journal_core.specs.Cores.{Leaves};
+ghost use Rattle.journal_inode.specs.Sound.{Sound};
+ghost use Rattle.journal_twophase.specs.Journals.{BeginsWith, IsCloseRefusal};
+ghost use Rattle.journal_filestore.specs.Done.{IsAnswered, IsEndOf};
+ghost use Rattle.journal_filestore.specs.Mounts.{IsMountRefusal};
+
+use crate::mount::free_blocks;
+use crate::operation::Operation;
+use crate::space::Space;
+use crate::{Fault, Status};
+use journal_alloc::Alloc;
+use journal_core::Cause;
+use journal_disk::BlockDisk;
+use journal_history::{Book, Naming, Session};
+use journal_inode::SoundFiles;
+use journal_twophase::{Journal, Txn, WaitFault};
+use journal_world::{Refusal, Refused};
+use std::alloc::Global;
+use std::marker::Model;
+use std::sync::{Mutex, Wait};
+
+/// What an operation answers: a success, or the case that is none. Either is committed.
+pub type Answer<A> = Result<A, Status>;
+
+/// Why an operation on files has no answer.
+pub type FileFault<'b, J> = Fault<Cause<'b, J, SoundFiles>>;
+
+/// Why the journal below refuses.
+pub(crate) type Why<'b, J> = Refusal<Cause<'b, J, SoundFiles>>;
+
+/// A transaction on files.
+pub(crate) type FileTxn<'j, 'b, D, J> = Txn<'j, 'b, D, SoundFiles, J>;
+
+// How often an attempt that was refused by J5 is made again.
+const RETRIES: u32 = 8;
+
+/// The files of a disk, which threads share by `&`. Contracts see the history at the opening of its journal.
+#[derive(Drop)]
+pub struct FileStore<'b, D: BlockDisk, J: Naming> {
+    pub(crate) alloc: Global,
+    journal: Journal<'b, D, SoundFiles, J>,
+    // The numbers of the blocks that no file has. A file that is on its way has its block's number too.
+    pub(crate) free: Mutex<Alloc>,
+}
+
+impl<'b, D: BlockDisk, J: Naming> Model for FileStore<'b, D, J> {
+    ghost use Rattle.journal_twophase.specs.Journals.{JournalState};
+
+    ghost Value = { JournalState };
+
+    ghost view = { λ store. store.journal };
+}
+
+impl<'b, D: BlockDisk, J: Naming> FileStore<'b, D, J> {
+    /// Mounts a disk on which nothing is pending: opens its journal under the rule of sound files, and reads which
+    /// of its blocks are free.
+    ///
+    /// It is refused as `Journal::open` is, with nothing written: J8 `BadSuper` where the disk's files are not sound.
+    /// J1 `NoMemory`, J6 `DeviceFailed`, J9 `Stale`, J10 `Stranger`, J11 `Worn` and J13 `Closed` may come after that too, while the
+    /// bits are read. Each refusal hands the disk back.
+    pub fn mount<W: Wait>(
+        rt: &W,
+        alloc: Global,
+        book: &'b Book<SoundFiles>,
+        disk: D,
+    ) -> Result<FileStore<'b, D, J>, Refused<D, Cause<'b, J, SoundFiles>>>
+        requires book { book.now ≡ J.book }
+        requires blocks { (D.state disk).past.size ≡ J.blocks }
+        requires settled { IsTrue (D.state disk).honest → IsSettled (D.state disk).past }
+        ensures begun { IfOk result (λ store. BeginsWith Sound (D.state disk) store.start) }
+        ensures refusal { IfErr result (λ refused. IsMountRefusal (D.state disk) (D.state refused.disk) refused.refusal) }
+    {
+        let blocks = disk.size();
+        let journal = Journal::open(alloc, book, disk, &SoundFiles::new(alloc))?;
+        match free_blocks(rt, alloc, &journal, blocks) {
+            Ok(free) => Ok(FileStore {
+                alloc,
+                journal,
+                free: Mutex::new(free),
+            }),
+            Err(refusal) => Err(Refused {
+                refusal,
+                disk: journal.into_disk(),
+            }),
+        }
+    }
+
+    /// The journal, for sessions, and for the steps of the logger and the installer.
+    pub fn journal(&self) -> &Journal<'b, D, SoundFiles, J>
+        ensures { result.now ≡ self.now }
+    {
+        &self.journal
+    }
+
+    /// Ends the store, and gives the disk up, as `Journal::close` does. The session has then seen the whole history,
+    /// and each image that a crash may leave of the disk opens as the map after a front of it that has every marked
+    /// commit.
+    ///
+    /// Answers J9 `Stale` where the session had seen more of the history than the core, and nothing else. The disk
+    /// is then given up too.
+    pub fn close(
+        self,
+        session: &mut Session<'b, J, SoundFiles>,
+    ) -> Result<D, Refused<D, Cause<'b, J, SoundFiles>>>
+        ensures session { OnlyExtends session.old session.new }
+        ensures trusted { IfOk result (λ disk. is_trusted session.new.seen ≡ (D.state disk).honest) }
+        ensures images { IfOk result (λ disk. IsTrue (D.state disk).honest → EveryImage (D.state disk).past (Leaves session.new.seen)) }
+        ensures refusal { IfErr result (λ refused. IsCloseRefusal refused.refusal) }
+    {
+        let FileStore {
+            alloc: _,
+            journal,
+            free: _,
+        } = self;
+        journal.close(session)
+    }
+
+    // Attempts an operation until it is answered, or refused by another number than J5, or refused by J5 once more
+    // after the last retry.
+    pub(crate) fn run<O: Operation<J>, W: Wait>(
+        &self,
+        rt: &W,
+        session: &mut Session<'b, J, SoundFiles>,
+        operation: &O,
+    ) -> Result<Answer<O::Reply>, FileFault<'b, J>>
+        ensures { IsAnswered (O.is_waiting operation.now) (O.case operation.now) session.old session.new result }
+    {
+        for _ in 0..RETRIES {
+            match self.once(rt, session, operation) {
+                Err(Fault::Refused(Refusal::Busy)) => {}
+                answer => return answer,
+            }
+        }
+        self.once(rt, session, operation)
+    }
+
+    // One attempt: committed, or undone.
+    fn once<O: Operation<J>, W: Wait>(
+        &self,
+        rt: &W,
+        session: &mut Session<'b, J, SoundFiles>,
+        operation: &O,
+    ) -> Result<Answer<O::Reply>, FileFault<'b, J>>
+        ensures { IsAnswered (O.is_waiting operation.now) (O.case operation.now) session.old session.new result }
+    {
+        let mut space = Space::new();
+        let mut txn = self.journal.begin(self.alloc, session);
+        let answer = match operation.attempt(rt, &mut txn, &mut space) {
+            Ok(answer) => answer,
+            Err(why) => {
+                txn.abort(rt);
+                space.undone(rt, &self.free);
+                return Err(Fault::Refused(why));
+            }
+        };
+        let waits = is_awaited(operation.waits(), &answer);
+        let ended = end(rt, session, txn, waits);
+        self.settle(rt, space, &ended);
+        match ended {
+            Ok(()) => Ok(answer),
+            Err(fault) => Err(fault),
+        }
+    }
+
+    // Gives back what a commit freed, or what an attempt took that came to nothing.
+    fn settle<W: Wait>(&self, rt: &W, space: Space, ended: &Result<(), FileFault<'b, J>>) {
+        match ended {
+            Err(Fault::Refused(_)) => space.undone(rt, &self.free),
+            _ => space.committed(rt, &self.free),
+        }
+    }
+}
+
+// Whether the answer waits until it is stable: a success does, of an operation that waits.
+fn is_awaited<A>(waits: bool, answer: &Answer<A>) -> bool
+    ensures success { IsTrue waits → OnOk answer.now (IsTrue result) }
+    ensures waits { IsTrue result → IsTrue waits }
+{
+    waits && answer.is_ok()
+}
+
+// Commits a transaction, and waits until it is stable or not.
+fn end<'j, 'b, D: BlockDisk, J: Naming, W: Wait>(
+    rt: &W,
+    session: &mut Session<'b, J, SoundFiles>,
+    txn: FileTxn<'j, 'b, D, J>,
+    waits: bool,
+) -> Result<(), FileFault<'b, J>>
+    requires rule { (m : Map) → m.blocks ≡ J.blocks → Sound m → Agrees m txn.reads → Sound (overwritten m txn.writes) }
+    ensures { IsEndOf J.blocks txn.entry waits session.old session.new result }
+{
+    if !waits {
+        return match txn.commit(rt, session) {
+            Ok(_receipt) => Ok(()),
+            Err(why) => Err(Fault::Refused(why)),
+        };
+    }
+    match txn.commit_wait(rt, session) {
+        Ok(_stable) => Ok(()),
+        Err(WaitFault::Refused(why)) => Err(Fault::Refused(why)),
+        Err(WaitFault::Unsure(_receipt, why)) => Err(Fault::Unsure(why)),
+    }
+}
