@@ -1,6 +1,6 @@
 // The core, as threads share it: one function for each of its events.
 //
-// The core's lock stands here and nowhere else, and neither the core nor a guard of it leaves this file. What
+// The core's lock stands here and in `waiting.rt`, and neither the core nor a guard of it leaves these two. What
 // the functions tell is told of sessions, transactions and receipts, since nothing stays true of the core
 // itself once its lock is let go.
 ghost use Rattle.std.specs.Prelude.{◌≡◌, ◌<◌, length, IsTrue, IfOk, IfErr, OnOk, OnErr, IsOkUnless};
