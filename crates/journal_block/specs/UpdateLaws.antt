@@ -40,8 +40,3 @@ updated-unnamed (u ∷ later) b bytes unnamed = by_case (u.block == b) refl
         let impossible : ⊥ = cc in absurd impossible
     by_case false here rest =
         rest (sym (ap (λ (t : Bool). t || updates_block later b) here) ∙ unnamed) ∙ cond-false (u.block == b) u.bytes bytes here
-
--- blocks after some updates, and then others
-pub with_updates-append : (blocks : Content) (first later : List Update) (b : ℕ)
-    → with_updates blocks (first ++ later) b ≡ with_updates (with_updates blocks first) later b
-with_updates-append blocks first later b = updated-append first later b (blocks b)

@@ -5,10 +5,10 @@ use Rattle.journal_block.specs.Updates.{updated}
 use Rattle.journal_disk.specs.Disks.{barrier, Past, DiskState, Keeps, block_at, read_of, past_after}
 use Rattle.journal_disk.specs.Images.{IsImage, EveryImage}
 use Rattle.journal_disk.specs.Laws.{settled_reads, settled_after_barrier, images_after_barrier}
-use Rattle.journal_circ.specs.declared.marks.Marks.{Marks}
+use Rattle.journal_circ.specs.declared.extent.Extent.{Extent}
 use Rattle.journal_circ.specs.Log.{log_block, address}
 use Rattle.journal_circ.specs.Ring.{Ring}
-use Rattle.journal_circ.specs.Soundness.{updates_between, HasStart, HasEnd, HasAddresses, HasLogBlocks, Gives, HasHomes, HasHeaders, Sound, Bounds, IsInOrder}
+use Rattle.journal_circ.specs.Soundness.{updates_between, HasStart, HasEnd, HasAddresses, HasLogBlocks, GivesHomeBlocks, HasHomeBlocks, HasHeaders, HasSoundImages, HasBounds, IsCirc}
 use Rattle.journal_circ.proofs.Logs.{updated_cut}
 
 -- what every image had, every image after a barrier has
@@ -22,47 +22,47 @@ reads p image is b lt = settled_reads (past_after barrier p) (settled_after_barr
 abbrev number_at : Bytes → ℕ
 number_at bytes = u64_at bytes 0
 
-module _ (p : Past) (h : Bytes) (m : Marks) (next : ℕ) (bounds : Bounds p.size h m next) (s : Sound p h m) where
-  log_blocks_synced : Sound (past_after barrier p) h (record m { stable = next })
+module _ (p : Past) (h : Bytes) (m : Extent) (next : ℕ) (bounds : HasBounds p.size h m next) (s : HasSoundImages p h m) where
+  log_blocks_synced : HasSoundImages (past_after barrier p) h (record m { stable = next })
   log_blocks_synced = record {
     start = kept p (HasStart m) s.start;
     end = kept p (HasEnd m) s.end;
     addresses = kept p (HasAddresses h m) s.addresses;
     log_blocks = λ image is q ge lt. reads p image is (log_block q) (omega (arith, bounds));
-    from_start = kept p (Gives p h m m.start) s.from_start;
-    from_freed = kept p (Gives p h m m.freed) s.from_freed;
-    homes = λ yes. kept p (HasHomes p) (s.homes yes);
+    from_start = kept p (GivesHomeBlocks p h m m.start) s.from_start;
+    from_freed = kept p (GivesHomeBlocks p h m m.freed) s.from_freed;
+    homes = λ yes. kept p (HasHomeBlocks p) (s.homes yes);
   }
 
-  homes_synced : Sound (past_after barrier p) h (record m { homes = true })
+  homes_synced : HasSoundImages (past_after barrier p) h (record m { homes = true })
   homes_synced = record {
     start = kept p (HasStart m) s.start;
     end = kept p (HasEnd m) s.end;
     addresses = kept p (HasAddresses h m) s.addresses;
     log_blocks = kept p (HasLogBlocks p m) s.log_blocks;
-    from_start = kept p (Gives p h m m.start) s.from_start;
-    from_freed = kept p (Gives p h m m.freed) s.from_freed;
+    from_start = kept p (GivesHomeBlocks p h m m.start) s.from_start;
+    from_freed = kept p (GivesHomeBlocks p h m m.freed) s.from_freed;
     homes = λ yes image is b home lt. reads p image is b lt;
   }
 
-  end_synced : HasHeaders p m → Sound (past_after barrier p) h (record m { end = m.coming })
+  end_synced : HasHeaders p m → HasSoundImages (past_after barrier p) h (record m { end = m.coming })
   end_synced headers = record {
     start = kept p (HasStart m) s.start;
     end = λ image is. inl (ap number_at (reads p image is 0 (omega (arith, bounds))) ∙ headers.end);
     addresses = kept p (HasAddresses h m) s.addresses;
     log_blocks = kept p (HasLogBlocks p m) s.log_blocks;
-    from_start = kept p (Gives p h (record m { end = m.coming }) m.start) (longer m.start (omega (arith, bounds)) (omega (arith, bounds)) s.from_start);
-    from_freed = kept p (Gives p h (record m { end = m.coming }) m.freed) (longer m.freed (omega (arith, bounds)) (omega (arith, bounds)) s.from_freed);
-    homes = λ yes. kept p (HasHomes p) (s.homes yes);
+    from_start = kept p (GivesHomeBlocks p h (record m { end = m.coming }) m.start) (longer m.start (omega (arith, bounds)) (omega (arith, bounds)) s.from_start);
+    from_freed = kept p (GivesHomeBlocks p h (record m { end = m.coming }) m.freed) (longer m.freed (omega (arith, bounds)) (omega (arith, bounds)) s.from_freed);
+    homes = λ yes. kept p (HasHomeBlocks p) (s.homes yes);
   }
     where
-      longer : (from : ℕ) → m.start ≤ from → from ≤ m.end → EveryImage p (Gives p h m from) → EveryImage p (Gives p h (record m { end = m.coming }) from)
+      longer : (from : ℕ) → m.start ≤ from → from ≤ m.end → EveryImage p (GivesHomeBlocks p h m from) → EveryImage p (GivesHomeBlocks p h (record m { end = m.coming }) from)
       longer from ge le all image is b home lt =
           updated_cut p h from m.end m.coming b (block_at image b) le bounds.end_coming
           ∙ (λ i. updated (updates_between p h m.end m.coming) b (all image is b home lt i))
           ∙ sym (updated_cut p h m.start m.end m.coming b (read_of p b) (omega (arith, bounds)) bounds.end_coming)
 
-  start_synced : HasHeaders p m → Sound (past_after barrier p) h (record m { start = m.freed })
+  start_synced : HasHeaders p m → HasSoundImages (past_after barrier p) h (record m { start = m.freed })
   start_synced headers = record {
     start = λ image is. inl (ap number_at (reads p image is 1 (omega (arith, bounds))) ∙ headers.start);
     end = kept p (HasEnd m) s.end;
@@ -70,32 +70,32 @@ module _ (p : Past) (h : Bytes) (m : Marks) (next : ℕ) (bounds : Bounds p.size
     log_blocks = kept p (HasLogBlocks p (record m { start = m.freed })) (λ image is q ge lt. s.log_blocks image is q (omega (arith, bounds)) lt);
     from_start = shorter;
     from_freed = shorter;
-    homes = λ yes. kept p (HasHomes p) (s.homes yes);
+    homes = λ yes. kept p (HasHomeBlocks p) (s.homes yes);
   }
     where
-      shorter : EveryImage (past_after barrier p) (Gives (past_after barrier p) h (record m { start = m.freed }) m.freed)
+      shorter : EveryImage (past_after barrier p) (GivesHomeBlocks (past_after barrier p) h (record m { start = m.freed }) m.freed)
       shorter image is b home lt = ap (λ (x : Bytes). updated (updates_between p h m.freed m.end) b x) (reads p image is b lt)
 
 -- The log after a barrier: the disk and the marks are other ones
-module _ (old : Ring) (d : DiskState) (f : Bool) (was : IsInOrder old) (keeps : Keeps old.disk d) (well : old.faulted ≡ false)
+module _ (old : Ring) (d : DiskState) (f : Bool) (was : IsCirc old) (keeps : Keeps old.disk d) (well : old.faulted ≡ false)
     (happened : IsTrue old.disk.honest → d.past ≡ past_after barrier old.disk.past) where
   with_disk : (P : Past → Type 0) → IsTrue d.honest → P (past_after barrier old.disk.past) → P d.past
   with_disk P honest here = subst P (sym (happened (subst IsTrue keeps.honest honest))) here
 
-  sound : IsTrue d.honest → Sound old.disk.past old.header old.marks
+  sound : IsTrue d.honest → HasSoundImages old.disk.past old.header old.extent
   sound honest = was.sound (subst IsTrue keeps.honest honest)
 
-  headers : IsTrue d.honest → f ≡ false → HasHeaders old.disk.past old.marks
+  headers : IsTrue d.honest → f ≡ false → HasHeaders old.disk.past old.extent
   headers honest good = was.headers (subst IsTrue keeps.honest honest) well
 
-  headers_kept : (m : Marks) → m.coming ≡ old.marks.coming → m.freed ≡ old.marks.freed → IsTrue d.honest → f ≡ false → HasHeaders d.past m
+  headers_kept : (m : Extent) → m.coming ≡ old.extent.coming → m.freed ≡ old.extent.freed → IsTrue d.honest → f ≡ false → HasHeaders d.past m
   headers_kept m coming freed honest good = with_disk (λ (p : Past). HasHeaders p m) honest
       (record { end = (headers honest good).end ∙ sym coming; start = (headers honest good).start ∙ sym freed })
 
-  addresses_kept : (from : ℕ) → old.marks.start ≤ from → (q : ℕ) → from ≤ q → q < old.next → (513 ≤ address old.header q) × (address old.header q < d.past.size)
+  addresses_kept : (from : ℕ) → old.extent.start ≤ from → (q : ℕ) → from ≤ q → q < old.next → (513 ≤ address old.header q) × (address old.header q < d.past.size)
   addresses_kept from le q ge lt = subst (λ (n : ℕ). (513 ≤ address old.header q) × (address old.header q < n)) (sym keeps.size) (was.bounds.addresses q (omega arith) lt)
 
-  pub slots_are_synced : IsInOrder (record old { disk = d; marks = record old.marks { stable = old.next }; faulted = f })
+  pub slots_are_synced : IsCirc (record old { disk = d; extent = record old.extent { stable = old.next }; faulted = f })
   slots_are_synced = record {
     bounds = record {
       large = omega (arith, was.bounds, keeps.size);
@@ -106,14 +106,14 @@ module _ (old : Ring) (d : DiskState) (f : Bool) (was : IsInOrder old) (keeps : 
       stable_next = omega arith;
       fits = was.bounds.fits;
       small = was.bounds.small;
-      addresses = addresses_kept old.marks.start (omega arith);
+      addresses = addresses_kept old.extent.start (omega arith);
     };
-    sound = λ honest. with_disk (λ (p : Past). Sound p old.header (record old.marks { stable = old.next })) honest
-        (log_blocks_synced old.disk.past old.header old.marks old.next was.bounds (sound honest));
-    headers = headers_kept (record old.marks { stable = old.next }) refl refl;
+    sound = λ honest. with_disk (λ (p : Past). HasSoundImages p old.header (record old.extent { stable = old.next })) honest
+        (log_blocks_synced old.disk.past old.header old.extent old.next was.bounds (sound honest));
+    headers = headers_kept (record old.extent { stable = old.next }) refl refl;
   }
 
-  pub end_is_synced : IsInOrder (record old { disk = d; marks = record old.marks { end = old.marks.coming }; faulted = f })
+  pub end_is_synced : IsCirc (record old { disk = d; extent = record old.extent { end = old.extent.coming }; faulted = f })
   end_is_synced = record {
     bounds = record {
       large = omega (arith, was.bounds, keeps.size);
@@ -124,14 +124,14 @@ module _ (old : Ring) (d : DiskState) (f : Bool) (was : IsInOrder old) (keeps : 
       stable_next = was.bounds.stable_next;
       fits = was.bounds.fits;
       small = was.bounds.small;
-      addresses = addresses_kept old.marks.start (omega arith);
+      addresses = addresses_kept old.extent.start (omega arith);
     };
-    sound = λ honest. with_disk (λ (p : Past). Sound p old.header (record old.marks { end = old.marks.coming })) honest
-        (end_synced old.disk.past old.header old.marks old.next was.bounds (sound honest) (was.headers (subst IsTrue keeps.honest honest) well));
-    headers = headers_kept (record old.marks { end = old.marks.coming }) refl refl;
+    sound = λ honest. with_disk (λ (p : Past). HasSoundImages p old.header (record old.extent { end = old.extent.coming })) honest
+        (end_synced old.disk.past old.header old.extent old.next was.bounds (sound honest) (was.headers (subst IsTrue keeps.honest honest) well));
+    headers = headers_kept (record old.extent { end = old.extent.coming }) refl refl;
   }
 
-  pub homes_are_synced : IsInOrder (record old { disk = d; marks = record old.marks { homes = true }; faulted = f })
+  pub homes_are_synced : IsCirc (record old { disk = d; extent = record old.extent { homes = true }; faulted = f })
   homes_are_synced = record {
     bounds = record {
       large = omega (arith, was.bounds, keeps.size);
@@ -142,14 +142,14 @@ module _ (old : Ring) (d : DiskState) (f : Bool) (was : IsInOrder old) (keeps : 
       stable_next = was.bounds.stable_next;
       fits = was.bounds.fits;
       small = was.bounds.small;
-      addresses = addresses_kept old.marks.start (omega arith);
+      addresses = addresses_kept old.extent.start (omega arith);
     };
-    sound = λ honest. with_disk (λ (p : Past). Sound p old.header (record old.marks { homes = true })) honest
-        (homes_synced old.disk.past old.header old.marks old.next was.bounds (sound honest));
-    headers = headers_kept (record old.marks { homes = true }) refl refl;
+    sound = λ honest. with_disk (λ (p : Past). HasSoundImages p old.header (record old.extent { homes = true })) honest
+        (homes_synced old.disk.past old.header old.extent old.next was.bounds (sound honest));
+    headers = headers_kept (record old.extent { homes = true }) refl refl;
   }
 
-  pub start_is_synced : IsInOrder (record old { disk = d; marks = record old.marks { start = old.marks.freed }; faulted = f })
+  pub start_is_synced : IsCirc (record old { disk = d; extent = record old.extent { start = old.extent.freed }; faulted = f })
   start_is_synced = record {
     bounds = record {
       large = omega (arith, was.bounds, keeps.size);
@@ -160,28 +160,18 @@ module _ (old : Ring) (d : DiskState) (f : Bool) (was : IsInOrder old) (keeps : 
       stable_next = was.bounds.stable_next;
       fits = omega (arith, was.bounds);
       small = was.bounds.small;
-      addresses = addresses_kept old.marks.freed was.bounds.start_freed;
+      addresses = addresses_kept old.extent.freed was.bounds.start_freed;
     };
-    sound = λ honest. with_disk (λ (p : Past). Sound p old.header (record old.marks { start = old.marks.freed })) honest
-        (start_synced old.disk.past old.header old.marks old.next was.bounds (sound honest) (was.headers (subst IsTrue keeps.honest honest) well));
-    headers = headers_kept (record old.marks { start = old.marks.freed }) refl refl;
+    sound = λ honest. with_disk (λ (p : Past). HasSoundImages p old.header (record old.extent { start = old.extent.freed })) honest
+        (start_synced old.disk.past old.header old.extent old.next was.bounds (sound honest) (was.headers (subst IsTrue keeps.honest honest) well));
+    headers = headers_kept (record old.extent { start = old.extent.freed }) refl refl;
   }
 
 -- a call that failed and left no trace
-pub nothing_done : (old : Ring) (d : DiskState) (f : Bool) → IsInOrder old → Keeps old.disk d → (IsTrue old.disk.honest → d.past ≡ old.disk.past) → (f ≡ false → old.faulted ≡ false)
-    → IsInOrder (record old { disk = d; faulted = f })
+pub nothing_done : (old : Ring) (d : DiskState) (f : Bool) → IsCirc old → Keeps old.disk d → (IsTrue old.disk.honest → d.past ≡ old.disk.past) → (f ≡ false → old.faulted ≡ false)
+    → IsCirc (record old { disk = d; faulted = f })
 nothing_done old d f was keeps same fine = record {
-  bounds = record {
-    large = omega (arith, was.bounds, keeps.size);
-    start_freed = was.bounds.start_freed;
-    freed_end = was.bounds.freed_end;
-    end_coming = was.bounds.end_coming;
-    coming_stable = was.bounds.coming_stable;
-    stable_next = was.bounds.stable_next;
-    fits = was.bounds.fits;
-    small = was.bounds.small;
-    addresses = λ q ge lt. subst (λ (n : ℕ). (513 ≤ address old.header q) × (address old.header q < n)) (sym keeps.size) (was.bounds.addresses q ge lt);
-  };
-  sound = λ honest. let before = subst IsTrue keeps.honest honest in subst (λ (p : Past). Sound p old.header old.marks) (sym (same before)) (was.sound before);
-  headers = λ honest good. let before = subst IsTrue keeps.honest honest in subst (λ (p : Past). HasHeaders p old.marks) (sym (same before)) (was.headers before (fine good));
+  bounds = subst (λ (n : ℕ). HasBounds n old.header old.extent old.next) (sym keeps.size) was.bounds;
+  sound = λ honest. let before = subst IsTrue keeps.honest honest in subst (λ (p : Past). HasSoundImages p old.header old.extent) (sym (same before)) (was.sound before);
+  headers = λ honest good. let before = subst IsTrue keeps.honest honest in subst (λ (p : Past). HasHeaders p old.extent) (sym (same before)) (was.headers before (fine good));
 }

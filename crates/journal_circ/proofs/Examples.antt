@@ -4,7 +4,7 @@ use Rattle.std.specs.Prelude.{replicate}
 use Rattle.journal_block.specs.Block.{Bytes, u64_at}
 use Rattle.journal_block.specs.Updates.{with_updates}
 use Rattle.journal_disk.specs.Disks.{block_at}
-use Rattle.journal_circ.specs.Log.{log_block, address_at, address, log_in, end_of, start_of}
+use Rattle.journal_circ.specs.Log.{log_block, address_at, address, log_in, end_in, start_in}
 use Rattle.journal_circ.specs.StandsFor.{StandsFor}
 
 -- where positions lie
@@ -18,7 +18,7 @@ header = 2 ∷ 0 ∷ 0 ∷ 0 ∷ 0 ∷ 0 ∷ 0 ∷ 0 ∷ 1 ∷ 2 ∷ 0 ∷ 0 ∷
 abbrev image : List Bytes
 image = header ∷ [] ∷ (7 ∷ []) ∷ (8 ∷ []) ∷ replicate 509 [] ++ (9 ∷ []) ∷ []
 
-numbers : (start_of image ≡ 0) × (end_of image ≡ 2) × (address header 0 ≡ 513) × (address header 1 ≡ 513)
+numbers : (start_in image ≡ 0) × (end_in image ≡ 2) × (address header 0 ≡ 513) × (address header 1 ≡ 513)
 unfolding u64_at
 numbers = (refl, refl, refl, refl)
 

@@ -4,16 +4,16 @@ use Rattle.journal_block.specs.Block.{Bytes}
 use Rattle.journal_block.specs.Updates.{updated}
 use Rattle.journal_disk.specs.Disks.{block_at, read_of}
 use Rattle.journal_disk.specs.Images.{IsImage, EveryImage}
-use Rattle.journal_circ.specs.Log.{end_of, start_of, updates_from}
+use Rattle.journal_circ.specs.Log.{end_in, start_in, updates_from}
 use Rattle.journal_circ.specs.StandsFor.{StandsFor}
 use Rattle.journal_circ.specs.Ring.{Ring, blocks_to, StandsForEither}
-use Rattle.journal_circ.specs.Soundness.{updates_between, Gives, Sound, IsInOrder}
+use Rattle.journal_circ.specs.Soundness.{updates_between, GivesHomeBlocks, HasSoundImages, IsCirc}
 use Rattle.journal_circ.proofs.Logs.{updates_same, blocks_as, updated_cut}
 
-module _ (r : Ring) (is : IsInOrder r) (honest : IsTrue r.disk.honest) where
+module _ (r : Ring) (is : IsCirc r) (honest : IsTrue r.disk.honest) where
   -- an image with this start and this end
-  at_marks : (image : List Bytes) → IsImage r.disk.past image → (from to : ℕ) → start_of image ≡ from → end_of image ≡ to
-      → r.marks.start ≤ from → from ≤ r.marks.end → r.marks.end ≤ to → to ≤ r.marks.coming → Gives r.disk.past r.header r.marks from image
+  at_marks : (image : List Bytes) → IsImage r.disk.past image → (from to : ℕ) → start_in image ≡ from → end_in image ≡ to
+      → r.extent.start ≤ from → from ≤ r.extent.end → r.extent.end ≤ to → to ≤ r.extent.coming → GivesHomeBlocks r.disk.past r.header r.extent from image
       → StandsFor r.disk.past.size (blocks_to r to) image
   at_marks image here from to start end ge mid le top gives = record {
     size = here.size;
@@ -34,24 +34,24 @@ module _ (r : Ring) (is : IsInOrder r) (honest : IsTrue r.disk.honest) where
         )) in
         (λ i. updated (updates_from (block_at image 0) (block_at image) (start i) (end i - start i)) b (block_at image b))
         ∙ (λ i. updated (read i) b (block_at image b))
-        ∙ updated_cut r.disk.past r.header from r.marks.end to b (block_at image b) mid le
-        ∙ (λ i. updated (updates_between r.disk.past r.header r.marks.end to) b (gives b home lt i))
-        ∙ sym (updated_cut r.disk.past r.header r.marks.start r.marks.end to b (read_of r.disk.past b) (omega arith) le)
+        ∙ updated_cut r.disk.past r.header from r.extent.end to b (block_at image b) mid le
+        ∙ (λ i. updated (updates_between r.disk.past r.header r.extent.end to) b (gives b home lt i))
+        ∙ sym (updated_cut r.disk.past r.header r.extent.start r.extent.end to b (read_of r.disk.past b) (omega arith) le)
         ∙ sym (blocks_as r to b (omega (arith, is.bounds)));
   }
     where
-      s : Sound r.disk.past r.header r.marks
+      s : HasSoundImages r.disk.past r.header r.extent
       s = is.sound honest
 
-  from_either : (image : List Bytes) → IsImage r.disk.past image → (to : ℕ) → end_of image ≡ to → r.marks.end ≤ to → to ≤ r.marks.coming
+  from_either : (image : List Bytes) → IsImage r.disk.past image → (to : ℕ) → end_in image ≡ to → r.extent.end ≤ to → to ≤ r.extent.coming
       → StandsFor r.disk.past.size (blocks_to r to) image
   from_either image here to end le top = ⊎_elim
-      (λ (start : start_of image ≡ r.marks.start). at_marks image here r.marks.start to start end (omega arith) (omega (arith, is.bounds)) le top ((is.sound honest).from_start image here))
-      (λ (start : start_of image ≡ r.marks.freed). at_marks image here r.marks.freed to start end (omega (arith, is.bounds)) (omega (arith, is.bounds)) le top ((is.sound honest).from_freed image here))
+      (λ (start : start_in image ≡ r.extent.start). at_marks image here r.extent.start to start end (omega arith) (omega (arith, is.bounds)) le top ((is.sound honest).from_start image here))
+      (λ (start : start_in image ≡ r.extent.freed). at_marks image here r.extent.freed to start end (omega (arith, is.bounds)) (omega (arith, is.bounds)) le top ((is.sound honest).from_freed image here))
       ((is.sound honest).start image here)
 
-  pub every_stands : EveryImage r.disk.past (StandsForEither r r.marks.end r.marks.coming)
+  pub every_stands : EveryImage r.disk.past (StandsForEither r r.extent.end r.extent.coming)
   every_stands image here = ⊎_elim
-      (λ (end : end_of image ≡ r.marks.end). inl (from_either image here r.marks.end end (omega arith) (omega (arith, is.bounds))))
-      (λ (end : end_of image ≡ r.marks.coming). inr (from_either image here r.marks.coming end (omega (arith, is.bounds)) (omega arith)))
+      (λ (end : end_in image ≡ r.extent.end). inl (from_either image here r.extent.end end (omega arith) (omega (arith, is.bounds))))
+      (λ (end : end_in image ≡ r.extent.coming). inr (from_either image here r.extent.coming end (omega (arith, is.bounds)) (omega arith)))
       ((is.sound honest).end image here)

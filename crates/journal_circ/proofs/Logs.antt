@@ -6,7 +6,7 @@ use Rattle.journal_block.specs.Block.{Bytes}
 use Rattle.journal_block.specs.Updates.{Content, updated}
 use Rattle.journal_block.specs.UpdateLaws.{updated-append}
 use Rattle.journal_disk.specs.Disks.{Past, read_of}
-use Rattle.journal_circ.specs.Log.{log_block, address, update_at, updates_from}
+use Rattle.journal_circ.specs.Log.{log_block, address, logged_update, updates_from}
 use Rattle.journal_circ.specs.Ring.{Ring, log_of, blocks_to}
 use Rattle.journal_circ.specs.Soundness.{updates_between}
 
@@ -35,7 +35,7 @@ updates_split h f from zero n = (λ i. updates_from h f from (zero_add i)) ∙ (
     add_zero : from ≡ from + zero
     add_zero = omega arith
 updates_split h f from (suc m) n = (λ i. updates_from h f from (regroup i))
-    ∙ (λ i. update_at h f from ∷ (updates_split h f (from + 1) m n ∙ (λ j. updates_from h f (from + 1) m ++ updates_from h f (same j) n)) i)
+    ∙ (λ i. logged_update h f from ∷ (updates_split h f (from + 1) m n ∙ (λ j. updates_from h f (from + 1) m ++ updates_from h f (same j) n)) i)
   where
     regroup : suc m + n ≡ suc (m + n)
     regroup = omega arith
@@ -63,13 +63,13 @@ updates_dropped h f from (suc n) (suc k) le =
     rest = omega arith
 
 pub update_got : (h : Bytes) (f : Content) (from n k : ℕ) → k < n
-    → slice_get (updates_from h f from n) k ≡ Some (update_at h f (from + k))
+    → slice_get (updates_from h f from n) k ≡ Some (logged_update h f (from + k))
 update_got h f from zero k lt = absurd (omega arith)
-update_got h f from (suc n) zero lt = λ i. Some (update_at h f (here i))
+update_got h f from (suc n) zero lt = λ i. Some (logged_update h f (here i))
   where
     here : from ≡ from + zero
     here = omega arith
-update_got h f from (suc n) (suc k) lt = update_got h f (from + 1) n k (omega arith) ∙ (λ i. Some (update_at h f (there i)))
+update_got h f from (suc n) (suc k) lt = update_got h f (from + 1) n k (omega arith) ∙ (λ i. Some (logged_update h f (there i)))
   where
     there : (from + 1) + k ≡ from + suc k
     there = omega arith
@@ -78,11 +78,11 @@ update_got h f from (suc n) (suc k) lt = update_got h f (from + 1) n k (omega ar
 
 pub taken : (p : Past) (h : Bytes) (from to next : ℕ) → to ≤ next
     → take (to - from) (updates_between p h from next) ≡ updates_between p h from to
-taken p h from to next le = take-map-range_with_len (update_at h (read_of p)) from (next - from) (to - from) (omega arith)
+taken p h from to next le = take-map-range_with_len (logged_update h (read_of p)) from (next - from) (to - from) (omega arith)
 
 pub blocks_as : (r : Ring) (to b : ℕ) → to ≤ r.next
-    → blocks_to r to b ≡ updated (updates_between r.disk.past r.header r.marks.start to) b (read_of r.disk.past b)
-blocks_as r to b le i = updated (taken r.disk.past r.header r.marks.start to r.next le i) b (read_of r.disk.past b)
+    → blocks_to r to b ≡ updated (updates_between r.disk.past r.header r.extent.start to) b (read_of r.disk.past b)
+blocks_as r to b le i = updated (taken r.disk.past r.header r.extent.start to r.next le i) b (read_of r.disk.past b)
 
 -- cut at a position between
 pub updated_cut : (p : Past) (h : Bytes) (from mid to b : ℕ) (bytes : Bytes) → from ≤ mid → mid ≤ to
@@ -103,21 +103,21 @@ updated_cut p h from mid to b bytes le ge =
 
 -- one position more
 pub log_more : (p : Past) (h : Bytes) (start next : ℕ) → start ≤ next
-    → updates_between p h start (next + 1) ≡ updates_between p h start next ++ update_at h (read_of p) next ∷ []
+    → updates_between p h start (next + 1) ≡ updates_between p h start next ++ logged_update h (read_of p) next ∷ []
 log_more p h start next le = (λ i. updates_from h (read_of p) start (sum i))
-    ∙ map-range_with_len_more (update_at h (read_of p)) start (next - start) next (omega arith)
+    ∙ map-range_with_len_more (logged_update h (read_of p)) start (next - start) next (omega arith)
   where
     sum : (next + 1) - start ≡ (next - start) + 1
     sum = omega arith
 
 -- the update of a position
-pub update_at_position : (r : Ring) (position block : ℕ) (bytes : Bytes) → r.marks.start ≤ position → position < r.next
+pub update_at_position : (r : Ring) (position block : ℕ) (bytes : Bytes) → r.extent.start ≤ position → position < r.next
     → block ≡ address r.header position → bytes ≡ read_of r.disk.past (log_block position)
-    → slice_get (log_of r) (position - r.marks.start) ≡ Some (record { block = block; bytes = bytes })
+    → slice_get (log_of r) (position - r.extent.start) ≡ Some (record { block = block; bytes = bytes })
 update_at_position r position block bytes ge lt block_is bytes_is =
-    update_got r.header (read_of r.disk.past) r.marks.start (r.next - r.marks.start) (position - r.marks.start) (omega arith)
-    ∙ (λ i. Some (update_at r.header (read_of r.disk.past) (there i)))
+    update_got r.header (read_of r.disk.past) r.extent.start (r.next - r.extent.start) (position - r.extent.start) (omega arith)
+    ∙ (λ i. Some (logged_update r.header (read_of r.disk.past) (there i)))
     ∙ (λ i. Some (record { block = sym block_is i; bytes = sym bytes_is i }))
   where
-    there : r.marks.start + (position - r.marks.start) ≡ position
+    there : r.extent.start + (position - r.extent.start) ≡ position
     there = omega arith

@@ -1,13 +1,13 @@
 -- What each step says of images, and of the log and the home blocks.
-use Rattle.std.proofs.Common.{◌≡◌, ◌≢◌, ◌⊎◌, inl, inr, ◌<◌, ◌≤◌, ◌+◌, ◌-◌, ℕ, Bool, true, [], ◌∷◌, ◌++◌, drop, refl, sym, ap, ◌∙◌, arith, IsTrue}
+use Rattle.std.proofs.Common.{◌≡◌, ◌≢◌, ◌⊎◌, inl, inr, ◌<◌, ◌≤◌, ◌+◌, ◌-◌, ℕ, Bool, true, [], ◌∷◌, ◌++◌, drop, refl, sym, ap, ◌∙◌, arith, subst, IsTrue}
 use Rattle.journal_block.specs.Block.{Bytes}
 use Rattle.journal_block.specs.Updates.{updated}
 use Rattle.journal_disk.specs.Disks.{write, barrier, Past, DiskState, Keeps, read_of, past_after, MayHaveHappened}
 use Rattle.journal_disk.specs.Laws.{read_written}
-use Rattle.journal_circ.specs.declared.marks.Marks.{Marks}
+use Rattle.journal_circ.specs.declared.extent.Extent.{Extent}
 use Rattle.journal_circ.specs.Log.{log_block, address, updates_from}
-use Rattle.journal_circ.specs.Ring.{Ring, log_of, blocks_to, IsLogged, Steps, SameBlocks}
-use Rattle.journal_circ.specs.Soundness.{updates_between, IsInOrder}
+use Rattle.journal_circ.specs.Ring.{Ring, log_of, blocks_to, IsLogged, Crashes, SameBlocksTo}
+use Rattle.journal_circ.specs.Soundness.{updates_between, IsCirc}
 use Rattle.journal_circ.proofs.Logs.{updates_dropped, blocks_as, log_more}
 use Rattle.journal_circ.proofs.Writes.{written}
 use Rattle.journal_circ.specs.Laws.{blocks_stay, blocks_stay_put, blocks_stay_home}
@@ -16,11 +16,15 @@ use Rattle.journal_circ.proofs.Barriers.{nothing_done}
 use Rattle.journal_circ.proofs.Puts.{log_stays}
 
 -- the ring of these parts
-abbrev pub ring : DiskState → Bytes → Marks → ℕ → Bool → Ring
-ring disk header marks next faulted = record { disk = disk; header = header; marks = marks; next = next; faulted = faulted }
+abbrev pub ring : DiskState → Bytes → Extent → ℕ → Bool → Ring
+ring disk header extent next faulted = record { disk = disk; header = header; extent = extent; next = next; faulted = faulted }
+
+-- a step from a ring that is another by its view
+pub stepped_at : {old r new : Ring} → old ≡ r → Crashes old.extent.coming old new → Crashes r.extent.coming r new
+stepped_at {new = new} view = subst (λ (r : Ring). Crashes r.extent.coming r new) view
 
 -- no call, and so no change
-pub stays : (r : Ring) (coming : ℕ) → IsInOrder r → r.marks.end ≤ coming → coming ≤ r.next → (r.marks.coming ≡ r.marks.end) ⊎ (r.marks.coming ≡ coming) → Steps coming r r
+pub stays : (r : Ring) (coming : ℕ) → IsCirc r → r.extent.end ≤ coming → coming ≤ r.next → (r.extent.coming ≡ r.extent.end) ⊎ (r.extent.coming ≡ coming) → Crashes coming r r
 stays r coming is ge le which = steps r r coming is is
     (record { size = refl; honest = refl; failures = omega arith })
     (record { ge = ge; le = le; old_coming = which; new_end = inl refl; new_coming = which })
@@ -28,59 +32,59 @@ stays r coming is ge le which = steps r r coming is is
 
 -- Barriers
 
-pub not_synced : (old : Ring) (d : DiskState) (f : Bool) → IsInOrder old → Keeps old.disk d → (IsTrue old.disk.honest → d.past ≡ old.disk.past) → f ≡ true
-    → Steps old.marks.coming old (record old { disk = d; faulted = f })
-not_synced old d f was keeps same bad = steps old (record old { disk = d; faulted = f }) old.marks.coming was
+pub not_synced : (old : Ring) (d : DiskState) (f : Bool) → IsCirc old → Keeps old.disk d → (IsTrue old.disk.honest → d.past ≡ old.disk.past) → f ≡ true
+    → Crashes old.extent.coming old (record old { disk = d; faulted = f })
+not_synced old d f was keeps same bad = steps old (record old { disk = d; faulted = f }) old.extent.coming was
     (nothing_done old d f was keeps same (λ good. let impossible : ⊥ = cc in absurd impossible)) keeps
     (record { ge = was.bounds.end_coming; le = omega (arith, was.bounds); old_coming = inr refl; new_end = inl refl; new_coming = inr refl })
     barrier (λ honest. inl (same honest))
     (λ honest to b ge le home lt. ap (λ (p : Past). blocks_to (record old { disk = record old.disk { past = p } }) to b) (same honest))
 
-module _ (old : Ring) (d : DiskState) (m : Marks) (f : Bool) (was : IsInOrder old) (is : IsInOrder (record old { disk = d; marks = m; faulted = f })) (keeps : Keeps old.disk d)
-    (happened : IsTrue old.disk.honest → d.past ≡ past_after barrier old.disk.past) (coming : m.coming ≡ old.marks.coming) where
-  pub synced : m.start ≡ old.marks.start → (m.end ≡ old.marks.end) ⊎ (m.end ≡ old.marks.coming)
-      → Steps old.marks.coming old (record old { disk = d; marks = m; faulted = f })
-  synced start end = steps old (record old { disk = d; marks = m; faulted = f }) old.marks.coming was is keeps
+module _ (old : Ring) (d : DiskState) (m : Extent) (f : Bool) (was : IsCirc old) (is : IsCirc (record old { disk = d; extent = m; faulted = f })) (keeps : Keeps old.disk d)
+    (happened : IsTrue old.disk.honest → d.past ≡ past_after barrier old.disk.past) (coming : m.coming ≡ old.extent.coming) where
+  pub synced : m.start ≡ old.extent.start → (m.end ≡ old.extent.end) ⊎ (m.end ≡ old.extent.coming)
+      → Crashes old.extent.coming old (record old { disk = d; extent = m; faulted = f })
+  synced start end = steps old (record old { disk = d; extent = m; faulted = f }) old.extent.coming was is keeps
       (record { ge = was.bounds.end_coming; le = omega (arith, was.bounds); old_coming = inr refl; new_end = end; new_coming = inr coming })
       barrier (λ honest. inr (happened honest))
-      (λ honest. blocks_stay old (record old { disk = d; marks = m; faulted = f }) start
+      (λ honest. blocks_stay old (record old { disk = d; extent = m; faulted = f }) start
       (λ i. updates_between (happened honest i) old.header (start i) old.next)
       (λ b home lt. ap (λ (p : Past). read_of p b) (happened honest)))
 
-  pub blocks_freed : m.start ≡ old.marks.freed → IsTrue old.disk.honest → SameBlocks old (record old { disk = d; marks = m; faulted = f })
+  pub blocks_freed : m.start ≡ old.extent.freed → IsTrue old.disk.honest → SameBlocksTo old (record old { disk = d; extent = m; faulted = f })
   blocks_freed start honest to b ge le home lt =
-      blocks_as (record old { disk = d; marks = m; faulted = f }) to b le
+      blocks_as (record old { disk = d; extent = m; faulted = f }) to b le
       ∙ (λ i. updated (updates_between (happened honest i) old.header (start i) to) b (read_of (happened honest i) b))
-      ∙ blocks_stay_freed old.disk.past old.header old.marks (was.sound honest) was.bounds.start_freed was.bounds.freed_end to b ge home lt
+      ∙ blocks_stay_freed old.disk.past old.header old.extent (was.sound honest) was.bounds.start_freed was.bounds.freed_end to b ge home lt
       ∙ sym (blocks_as old to b le)
 
-  pub log_freed : m.start ≡ old.marks.freed → IsTrue old.disk.honest
-      → log_of (record old { disk = d; marks = m; faulted = f }) ≡ drop (old.marks.freed - old.marks.start) (log_of old)
+  pub log_freed : m.start ≡ old.extent.freed → IsTrue old.disk.honest
+      → log_of (record old { disk = d; extent = m; faulted = f }) ≡ drop (old.extent.freed - old.extent.start) (log_of old)
   log_freed start honest = (λ i. updates_between (happened honest i) old.header (start i) old.next)
-      ∙ sym (updates_dropped old.header (read_of old.disk.past) old.marks.start (old.next - old.marks.start) (old.marks.freed - old.marks.start) (omega (arith, was.bounds))
+      ∙ sym (updates_dropped old.header (read_of old.disk.past) old.extent.start (old.next - old.extent.start) (old.extent.freed - old.extent.start) (omega (arith, was.bounds))
       ∙ (λ i. updates_from old.header (read_of old.disk.past) (there i) (rest i)))
     where
-      there : old.marks.start + (old.marks.freed - old.marks.start) ≡ old.marks.freed
+      there : old.extent.start + (old.extent.freed - old.extent.start) ≡ old.extent.freed
       there = omega (arith, was.bounds)
 
-      rest : (old.next - old.marks.start) - (old.marks.freed - old.marks.start) ≡ old.next - old.marks.freed
+      rest : (old.next - old.extent.start) - (old.extent.freed - old.extent.start) ≡ old.next - old.extent.freed
       rest = omega (arith, was.bounds)
 
-  pub freed : m.start ≡ old.marks.freed → m.end ≡ old.marks.end
-      → Steps old.marks.coming old (record old { disk = d; marks = m; faulted = f })
-  freed start end = steps old (record old { disk = d; marks = m; faulted = f }) old.marks.coming was is keeps
+  pub freed : m.start ≡ old.extent.freed → m.end ≡ old.extent.end
+      → Crashes old.extent.coming old (record old { disk = d; extent = m; faulted = f })
+  freed start end = steps old (record old { disk = d; extent = m; faulted = f }) old.extent.coming was is keeps
       (record { ge = was.bounds.end_coming; le = omega (arith, was.bounds); old_coming = inr refl; new_end = inl end; new_coming = inr coming })
       barrier (λ honest. inr (happened honest)) (blocks_freed start)
 
 -- Puts: block c was or was not written, and neither the old log blocks nor their addresses changed
 
-module _ (old : Ring) (d : DiskState) (c : ℕ) (v : Bytes) (was : IsInOrder old) (keeps : Keeps old.disk d) (on_disk : c < old.disk.past.size)
+module _ (old : Ring) (d : DiskState) (c : ℕ) (v : Bytes) (was : IsCirc old) (keeps : Keeps old.disk d) (on_disk : c < old.disk.past.size)
     (happened : IsTrue old.disk.honest → MayHaveHappened (write c v) old.disk.past d.past)
-    (h : Bytes) (off : (q : ℕ) → old.marks.start ≤ q → q < old.next → log_block q ≢ c)
-    (words : (q : ℕ) → old.marks.start ≤ q → q < old.next → address h q ≡ address old.header q) where
+    (h : Bytes) (off : (q : ℕ) → old.extent.start ≤ q → q < old.next → log_block q ≢ c)
+    (words : (q : ℕ) → old.extent.start ≤ q → q < old.next → address h q ≡ address old.header q) where
   -- the log from the start to the old next position
-  pub log_put : IsTrue old.disk.honest → updates_between d.past h old.marks.start old.next ≡ log_of old
-  log_put honest = log_stays old.disk.past d.past old.header h old.marks.start old.next c v (written old.disk.past d.past c v on_disk (happened honest)) off words
+  pub log_put : IsTrue old.disk.honest → updates_between d.past h old.extent.start old.next ≡ log_of old
+  log_put honest = log_stays old.disk.past d.past old.header h old.extent.start old.next c v (written old.disk.past d.past c v on_disk (happened honest)) off words
 
   pub others_put : IsTrue old.disk.honest → (b : ℕ) → b ≢ c → read_of d.past b ≡ read_of old.disk.past b
   others_put honest b other = (written old.disk.past d.past c v on_disk (happened honest)).others b other
@@ -88,38 +92,38 @@ module _ (old : Ring) (d : DiskState) (c : ℕ) (v : Bytes) (was : IsInOrder old
   pub homes_put : IsTrue old.disk.honest → c < 513 → (b : ℕ) → 513 ≤ b → b < old.disk.past.size → read_of d.past b ≡ read_of old.disk.past b
   homes_put honest low b home lt = others_put honest b (omega arith)
 
-  module _ (m : Marks) (f : Bool) (start : m.start ≡ old.marks.start) (end : m.end ≡ old.marks.end) where
+  module _ (m : Extent) (f : Bool) (start : m.start ≡ old.extent.start) (end : m.end ≡ old.extent.end) where
     -- a block of the log was put
-    pub put : (is : IsInOrder (record old { disk = d; header = h; marks = m; faulted = f })) → c < 513 → (coming : ℕ) → old.marks.end ≤ coming → coming ≤ old.next
-        → (old.marks.coming ≡ old.marks.end) ⊎ (old.marks.coming ≡ coming) → m.coming ≡ coming → Steps coming old (record old { disk = d; header = h; marks = m; faulted = f })
-    put is low coming ge le old_coming new_coming = steps old (record old { disk = d; header = h; marks = m; faulted = f }) coming was is keeps
+    pub put : (is : IsCirc (record old { disk = d; header = h; extent = m; faulted = f })) → c < 513 → (coming : ℕ) → old.extent.end ≤ coming → coming ≤ old.next
+        → (old.extent.coming ≡ old.extent.end) ⊎ (old.extent.coming ≡ coming) → m.coming ≡ coming → Crashes coming old (record old { disk = d; header = h; extent = m; faulted = f })
+    put is low coming ge le old_coming new_coming = steps old (record old { disk = d; header = h; extent = m; faulted = f }) coming was is keeps
         (record { ge = ge; le = le; old_coming = old_coming; new_end = inl end; new_coming = inr new_coming })
         (write c v) happened
-        (λ honest. blocks_stay old (record old { disk = d; header = h; marks = m; faulted = f }) start
+        (λ honest. blocks_stay old (record old { disk = d; header = h; extent = m; faulted = f }) start
         ((λ i. updates_between d.past h (start i) old.next) ∙ log_put honest) (homes_put honest low))
 
     -- a home block was put that the log names
-    pub home : (is : IsInOrder (record old { disk = d; header = h; marks = m; faulted = f })) → (IsTrue old.disk.honest → IsLogged old c)
-        → m.coming ≡ old.marks.coming → Steps old.marks.coming old (record old { disk = d; header = h; marks = m; faulted = f })
-    home is named new_coming = steps old (record old { disk = d; header = h; marks = m; faulted = f }) old.marks.coming was is keeps
+    pub home : (is : IsCirc (record old { disk = d; header = h; extent = m; faulted = f })) → (IsTrue old.disk.honest → IsLogged old c)
+        → m.coming ≡ old.extent.coming → Crashes old.extent.coming old (record old { disk = d; header = h; extent = m; faulted = f })
+    home is named new_coming = steps old (record old { disk = d; header = h; extent = m; faulted = f }) old.extent.coming was is keeps
         (record { ge = was.bounds.end_coming; le = omega (arith, was.bounds); old_coming = inr refl; new_end = inl end; new_coming = inr new_coming })
         (write c v) happened
-        (λ honest. blocks_stay_home old (record old { disk = d; header = h; marks = m; faulted = f }) c start
+        (λ honest. blocks_stay_home old (record old { disk = d; header = h; extent = m; faulted = f }) c start
         ((λ i. updates_between d.past h (start i) old.next) ∙ log_put honest) (λ b high lt other. others_put honest b other) (named honest))
 
   -- the update of the next position was put
   module _ (a : ℕ) (f : Bool) (here : c ≡ log_block old.next) (address_put : address h old.next ≡ a)
-      (is : IsInOrder (record old { disk = d; header = h; next = old.next + 1; faulted = f })) (done : IsTrue old.disk.honest → d.past ≡ past_after (write c v) old.disk.past) where
+      (is : IsCirc (record old { disk = d; header = h; next = old.next + 1; faulted = f })) (done : IsTrue old.disk.honest → d.past ≡ past_after (write c v) old.disk.past) where
     pub log_grown : IsTrue old.disk.honest
         → log_of (record old { disk = d; header = h; next = old.next + 1; faulted = f }) ≡ log_of old ++ record { block = a; bytes = v } ∷ []
-    log_grown honest = log_more d.past h old.marks.start old.next (omega (arith, was.bounds))
+    log_grown honest = log_more d.past h old.extent.start old.next (omega (arith, was.bounds))
         ∙ (λ i. log_put honest i ++ record { block = address_put i; bytes = content i } ∷ [])
       where
         content : read_of d.past (log_block old.next) ≡ v
         content = (λ i. read_of (done honest i) (sym here i)) ∙ read_written old.disk.past c v
 
-    pub slot : c < 513 → Steps old.marks.coming old (record old { disk = d; header = h; next = old.next + 1; faulted = f })
-    slot low = steps old (record old { disk = d; header = h; next = old.next + 1; faulted = f }) old.marks.coming was is keeps
+    pub slot : c < 513 → Crashes old.extent.coming old (record old { disk = d; header = h; next = old.next + 1; faulted = f })
+    slot low = steps old (record old { disk = d; header = h; next = old.next + 1; faulted = f }) old.extent.coming was is keeps
         (record { ge = was.bounds.end_coming; le = omega (arith, was.bounds); old_coming = inr refl; new_end = inl refl; new_coming = inr refl })
         (write c v) happened
         (λ honest. blocks_stay_put old (record old { disk = d; header = h; next = old.next + 1; faulted = f }) (record { block = a; bytes = v }) refl

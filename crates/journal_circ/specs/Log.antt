@@ -7,14 +7,15 @@ use Rattle.journal_world.specs.Addresses.{zeros_of}
 use Rattle.journal_block.specs.Block.{Bytes, with_bytes, u64_bytes, u64_at}
 use Rattle.journal_block.specs.Updates.{Content}
 use Rattle.journal_disk.specs.Disks.{block_at}
+use Rattle.journal_circ.specs.declared.layout.TheConstants.{FIRST_HOME, LOG_POSITIONS}
 
 -- the block that a position's content lies in
 abbrev pub log_block : ℕ → ℕ
-log_block p = 2 + p % 511
+log_block p = 2 + p % LOG_POSITIONS
 
 -- where in block 0 the address of a position lies
 abbrev pub address_at : ℕ → ℕ
-address_at p = 8 + 8 * (p % 511)
+address_at p = 8 + 8 * (p % LOG_POSITIONS)
 
 -- the address that block 0 has for a position
 abbrev pub address : Bytes → ℕ → ℕ
@@ -32,30 +33,30 @@ abbrev pub start_block : ℕ → Bytes
 start_block start = with_bytes (zeros_of Block) 0 (u64_bytes start)
 
 -- the update of a position, where block 0 and the log blocks are these
-abbrev pub update_at : Bytes → Content → ℕ → Update
-update_at header blocks p = record { block = address header p; bytes = blocks (log_block p) }
+abbrev pub logged_update : Bytes → Content → ℕ → Update
+logged_update header blocks p = record { block = address header p; bytes = blocks (log_block p) }
 
 -- the updates of n positions from p on
 abbrev pub updates_from : Bytes → Content → ℕ → ℕ → List Update
-updates_from header blocks p n = map (update_at header blocks) (range_with_len p n)
+updates_from header blocks p n = map (logged_update header blocks) (range_with_len p n)
 
 -- where the log of an image ends, and where it begins
-abbrev pub end_of : List Bytes → ℕ
-end_of image = u64_at (block_at image 0) 0
+abbrev pub end_in : List Bytes → ℕ
+end_in image = u64_at (block_at image 0) 0
 
-abbrev pub start_of : List Bytes → ℕ
-start_of image = u64_at (block_at image 1) 0
+abbrev pub start_in : List Bytes → ℕ
+start_in image = u64_at (block_at image 1) 0
 
 -- the log of an image: the updates of its positions from start to end
 abbrev pub log_in : List Bytes → List Update
-log_in image = updates_from (block_at image 0) (block_at image) (start_of image) (end_of image - start_of image)
+log_in image = updates_from (block_at image 0) (block_at image) (start_in image) (end_in image - start_in image)
 
 -- Block 0 describes a log that begins at the position, on a disk of n blocks
-pub record IsLog (header : Bytes) (start n : ℕ) : Type 0 where
+pub record DescribesLog (header : Bytes) (start n : ℕ) : Type 0 where
   pub ordered : start ≤ u64_at header 0
-  pub fits : u64_at header 0 ≤ start + 511
+  pub fits : u64_at header 0 ≤ start + LOG_POSITIONS
   pub small : u64_at header 0 < 2 ^ 62
-  pub addresses : (p : ℕ) → start ≤ p → p < u64_at header 0 → (513 ≤ address header p) × (address header p < n)
+  pub addresses : (p : ℕ) → start ≤ p → p < u64_at header 0 → (FIRST_HOME ≤ address header p) × (address header p < n)
 
 abbrev pub IsWellFormed : List Bytes → Type 0
-IsWellFormed image = IsLog (block_at image 0) (start_of image) (length image)
+IsWellFormed image = DescribesLog (block_at image 0) (start_in image) (length image)

@@ -5,19 +5,20 @@ use Rattle.journal_world.specs.declared.refusal.Refusal.TheVariants.{NoMemory, D
 use Rattle.journal_block.specs.declared.update.Update.{Update}
 use Rattle.journal_block.specs.Block.{Bytes, u64_at}
 use Rattle.journal_block.specs.Updates.{Content, with_updates, updates_block}
-use Rattle.journal_disk.specs.Disks.{Event, DiskState, Keeps, HasFailed, read_of, past_after, MayHaveHappened}
+use Rattle.journal_disk.specs.Disks.{DiskEvent, DiskState, Keeps, HasFailed, read_of, past_after, MayHaveHappened}
 use Rattle.journal_disk.specs.Images.{EveryImage, reading}
 use Rattle.journal_disk.specs.Moments.{LeavesOnly}
-use Rattle.journal_circ.specs.declared.marks.Marks.{Marks}
+use Rattle.journal_circ.specs.declared.extent.Extent.{Extent}
 use Rattle.journal_circ.specs.Log.{updates_from, IsWellFormed}
 use Rattle.journal_circ.specs.StandsFor.{StandsFor}
+use Rattle.journal_circ.specs.declared.layout.TheConstants.{FIRST_HOME}
 
 -- What contracts see of a `Circ`
 pub record Ring : Type 0 where
   pub disk : DiskState
   -- block 0 as the next group has it
   pub header : Bytes
-  pub marks : Marks
+  pub extent : Extent
   -- the position that is put next
   pub next : ℕ
   -- whether a call failed
@@ -25,7 +26,7 @@ pub record Ring : Type 0 where
 
 -- the updates of the log, from its start to the position that is put next
 abbrev pub log_of : Ring → List Update
-log_of r = updates_from r.header (read_of r.disk.past) r.marks.start (r.next - r.marks.start)
+log_of r = updates_from r.header (read_of r.disk.past) r.extent.start (r.next - r.extent.start)
 
 -- the blocks as the disk reads
 abbrev pub home_of : Ring → Content
@@ -33,7 +34,7 @@ home_of r = read_of r.disk.past
 
 -- the blocks that the log up to a position stands for
 abbrev pub blocks_to : Ring → ℕ → Content
-blocks_to r to = with_updates (home_of r) (take (to - r.marks.start) (log_of r))
+blocks_to r to = with_updates (home_of r) (take (to - r.extent.start) (log_of r))
 
 -- The image stands for the blocks of the log up to one position, or up to the other.
 abbrev pub StandsForEither : Ring → ℕ → ℕ → List Bytes → Type 0
@@ -42,55 +43,55 @@ StandsForEither r end coming image =
 
 -- a position up to the end has an update of the block
 abbrev pub IsLogged : Ring → ℕ → Type 0
-IsLogged r b = IsTrue (updates_block (take (r.marks.end - r.marks.start) (log_of r)) b)
+IsLogged r b = IsTrue (updates_block (take (r.extent.end - r.extent.start) (log_of r)) b)
 
 -- each home block is as the log up to the position has it
 abbrev pub IsInstalled : Ring → ℕ → Type 0
-IsInstalled r to = (b : ℕ) → 513 ≤ b → b < r.disk.past.size → blocks_to r to b ≡ home_of r b
+IsInstalled r to = (b : ℕ) → FIRST_HOME ≤ b → b < r.disk.past.size → blocks_to r to b ≡ home_of r b
 
 -- each home block reads as before
 abbrev pub SameHome : Ring → Ring → Type 0
-SameHome old new = (b : ℕ) → 513 ≤ b → b < old.disk.past.size → home_of new b ≡ home_of old b
+SameHome old new = (b : ℕ) → FIRST_HOME ≤ b → b < old.disk.past.size → home_of new b ≡ home_of old b
 
 -- each but one
 abbrev pub SameHomeBut : ℕ → Ring → Ring → Type 0
-SameHomeBut c old new = (b : ℕ) → 513 ≤ b → b < old.disk.past.size → b ≢ c → home_of new b ≡ home_of old b
+SameHomeBut c old new = (b : ℕ) → FIRST_HOME ≤ b → b < old.disk.past.size → b ≢ c → home_of new b ≡ home_of old b
 
 -- from the end on, the log up to a position stands for what it stood for
-abbrev pub SameBlocks : Ring → Ring → Type 0
-SameBlocks old new = (to b : ℕ) → old.marks.end ≤ to → to ≤ old.next → 513 ≤ b → b < old.disk.past.size → blocks_to new to b ≡ blocks_to old to b
+abbrev pub SameBlocksTo : Ring → Ring → Type 0
+SameBlocksTo old new = (to b : ℕ) → old.extent.end ≤ to → to ≤ old.next → FIRST_HOME ≤ b → b < old.disk.past.size → blocks_to new to b ≡ blocks_to old to b
 
 -- What each step says of images: at every moment of it each stands for the blocks up to the old end or up to the coming one
-pub record Steps (coming : ℕ) (old new : Ring) : Type 0 where
+pub record Crashes (coming : ℕ) (old new : Ring) : Type 0 where
   pub keeps : Keeps old.disk new.disk
-  pub moments : IsTrue old.disk.honest → LeavesOnly old.disk.past new.disk.past (StandsForEither old old.marks.end coming)
-  pub images : IsTrue new.disk.honest → EveryImage new.disk.past (StandsForEither new new.marks.end new.marks.coming)
+  pub moments : IsTrue old.disk.honest → LeavesOnly old.disk.past new.disk.past (StandsForEither old old.extent.end coming)
+  pub images : IsTrue new.disk.honest → EveryImage new.disk.past (StandsForEither new new.extent.end new.extent.coming)
 
 -- What a step did to an honest disk: this happened to it, and nothing else
-abbrev pub Happens : Event → DiskState → DiskState → Type 0
-Happens event old new = IsTrue old.honest → new.past ≡ past_after event old.past
+abbrev pub MakesCall : DiskEvent → DiskState → DiskState → Type 0
+MakesCall event old new = IsTrue old.honest → new.past ≡ past_after event old.past
 
 -- this may have happened to it, and nothing else
-abbrev pub MayHappen : Event → DiskState → DiskState → Type 0
-MayHappen event old new = IsTrue old.honest → MayHaveHappened event old.past new.past
+abbrev pub TriesCall : DiskEvent → DiskState → DiskState → Type 0
+TriesCall event old new = IsTrue old.honest → MayHaveHappened event old.past new.past
 
 -- J6, where a call had failed before, or the device failed in this one
 abbrev pub IsFault : Bool → DiskState → DiskState → Refusal Unit → Type 0
 IsFault faulted old new refusal = (refusal ≡ DeviceFailed tt) × (IsTrue faulted ⊎ HasFailed old new)
 
 -- why a disk is not opened: J1, J6 where it failed, J7 where as it reads it is not well formed
-abbrev pub IsReason : DiskState → DiskState → Refusal Unit → Type 0
-IsReason old new NoMemory = Unit {0}
-IsReason old new (DeviceFailed cause) = HasFailed old new
-IsReason old new BadLog = IsTrue old.honest → IsWellFormed (reading old.past) → ⊥
-IsReason old new _ = ⊥
+abbrev pub IsOpenRefusal : DiskState → DiskState → Refusal Unit → Type 0
+IsOpenRefusal old new NoMemory = Unit {0}
+IsOpenRefusal old new (DeviceFailed cause) = HasFailed old new
+IsOpenRefusal old new BadLog = IsTrue old.honest → IsWellFormed (reading old.past) → ⊥
+IsOpenRefusal old new _ = ⊥
 
 -- a log on which nothing is in flight
 abbrev pub at_rest : DiskState → Bytes → ℕ → Ring
 at_rest disk header start = let end = u64_at header 0 in record {
   disk = disk;
   header = header;
-  marks = record { start = start; freed = start; end = end; coming = end; stable = end; homes = false };
+  extent = record { start = start; freed = start; end = end; coming = end; stable = end; homes = false };
   next = end;
   faulted = false;
 }

@@ -1,12 +1,12 @@
 // A circular log on its disk.
 ghost use Rattle.std.specs.Prelude.{ℕ, ◌≡◌, ◌<◌, ◌≤◌, ◌+◌, ◌-◌, ◌^◌, slice_get, Some, true, IsTrue, OnOk, OnErr, IfOk, IfErr, IsErr};
-ghost use Rattle.journal_circ.specs.declared.layout.TheConstants.{FIRST_HOME};
+ghost use Rattle.journal_circ.specs.declared.layout.TheConstants.{FIRST_HOME, LOG_POSITIONS};
 ghost use Rattle.journal_disk.specs.Disks.{Keeps};
 ghost use Rattle.journal_circ.specs.Ring.{log_of, home_of, IsFault};
 
+use crate::extent::Extent;
 use crate::fail_stop::FailStop;
 use crate::layout::{address_at, log_block};
-use crate::marks::Marks;
 use journal_block::Block;
 use journal_disk::{BlockDisk, MemDisk};
 use journal_world::Refusal;
@@ -33,29 +33,29 @@ pub struct Circ<D: BlockDisk> {
     header: Block,
     // Block 1 as it was put last.
     start_block: StartBlock,
-    marks: Marks,
+    extent: Extent,
     // The position that is put next.
     next: u64,
 }
 
 impl<D: BlockDisk> Model for Circ<D> {
     ghost use Rattle.journal_circ.specs.Ring.{Ring};
-    ghost use Rattle.journal_circ.specs.Soundness.{IsInOrder};
+    ghost use Rattle.journal_circ.specs.Soundness.{IsCirc};
 
     ghost Value = { Ring };
 
     ghost view = { λ c. record {
       disk = D.state c.device.disk;
       header = c.header;
-      marks = c.marks;
+      extent = c.extent;
       next = c.next;
       faulted = c.device.faulted;
     } };
 
-    ghost invariant = { λ c. IsInOrder (record {
+    ghost invariant = { λ c. IsCirc (record {
       disk = D.state c.device.disk;
       header = c.header;
-      marks = c.marks;
+      extent = c.extent;
       next = c.next;
       faulted = c.device.faulted;
     }) };
@@ -68,7 +68,7 @@ impl<D: BlockDisk> Circ<D> {
     /// not said.
     pub fn read(&mut self, block: u64, into: &mut Block) -> Result<(), Refusal<()>>
         requires { block < self.old.disk.past.size }
-        ensures cause { IfErr result (IsFault self.old.faulted self.old.disk self.new.disk) }
+        ensures refusal { IfErr result (IsFault self.old.faulted self.old.disk self.new.disk) }
         ensures faulted { IsTrue self.old.faulted → IsErr result × (self.new ≡ self.old) }
         ensures keeps { Keeps self.old.disk self.new.disk }
         ensures same { IsTrue self.old.disk.honest → self.new.disk.past ≡ self.old.disk.past }
@@ -85,15 +85,15 @@ impl<D: BlockDisk> Circ<D> {
     /// Answers J6, and nothing else, where the device failed in this call or before. What `into` then holds is
     /// not said.
     pub fn read_logged(&mut self, position: u64, into: &mut Block) -> Result<u64, Refusal<()>>
-        requires from_start { self.old.marks.start ≤ position }
+        requires from_start { self.old.extent.start ≤ position }
         requires put { position < self.old.next }
-        ensures cause { IfErr result (IsFault self.old.faulted self.old.disk self.new.disk) }
+        ensures refusal { IfErr result (IsFault self.old.faulted self.old.disk self.new.disk) }
         ensures faulted { IsTrue self.old.faulted → IsErr result × (self.new ≡ self.old) }
         ensures keeps { Keeps self.old.disk self.new.disk }
         ensures same { IsTrue self.old.disk.honest → self.new.disk.past ≡ self.old.disk.past }
         ensures update { IsTrue self.old.disk.honest → IfOk result (λ block.
-            slice_get (log_of self.old) (position - self.old.marks.start) ≡ Some (record { block = block; bytes = into.new })) }
-        ensures home { IfOk result (λ block. (513 ≤ block) × (block < self.old.disk.past.size)) }
+            slice_get (log_of self.old) (position - self.old.extent.start) ≡ Some (record { block = block; bytes = into.new })) }
+        ensures home { IfOk result (λ block. (FIRST_HOME ≤ block) × (block < self.old.disk.past.size)) }
         ensures ok { OnOk result (self.new ≡ record self.old { disk = self.new.disk }) }
         ensures err { OnErr result (self.new ≡ record self.old { disk = self.new.disk; faulted = true }) }
     {
@@ -110,19 +110,19 @@ impl<D: BlockDisk> Circ<D> {
 
     /// The position where the log begins on the disk, as last synced.
     pub fn start(&self) -> u64
-        ensures start { result ≡ self.now.marks.start }
-        ensures order { result ≤ self.now.marks.end }
+        ensures start { result ≡ self.now.extent.start }
+        ensures order { result ≤ self.now.extent.end }
     {
-        self.marks.start
+        self.extent.start
     }
 
     /// The position where the log ends on the disk, as last synced.
     pub fn end(&self) -> u64
-        ensures end { result ≡ self.now.marks.end }
+        ensures end { result ≡ self.now.extent.end }
         ensures small { result < 2 ^ 62 }
-        ensures fits { result ≤ self.now.marks.start + 511 }
+        ensures fits { result ≤ self.now.extent.start + LOG_POSITIONS }
     {
-        self.marks.end
+        self.extent.end
     }
 
     /// The position that is put next.

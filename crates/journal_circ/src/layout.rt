@@ -1,4 +1,15 @@
-// Where the log lies on a disk.
+// Where the log lies on a disk. Numbers have 8 bytes, the lowest first.
+//
+// | Block | Bytes | What it has |
+// |---|---|---|
+// | 0, the end's header | 0 to 7 | the end: the position behind the last |
+// | 0 | 8 + 8 s to 15 + 8 s, s from 0 to 510 | the home block of the position p in use with p % 511 = s |
+// | 1, the start's header | 0 to 7 | the start: the first position in use |
+// | 1 | 8 to 4095 | zeros, which are not looked at |
+// | 2 + s | all | the content of the position p in use with p % 511 = s: its log block |
+// | 513 on | all | home blocks |
+//
+// There are two headers so that each cycle writes one of its own, and the steps of the two come in any order.
 ghost use Rattle.std.specs.Prelude.{◌≡◌};
 ghost use Rattle.journal_circ.specs.Log.{log_block, address_at};
 

@@ -6,7 +6,8 @@
 //! Block 0 has the log's end at byte 0, and block 1 its start at byte 0. An image of the disk *stands for*
 //! its home blocks with the updates of the positions from start to end, one after the other.
 //!
-//! Two cycles change it. The *logger* adds a group: `put_slot` for each update, `sync_slots`, `put_end`,
+//! Two cycles change it, each with a header block of its own, so that one group is logged while another is
+//! brought home. The *logger* adds a group: `put_slot` for each update, `sync_slots`, `put_end`,
 //! `sync_end`. Until `put_end` each image stands for what it stood for before, and after `sync_end` for that
 //! with the whole group; in between it stands for one of the two. The *installer* frees positions:
 //! `put_home` for each home block, `sync_homes`, `put_start`, `sync_start`. It changes nothing that an image
@@ -26,13 +27,13 @@
 #![tactic(auto)]
 
 mod circ;
+mod extent;
 mod fail_stop;
 mod layout;
-mod marks;
 #[cfg(test)]
 mod tests;
 
 pub use circ::installer::{Freed, HomesPut, HomesSynced, StartPut};
-pub use circ::logger::{EndPut, SlotsPut, SlotsSynced};
+pub use circ::logger::{EndPut, LogBlocksPut, LogBlocksSynced};
 pub use circ::{Circ, Opened};
 pub use layout::{FIRST_HOME, LOG_POSITIONS};

@@ -11,15 +11,15 @@ use Rattle.journal_world.proofs.Prefixes.{IsPrefix-trans}
 use Rattle.journal_world.proofs.SessionCommits.{commits_of-append, length-commits_of-le}
 use Rattle.journal_world.proofs.LongerHistories.{commits_of-commit, after-blocks, at-count}
 use Rattle.journal_block.specs.declared.update.Update.{Update}
-use Rattle.journal_memlog.specs.Logs.{next_of}
+use Rattle.journal_memlog.specs.Logs.{next_position}
 use Rattle.journal_wal.specs.Wal.{WalState, log_steps, Appends}
-use Rattle.journal_objlog.specs.ObjectLogs.{map_now, map_cut, map_logged, MayCrash, OnlyReads}
+use Rattle.journal_objlog.specs.ObjectLogs.{map_now, map_cut, map_logged, Crashes, OnlyReads}
 use Rattle.journal_objlog.specs.Writes.{IsPrepared, fresh_blocks}
-use Rattle.journal_history.specs.Tokens.{SessionState, made, OnlyExtends, Commits, next_of as numbered}
+use Rattle.journal_history.specs.Tokens.{SessionState, made, OnlyExtends, Commits, next_transaction as numbered}
 use Rattle.journal_history.specs.Soundness.{IsSound}
 use Rattle.journal_core.specs.Tallies.{Pairs, made_among, SameTally, CountsOne, IsTallied}
 use Rattle.journal_core.specs.Causes.{Told}
-use Rattle.journal_core.specs.Cores.{CoreState, IsKept}
+use Rattle.journal_core.specs.Cores.{CoreState, IsCore}
 use Rattle.journal_core.specs.Transactions.{TransactionState}
 use Rattle.journal_core.specs.Commits.{IsCommitted, IsAdded, HasSeen, IsWorn, MayCommit, CanPrepare, CanCommit, IsPreparingRefusal, IsCommitRefusal}
 use Rattle.journal_core.specs.Steps.{IsStrange}
@@ -112,27 +112,27 @@ pub rests_append : (old : WalState) (updates : List Update) (new : WalState) →
 rests_append old updates new appends fine none =
     (sym (ap is_log_faulted appends.log) ∙ fine, sym (ap log_steps appends.log) ∙ none)
 
-module _ (blocks : ℕ) (c : CoreState) (kept : IsKept blocks c) (begun : c.history ≢ []) where
+module _ (blocks : ℕ) (c : CoreState) (kept : IsCore blocks c) (begun : c.history ≢ []) where
   -- the transaction was added, and its writes appended
   pub kept_added : (t : Transaction) (prepared : List Update) (objects : WalState) (history : List Entry) (next : ℕ)
       → history ≡ c.history ++ commit t ∷ [] → next ≡ max c.next (t.session + 1) → IsPrepared c.objects prepared t.writes
-      → Appends c.objects prepared objects → MayCrash c.objects objects
+      → Appends c.objects prepared objects → Crashes c.objects objects
       → (IsTrue (disk_of c).honest → (writes : List Pair) → IsPrepared c.objects prepared writes → SameMap (map_now objects) (overwritten (map_now c.objects) writes))
       → SameMap (map_cut objects) (map_cut c.objects) → SameMap (map_logged objects) (map_logged c.objects)
-      → IsKept blocks (record { objects = objects; history = history; cut = c.cut; logged = c.logged; next = next; closed = c.closed })
+      → IsCore blocks (record { objects = objects; history = history; cut = c.cut; logged = c.logged; next = next; closed = c.closed })
   kept_added t prepared objects history next added raised ready appends crash now cut logged =
-      subst (λ (n : ℕ). IsKept blocks (record { objects = objects; history = history; cut = c.cut; logged = c.logged; next = n; closed = c.closed })) (sym raised)
-      (subst (λ (h : List Entry). IsKept blocks (record { objects = objects; history = h; cut = c.cut; logged = c.logged; next = max c.next (t.session + 1); closed = c.closed })) (sym added)
+      subst (λ (n : ℕ). IsCore blocks (record { objects = objects; history = history; cut = c.cut; logged = c.logged; next = n; closed = c.closed })) (sym raised)
+      (subst (λ (h : List Entry). IsCore blocks (record { objects = objects; history = h; cut = c.cut; logged = c.logged; next = max c.next (t.session + 1); closed = c.closed })) (sym added)
       (kept_commit blocks c kept begun t objects crash (λ honest. now honest t.writes ready) cut logged (rests_append c.objects prepared objects appends)))
 
 -- a session that has seen more is worn as before
 worn_before : (c : CoreState) (s seen : SessionState) (writes : List Pair) → OnlyExtends s seen → IsWorn c seen writes → IsWorn c s writes
 worn_before c s seen writes extends worn =
-    subst (λ (n : ℕ). (2 ^ 62 ≤ length c.history + 1) ⊎ (2 ^ 62 ≤ n) ⊎ (2 ^ 62 ≤ next_of c.objects.log + fresh_blocks c.objects writes)) extends.number worn
+    subst (λ (n : ℕ). (2 ^ 62 ≤ length c.history + 1) ⊎ (2 ^ 62 ≤ n) ⊎ (2 ^ 62 ≤ next_position c.objects.log + fresh_blocks c.objects writes)) extends.number worn
 
 worn_after : (c : CoreState) (s seen : SessionState) (writes : List Pair) → OnlyExtends s seen → IsWorn c s writes → IsWorn c seen writes
 worn_after c s seen writes extends worn =
-    subst (λ (n : ℕ). (2 ^ 62 ≤ length c.history + 1) ⊎ (2 ^ 62 ≤ n) ⊎ (2 ^ 62 ≤ next_of c.objects.log + fresh_blocks c.objects writes)) (sym extends.number) worn
+    subst (λ (n : ℕ). (2 ^ 62 ≤ length c.history + 1) ⊎ (2 ^ 62 ≤ n) ⊎ (2 ^ 62 ≤ next_position c.objects.log + fresh_blocks c.objects writes)) (sym extends.number) worn
 
 -- nor is more worn or fuller
 can_after : (c : CoreState) (s seen : SessionState) (t : TransactionState) → OnlyExtends s seen → MayCommit c s t → CanPrepare c seen t.writes → CanCommit c s t

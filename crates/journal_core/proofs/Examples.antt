@@ -9,12 +9,12 @@ use Rattle.journal_world.specs.Maps.{Map, is_object}
 use Rattle.journal_world.specs.Histories.{opened}
 use Rattle.journal_block.specs.Block.{Bytes}
 use Rattle.journal_disk.specs.Disks.{DiskState}
-use Rattle.journal_history.specs.Tokens.{SessionState, next_of}
+use Rattle.journal_history.specs.Tokens.{SessionState, next_transaction}
 use Rattle.journal_core.specs.Cores.{CoreState, Crashes, disk_of}
 use Rattle.journal_core.specs.Transactions.{TransactionState, begun, Overwrites}
 use Rattle.journal_core.specs.Steps.{Marks}
 use Rattle.journal_core.specs.Openings.{Begins}
-use Rattle.journal_core.specs.Interleavings.{Event, Answer, Mount, mounted, with_core, with_draft, with_slot, ended, CommitsDraft, LogsStep, Joins, IsLeftBetween, HoldsImage, Run}
+use Rattle.journal_core.specs.Interleavings.{Event, Answer, Mount, mounted, with_core, with_transaction, with_slot, ended, CommitsTransaction, LogsStep, Joins, IsLeftBetween, HoldsImage, Run}
 use Rattle.journal_core.specs.Interleavings.Event.{joins, begins, takes, overwrites, logs, crashes, opens}
 use Rattle.journal_core.specs.Interleavings.Event.{commits as finishes}
 use Rattle.journal_core.specs.Interleavings.Answer.{nothing, committed, marked, crashed, reopened}
@@ -56,7 +56,7 @@ pub record Steps (rule : Map → Type 0) (disk : DiskState) (image : List Bytes)
   pub writes_first : Overwrites (begun session.seen) first v one
   pub second_object : IsTrue (is_object (opened joined.history).blocks (second, w))
   pub writes_second : Overwrites one second w both
-  pub commits_both : CommitsDraft joined session both at_commit after
+  pub commits_both : CommitsTransaction joined session both at_commit after
   pub cuts : Moves at_commit cut
   pub puts_block : Moves cut block
   pub syncs_block : Moves block synced
@@ -73,22 +73,22 @@ pub record Steps (rule : Map → Type 0) (disk : DiskState) (image : List Bytes)
 module _ (rule : Map → Type 0) (disk : DiskState) (image : List Bytes) (v w : Value) (s : Steps rule disk image v w) where
   -- the mount before each event of the transaction
   abbrev here : Mount
-  here = record { core = s.joined; drafts = λ actor. None; holders = λ slot. None }
+  here = record { core = s.joined; transactions = λ actor. None; holders = λ slot. None }
 
   abbrev begun_one : Mount
-  begun_one = with_draft here 0 (Some (begun s.session.seen))
+  begun_one = with_transaction here 0 (Some (begun s.session.seen))
 
   abbrev held_first : Mount
   held_first = with_slot begun_one 0 (slot_of first)
 
   abbrev wrote_first : Mount
-  wrote_first = with_draft held_first 0 (Some s.one)
+  wrote_first = with_transaction held_first 0 (Some s.one)
 
   abbrev held_second : Mount
   held_second = with_slot wrote_first 0 (slot_of second)
 
   abbrev wrote_second : Mount
-  wrote_second = with_draft held_second 0 (Some s.both)
+  wrote_second = with_transaction held_second 0 (Some s.both)
 
   abbrev done : CoreState → Mount
   done c = ended (with_core wrote_second c) 0
@@ -101,7 +101,7 @@ module _ (rule : Map → Type 0) (disk : DiskState) (image : List Bytes) (v w : 
   pub is_run : Run rule (mounted s.at_first)
       (joins ∷ begins 0 ∷ takes 0 (slot_of first) ∷ overwrites 0 first v ∷ takes 0 (slot_of second) ∷ overwrites 0 second w ∷ finishes 0
       ∷ logs ∷ logs ∷ logs ∷ logs ∷ logs ∷ logs ∷ crashes image ∷ opens ∷ [])
-      (nothing ∷ nothing ∷ nothing ∷ nothing ∷ nothing ∷ nothing ∷ committed (next_of s.session s.both.reads s.both.writes)
+      (nothing ∷ nothing ∷ nothing ∷ nothing ∷ nothing ∷ nothing ∷ committed (next_transaction s.session s.both.reads s.both.writes)
       ∷ nothing ∷ nothing ∷ nothing ∷ nothing ∷ nothing ∷ marked 1 ∷ crashed ∷ reopened ∷ [])
       (mounted s.next)
   is_run = (

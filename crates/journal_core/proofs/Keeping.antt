@@ -19,10 +19,10 @@ use Rattle.journal_disk.specs.Moments.{LeavesOnly}
 use Rattle.journal_wal.specs.Wal.{WalState, size_of, log_steps, tail_length}
 use Rattle.journal_objlog.specs.Maps.{OpensAs}
 use Rattle.journal_objlog.specs.CutLaws.{cut_is_now, logged_is_cut}
-use Rattle.journal_objlog.specs.ObjectLogs.{map_now, map_cut, map_logged, MayOpenAs, MayCrash, KeepsMaps, CutsMap, EndsMap, OnlyReads}
+use Rattle.journal_objlog.specs.ObjectLogs.{map_now, map_cut, map_logged, MayOpenAs, Crashes as MapCrashes, KeepsMaps, CutsMap, EndsMap, OnlyReads}
 use Rattle.journal_core.specs.Tallies.{Pairs, IsTallied}
 use Rattle.journal_core.specs.Steps.{CanMark}
-use Rattle.journal_core.specs.Cores.{CoreState, Leaves, Crashes, IsKept}
+use Rattle.journal_core.specs.Cores.{CoreState, Leaves, Crashes, IsCore}
 use Rattle.journal_core.specs.Cores.{disk_of}
 use Rattle.journal_objlog.specs.ObjectLogs.{is_faulted as is_log_faulted, disk_of as log_disk}
 
@@ -35,7 +35,7 @@ commits_of-other history t s other =
     ∙ append-nil (commits_of s history)
 
 -- what a crash may leave is the map after a front
-leaves_of : (blocks : ℕ) (c : CoreState) → IsKept blocks c → IsTrue (disk_of c).honest → (image : List Bytes)
+leaves_of : (blocks : ℕ) (c : CoreState) → IsCore blocks c → IsTrue (disk_of c).honest → (image : List Bytes)
     → MayOpenAs c.objects image → Leaves c.history image
 leaves_of blocks c kept honest image may = ⊎_elim
     (λ (opens : OpensAs (map_logged c.objects) image). record {
@@ -57,7 +57,7 @@ leaves_of blocks c kept honest image may = ⊎_elim
     may
 
 -- a step of the object log, before and after which the core is in order
-pub crashes_of : (blocks : ℕ) (old new : CoreState) → IsKept blocks old → IsKept blocks new → MayCrash old.objects new.objects
+pub crashes_of : (blocks : ℕ) (old new : CoreState) → IsCore blocks old → IsCore blocks new → MapCrashes old.objects new.objects
     → Crashes old new
 crashes_of blocks old new before kept crash = record {
   keeps = crash.keeps;
@@ -70,12 +70,12 @@ crashes_of blocks old new before kept crash = record {
 abbrev pub Rests : WalState → WalState → Type 0
 Rests old new = is_log_faulted new ≡ false → log_steps new ≡ 0 → (is_log_faulted old ≡ false) × (log_steps old ≡ 0)
 
-module _ (blocks : ℕ) (c : CoreState) (kept : IsKept blocks c) where
+module _ (blocks : ℕ) (c : CoreState) (kept : IsCore blocks c) where
   -- the maps stay
-  pub kept_on : (objects : WalState) → MayCrash c.objects objects
+  pub kept_on : (objects : WalState) → MapCrashes c.objects objects
       → (IsTrue (disk_of c).honest → KeepsMaps c.objects objects)
       → Rests c.objects objects
-      → IsKept blocks (record c { objects = objects })
+      → IsCore blocks (record c { objects = objects })
   kept_on objects crash maps rest = record {
     size = crash.keeps.size ∙ kept.size;
     on_disk = kept.on_disk;
@@ -94,9 +94,9 @@ module _ (blocks : ℕ) (c : CoreState) (kept : IsKept blocks c) where
   }
 
   -- the tail is cut
-  pub kept_cut : (objects : WalState) → MayCrash c.objects objects
+  pub kept_cut : (objects : WalState) → MapCrashes c.objects objects
       → (IsTrue (disk_of c).honest → CutsMap c.objects objects) → 0 < log_steps objects
-      → IsKept blocks (record c { objects = objects; cut = count c.history })
+      → IsCore blocks (record c { objects = objects; cut = count c.history })
   kept_cut objects crash maps flies = record {
     size = crash.keeps.size ∙ kept.size;
     on_disk = kept.on_disk;
@@ -116,9 +116,9 @@ module _ (blocks : ℕ) (c : CoreState) (kept : IsKept blocks c) where
   }
 
   -- the cycle of the group in flight ends
-  pub kept_end : (objects : WalState) → MayCrash c.objects objects
+  pub kept_end : (objects : WalState) → MapCrashes c.objects objects
       → (IsTrue (disk_of c).honest → EndsMap c.objects objects)
-      → IsKept blocks (record c { objects = objects; logged = c.cut })
+      → IsCore blocks (record c { objects = objects; logged = c.cut })
   kept_end objects crash maps = record {
     size = crash.keeps.size ∙ kept.size;
     on_disk = kept.on_disk;
@@ -148,7 +148,7 @@ module _ (blocks : ℕ) (c : CoreState) (kept : IsKept blocks c) where
   same_sessions n s = ap (λ (ts : List Transaction). filter (λ (t : Transaction). t.session == s) ts) (commits-mark c.history n)
 
   -- the commits of a group whose cycle ended are marked
-  pub kept_mark : c.history ≢ [] → c.logged ≡ c.cut → IsKept blocks (record c { history = c.history ++ stable c.cut ∷ [] })
+  pub kept_mark : c.history ≢ [] → c.logged ≡ c.cut → IsCore blocks (record c { history = c.history ++ stable c.cut ∷ [] })
   kept_mark some rest = record {
     size = kept.size;
     on_disk = ap (λ (m : Map). m.blocks) (opened-append c.history (stable c.cut ∷ []) some) ∙ kept.on_disk;
@@ -168,7 +168,7 @@ module _ (blocks : ℕ) (c : CoreState) (kept : IsKept blocks c) where
 
   -- commits that wrote nothing are marked
   pub kept_mark_all : c.history ≢ [] → tail_length c.objects ≡ 0 → c.objects.log.logged ≡ c.objects.log.cut
-      → IsKept blocks (record c { history = c.history ++ stable (count c.history) ∷ []; cut = count c.history; logged = count c.history })
+      → IsCore blocks (record c { history = c.history ++ stable (count c.history) ∷ []; cut = count c.history; logged = count c.history })
   kept_mark_all some empty none = record {
     size = kept.size;
     on_disk = ap (λ (m : Map). m.blocks) (opened-append c.history (stable (count c.history) ∷ []) some) ∙ kept.on_disk;
@@ -197,11 +197,11 @@ module _ (blocks : ℕ) (c : CoreState) (kept : IsKept blocks c) where
           (kept.tied honest).now
 
   -- a commit
-  pub kept_commit : c.history ≢ [] → (t : Transaction) → (objects : WalState) → MayCrash c.objects objects
+  pub kept_commit : c.history ≢ [] → (t : Transaction) → (objects : WalState) → MapCrashes c.objects objects
       → (IsTrue (disk_of c).honest → SameMap (map_now objects) (overwritten (map_now c.objects) t.writes))
       → SameMap (map_cut objects) (map_cut c.objects) → SameMap (map_logged objects) (map_logged c.objects)
       → Rests c.objects objects
-      → IsKept blocks (record c { objects = objects; history = c.history ++ commit t ∷ []; next = max c.next (t.session + 1) })
+      → IsCore blocks (record c { objects = objects; history = c.history ++ commit t ∷ []; next = max c.next (t.session + 1) })
   kept_commit some t objects crash now cut logged rests = record {
     size = crash.keeps.size ∙ kept.size;
     on_disk = ap (λ (m : Map). m.blocks) (opened-append c.history (commit t ∷ []) some) ∙ kept.on_disk;
@@ -233,7 +233,7 @@ module _ (blocks : ℕ) (c : CoreState) (kept : IsKept blocks c) where
 pub kept_opened : (blocks : ℕ) (objects : WalState) (m : Map) → size_of objects ≡ blocks → SameMap (map_now objects) m → m.blocks ≡ blocks
     → objects.log.logged ≡ objects.log.cut → tail_length objects ≡ 0
     → (IsTrue (log_disk objects).honest → EveryImage (log_disk objects).past (OpensAs (map_now objects)))
-    → IsKept blocks (record { objects = objects; history = opening m (log_disk objects).honest ∷ []; cut = 0; logged = 0; next = 0; closed = false })
+    → IsCore blocks (record { objects = objects; history = opening m (log_disk objects).honest ∷ []; cut = 0; logged = 0; next = 0; closed = false })
 kept_opened blocks objects m size same on_disk none empty images = record {
   size = size;
   on_disk = on_disk;
@@ -252,7 +252,7 @@ kept_opened blocks objects m size same on_disk none empty images = record {
 }
 
 -- a step without a device call
-pub crashes_same : (blocks : ℕ) (old new : CoreState) → IsKept blocks old → IsKept blocks new → new.objects ≡ old.objects → Crashes old new
+pub crashes_same : (blocks : ℕ) (old new : CoreState) → IsCore blocks old → IsCore blocks new → new.objects ≡ old.objects → Crashes old new
 crashes_same blocks old new before kept same = record {
   keeps = subst (λ (w : WalState). Keeps (disk_of old) (log_disk w)) (sym same) (record { size = refl; honest = refl; failures = omega arith });
   moments = λ honest. leaves_none (disk_of old).past (disk_of new).past (Leaves old.history) (ap (λ (w : WalState). (log_disk w).past) same)
@@ -261,32 +261,17 @@ crashes_same blocks old new before kept same = record {
 }
 
 -- nothing was done
-pub crashes_still : (blocks : ℕ) (inside now : CoreState) → IsKept blocks inside → inside ≡ now → Crashes now now
+pub crashes_still : (blocks : ℕ) (inside now : CoreState) → IsCore blocks inside → inside ≡ now → Crashes now now
 crashes_still blocks inside now kept is = subst (λ (c : CoreState). Crashes c c) is (crashes_same blocks inside inside kept kept refl)
 
--- what was read before changes nothing
-pub crashes_after : (old mid new : CoreState) → OnlyReads old.objects mid.objects → mid.history ≡ old.history → Crashes mid new → Crashes old new
-crashes_after old mid new reads same crash = record {
-  keeps = record {
-    size = crash.keeps.size ∙ reads.keeps.size;
-    honest = crash.keeps.honest ∙ reads.keeps.honest;
-    failures = omega (arith, crash.keeps.failures, reads.keeps.failures);
-  };
-  moments = λ honest.
-      subst (λ (p : Past). LeavesOnly p (disk_of new).past (Leaves old.history)) (reads.past honest)
-      (subst (λ (h : List Entry). LeavesOnly (disk_of mid).past (disk_of new).past (Leaves h)) same
-      (crash.moments (subst IsTrue (sym reads.keeps.honest) honest)));
-  images = crash.images;
-}
-
 -- a step without a device call, seen from outside
-pub crashes_seen : (blocks : ℕ) (inside now new : CoreState) → IsKept blocks inside → inside ≡ now → IsKept blocks new
+pub crashes_seen : (blocks : ℕ) (inside now new : CoreState) → IsCore blocks inside → inside ≡ now → IsCore blocks new
     → new.objects ≡ inside.objects → Crashes now new
 crashes_seen blocks inside now new before is kept same =
     subst (λ (c : CoreState). Crashes c new) is (crashes_same blocks inside new before kept same)
 
 -- the core is stopped
-pub kept_closed : (blocks : ℕ) (c : CoreState) → IsKept blocks c → IsKept blocks (record c { closed = true })
+pub kept_closed : (blocks : ℕ) (c : CoreState) → IsCore blocks c → IsCore blocks (record c { closed = true })
 kept_closed blocks c kept = record {
   size = kept.size;
   on_disk = kept.on_disk;
@@ -301,7 +286,7 @@ kept_closed blocks c kept = record {
 }
 
 -- a further session
-pub kept_session : (blocks : ℕ) (c : CoreState) → IsKept blocks c → IsKept blocks (record c { next = c.next + 1 })
+pub kept_session : (blocks : ℕ) (c : CoreState) → IsCore blocks c → IsCore blocks (record c { next = c.next + 1 })
 kept_session blocks c kept = record {
   size = kept.size;
   on_disk = kept.on_disk;
@@ -316,15 +301,15 @@ kept_session blocks c kept = record {
 }
 
 -- a true mark
-pub kept_marked : (blocks : ℕ) (c : CoreState) (n : ℕ) → IsKept blocks c → c.history ≢ [] → CanMark c n
-    → IsKept blocks (record c { history = c.history ++ stable n ∷ []; cut = n; logged = n })
+pub kept_marked : (blocks : ℕ) (c : CoreState) (n : ℕ) → IsCore blocks c → c.history ≢ [] → CanMark c n
+    → IsCore blocks (record c { history = c.history ++ stable n ∷ []; cut = n; logged = n })
 kept_marked blocks c n kept some can = ⊎_elim
     (λ (is : n ≡ c.cut). subst
-    (λ (k : ℕ). IsKept blocks (record c { history = c.history ++ stable k ∷ []; cut = k; logged = k })) (sym is)
-    (subst (λ (l : ℕ). IsKept blocks (record c { history = c.history ++ stable c.cut ∷ []; cut = c.cut; logged = l })) (kept.rest can.fine can.steps)
+    (λ (k : ℕ). IsCore blocks (record c { history = c.history ++ stable k ∷ []; cut = k; logged = k })) (sym is)
+    (subst (λ (l : ℕ). IsCore blocks (record c { history = c.history ++ stable c.cut ∷ []; cut = c.cut; logged = l })) (kept.rest can.fine can.steps)
     (kept_mark blocks c kept some (kept.rest can.fine can.steps))))
     (λ (is : (n ≡ count c.history) × (tail_length c.objects ≡ 0)). subst
-    (λ (k : ℕ). IsKept blocks (record c { history = c.history ++ stable k ∷ []; cut = k; logged = k })) (sym is.0)
+    (λ (k : ℕ). IsCore blocks (record c { history = c.history ++ stable k ∷ []; cut = k; logged = k })) (sym is.0)
     (kept_mark_all blocks c kept some is.1 can.rest))
     can.which
 
@@ -334,7 +319,7 @@ tallied_mark pairs history n tallied s =
     tallied s ∙ sym (ap (λ (ts : List Transaction). length (filter (λ (t : Transaction). t.session == s) ts)) (commits-mark history n))
 
 -- what is left of the disk that is given up
-pub leaves_closed : (blocks : ℕ) (inside now : CoreState) (disk : DiskState) → IsKept blocks inside → inside ≡ now → disk ≡ (disk_of inside)
+pub leaves_closed : (blocks : ℕ) (inside now : CoreState) (disk : DiskState) → IsCore blocks inside → inside ≡ now → disk ≡ (disk_of inside)
     → IsTrue disk.honest → EveryImage disk.past (Leaves now.history)
 leaves_closed blocks inside now disk kept is same =
     subst (λ (d : DiskState). IsTrue d.honest → EveryImage d.past (Leaves now.history)) (sym same)

@@ -3,24 +3,24 @@ use Rattle.std.proofs.Common.{◌≡◌, inr, ⊎_elim, ℕ, Bool, false, IsTrue
 use Rattle.std.proofs.lemmas.Bool.{false≢true}
 use Rattle.journal_world.specs.declared.refusal.Refusal.{Refusal}
 use Rattle.journal_world.specs.declared.refusal.Refusal.TheVariants.{NoMemory, BadAddress, BadSize, TooLarge, Busy, DeviceFailed, BadLog, BadSuper, Stale, Stranger, Worn, Full, Closed, Fenced}
-use Rattle.journal_world.specs.Refusals.{IsOfReading}
+use Rattle.journal_world.specs.Refusals.{IsReadingRefusal}
 use Rattle.journal_world.specs.Maps.{Map, are_objects}
 use Rattle.journal_world.specs.Histories.{Entry}
 use Rattle.journal_world.specs.Histories.Entry.{opening}
 use Rattle.journal_world.proofs.SameMaps.{SameMap-refl}
 use Rattle.journal_disk.specs.Disks.{DiskState, Keeps, Past, HasFailed}
 use Rattle.journal_disk.specs.Images.{EveryImage}
-use Rattle.journal_circ.specs.Ring.{IsReason}
-use Rattle.journal_wal.specs.Wal.{WalState, IsOpened as AtRest, size_of, blocks_now, log_steps, install_steps, tail_length}
+use Rattle.journal_circ.specs.Ring.{IsOpenRefusal as CircOpenRefusal}
+use Rattle.journal_wal.specs.Wal.{WalState, IsAtRest as AtRest, size_of, blocks_now, log_steps, install_steps, tail_length}
 use Rattle.journal_objlog.specs.Maps.{OpensAs}
 use Rattle.journal_objlog.specs.MapLaws.{map_of-blocks, map_of-objects}
 use Rattle.journal_objlog.specs.ObjectLogs.{map_now, OnlyReads}
 use Rattle.journal_objlog.specs.ReadLaws.{now_read, images_read}
 use Rattle.journal_objlog.proofs.Openings.{failed_after}
 use Rattle.journal_core.specs.Causes.{Told, raised_of}
-use Rattle.journal_core.specs.Cores.{IsKept}
+use Rattle.journal_core.specs.Cores.{IsCore}
 use Rattle.journal_core.specs.Tallies.{IsTallied}
-use Rattle.journal_core.specs.Openings.{HoldsMap, Begins, IsInRange, IsBeginRefusal, IsOpenRefusal, IsHandedBack}
+use Rattle.journal_core.specs.Openings.{HoldsMap, Begins, IsInRange, IsBeginRefusal, IsOpenRefusal, OnlyReadsDisk}
 use Rattle.journal_core.proofs.Keeping.{kept_opened}
 use Rattle.journal_objlog.specs.ObjectLogs.{is_faulted as is_log_faulted, disk_of as log_disk}
 
@@ -69,7 +69,7 @@ module _ (disk : DiskState) (opened objects : WalState) (keeps : Keeps disk (log
       (λ failed. failed_after disk (log_disk opened) (log_disk objects) keeps failed)
       (reads.fault faulted)
 
-  pub handed_back : IsHandedBack disk (log_disk objects)
+  pub handed_back : OnlyReadsDisk disk (log_disk objects)
   handed_back = record { keeps = keeps_both; past = past_both }
 
   module _ (rule : Map → Type 0) (fine : is_log_faulted objects ≡ false) where
@@ -95,17 +95,17 @@ module _ (disk : DiskState) (opened objects : WalState) (keeps : Keeps disk (log
     }
 
     pub kept_begun : (blocks : ℕ) (history : List Entry) → history ≡ opening (map_now objects) (log_disk objects).honest ∷ [] → size_of objects ≡ blocks
-        → IsKept blocks (record { objects = objects; history = history; cut = 0; logged = 0; next = 0; closed = false })
+        → IsCore blocks (record { objects = objects; history = history; cut = 0; logged = 0; next = 0; closed = false })
     kept_begun blocks history is size =
         let now : AtRest objects = rests_still opened objects reads fine rest in
-        subst (λ (h : List Entry). IsKept blocks (record { objects = objects; history = h; cut = 0; logged = 0; next = 0; closed = false })) (sym is)
+        subst (λ (h : List Entry). IsCore blocks (record { objects = objects; history = h; cut = 0; logged = 0; next = 0; closed = false })) (sym is)
         (kept_opened blocks objects (map_now objects) size (SameMap-refl (map_now objects)) (map_of-blocks (size_of objects) (blocks_now objects) ∙ size)
         now.cut now.tail
         (λ honest. images_read opened objects reads (opened_honest (subst IsTrue honest_is honest)) (images (subst IsTrue honest_is honest))))
 
   module _ (rule : Map → Type 0) (range : IsInRange disk) where
     -- what the rule's refusal is
-    raised_rule : (refusal : Refusal Unit) → IsOfReading (is_log_faulted objects) refusal → IsOpenRefusal rule disk (log_disk objects) (raised_of refusal)
+    raised_rule : (refusal : Refusal Unit) → IsReadingRefusal (is_log_faulted objects) refusal → IsOpenRefusal rule disk (log_disk objects) (raised_of refusal)
     raised_rule NoMemory is = range
     raised_rule (DeviceFailed cause) is = (range, failed_since is, refl)
     raised_rule BadAddress is = absurd is
@@ -122,7 +122,7 @@ module _ (disk : DiskState) (opened objects : WalState) (keeps : Keeps disk (log
     raised_rule Fenced is = absurd is
 
     -- why the history was not begun, seen from outside
-    pub refuses_begin : (admitted : Result Bool (Refusal Unit)) (why : Refusal Told) → IfErr admitted (IsOfReading (is_log_faulted objects))
+    pub refuses_begin : (admitted : Result Bool (Refusal Unit)) (why : Refusal Told) → IfErr admitted (IsReadingRefusal (is_log_faulted objects))
         → IsBeginRefusal rule objects admitted why → IsOpenRefusal rule disk (log_disk objects) why
     refuses_begin (Err refusal) why is because =
         subst (IsOpenRefusal rule disk (log_disk objects)) (sym because) (raised_rule refusal is)
@@ -146,21 +146,3 @@ module _ (disk : DiskState) (opened objects : WalState) (keeps : Keeps disk (log
 -- no session has committed yet
 pub tallied_begun : (history : List Entry) (m : Map) (trusted : Bool) → history ≡ opening m trusted ∷ [] → IsTallied [] history
 tallied_begun history m trusted is = subst (IsTallied []) (sym is) (λ s. refl)
-
--- why a disk's log is not opened, as the core's
-pub refuses_log : (rule : Map → Type 0) (old new : DiskState) → IsInRange old → (refusal : Refusal Unit) → IsReason old new refusal
-    → IsOpenRefusal rule old new (raised_of refusal)
-refuses_log rule old new range NoMemory reason = range
-refuses_log rule old new range (DeviceFailed cause) reason = (range, reason, refl)
-refuses_log rule old new range BadLog reason = (range, reason)
-refuses_log rule old new range BadAddress reason = absurd reason
-refuses_log rule old new range BadSize reason = absurd reason
-refuses_log rule old new range TooLarge reason = absurd reason
-refuses_log rule old new range Busy reason = absurd reason
-refuses_log rule old new range BadSuper reason = absurd reason
-refuses_log rule old new range (Stale cause) reason = absurd reason
-refuses_log rule old new range (Stranger cause) reason = absurd reason
-refuses_log rule old new range (Worn cause) reason = absurd reason
-refuses_log rule old new range (Full cause) reason = absurd reason
-refuses_log rule old new range (Closed cause) reason = absurd reason
-refuses_log rule old new range Fenced reason = absurd reason

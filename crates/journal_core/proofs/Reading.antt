@@ -9,14 +9,14 @@ use Rattle.journal_wal.specs.Wal.{size_of, blocks_now}
 use Rattle.journal_objlog.specs.MapLaws.{map_of-blocks}
 use Rattle.journal_objlog.specs.ObjectLogs.{map_now}
 use Rattle.journal_core.specs.Causes.{Told}
-use Rattle.journal_core.specs.Cores.{CoreState, IsKept}
+use Rattle.journal_core.specs.Cores.{CoreState, IsCore}
 use Rattle.journal_core.specs.Transactions.{TransactionState, AreUnmoved}
 use Rattle.journal_core.specs.Steps.{MayRead, IsReadRefusal}
 use Rattle.journal_core.specs.Commits.{IsMovedRefusal}
 use Rattle.journal_core.specs.Cores.{IsRunning}
 
 -- the layout is that of the disk
-pub size_kept : (blocks : ℕ) (c : CoreState) → IsKept blocks c → (n : ℕ) → n ≡ (map_now c.objects).blocks → n ≡ blocks
+pub size_kept : (blocks : ℕ) (c : CoreState) → IsCore blocks c → (n : ℕ) → n ≡ (map_now c.objects).blocks → n ≡ blocks
 size_kept blocks c kept n is = is ∙ map_of-blocks (size_of c.objects) (blocks_now c.objects) ∙ kept.size
 
 pub valid_as : (n blocks : ℕ) (a : Addr) (r b : Bool) → n ≡ blocks → r ≡ is_valid n a → r ≡ b → is_valid blocks a ≡ b

@@ -5,7 +5,7 @@ use Rattle.journal_world.specs.declared.refusal.Refusal.{Refusal}
 use Rattle.journal_world.specs.declared.refusal.Refusal.TheVariants.{NoMemory, BadAddress, BadSize, TooLarge, Busy, DeviceFailed, BadLog, BadSuper, Stale, Stranger, Worn, Full, Closed, Fenced}
 use Rattle.journal_world.specs.Addresses.{is_valid, kind_of}
 use Rattle.journal_world.specs.Maps.{Pair, is_value_at, is_object, are_objects}
-use Rattle.journal_memlog.specs.Logs.{next_of}
+use Rattle.journal_memlog.specs.Logs.{next_position}
 use Rattle.journal_wal.specs.Wal.{WalState, size_of}
 use Rattle.journal_objlog.specs.ObjectLogs.{IsLeft}
 use Rattle.journal_objlog.specs.Writes.{CanPrepare, IsWriteRefusal, IsLateRefusal, IsPrepareRefusal, are_valid, written_blocks, fresh_blocks}
@@ -66,9 +66,9 @@ module _ (blocks : ℕ) (c : CoreState) (writes : List Pair) (size : size_of c.o
       why.2,
       λ worn. ⊎_elim
           (λ (is : 2 ^ 62 ≤ length c.history + 1). absurd (omega (arith, is, room)))
-          (λ (other : (2 ^ 62 ≤ s.number) ⊎ (2 ^ 62 ≤ next_of c.objects.log + fresh_blocks c.objects writes)). ⊎_elim
+          (λ (other : (2 ^ 62 ≤ s.number) ⊎ (2 ^ 62 ≤ next_position c.objects.log + fresh_blocks c.objects writes)). ⊎_elim
           (λ (is : 2 ^ 62 ≤ s.number). absurd (omega (arith, is, small)))
-          (λ (is : 2 ^ 62 ≤ next_of c.objects.log + fresh_blocks c.objects writes). absurd (omega (arith, is, why.3)))
+          (λ (is : 2 ^ 62 ≤ next_position c.objects.log + fresh_blocks c.objects writes). absurd (omega (arith, is, why.3)))
           other)
           worn,
       why.4,
@@ -89,9 +89,9 @@ module _ (blocks : ℕ) (c : CoreState) (writes : List Pair) (size : size_of c.o
       few = can.few;
       unworn = λ worn. ⊎_elim
           (λ (is : 2 ^ 62 ≤ length c.history + 1). omega (arith, is, room))
-          (λ (other : (2 ^ 62 ≤ s.number) ⊎ (2 ^ 62 ≤ next_of c.objects.log + fresh_blocks c.objects writes)). ⊎_elim
+          (λ (other : (2 ^ 62 ≤ s.number) ⊎ (2 ^ 62 ≤ next_position c.objects.log + fresh_blocks c.objects writes)). ⊎_elim
           (λ (is : 2 ^ 62 ≤ s.number). omega (arith, is, small))
-          (λ (is : 2 ^ 62 ≤ next_of c.objects.log + fresh_blocks c.objects writes). omega (arith, is, can.small))
+          (λ (is : 2 ^ 62 ≤ next_position c.objects.log + fresh_blocks c.objects writes). omega (arith, is, can.small))
           other)
           worn;
       room = λ full. omega (arith, full, can.tail);

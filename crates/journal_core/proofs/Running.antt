@@ -20,13 +20,13 @@ use Rattle.journal_disk.specs.Disks.{DiskState, Past}
 use Rattle.journal_disk.specs.Images.{IsImage, EveryImage}
 use Rattle.journal_objlog.specs.Maps.{OpensAs}
 use Rattle.journal_objlog.proofs.MapsOfBlocks.{same_objects}
-use Rattle.journal_history.specs.Tokens.{SessionState, made, next_of, Commits}
+use Rattle.journal_history.specs.Tokens.{SessionState, made, next_transaction, Commits}
 use Rattle.journal_core.specs.Causes.{Told}
 use Rattle.journal_core.specs.Cores.{CoreState, Leaves, Crashes}
 use Rattle.journal_core.specs.Transactions.{TransactionState, begun}
 use Rattle.journal_core.specs.Steps.{Marks, IsInstallRefusal}
 use Rattle.journal_core.specs.Openings.{Begins}
-use Rattle.journal_core.specs.Interleavings.{Event, Answer, Tells, TellsAll, Mount, Machine, mounted, holds, with_core, with_draft, with_slot, ended, blocks_of, FindsValue, ReadsValue, IsUnread, CommitsDraft, RefusesCommit, LogsStep, AnswersLog, AnswersInstall, AnswersSession, HoldsImage, Ignores, BeginsDraft, TakesSlot, ReadsDraft, OverwritesDraft, Finishes, Logs, HappensUp, HappensDown, Happens, Run, HasHistory, IsUndisturbed}
+use Rattle.journal_core.specs.Interleavings.{Event, Answer, Tells, TellsAll, Mount, Machine, mounted, holds, with_core, with_transaction, with_slot, ended, blocks_of, FindsValue, ReadsValue, IsUnread, CommitsTransaction, RefusesCommit, LogsStep, AnswersLog, AnswersInstall, AnswersSession, HoldsImage, Ignores, BeginsTransaction, TakesSlot, ReadsUnderSlot, OverwritesUnderSlot, Finishes, MakesLogStep, HappensUp, HappensDown, Happens, Run, HasHistory, IsUndisturbed}
 use Rattle.journal_core.specs.Interleavings.Event.{begins, takes, reads, overwrites, aborts, joins, stops, logs, installs, crashes, opens}
 use Rattle.journal_core.specs.Interleavings.Event.{commits as finishes}
 use Rattle.journal_core.specs.Interleavings.Answer.{nothing, value, committed, marked, crashed, reopened}
@@ -55,7 +55,7 @@ unread_same blocks old t a new it = ⊎_elim
 -- and of every mount
 pub record IsUp (rule : Map → Type 0) (m : Mount) : Type 0 where
   pub runs : IsRunning rule m.core
-  pub sound : (actor : ℕ) (t : TransactionState) → m.drafts actor ≡ Some t → IsSound m.core.history m.holders actor t
+  pub sound : (actor : ℕ) (t : TransactionState) → m.transactions actor ≡ Some t → IsSound m.core.history m.holders actor t
 
 abbrev pub Holds : (Map → Type 0) → Machine → List Entry → Type 0
 Holds rule (up m) history = (m.core.history ≡ history) × IsUp rule m
@@ -120,11 +120,11 @@ module _ (rule : Map → Type 0) where
 
   -- an actor's transaction is another one
   draft_kept : (m : Mount) (actor : ℕ) (draft : TransactionState) → IsUp rule m → IsSound m.core.history m.holders actor draft
-      → IsUp rule (with_draft m actor (Some draft))
+      → IsUp rule (with_transaction m actor (Some draft))
   draft_kept m actor draft is sound = record { runs = is.runs; sound = λ other t at. by_test other t (other == actor) refl at (is.sound other t) }
     where
-      by_test : (other : ℕ) (t : TransactionState) (b : Bool) → (other == actor) ≡ b → cond b (Some draft) (m.drafts other) ≡ Some t
-          → (m.drafts other ≡ Some t → IsSound m.core.history m.holders other t) → IsSound m.core.history m.holders other t
+      by_test : (other : ℕ) (t : TransactionState) (b : Bool) → (other == actor) ≡ b → cond b (Some draft) (m.transactions other) ≡ Some t
+          → (m.transactions other ≡ Some t → IsSound m.core.history m.holders other t) → IsSound m.core.history m.holders other t
       by_test other t true same at others =
           subst (λ (n : ℕ). IsSound m.core.history m.holders n t) (sym (eqb-true other actor same))
           (subst (IsSound m.core.history m.holders actor) (same_Some draft t at) sound)
@@ -139,10 +139,10 @@ module _ (rule : Map → Type 0) where
 
   -- where all transactions but one are kept, that one is ended
   ended_up : (m : Mount) (actor : ℕ) → IsRunning rule m.core
-      → ((other : ℕ) (t : TransactionState) → other ≢ actor → m.drafts other ≡ Some t → IsSound m.core.history m.holders other t) → IsUp rule (ended m actor)
+      → ((other : ℕ) (t : TransactionState) → other ≢ actor → m.transactions other ≡ Some t → IsSound m.core.history m.holders other t) → IsUp rule (ended m actor)
   ended_up m actor runs others = record { runs = runs; sound = λ other t at. by_test other t (other == actor) refl at }
     where
-      by_test : (other : ℕ) (t : TransactionState) (b : Bool) → (other == actor) ≡ b → cond b None (m.drafts other) ≡ Some t
+      by_test : (other : ℕ) (t : TransactionState) (b : Bool) → (other == actor) ≡ b → cond b None (m.transactions other) ≡ Some t
           → IsSound m.core.history (ended m actor).holders other t
       by_test other t true same at = absurd (none-some t at)
       by_test other t false differ at =
@@ -163,10 +163,10 @@ module _ (rule : Map → Type 0) where
   ignored : (m : Mount) (answer : Answer) (new : Machine) → Ignores m answer new → IsUp rule m → Goes rule m.core.history answer new
   ignored m answer new it is = silent m.core.history m answer new it.0 it.1 refl is
 
-  goes-begins : (m : Mount) (actor : ℕ) (draft : Option TransactionState) (answer : Answer) (new : Machine) → BeginsDraft m actor draft answer new → IsUp rule m
+  goes-begins : (m : Mount) (actor : ℕ) (draft : Option TransactionState) (answer : Answer) (new : Machine) → BeginsTransaction m actor draft answer new → IsUp rule m
       → Goes rule m.core.history answer new
   goes-begins m actor None answer new it is =
-      silent m.core.history (with_draft m actor (Some (begun it.1.0))) answer new it.0 it.1.2 refl
+      silent m.core.history (with_transaction m actor (Some (begun it.1.0))) answer new it.0 it.1.2 refl
       (draft_kept m actor (begun it.1.0) is (begun_sound m.core.history it.1.0 m.holders actor it.1.1))
   goes-begins m actor (Some t) answer new it is = ignored m answer new it is
 
@@ -188,7 +188,7 @@ module _ (rule : Map → Type 0) where
       it
 
   goes-reads : (m : Mount) (actor : ℕ) (a : Addr) (draft : Option TransactionState) (held : Bool) (answer : Answer) (new : Machine)
-      → ReadsDraft m actor a draft held answer new → IsUp rule m → m.drafts actor ≡ draft → holds m actor a ≡ held → Goes rule m.core.history answer new
+      → ReadsUnderSlot m actor a draft held answer new → IsUp rule m → m.transactions actor ≡ draft → holds m actor a ≡ held → Goes rule m.core.history answer new
   goes-reads m actor a None held answer new it is at holder = ignored m answer new it is
   goes-reads m actor a (Some t) false answer new it is at holder = ignored m answer new it is
   goes-reads m actor a (Some t) true nothing new it is at holder =
@@ -219,27 +219,27 @@ module _ (rule : Map → Type 0) where
   goes-reads m actor a (Some t) true reopened new it is at holder = absurd it
 
   goes-overwrites : (m : Mount) (actor : ℕ) (p : Pair) (draft : Option TransactionState) (held : Bool) (answer : Answer) (new : Machine)
-      → OverwritesDraft m actor p draft held answer new → IsUp rule m → m.drafts actor ≡ draft → holds m actor p.0 ≡ held → Goes rule m.core.history answer new
+      → OverwritesUnderSlot m actor p draft held answer new → IsUp rule m → m.transactions actor ≡ draft → holds m actor p.0 ≡ held → Goes rule m.core.history answer new
   goes-overwrites m actor p None held answer new it is at holder = ignored m answer new it is
   goes-overwrites m actor p (Some t) false answer new it is at holder = ignored m answer new it is
   goes-overwrites m actor p (Some t) true answer new it is at holder =
       ⊎_elim (λ same. silent m.core.history m answer new it.0 same refl is)
-      (λ more. silent m.core.history (with_draft m actor (Some more.1.0)) answer new it.0 more.1.2 refl
+      (λ more. silent m.core.history (with_transaction m actor (Some more.1.0)) answer new it.0 more.1.2 refl
       (draft_kept m actor more.1.0 is (sound_overwritten m.core.history m.holders actor t more.1.0 p more.1.1 more.0
       (is_holder (m.holders (slot_of p.0)) actor holder) (is.sound actor t at))))
       it.1
 
   -- the number of a session's next commit is how many it has
-  numbered : (session after : SessionState) (r w : List Pair) (old new : List Entry) → Commits (next_of session r w) session after old new
+  numbered : (session after : SessionState) (r w : List Pair) (old new : List Entry) → Commits (next_transaction session r w) session after old new
       → made session ≡ length (commits_of session.number old)
   numbered session after r w old new it =
-      let t : Transaction = next_of session r w in
+      let t : Transaction = next_transaction session r w in
       let there : commits_of session.number old ++ t ∷ [] ≡ commits_of session.number session.mine ++ t ∷ [] =
       sym (commits_of-commit old t) ∙ ap (commits_of session.number) (sym it.added) ∙ it.one_more in
       omega (arith, ap length there, length-append (commits_of session.number old) (t ∷ []), length-append (commits_of session.number session.mine) (t ∷ []))
 
   goes-finishes : (m : Mount) (actor : ℕ) (draft : Option TransactionState) (answer : Answer) (new : Machine) → Finishes m actor draft answer new → IsUp rule m
-      → m.drafts actor ≡ draft → Goes rule m.core.history answer new
+      → m.transactions actor ≡ draft → Goes rule m.core.history answer new
   goes-finishes m actor None answer new it is at = ignored m answer new it is
   goes-finishes m actor (Some d) nothing new it is at =
       let core : CoreState = it.1.1.0 in
@@ -249,8 +249,8 @@ module _ (rule : Map → Type 0) where
   goes-finishes m actor (Some d) (committed t) new it is at =
       let session : SessionState = it.0 in
       let core : CoreState = it.1.1.0 in
-      let done : CommitsDraft m.core session d core it.1.0 = it.1.1.2 in
-      let u : Transaction = next_of session d.reads d.writes in
+      let done : CommitsTransaction m.core session d core it.1.0 = it.1.1.2 in
+      let u : Transaction = next_transaction session d.reads d.writes in
       let sound = is.sound actor d at in
       let number = numbered session it.1.0 d.reads d.writes m.core.history core.history done.committed.committed in
       let follows : Follows m.core.history (commit u) = (is.runs.some, sound.reads, sound.writes, number) in
@@ -276,7 +276,7 @@ module _ (rule : Map → Type 0) where
   log_crash old (Ok step) new it = it.crash
   log_crash old (Err why) new it = it.crash
 
-  goes-logs : (m : Mount) (answer : Answer) (new : Machine) → Logs m answer new → IsUp rule m → Goes rule m.core.history answer new
+  goes-logs : (m : Mount) (answer : Answer) (new : Machine) → MakesLogStep m answer new → IsUp rule m → Goes rule m.core.history answer new
   goes-logs m nothing new it is =
       let core : CoreState = it.1.0 in
       silent m.core.history (with_core m core) nothing new refl it.1.3 it.1.2 (up_on m core is (log_crash m.core it.0 core it.1.1) it.1.2)
@@ -361,19 +361,19 @@ running rule disk core trusted begin =
     }
 
 module _ (rule : Map → Type 0) where
-  begun_up : (disk : DiskState) (core : CoreState) → IsTrue disk.honest → Begins rule disk core → IsUp rule (record { core = core; drafts = λ actor. None; holders = λ slot. None })
+  begun_up : (disk : DiskState) (core : CoreState) → IsTrue disk.honest → Begins rule disk core → IsUp rule (record { core = core; transactions = λ actor. None; holders = λ slot. None })
   begun_up disk core trusted begin = record {
     runs = running rule disk core trusted begin;
     sound = λ actor d is. absurd (none-some d is);
   }
 
   goes-up : (m : Mount) (event : Event) (answer : Answer) (new : Machine) → HappensUp m event answer new → IsUp rule m → Goes rule m.core.history answer new
-  goes-up m (begins actor) answer new it is = goes-begins rule m actor (m.drafts actor) answer new it is
-  goes-up m (takes actor slot) answer new it is = goes-takes rule m actor slot (m.drafts actor) (m.holders slot) answer new it is refl
-  goes-up m (reads actor a) answer new it is = goes-reads rule m actor a (m.drafts actor) (holds m actor a) answer new it is refl refl
-  goes-up m (overwrites actor a v) answer new it is = goes-overwrites rule m actor (a, v) (m.drafts actor) (holds m actor a) answer new it is refl refl
+  goes-up m (begins actor) answer new it is = goes-begins rule m actor (m.transactions actor) answer new it is
+  goes-up m (takes actor slot) answer new it is = goes-takes rule m actor slot (m.transactions actor) (m.holders slot) answer new it is refl
+  goes-up m (reads actor a) answer new it is = goes-reads rule m actor a (m.transactions actor) (holds m actor a) answer new it is refl refl
+  goes-up m (overwrites actor a v) answer new it is = goes-overwrites rule m actor (a, v) (m.transactions actor) (holds m actor a) answer new it is refl refl
   goes-up m (aborts actor) answer new it is = silent rule m.core.history (ended m actor) answer new it.0 it.1 refl (has_ended rule m actor is)
-  goes-up m (finishes actor) answer new it is = goes-finishes rule m actor (m.drafts actor) answer new it is refl
+  goes-up m (finishes actor) answer new it is = goes-finishes rule m actor (m.transactions actor) answer new it is refl
   goes-up m logs answer new it is = goes-logs rule m answer new it is
   goes-up m joins answer new it is =
       let same = joins_same m.core it.1.0 it.1.1.0 it.1.1.1 in

@@ -9,11 +9,11 @@ use Rattle.journal_world.specs.declared.address.Addr.{Addr}
 use Rattle.journal_world.specs.Addresses.{Value}
 use Rattle.journal_world.specs.Maps.{is_object}
 use Rattle.journal_objlog.specs.MapLaws.{map_of-blocks}
-use Rattle.journal_wal.specs.Wal.{WalState, size_of, blocks_now, log_steps, LogAnswers, LogMoves, InstallAnswers, IsInstallFault}
-use Rattle.journal_objlog.specs.ObjectLogs.{map_now, KeepsMaps, MayCrash, OnlyReads, LogsMaps, LogMovesMaps}
+use Rattle.journal_wal.specs.Wal.{WalState, size_of, blocks_now, log_steps, LogAnswers, LogMoves, InstallAnswers, IsInstallRefusal}
+use Rattle.journal_objlog.specs.ObjectLogs.{map_now, KeepsMaps, Crashes as MapCrashes, OnlyReads, LogsMaps, LogMovesMaps}
 use Rattle.journal_world.specs.Histories.{count}
 use Rattle.journal_memlog.specs.Logs.{LogState}
-use Rattle.journal_core.specs.Cores.{CoreState, Crashes, IsKept}
+use Rattle.journal_core.specs.Cores.{CoreState, Crashes, IsCore}
 use Rattle.journal_core.proofs.Keeping.{Rests, kept_on, kept_cut, kept_end, crashes_of}
 use Rattle.journal_core.specs.Cores.{disk_of}
 use Rattle.journal_objlog.specs.ObjectLogs.{is_faulted as is_log_faulted}
@@ -27,35 +27,23 @@ of_err (Err e) is holds = holds
 pub of_ok : {T E : Type 0} (P : T → Type 0) (r : Result T E) (value : T) → r ≡ Ok value → IfOk r P → P value
 of_ok P r value is holds = subst (λ x. IfOk x P) is holds
 
--- what holds of an answer holds of the same answer
-pub of_raised : {T E F : Type 0} (P : T → Type 0) (answer : Result T E) (result : Result T F) → IfOk result (λ value. answer ≡ Ok value)
-    → IfOk answer P → IfOk result P
-of_raised P answer (Ok value) is holds = of_ok P answer value is holds
-of_raised P answer (Err e) is holds = tt
-
--- the map has the disk's number of blocks
-pub objects_of : (blocks : ℕ) (c : CoreState) → IsKept blocks c → (a : Addr) (r : Result Value (Refusal Unit))
-    → IfOk r (λ (value : Value). IsTrue (is_object (map_now c.objects).blocks (a, value))) → IfOk r (λ (value : Value). IsTrue (is_object blocks (a, value)))
-objects_of blocks c kept a r holds =
-    subst (λ (n : ℕ). IfOk r (λ (value : Value). IsTrue (is_object n (a, value)))) (map_of-blocks (size_of c.objects) (blocks_now c.objects) ∙ kept.size) holds
-
 -- a step, seen from outside
-pub crashes_step : (blocks : ℕ) (inside now new : CoreState) → IsKept blocks inside → inside ≡ now → IsKept blocks new
-    → MayCrash inside.objects new.objects → Crashes now new
+pub crashes_step : (blocks : ℕ) (inside now new : CoreState) → IsCore blocks inside → inside ≡ now → IsCore blocks new
+    → MapCrashes inside.objects new.objects → Crashes now new
 crashes_step blocks inside now new before is kept crash =
     subst (λ (c : CoreState). Crashes c new) is (crashes_of blocks inside new before kept crash)
 
-module _ (blocks : ℕ) (c : CoreState) (kept : IsKept blocks c) (objects : WalState) (crash : MayCrash c.objects objects) where
+module _ (blocks : ℕ) (c : CoreState) (kept : IsCore blocks c) (objects : WalState) (crash : MapCrashes c.objects objects) where
   -- a device call failed
   pub kept_fault : (IsTrue (disk_of c).honest → KeepsMaps c.objects objects) → is_log_faulted objects ≡ true
-      → IsKept blocks (record c { objects = objects })
+      → IsCore blocks (record c { objects = objects })
   kept_fault maps faulted = kept_on blocks c kept objects crash maps (λ fine none. absurd (false≢true (sym fine ∙ faulted)))
 
   -- a step of the group in flight that does not end it
   pub flies_on : (n : ℕ) → log_steps c.objects ≡ n → 0 < n → LogMoves n c.objects objects
       → (IsTrue (disk_of c).honest → LogMovesMaps n c.objects objects)
       → c.objects.log.logged < c.objects.log.cut → objects.log.logged < objects.log.cut
-      → IsKept blocks (record c { objects = objects })
+      → IsCore blocks (record c { objects = objects })
   flies_on zero is some moves maps flew flies = absurd (omega (arith, some))
   flies_on (suc zero) is some moves maps flew flies =
       let end : objects.log.logged ≡ c.objects.log.cut = ap (λ (l : LogState). l.logged) moves.end in
@@ -67,7 +55,7 @@ module _ (blocks : ℕ) (c : CoreState) (kept : IsKept blocks c) (objects : WalS
   pub lands : (n : ℕ) → log_steps c.objects ≡ n → 0 < n → LogMoves n c.objects objects
       → (IsTrue (disk_of c).honest → LogMovesMaps n c.objects objects)
       → c.objects.log.logged < c.objects.log.cut → (objects.log.logged < objects.log.cut → ⊥)
-      → IsKept blocks (record c { objects = objects; logged = c.cut })
+      → IsCore blocks (record c { objects = objects; logged = c.cut })
   lands zero is some moves maps flew flies = absurd (omega (arith, some))
   lands (suc zero) is some moves maps flew flies = kept_end blocks c kept objects crash maps
   lands (suc (suc left)) is some moves maps flew flies =
@@ -77,31 +65,31 @@ module _ (blocks : ℕ) (c : CoreState) (kept : IsKept blocks c) (objects : WalS
   -- a step of the group in flight, by what it answers
   pub stays_in_flight : (step : Step) → LogAnswers c.objects step objects → (IsTrue (disk_of c).honest → LogsMaps c.objects step objects)
       → 0 < log_steps c.objects → c.objects.log.logged < c.objects.log.cut → objects.log.logged < objects.log.cut
-      → IsKept blocks (record c { objects = objects })
+      → IsCore blocks (record c { objects = objects })
   stays_in_flight Idle ok maps some flew flies = absurd (omega (arith, some, ok.0.steps))
   stays_in_flight Moved ok maps some flew flies = flies_on (log_steps c.objects) refl some ok maps flew flies
 
   pub has_landed : (step : Step) → LogAnswers c.objects step objects → (IsTrue (disk_of c).honest → LogsMaps c.objects step objects)
       → 0 < log_steps c.objects → c.objects.log.logged < c.objects.log.cut → (objects.log.logged < objects.log.cut → ⊥)
-      → IsKept blocks (record c { objects = objects; logged = c.cut })
+      → IsCore blocks (record c { objects = objects; logged = c.cut })
   has_landed Idle ok maps some flew flies = absurd (omega (arith, some, ok.0.steps))
   has_landed Moved ok maps some flew flies = lands (log_steps c.objects) refl some ok maps flew flies
 
   -- the tail is cut
   pub cuts : (n : ℕ) → n ≡ 0 → LogMoves n c.objects objects → (IsTrue (disk_of c).honest → LogMovesMaps n c.objects objects)
-      → IsKept blocks (record c { objects = objects; cut = count c.history })
+      → IsCore blocks (record c { objects = objects; cut = count c.history })
   cuts zero none moves maps = kept_cut blocks c kept objects crash maps (omega (arith, moves.steps))
   cuts (suc n) none moves maps = absurd (omega (arith, none))
 
   pub has_cut : (step : Step) → step ≡ Moved → log_steps c.objects ≡ 0 → LogAnswers c.objects step objects
       → (IsTrue (disk_of c).honest → LogsMaps c.objects step objects)
-      → IsKept blocks (record c { objects = objects; cut = count c.history })
+      → IsCore blocks (record c { objects = objects; cut = count c.history })
   has_cut Idle moved none ok maps = absurd (cc (moved))
   has_cut Moved moved none ok maps = cuts (log_steps c.objects) none ok maps
 
   -- nothing to do
-  pub has_rested : (step : Step) → (step ≡ Moved → ⊥) → LogAnswers c.objects step objects → IsKept blocks (record c { objects = objects })
-  has_rested Idle idle ok = subst (λ (w : WalState). IsKept blocks (record c { objects = w })) (sym ok.1) kept
+  pub has_rested : (step : Step) → (step ≡ Moved → ⊥) → LogAnswers c.objects step objects → IsCore blocks (record c { objects = objects })
+  has_rested Idle idle ok = subst (λ (w : WalState). IsCore blocks (record c { objects = w })) (sym ok.1) kept
   has_rested Moved idle ok = absurd (idle refl)
 
 -- where no group is in flight
@@ -123,7 +111,7 @@ rests_call old new r reads stays = rests_read old new reads (λ faulted. (stays 
 
 -- nor does a step of the installer
 pub rests_install : (old new : WalState) (r : Result Step (Refusal Unit)) → IfOk r (λ step. InstallAnswers old step new)
-    → IfErr r (IsInstallFault old new) → (IsTrue (is_log_faulted old) → IsErr r × (new ≡ old)) → Rests old new
+    → IfErr r (IsInstallRefusal old new) → (IsTrue (is_log_faulted old) → IsErr r × (new ≡ old)) → Rests old new
 rests_install old new (Ok Idle) ok err stays = λ fine none.
     (sym (ap is_log_faulted ok.1) ∙ fine, sym (ap log_steps ok.1) ∙ none)
 rests_install old new (Ok Moved) ok err stays = λ fine none. (by (is_log_faulted old) refl, sym ok.logging ∙ none)

@@ -7,19 +7,20 @@ use Rattle.journal_world.specs.Maps.{Pair, Transaction}
 use Rattle.journal_world.specs.Histories.{commits_of}
 use Rattle.journal_block.specs.declared.update.Update.{Update}
 use Rattle.journal_block.specs.Updates.{updates_block}
-use Rattle.journal_memlog.specs.Logs.{next_of}
+use Rattle.journal_memlog.specs.Logs.{next_position}
 use Rattle.journal_wal.specs.Wal.{WalState, Appends, tail_length}
 use Rattle.journal_objlog.specs.ObjectLogs.{OnlyReads}
 use Rattle.journal_objlog.specs.Writes.{writes_block, written_blocks, fresh_blocks}
 use Rattle.journal_history.specs.Soundness.{IsLonger}
-use Rattle.journal_history.specs.Tokens.{SessionState, made, next_of as numbered, Commits}
+use Rattle.journal_history.specs.Tokens.{SessionState, made, next_transaction as numbered, Commits}
 use Rattle.journal_core.specs.Causes.{Told, IsUnexplained}
 use Rattle.journal_core.specs.Cores.{CoreState, IsRunning}
 use Rattle.journal_core.specs.Transactions.{TransactionState, AreUnmoved}
-use Rattle.journal_core.specs.Steps.{IsStopped, IsFaulted, IsStale, IsStrange, IsMoved}
+use Rattle.journal_core.specs.Steps.{IsStopped, IsDeviceRefusal, IsStale, IsStrange, IsMoved}
+use Rattle.journal_wal.specs.declared.append.TheConstants.{MAX_TAIL, MAX_UPDATES}
 
 -- The log was only read, and then one update of each block that is written was appended to its tail, and no other
-pub record Logs (old new : WalState) (writes : List Pair) : Type 0 where
+pub record AppendsWrites (old new : WalState) (writes : List Pair) : Type 0 where
   pub updates : List Update
   pub named : (b : ℕ) → updates_block updates b ≡ writes_block writes b
   pub number : length updates ≡ written_blocks writes
@@ -30,7 +31,7 @@ pub record Logs (old new : WalState) (writes : List Pair) : Type 0 where
 -- The session's transaction was committed, and nothing else was done
 pub record IsCommitted (reads writes : List Pair) (session after : SessionState) (old new : CoreState) : Type 0 where
   pub committed : Commits (numbered session reads writes) session after old.history new.history
-  pub logs : Logs old.objects new.objects writes
+  pub logs : AppendsWrites old.objects new.objects writes
   pub others : new ≡ record old { objects = new.objects; history = new.history; next = max old.next (session.number + 1) }
 
 -- Neither the session nor the transaction has seen more of the history than the core
@@ -44,11 +45,11 @@ IsUnknown c s t cause = ((cause ≡ Some c.history) × IsStrange c s) ⊎ IsMove
 
 -- The history's length, the session's number or a position of the log would reach 2^62
 abbrev pub IsWorn : CoreState → SessionState → List Pair → Type 0
-IsWorn c s writes = (2 ^ 62 ≤ length c.history + 1) ⊎ (2 ^ 62 ≤ s.number) ⊎ (2 ^ 62 ≤ next_of c.objects.log + fresh_blocks c.objects writes)
+IsWorn c s writes = (2 ^ 62 ≤ length c.history + 1) ⊎ (2 ^ 62 ≤ s.number) ⊎ (2 ^ 62 ≤ next_position c.objects.log + fresh_blocks c.objects writes)
 
 -- The log's tail cannot take the blocks that do not stand in it
 abbrev pub IsFull : CoreState → List Pair → Type 0
-IsFull c writes = 255 < tail_length c.objects + fresh_blocks c.objects writes
+IsFull c writes = MAX_TAIL < tail_length c.objects + fresh_blocks c.objects writes
 
 -- Nothing that is known before the writes are looked at refuses the session's commit
 pub record MayCommit (c : CoreState) (s : SessionState) (t : TransactionState) : Type 0 where
@@ -59,7 +60,7 @@ pub record MayCommit (c : CoreState) (s : SessionState) (t : TransactionState) :
 
 -- Nothing but memory and the device can refuse the writes
 pub record CanPrepare (c : CoreState) (s : SessionState) (writes : List Pair) : Type 0 where
-  pub few : written_blocks writes ≤ 128
+  pub few : written_blocks writes ≤ MAX_UPDATES
   pub unworn : IsWorn c s writes → ⊥
   pub room : IsFull c writes → ⊥
 
@@ -71,12 +72,12 @@ pub record CanCommit (c : CoreState) (s : SessionState) (t : TransactionState) :
 -- Why a commit is refused: the first of these that holds, then J1 or a new J6
 abbrev pub IsCommitRefusal : CoreState → SessionState → TransactionState → CoreState → Refusal Told → Type 0
 IsCommitRefusal old s t new (Closed cause) = IsStopped old new cause
-IsCommitRefusal old s t new (DeviceFailed cause) = IsFaulted (CanCommit old s t) old new cause
+IsCommitRefusal old s t new (DeviceFailed cause) = IsDeviceRefusal (CanCommit old s t) old new cause
 IsCommitRefusal old s t new (Stale cause) = IsRunning old × IsStale old cause
 IsCommitRefusal old s t new (Stranger cause) = IsRunning old × HasSeen old s t × IsUnknown old s t cause
-IsCommitRefusal old s t new TooLarge = MayCommit old s t × (128 < written_blocks t.writes)
-IsCommitRefusal old s t new (Worn cause) = MayCommit old s t × (written_blocks t.writes ≤ 128) × IsWorn old s t.writes × IsUnexplained cause
-IsCommitRefusal old s t new (Full cause) = MayCommit old s t × (written_blocks t.writes ≤ 128) × (IsWorn old s t.writes → ⊥)
+IsCommitRefusal old s t new TooLarge = MayCommit old s t × (MAX_UPDATES < written_blocks t.writes)
+IsCommitRefusal old s t new (Worn cause) = MayCommit old s t × (written_blocks t.writes ≤ MAX_UPDATES) × IsWorn old s t.writes × IsUnexplained cause
+IsCommitRefusal old s t new (Full cause) = MayCommit old s t × (written_blocks t.writes ≤ MAX_UPDATES) × (IsWorn old s t.writes → ⊥)
     × IsFull old t.writes × IsUnexplained cause
 IsCommitRefusal old s t new NoMemory = CanCommit old s t
 IsCommitRefusal old s t new other = ⊥
@@ -92,10 +93,10 @@ IsStaleRefusal c (Stale cause) = IsStale c cause
 IsStaleRefusal c other = ⊥
 
 -- Why a session's commit is not admitted
-abbrev pub IsAdmissionFault : CoreState → SessionState → TransactionState → Refusal Told → Type 0
-IsAdmissionFault c s t (Stale cause) = IsStale c cause
-IsAdmissionFault c s t (Stranger cause) = HasSeen c s t × IsUnknown c s t cause
-IsAdmissionFault c s t other = ⊥
+abbrev pub IsAdmissionRefusal : CoreState → SessionState → TransactionState → Refusal Told → Type 0
+IsAdmissionRefusal c s t (Stale cause) = IsStale c cause
+IsAdmissionRefusal c s t (Stranger cause) = HasSeen c s t × IsUnknown c s t cause
+IsAdmissionRefusal c s t other = ⊥
 
 -- Why what a transaction has read is not admitted
 abbrev pub IsMovedRefusal : CoreState → TransactionState → Refusal Told → Type 0
@@ -104,12 +105,12 @@ IsMovedRefusal c t other = ⊥
 
 -- Why writes are not made ready
 abbrev pub IsPreparingRefusal : CoreState → SessionState → List Pair → CoreState → Refusal Told → Type 0
-IsPreparingRefusal old s writes new TooLarge = 128 < written_blocks writes
-IsPreparingRefusal old s writes new (Worn cause) = (written_blocks writes ≤ 128) × IsWorn old s writes × IsUnexplained cause
-IsPreparingRefusal old s writes new (Full cause) = (written_blocks writes ≤ 128) × (IsWorn old s writes → ⊥)
+IsPreparingRefusal old s writes new TooLarge = MAX_UPDATES < written_blocks writes
+IsPreparingRefusal old s writes new (Worn cause) = (written_blocks writes ≤ MAX_UPDATES) × IsWorn old s writes × IsUnexplained cause
+IsPreparingRefusal old s writes new (Full cause) = (written_blocks writes ≤ MAX_UPDATES) × (IsWorn old s writes → ⊥)
     × IsFull old writes × IsUnexplained cause
 IsPreparingRefusal old s writes new NoMemory = CanPrepare old s writes
-IsPreparingRefusal old s writes new (DeviceFailed cause) = IsFaulted (CanPrepare old s writes) old new cause
+IsPreparingRefusal old s writes new (DeviceFailed cause) = IsDeviceRefusal (CanPrepare old s writes) old new cause
 IsPreparingRefusal old s writes new other = ⊥
 
 -- Why what is ready is not added

@@ -58,7 +58,7 @@ pub record AreTied (objects : WalState) (history : List Entry) (m n : ℕ) : Typ
   pub logged : SameMap (map_logged objects) (at history n)
 
 -- What the core keeps, on a disk of so many blocks
-pub record IsKept (blocks : ℕ) (c : CoreState) : Type 0 where
+pub record IsCore (blocks : ℕ) (c : CoreState) : Type 0 where
   pub size : size_of c.objects ≡ blocks
   pub on_disk : (opened c.history).blocks ≡ blocks
   pub trusted : is_trusted c.history ≡ (disk_of c).honest

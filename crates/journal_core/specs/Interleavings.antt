@@ -15,7 +15,7 @@ use Rattle.journal_disk.specs.Images.{IsImage}
 use Rattle.journal_disk.specs.Moments.{Extends}
 use Rattle.journal_objlog.specs.Maps.{OpensAs}
 use Rattle.journal_objlog.specs.ObjectLogs.{OnlyReads}
-use Rattle.journal_history.specs.Tokens.{SessionState, CommitPlace, next_of}
+use Rattle.journal_history.specs.Tokens.{SessionState, CommitPlace, next_transaction}
 use Rattle.journal_core.specs.Causes.{Told}
 use Rattle.journal_core.specs.Cores.{CoreState, Crashes, IsRunning, disk_of}
 use Rattle.journal_core.specs.Transactions.{TransactionState, FoundState, begun, AreUnmoved, Remembers, Overwrites}
@@ -53,16 +53,16 @@ pub data Answer : Type 0 where
   reopened : Answer
 
 -- One entry more, which may follow and is true to the rule, so that a legal history stays legal
-abbrev pub Adds : (Map → Type 0) → List Entry → Entry → List Entry → Type 0
-Adds rule old e new = Follows old e × IsTrueTo rule old e × (new ≡ old ++ e ∷ [])
+abbrev pub AddsEntry : (Map → Type 0) → List Entry → Entry → List Entry → Type 0
+AddsEntry rule old e new = Follows old e × IsTrueTo rule old e × (new ≡ old ++ e ∷ [])
 
 -- What an answer tells of the history: a value is what its last map gives; a commit or a mark is one entry more; a crash
 -- leaves the map after so many commits, no fewer than the greatest mark, and the next history begins with it
 abbrev pub Tells : (Map → Type 0) → List Entry → Answer → List Entry → Type 0
 Tells rule old nothing new = new ≡ old
 Tells rule old (value a v) new = (v ≡ value_at (latest old) a) × (new ≡ old)
-Tells rule old (committed t) new = Adds rule old (commit t) new
-Tells rule old (marked n) new = Adds rule old (stable n) new
+Tells rule old (committed t) new = AddsEntry rule old (commit t) new
+Tells rule old (marked n) new = AddsEntry rule old (stable n) new
 Tells rule old crashed new = (n : ℕ) × (floor old ≤ n) × (n ≤ count old) × ((m : Map) × SameMap m (at old n) × (new ≡ opening m true ∷ []))
 Tells rule old reopened new = (m : Map) × SameMap m (opened old) × (new ≡ opening m true ∷ [])
 
@@ -74,7 +74,7 @@ TellsAll rule old (answer ∷ answers) new = (mid : List Entry) × Tells rule ol
 -- A mount: its core, the transaction that each actor has open, and the actor that holds each slot
 pub record Mount : Type 0 where
   pub core : CoreState
-  pub drafts : ℕ → Option TransactionState
+  pub transactions : ℕ → Option TransactionState
   pub holders : ℕ → Option ℕ
 
 abbrev pub is_actor : Option ℕ → ℕ → Bool
@@ -92,15 +92,15 @@ pub data Machine : Type 0 where
 
 -- nobody has a transaction open, or holds a slot
 abbrev pub mounted : CoreState → Machine
-mounted core = up (record { core = core; drafts = λ actor. None; holders = λ slot. None })
+mounted core = up (record { core = core; transactions = λ actor. None; holders = λ slot. None })
 
 -- the core has gone on
 abbrev pub with_core : Mount → CoreState → Mount
 with_core m core = record m { core = core }
 
 -- the actor has this transaction open, or none
-abbrev pub with_draft : Mount → ℕ → Option TransactionState → Mount
-with_draft m actor draft = record m { drafts = λ other. if other == actor then draft else m.drafts other }
+abbrev pub with_transaction : Mount → ℕ → Option TransactionState → Mount
+with_transaction m actor draft = record m { transactions = λ other. if other == actor then draft else m.transactions other }
 
 -- the actor has the slot
 abbrev pub with_slot : Mount → ℕ → ℕ → Mount
@@ -108,7 +108,7 @@ with_slot m actor slot = record m { holders = λ other. if other == slot then So
 
 -- the actor's transaction is ended, and all its slots are given up
 abbrev pub ended : Mount → ℕ → Mount
-ended m actor = record (with_draft m actor None) { holders = λ slot. if is_actor (m.holders slot) actor then None else m.holders slot }
+ended m actor = record (with_transaction m actor None) { holders = λ slot. if is_actor (m.holders slot) actor then None else m.holders slot }
 
 -- The steps of the core, as events: each step's contract cites what it answers and leaves
 
@@ -148,7 +148,7 @@ IsUnread blocks old t a new =
     ⊎ (MayRead blocks old t a × (new ≡ old))
 
 -- The session's next transaction was committed, as it is
-pub record CommitsDraft (old : CoreState) (session : SessionState) (d : TransactionState) (new : CoreState) (after : SessionState) : Type 0 where
+pub record CommitsTransaction (old : CoreState) (session : SessionState) (d : TransactionState) (new : CoreState) (after : SessionState) : Type 0 where
   pub can : CanCommit old session d
   pub committed : IsCommitted d.reads d.writes session after old new
   pub agrees : IsTrue (is_trusted old.history) → Agrees (latest old.history) d.reads
@@ -163,7 +163,7 @@ pub record RefusesCommit (old : CoreState) (session : SessionState) (d : Transac
   pub crash : Crashes old new
 
 abbrev pub AnswersCommit : CoreState → SessionState → TransactionState → Result CommitPlace (Refusal Told) → CoreState → SessionState → Type 0
-AnswersCommit old session d (Ok place) new after = CommitsDraft old session d new after
+AnswersCommit old session d (Ok place) new after = CommitsTransaction old session d new after
 AnswersCommit old session d (Err why) new after = RefusesCommit old session d why new
 
 -- The logger made a step
@@ -229,10 +229,10 @@ abbrev pub Ignores : Mount → Answer → Machine → Type 0
 Ignores old answer new = (answer ≡ nothing) × (new ≡ up old)
 
 -- a transaction begins after what its session has seen of the history
-abbrev pub BeginsDraft : Mount → ℕ → Option TransactionState → Answer → Machine → Type 0
-BeginsDraft old actor None answer new =
-    (answer ≡ nothing) × ((seen : List Entry) × IsPrefix seen old.core.history × (new ≡ up (with_draft old actor (Some (begun seen)))))
-BeginsDraft old actor (Some draft) answer new = Ignores old answer new
+abbrev pub BeginsTransaction : Mount → ℕ → Option TransactionState → Answer → Machine → Type 0
+BeginsTransaction old actor None answer new =
+    (answer ≡ nothing) × ((seen : List Entry) × IsPrefix seen old.core.history × (new ≡ up (with_transaction old actor (Some (begun seen)))))
+BeginsTransaction old actor (Some draft) answer new = Ignores old answer new
 
 -- a slot is taken that nobody holds
 abbrev pub TakesSlot : Mount → ℕ → ℕ → Option TransactionState → Option ℕ → Answer → Machine → Type 0
@@ -245,25 +245,25 @@ abbrev pub blocks_of : Mount → ℕ
 blocks_of m = (opened m.core.history).blocks
 
 -- a read under its slot is answered by the core, and the answer is remembered; or it is refused
-abbrev pub ReadsDraft : Mount → ℕ → Addr → Option TransactionState → Bool → Answer → Machine → Type 0
-ReadsDraft old actor a None held answer new = Ignores old answer new
-ReadsDraft old actor a (Some draft) false answer new = Ignores old answer new
-ReadsDraft old actor a (Some draft) true nothing new =
+abbrev pub ReadsUnderSlot : Mount → ℕ → Addr → Option TransactionState → Bool → Answer → Machine → Type 0
+ReadsUnderSlot old actor a None held answer new = Ignores old answer new
+ReadsUnderSlot old actor a (Some draft) false answer new = Ignores old answer new
+ReadsUnderSlot old actor a (Some draft) true nothing new =
     (core : CoreState) × IsUnread (blocks_of old) old.core draft a core × (new ≡ up (with_core old core))
-ReadsDraft old actor a (Some draft) true (value b v) new =
+ReadsUnderSlot old actor a (Some draft) true (value b v) new =
     (b ≡ a) × ((core : CoreState) × ((after : TransactionState) × ReadsValue (blocks_of old) old.core draft a v core after
-    × (new ≡ up (with_draft (with_core old core) actor (Some after)))))
-ReadsDraft old actor a (Some draft) true other new = ⊥
+    × (new ≡ up (with_transaction (with_core old core) actor (Some after)))))
+ReadsUnderSlot old actor a (Some draft) true other new = ⊥
 
 -- an object is remembered under its slot, or the overwrite is refused; the core is not asked
-abbrev pub OverwritesDraft : Mount → ℕ → Pair → Option TransactionState → Bool → Answer → Machine → Type 0
-OverwritesDraft old actor p None held answer new = Ignores old answer new
-OverwritesDraft old actor p (Some draft) false answer new = Ignores old answer new
-OverwritesDraft old actor p (Some draft) true answer new =
+abbrev pub OverwritesUnderSlot : Mount → ℕ → Pair → Option TransactionState → Bool → Answer → Machine → Type 0
+OverwritesUnderSlot old actor p None held answer new = Ignores old answer new
+OverwritesUnderSlot old actor p (Some draft) false answer new = Ignores old answer new
+OverwritesUnderSlot old actor p (Some draft) true answer new =
     (answer ≡ nothing)
     × ((new ≡ up old)
     ⊎ (IsTrue (is_object (blocks_of old) p)
-    × ((after : TransactionState) × Overwrites draft p.0 p.1 after × (new ≡ up (with_draft old actor (Some after))))))
+    × ((after : TransactionState) × Overwrites draft p.0 p.1 after × (new ≡ up (with_transaction old actor (Some after))))))
 
 -- the transaction is committed by some session, as that session's next one, or refused; it is ended either way
 abbrev pub Finishes : Mount → ℕ → Option TransactionState → Answer → Machine → Type 0
@@ -272,28 +272,28 @@ Finishes old actor (Some draft) nothing new =
     (session : SessionState) × ((why : Refusal Told) × ((core : CoreState) × RefusesCommit old.core session draft why core
     × (new ≡ up (ended (with_core old core) actor))))
 Finishes old actor (Some draft) (committed t) new =
-    (session : SessionState) × ((after : SessionState) × ((core : CoreState) × (t ≡ next_of session draft.reads draft.writes)
-    × CommitsDraft old.core session draft core after × (new ≡ up (ended (with_core old core) actor))))
+    (session : SessionState) × ((after : SessionState) × ((core : CoreState) × (t ≡ next_transaction session draft.reads draft.writes)
+    × CommitsTransaction old.core session draft core after × (new ≡ up (ended (with_core old core) actor))))
 Finishes old actor (Some draft) other new = ⊥
 
 -- a step of the logger that marks is answered by its mark, and any other leaves the history
-abbrev pub Logs : Mount → Answer → Machine → Type 0
-Logs old nothing new =
+abbrev pub MakesLogStep : Mount → Answer → Machine → Type 0
+MakesLogStep old nothing new =
     (result : Result Step (Refusal Told)) × ((core : CoreState) × AnswersLog old.core result core
     × (core.history ≡ old.core.history) × (new ≡ up (with_core old core)))
-Logs old (marked n) new =
+MakesLogStep old (marked n) new =
     (step : Step) × ((core : CoreState) × LogsStep old.core step core × Marks n old.core core × (new ≡ up (with_core old core)))
-Logs old other new = ⊥
+MakesLogStep old other new = ⊥
 
 -- The event may be answered so, and then leaves new. One that is not enabled changes nothing
 abbrev pub HappensUp : Mount → Event → Answer → Machine → Type 0
-HappensUp old (begins actor) answer new = BeginsDraft old actor (old.drafts actor) answer new
-HappensUp old (takes actor slot) answer new = TakesSlot old actor slot (old.drafts actor) (old.holders slot) answer new
-HappensUp old (reads actor a) answer new = ReadsDraft old actor a (old.drafts actor) (holds old actor a) answer new
-HappensUp old (overwrites actor a v) answer new = OverwritesDraft old actor (a, v) (old.drafts actor) (holds old actor a) answer new
+HappensUp old (begins actor) answer new = BeginsTransaction old actor (old.transactions actor) answer new
+HappensUp old (takes actor slot) answer new = TakesSlot old actor slot (old.transactions actor) (old.holders slot) answer new
+HappensUp old (reads actor a) answer new = ReadsUnderSlot old actor a (old.transactions actor) (holds old actor a) answer new
+HappensUp old (overwrites actor a v) answer new = OverwritesUnderSlot old actor (a, v) (old.transactions actor) (holds old actor a) answer new
 HappensUp old (aborts actor) answer new = (answer ≡ nothing) × (new ≡ up (ended old actor))
-HappensUp old (commits actor) answer new = Finishes old actor (old.drafts actor) answer new
-HappensUp old logs answer new = Logs old answer new
+HappensUp old (commits actor) answer new = Finishes old actor (old.transactions actor) answer new
+HappensUp old logs answer new = MakesLogStep old answer new
 HappensUp old joins answer new =
     (answer ≡ nothing) × ((result : Result SessionState (Refusal Told)) × ((core : CoreState) × AnswersSession old.core result core
     × (new ≡ up (with_core old core))))

@@ -9,7 +9,7 @@ use Rattle.journal_world.specs.Histories.Entry.{opening}
 use Rattle.journal_disk.specs.Disks.{DiskState, Keeps, HasFailed}
 use Rattle.journal_disk.specs.Images.{EveryImage, reading}
 use Rattle.journal_circ.specs.Log.{IsWellFormed}
-use Rattle.journal_wal.specs.Wal.{WalState, IsOpened as AtRest}
+use Rattle.journal_wal.specs.Wal.{WalState, IsAtRest as AtRest}
 use Rattle.journal_objlog.specs.ObjectLogs.{map_now, disk_of as log_disk}
 use Rattle.journal_objlog.specs.Maps.{OpensAs}
 use Rattle.journal_core.specs.Causes.{Told, IsUnexplained, raised_of}
@@ -55,7 +55,7 @@ IsOpenRefusal rule old new (DeviceFailed cause) = IsInRange old × HasFailed old
 IsOpenRefusal rule old new other = ⊥
 
 -- A disk that is not opened is handed back as it was
-pub record IsHandedBack (old new : DiskState) : Type 0 where
+pub record OnlyReadsDisk (old new : DiskState) : Type 0 where
   pub keeps : Keeps old new
   pub past : IsTrue old.honest → new.past ≡ old.past
 

@@ -21,12 +21,12 @@ use Rattle.journal_core.specs.Cores.{CoreState, is_faulted, IsRunning, disk_of, 
 -- The logger
 
 -- A step of the group in flight was made, and its cycle goes on
-pub record GoesOn (old new : CoreState) : Type 0 where
+pub record GoesOnLogging (old new : CoreState) : Type 0 where
   pub group : LogsOn old.objects new.objects
   pub others : new ≡ record old { objects = new.objects }
 
 -- The cycle of the group in flight ended
-pub record Ends (old new : CoreState) : Type 0 where
+pub record EndsCycle (old new : CoreState) : Type 0 where
   pub group : EndsGroup old.objects new.objects
   pub others : new ≡ record old { objects = new.objects; logged = old.cut }
 
@@ -73,8 +73,8 @@ LogMoves zero old new =
     (Marks old.cut old new × HasLogged old)
     ⊎ (CutsGroup old new × (old.cut ≤ floor old.history))
     ⊎ (Marks (count old.history) old new × HasUnmarked old)
-LogMoves (suc zero) old new = Ends old new
-LogMoves (suc (suc left)) old new = GoesOn old new
+LogMoves (suc zero) old new = EndsCycle old new
+LogMoves (suc (suc left)) old new = GoesOnLogging old new
 
 abbrev pub LogAnswers : CoreState → Step → CoreState → Type 0
 LogAnswers old Idle new = IsLogIdle old × (new ≡ old)
@@ -89,7 +89,7 @@ pub record IsStopped (old new : CoreState) (cause : Told) : Type 0 where
   pub same : new ≡ old
 
 -- J6: it was not stopped, and the device failed before, or the step came so far and the device failed in it
-pub record IsFaulted (reached : Type 0) (old new : CoreState) (cause : Told) : Type 0 where
+pub record IsDeviceRefusal (reached : Type 0) (old new : CoreState) (cause : Told) : Type 0 where
   pub unexplained : IsUnexplained cause
   pub not_closed : old.closed ≡ false
   pub fault : IsTrue (is_faulted old) ⊎ (reached × HasFailed (disk_of old) (disk_of new))
@@ -109,7 +109,7 @@ IsMarkRefusal old new other = ⊥
 -- why a step of the logger is refused, and what is left: a mark is, or the device failed
 abbrev pub IsLogRefusal : CoreState → CoreState → Refusal Told → Type 0
 IsLogRefusal old new (Closed cause) = IsStopped old new cause
-IsLogRefusal old new (DeviceFailed cause) = IsFaulted (Unit {0}) old new cause
+IsLogRefusal old new (DeviceFailed cause) = IsDeviceRefusal (Unit {0}) old new cause
 IsLogRefusal old new refusal =
     IsRunning old × (log_steps old.objects ≡ 0) × (HasLogged old ⊎ HasUnmarked old) × IsMarkRefusal old new refusal
 
@@ -121,7 +121,7 @@ abbrev pub IsInstallRefusal : CoreState → CoreState → Refusal Told → Type 
 IsInstallRefusal old new (Closed cause) = IsStopped old new cause
 IsInstallRefusal old new NoMemory =
     IsRunning old × (install_steps old.objects ≡ 0) × (start_of old.objects < end_of old.objects) × (new ≡ old)
-IsInstallRefusal old new (DeviceFailed cause) = IsFaulted (Unit {0}) old new cause
+IsInstallRefusal old new (DeviceFailed cause) = IsDeviceRefusal (Unit {0}) old new cause
 IsInstallRefusal old new other = ⊥
 
 -- The transaction has seen more of the history than the core, as this cause has
@@ -141,13 +141,13 @@ pub record MayRead (blocks : ℕ) (c : CoreState) (t : TransactionState) (a : Ad
 
 -- why an object that may be read is not
 abbrev pub IsFetchRefusal : CoreState → CoreState → Refusal Told → Type 0
-IsFetchRefusal old new (DeviceFailed cause) = IsFaulted (Unit {0}) old new cause
+IsFetchRefusal old new (DeviceFailed cause) = IsDeviceRefusal (Unit {0}) old new cause
 IsFetchRefusal old new other = ⊥
 
 -- why an object is not read: the first of these that holds, then a new J6
 abbrev pub IsReadRefusal : ℕ → CoreState → TransactionState → Addr → CoreState → Refusal Told → Type 0
 IsReadRefusal blocks old t addr new (Closed cause) = IsStopped old new cause
-IsReadRefusal blocks old t addr new (DeviceFailed cause) = IsFaulted (MayRead blocks old t addr) old new cause
+IsReadRefusal blocks old t addr new (DeviceFailed cause) = IsDeviceRefusal (MayRead blocks old t addr) old new cause
 IsReadRefusal blocks old t addr new BadAddress = IsRunning old × (is_valid blocks addr ≡ false)
 IsReadRefusal blocks old t addr new (Stale cause) =
     IsRunning old × IsTrue (is_valid blocks addr) × IsBehind old t cause × (new ≡ old)

@@ -51,22 +51,7 @@ impl<'b, J: Naming, R: MapRule> Cause<'b, J, R> {
 pub(crate) fn raised<'b, J: Naming, R: MapRule>(refusal: Refusal<()>) -> Refusal<Cause<'b, J, R>>
     ensures { result ≡ raised_of refusal }
 {
-    match refusal {
-        Refusal::NoMemory => Refusal::NoMemory,
-        Refusal::BadAddress => Refusal::BadAddress,
-        Refusal::BadSize => Refusal::BadSize,
-        Refusal::TooLarge => Refusal::TooLarge,
-        Refusal::Busy => Refusal::Busy,
-        Refusal::DeviceFailed(()) => Refusal::DeviceFailed(Cause::none()),
-        Refusal::BadLog => Refusal::BadLog,
-        Refusal::BadSuper => Refusal::BadSuper,
-        Refusal::Stale(()) => Refusal::Stale(Cause::none()),
-        Refusal::Stranger(()) => Refusal::Stranger(Cause::none()),
-        Refusal::Worn(()) => Refusal::Worn(Cause::none()),
-        Refusal::Full(()) => Refusal::Full(Cause::none()),
-        Refusal::Closed(()) => Refusal::Closed(Cause::none()),
-        Refusal::Fenced => Refusal::Fenced,
-    }
+    refusal.with_cause(Cause::none())
 }
 
 /// The answer of a lower layer, as the core's.

@@ -5,12 +5,12 @@ ghost use Rattle.journal_world.specs.declared.refusal.Refusal.TheVariants.{TooLa
 ghost use Rattle.journal_world.specs.Maps.{Map, Agrees, are_objects, overwritten};
 ghost use Rattle.journal_world.specs.Histories.{is_trusted, commits_of, latest};
 ghost use Rattle.journal_objlog.specs.ObjectLogs.{OnlyReads};
-ghost use Rattle.journal_history.specs.Tokens.{made, next_of, OnlyExtends, IsReceiptFor};
+ghost use Rattle.journal_history.specs.Tokens.{made, next_transaction, OnlyExtends, IsReceiptFor};
 ghost use Rattle.journal_history.specs.Soundness.{IsLonger};
 ghost use Rattle.journal_core.specs.Cores.{Crashes, IsRunning};
 ghost use Rattle.journal_objlog.specs.Writes.{IsPrepared};
 ghost use Rattle.journal_core.specs.Transactions.{AreUnmoved};
-ghost use Rattle.journal_core.specs.Commits.{IsCommitted, IsAdded, HasSeen, CanPrepare, CanCommit, ShowsLonger, IsStaleRefusal, IsCommitRefusal, IsAdmissionFault, IsPreparingRefusal, IsAddingRefusal};
+ghost use Rattle.journal_core.specs.Commits.{IsCommitted, IsAdded, HasSeen, CanPrepare, CanCommit, ShowsLonger, IsStaleRefusal, IsCommitRefusal, IsAdmissionRefusal, IsPreparingRefusal, IsAddingRefusal};
 ghost use Rattle.journal_core.specs.Interleavings.{AnswersCommit};
 
 use crate::cause::{Cause, raise};
@@ -44,7 +44,7 @@ impl<'b, D: BlockDisk, R: MapRule, J: Naming> Core<'b, D, R, J> {
         requires rule { (m : Map) → m.blocks ≡ J.blocks → R.statement m → Agrees m transaction.now.reads
             → R.statement (overwritten m transaction.now.writes) }
         ensures committed { OnOk result (IsCommitted transaction.now.reads transaction.now.writes session.old session.new self.old self.new) }
-        ensures receipt { IfOk result (IsReceiptFor (next_of session.old transaction.now.reads transaction.now.writes) self.new.history (length self.old.history)) }
+        ensures receipt { IfOk result (IsReceiptFor (next_transaction session.old transaction.now.reads transaction.now.writes) self.new.history (length self.old.history)) }
         ensures can { OnOk result (CanCommit self.old session.old transaction.now) }
         ensures agrees { OnOk result (IsTrue (is_trusted self.old.history) → Agrees (latest self.old.history) transaction.now.reads) }
         ensures running { OnOk result (IsRunning self.new) }
@@ -74,7 +74,7 @@ impl<'b, D: BlockDisk, R: MapRule, J: Naming> Core<'b, D, R, J> {
         ensures unmoved { OnOk result (AreUnmoved self.now.history transaction.now) }
         ensures agrees { OnOk result (IsTrue (is_trusted self.now.history) → Agrees (latest self.now.history) transaction.now.reads) }
         ensures session { OnlyExtends session.old session.new }
-        ensures refusal { IfErr result (IsAdmissionFault self.now session.old transaction.now) }
+        ensures refusal { IfErr result (IsAdmissionRefusal self.now session.old transaction.now) }
         ensures longer { IfErr result (ShowsLonger self.now session.new) }
     {
         self.catch_up(session, transaction)?;
@@ -150,15 +150,15 @@ impl<'b, D: BlockDisk, R: MapRule, J: Naming> Core<'b, D, R, J> {
         requires room { length self.old.history + 1 < 2 ^ 62 }
         requires small { session.old.number < 2 ^ 62 }
         requires prepared { IsPrepared self.old.objects prepared transaction.now.writes }
-        ensures committed { OnOk result (IsAdded (next_of session.old transaction.now.reads transaction.now.writes) prepared session.old session.new self.old self.new) }
-        ensures receipt { IfOk result (IsReceiptFor (next_of session.old transaction.now.reads transaction.now.writes) self.new.history (length self.old.history)) }
+        ensures committed { OnOk result (IsAdded (next_transaction session.old transaction.now.reads transaction.now.writes) prepared session.old session.new self.old self.new) }
+        ensures receipt { IfOk result (IsReceiptFor (next_transaction session.old transaction.now.reads transaction.now.writes) self.new.history (length self.old.history)) }
         ensures refusal { IfErr result (IsAddingRefusal self.old) }
         ensures same { OnErr result (self.new ≡ self.old) }
         ensures session { OnErr result (OnlyExtends session.old session.new) }
         ensures longer { IfErr result (ShowsLonger self.old session.new) }
         ensures crash { Crashes self.old self.new }
     {
-        // It tells the proof that the history is sound.
+        // Called for its contract: the history is sound.
         let _len = self.writer.len();
         let number = session.number();
         self.tally.reserve(number)?;

@@ -28,5 +28,5 @@ pub fn every_interleaving<R: MapRule>()
         IsLegal R.statement last.core.history }
     ensures two_phase { (disk : DiskState) (first : CoreState) (events : List Event) (answers : List Answer) (last : Mount) (actor : ℕ) (draft : TransactionState) →
         IsTrue disk.honest → Begins R.statement disk first → Run R.statement (mounted first) events answers (up last) →
-        last.drafts actor ≡ Some draft → IsUndisturbed last.core draft }
+        last.transactions actor ≡ Some draft → IsUndisturbed last.core draft }
 {}

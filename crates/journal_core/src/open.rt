@@ -4,7 +4,7 @@ ghost use Rattle.journal_world.specs.Histories.Entry.{opening};
 ghost use Rattle.journal_wal.specs.Wal.{size_of};
 ghost use Rattle.journal_objlog.specs.ObjectLogs.{map_now, disk_of};
 ghost use Rattle.journal_disk.specs.Disks.{IsSettled};
-ghost use Rattle.journal_core.specs.Openings.{Begins, IsBeginRefusal, IsOpenRefusal, IsHandedBack};
+ghost use Rattle.journal_core.specs.Openings.{Begins, IsBeginRefusal, IsOpenRefusal, OnlyReadsDisk};
 
 use crate::cause::{Cause, raise, raised};
 use crate::slot_counts::SlotCounts;
@@ -49,7 +49,7 @@ impl<'b, D: BlockDisk, R: MapRule, J: Naming> Core<'b, D, R, J> {
         requires settled { IsTrue (D.state disk).honest → IsSettled (D.state disk).past }
         ensures begun { IfOk result (Begins R.statement (D.state disk)) }
         ensures refusal { IfErr result (λ refused. IsOpenRefusal R.statement (D.state disk) (D.state refused.disk) refused.refusal) }
-        ensures left { IfErr result (λ refused. IsHandedBack (D.state disk) (D.state refused.disk)) }
+        ensures left { IfErr result (λ refused. OnlyReadsDisk (D.state disk) (D.state refused.disk)) }
     {
         let Some(layout) = Layout::new(disk.size()) else {
             return Err(Refused {

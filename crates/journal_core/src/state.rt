@@ -54,7 +54,7 @@ pub struct Core<'b, D: BlockDisk, R: MapRule, J: Naming> {
 }
 
 impl<'b, D: BlockDisk, R: MapRule, J: Naming> Model for Core<'b, D, R, J> {
-    ghost use Rattle.journal_core.specs.Cores.{CoreState, IsKept};
+    ghost use Rattle.journal_core.specs.Cores.{CoreState, IsCore};
     ghost use Rattle.journal_core.specs.SlotCounts.{KeepsCounts};
 
     ghost Value = { CoreState };
@@ -62,7 +62,7 @@ impl<'b, D: BlockDisk, R: MapRule, J: Naming> Model for Core<'b, D, R, J> {
     ghost view = { λ c. record { objects = c.objects; history = c.writer; cut = c.cut; logged = c.logged; next = c.next; closed = c.closed } };
 
     ghost invariant = { λ c.
-        IsKept J.blocks (record { objects = c.objects; history = c.writer; cut = c.cut; logged = c.logged; next = c.next; closed = c.closed })
+        IsCore J.blocks (record { objects = c.objects; history = c.writer; cut = c.cut; logged = c.logged; next = c.next; closed = c.closed })
         × KeepsCounts c.tally c.slots c.writer };
 }
 
@@ -150,7 +150,7 @@ impl<'b, D: BlockDisk, R: MapRule, J: Naming> Core<'b, D, R, J> {
         ensures trusted { is_trusted self.now.history ≡ (disk_of self.now).honest }
         ensures sound { IsSound R.statement self.now.history }
     {
-        // It tells the proof that the history is sound.
+        // Called for its contract: the history is sound.
         let _len = self.writer.len();
         self.writer.front()
     }

@@ -70,7 +70,7 @@ impl<'b, J: Naming, R: MapRule> Transaction<'b, J, R> {
     pub fn begin(alloc: Global, session: &Session<'b, J, R>) -> Transaction<'b, J, R>
         ensures { result ≡ begun session.now.seen }
     {
-        // It tells the proof that the session has seen an opening.
+        // Called for its contract: the session has seen an opening.
         let _seen = session.seen();
         Transaction {
             reads: Objects::new(alloc),

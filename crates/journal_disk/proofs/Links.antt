@@ -6,7 +6,7 @@ use Rattle.journal_block.specs.Block.{Bytes}
 use Rattle.journal_disk.specs.declared.events.Entry.{Entry}
 use Rattle.journal_disk.specs.declared.events.Entry.TheVariants.{Write, Barrier}
 use Rattle.journal_disk.specs.declared.events.WriteEntry.{WriteEntry}
-use Rattle.journal_disk.specs.Disks.{Event, write, barrier, newest, pending_in, stable_in, read_in}
+use Rattle.journal_disk.specs.Disks.{DiskEvent, write, barrier, newest, pending_in, stable_in, read_in}
 use Rattle.journal_disk.specs.MemDisks.{chosen_in}
 use Rattle.journal_disk.specs.Records.{event_of, events_of, up_to_write, up_to_barrier, IsWriteAt, WritesAt, IsLinkOf, IsLinked}
 use Rattle.journal_disk.specs.Laws.{pending_written}
@@ -15,7 +15,7 @@ use Rattle.journal_disk.proofs.Places.{TellsAll, up_to_written, up_to_other, len
 -- The first entries
 
 -- the events of the first k entries
-abbrev pub upto : List Entry → ℕ → List Event
+abbrev pub upto : List Entry → ℕ → List DiskEvent
 upto entries k = events_of (take k entries)
 
 upto_all : (entries : List Entry) → upto entries (length entries) ≡ events_of entries
@@ -35,7 +35,7 @@ pending_within entries b =
     omega (arith, length-pending_in (events_of entries) b, length-reverse (map event_of entries), length-map entries event_of)
 
 -- the last write stands at its place
-abbrev StandsAtPlace : List Entry → ℕ → List Event → Type 0
+abbrev StandsAtPlace : List Entry → ℕ → List DiskEvent → Type 0
 StandsAtPlace entries b now = up_to_write now b ≡ upto entries (length (up_to_write now b))
 
 last_stands : (entries : List Entry) (b k : ℕ) → k ≤ length entries → StandsAtPlace entries b (upto entries k)
@@ -46,7 +46,7 @@ last_stands entries b (suc k) le =
     more : upto entries (suc k) ≡ event_of (get_or entries k Barrier) ∷ upto entries k
     more = upto_more entries k (omega arith)
 
-    by_event : StandsAtPlace entries b (upto entries k) → (e : Event) → upto entries (suc k) ≡ e ∷ upto entries k
+    by_event : StandsAtPlace entries b (upto entries k) → (e : DiskEvent) → upto entries (suc k) ≡ e ∷ upto entries k
         → StandsAtPlace entries b (e ∷ upto entries k)
     by_event older barrier now = older
     by_event older (write c bytes) now = ⊎_elim
@@ -55,7 +55,7 @@ last_stands entries b (suc k) le =
         this ∙ sym now ∙ ap (upto entries) (sym (ap length (this ∙ sym now) ∙ length-upto entries (suc k) le)))
         (λ (other : b ≢ c).
         let skips = up_to_other (upto entries k) b c bytes other in
-        skips ∙ older ∙ ap (λ (l : List Event). upto entries (length l)) (sym skips))
+        skips ∙ older ∙ ap (λ (l : List DiskEvent). upto entries (length l)) (sym skips))
         (cases_eq b c)
 
 -- The place of a write
@@ -68,7 +68,7 @@ pub record IsPlaceOf (entries : List Entry) (b place : ℕ) : Type 0 where
 place_of_last : (entries : List Entry) (b k : ℕ) → k ≤ length entries → IsPlaceOf entries b (length (up_to_write (upto entries k) b))
 place_of_last entries b k le = record {
   within = omega (arith, length-up_to_write (upto entries k) b, length-upto entries k le);
-  ends = subst (λ (l : List Event). up_to_write l b ≡ l) (last_stands entries b k le) (up_to_write-twice (upto entries k) b);
+  ends = subst (λ (l : List DiskEvent). up_to_write l b ≡ l) (last_stands entries b k le) (up_to_write-twice (upto entries k) b);
 }
 
 -- The place is that of this write of the block
@@ -88,7 +88,7 @@ has_write entries b (suc k) of lt = ⊎_elim
     more : upto entries (suc k) ≡ event_of (get_or entries k Barrier) ∷ upto entries k
     more = upto_more entries k (omega (arith, of.within))
 
-    of_entry : (x : Entry) → get_or entries k Barrier ≡ x → (bytes : Bytes) (older : List Event)
+    of_entry : (x : Entry) → get_or entries k Barrier ≡ x → (bytes : Bytes) (older : List DiskEvent)
         → event_of (get_or entries k Barrier) ∷ upto entries k ≡ write b bytes ∷ older → HasWrite entries b (suc k)
     of_entry Barrier at bytes older same = let impossible : ⊥ = cc in absurd impossible
     of_entry (Write w) at bytes older same =
@@ -113,43 +113,43 @@ read_at {entries = entries} {b = b} {place = suc k} bytes of none some first =
     let older = upto entries (suc k - 1) in
     let found = some (omega arith) in
     let this : has.entry ≡ found.0 = cc in
-    ap (λ (l : List Event). read_in first l b) has.events
+    ap (λ (l : List DiskEvent). read_in first l b) has.events
     ∙ ap (λ (ws : List Bytes). newest ws (stable_in first older b)) (pending_written older b b has.entry.bytes refl)
     ∙ ap (λ (w : WriteEntry). w.bytes) this
     ∙ ap (λ (o : Option Bytes). unwrap_or o first) (sym found.2)
 
 -- The place that a record keeps of the block's last write
 
-module _ {entries : List Entry} {synced : ℕ} {last : List ℕ} {now : List Event} (b : ℕ) {place : ℕ} (linked : IsLinked entries synced last) (is : events_of entries ≡ now) (lt : b < length last) (found : place ≡ get_or last b place) where
+module _ {entries : List Entry} {synced : ℕ} {last : List ℕ} {now : List DiskEvent} (b : ℕ) {place : ℕ} (linked : IsLinked entries synced last) (is : events_of entries ≡ now) (lt : b < length last) (found : place ≡ get_or last b place) where
   all : upto entries (length entries) ≡ now
   all = upto_all entries ∙ is
 
   here : length (up_to_write now b) ≡ place
-  here = ap (λ (l : List Event). length (up_to_write l b)) (sym is) ∙ sym (linked.writes b lt) ∙ sym (get_or_read last b place lt found 0)
+  here = ap (λ (l : List DiskEvent). length (up_to_write l b)) (sym is) ∙ sym (linked.writes b lt) ∙ sym (get_or_read last b place lt found 0)
 
   barrier_here : length (up_to_barrier now) ≡ synced
-  barrier_here = ap (λ (l : List Event). length (up_to_barrier l)) (sym is) ∙ sym linked.barrier
+  barrier_here = ap (λ (l : List DiskEvent). length (up_to_barrier l)) (sym is) ∙ sym linked.barrier
 
   stands : up_to_write now b ≡ upto entries place
   stands = subst (StandsAtPlace entries b) all (last_stands entries b (length entries) (omega arith)) ∙ ap (upto entries) here
 
   pub kept_place : IsPlaceOf entries b place
-  kept_place = subst (IsPlaceOf entries b) (ap (λ (l : List Event). length (up_to_write l b)) all ∙ here) (place_of_last entries b (length entries) (omega arith))
+  kept_place = subst (IsPlaceOf entries b) (ap (λ (l : List DiskEvent). length (up_to_write l b)) all ∙ here) (place_of_last entries b (length entries) (omega arith))
 
   pub read_there : (first : Bytes) → read_in first now b ≡ read_in first (upto entries place) b
-  read_there first = read_last first now b ∙ ap (λ (l : List Event). read_in first l b) stands
+  read_there first = read_last first now b ∙ ap (λ (l : List DiskEvent). read_in first l b) stands
 
   pub none_pending : place ≤ synced → pending_in now b ≡ []
   none_pending le = before_barrier now b (omega (arith, here, barrier_here))
 
   pub some_pending : synced < place → pending_in now b ≡ pending_in (upto entries place) b
   some_pending more =
-      sym (since_barrier now b (omega (arith, here, barrier_here))).pending ∙ ap (λ (l : List Event). pending_in l b) stands
+      sym (since_barrier now b (omega (arith, here, barrier_here))).pending ∙ ap (λ (l : List DiskEvent). pending_in l b) stands
 
 -- The walk back over the writes of a block
 
 -- It has come to this place, and what is left of it gives the choice
-pub record Walks (entries : List Entry) (synced : ℕ) (now : List Event) (b k place : ℕ) : Type 0 where
+pub record Walks (entries : List Entry) (synced : ℕ) (now : List DiskEvent) (b k place : ℕ) : Type 0 where
   pub of : IsPlaceOf entries b place
   pub barrier : synced < place → length (up_to_barrier (upto entries place)) ≡ synced
   pub pending : synced < place → (first : Bytes) → chosen_in first now b k ≡ chosen_in first (upto entries place) b k
@@ -160,17 +160,17 @@ drop-nil zero = refl
 drop-nil (suc n) = refl
 
 -- where nothing is pending, a choice is what a read gives
-chosen_none : (first : Bytes) (now : List Event) (b k : ℕ) → pending_in now b ≡ [] → chosen_in first now b k ≡ read_in first now b
+chosen_none : (first : Bytes) (now : List DiskEvent) (b k : ℕ) → pending_in now b ≡ [] → chosen_in first now b k ≡ read_in first now b
 chosen_none first now b k none =
     (λ i. newest (drop (length (none i) - k) (none i)) (stable_in first now b))
     ∙ ap (λ (ws : List Bytes). newest ws (stable_in first now b)) (drop-nil (0 - k) ∙ sym none)
 
-chosen_told : (first : Bytes) (older now : List Event) (b k : ℕ) → TellsAll older now b → chosen_in first older b k ≡ chosen_in first now b k
+chosen_told : (first : Bytes) (older now : List DiskEvent) (b k : ℕ) → TellsAll older now b → chosen_in first older b k ≡ chosen_in first now b k
 chosen_told first older now b k tells =
     λ i. newest (drop (length (tells.pending i) - k) (tells.pending i)) (tells.stable first i)
 
 -- at the write that is chosen, and at a later one
-module _ (first bytes : Bytes) (older : List Event) (b k : ℕ) where
+module _ (first bytes : Bytes) (older : List DiskEvent) (b k : ℕ) where
   with_write : chosen_in first (write b bytes ∷ older) b k ≡ newest (drop (suc (length (pending_in older b)) - k) (bytes ∷ pending_in older b)) (stable_in first older b)
   with_write =
       let here = pending_written older b b bytes refl in
@@ -192,11 +192,11 @@ walks_from : (entries : List Entry) (synced b k j : ℕ) → j ≤ length entrie
 walks_from entries synced b k j le is = record {
   of = place_of_last entries b j le;
   barrier = λ lt. ap length (sym (ap up_to_barrier to) ∙ (tells lt).barrier) ∙ is;
-  pending = λ lt first. sym (chosen_told first (up_to_write now b) now b k (tells lt)) ∙ ap (λ (l : List Event). chosen_in first l b k) to;
-  stable = λ le first. chosen_none first now b k (before_barrier now b (omega (arith, is))) ∙ read_last first now b ∙ ap (λ (l : List Event). read_in first l b) to;
+  pending = λ lt first. sym (chosen_told first (up_to_write now b) now b k (tells lt)) ∙ ap (λ (l : List DiskEvent). chosen_in first l b k) to;
+  stable = λ le first. chosen_none first now b k (before_barrier now b (omega (arith, is))) ∙ read_last first now b ∙ ap (λ (l : List DiskEvent). read_in first l b) to;
 }
   where
-    now : List Event
+    now : List DiskEvent
     now = upto entries j
 
     to : up_to_write (upto entries j) b ≡ upto entries (length (up_to_write (upto entries j) b))
@@ -205,18 +205,18 @@ walks_from entries synced b k j le is = record {
     tells : synced < length (up_to_write (upto entries j) b) → TellsAll (up_to_write (upto entries j) b) (upto entries j) b
     tells lt = since_barrier (upto entries j) b (omega (arith, is))
 
-pub walk_start : {entries : List Entry} {synced : ℕ} {last : List ℕ} {now : List Event} (b : ℕ) {place : ℕ} (k : ℕ)
+pub walk_start : {entries : List Entry} {synced : ℕ} {last : List ℕ} {now : List DiskEvent} (b : ℕ) {place : ℕ} (k : ℕ)
     → IsLinked entries synced last → events_of entries ≡ now → b < length last → place ≡ get_or last b place → Walks entries synced now b k place
 walk_start {entries = entries} {synced = synced} {last = last} {now = now} b {place = place} k linked is lt found =
     subst (λ (n : ℕ). Walks entries synced now b k n) (here b linked is lt found)
-    (subst (λ (l : List Event). Walks entries synced l b k (length (up_to_write l b))) now_is
-    (walks_from entries synced b k (length entries) (omega arith) (ap (λ (l : List Event). length (up_to_barrier l)) now_is ∙ barrier_here b linked is lt found)))
+    (subst (λ (l : List DiskEvent). Walks entries synced l b k (length (up_to_write l b))) now_is
+    (walks_from entries synced b k (length entries) (omega arith) (ap (λ (l : List DiskEvent). length (up_to_barrier l)) now_is ∙ barrier_here b linked is lt found)))
   where
     now_is : upto entries (length entries) ≡ now
     now_is = upto_all entries ∙ is
 
 -- at a pending write
-module _ {entries : List Entry} {synced : ℕ} {last : List ℕ} {now : List Event} {b k place : ℕ} {w : WriteEntry} (linked : IsLinked entries synced last) (walks : Walks entries synced now b k place) (pends : synced < place) (at : get_or entries (place - 1) Barrier ≡ Write w) where
+module _ {entries : List Entry} {synced : ℕ} {last : List ℕ} {now : List DiskEvent} {b k place : ℕ} {w : WriteEntry} (linked : IsLinked entries synced last) (walks : Walks entries synced now b k place) (pends : synced < place) (at : get_or entries (place - 1) Barrier ≡ Write w) where
   events_there : upto entries place ≡ write b w.bytes ∷ upto entries (place - 1)
   events_there =
       let has = has_write entries b place walks.of (omega arith) in
@@ -233,7 +233,7 @@ module _ {entries : List Entry} {synced : ℕ} {last : List ℕ} {now : List Eve
 
   pub walk_found : w.number ≤ k → (first : Bytes) → chosen_in first now b k ≡ w.bytes
   walk_found le first = walks.pending pends first
-      ∙ ap (λ (l : List Event). chosen_in first l b k) events_there
+      ∙ ap (λ (l : List DiskEvent). chosen_in first l b k) events_there
       ∙ chosen_here first w.bytes (upto entries (place - 1)) b k (omega (arith, link.1))
 
   pub walk_more : k < w.number → Walks entries synced now b k w.earlier
@@ -246,11 +246,11 @@ module _ {entries : List Entry} {synced : ℕ} {last : List ℕ} {now : List Eve
     where
       next : Walks entries synced (upto entries (place - 1)) b k (length (up_to_write (upto entries (place - 1)) b))
       next = walks_from entries synced b k (place - 1) (omega (arith, walks.of.within))
-          (ap (λ (l : List Event). length (up_to_barrier l)) (sym events_there) ∙ walks.barrier pends)
+          (ap (λ (l : List DiskEvent). length (up_to_barrier l)) (sym events_there) ∙ walks.barrier pends)
 
       skips : (first : Bytes) → chosen_in first now b k ≡ chosen_in first (upto entries (place - 1)) b k
       skips first = walks.pending pends first
-          ∙ ap (λ (l : List Event). chosen_in first l b k) events_there
+          ∙ ap (λ (l : List DiskEvent). chosen_in first l b k) events_there
           ∙ chosen_earlier first w.bytes (upto entries (place - 1)) b k (omega (arith, link.1))
 
   pub earlier_falls : w.earlier < place
@@ -259,4 +259,4 @@ module _ {entries : List Entry} {synced : ℕ} {last : List ℕ} {now : List Eve
 
   -- the number of the write counts those pending up to it
   pub number_is : w.number ≡ length (pending_in (upto entries place) b)
-  number_is = link.1 ∙ sym (ap (λ (l : List Event). length (pending_in l b)) events_there ∙ ap length (pending_written (upto entries (place - 1)) b b w.bytes refl))
+  number_is = link.1 ∙ sym (ap (λ (l : List DiskEvent). length (pending_in l b)) events_there ∙ ap length (pending_written (upto entries (place - 1)) b b w.bytes refl))

@@ -3,15 +3,15 @@ use Rattle.std.specs.Prelude.{ℕ, ◌≡◌, ◌⊎◌, ◌<◌, ◌≤◌, ◌
 use Rattle.journal_block.specs.Block.{Bytes}
 
 -- what happens to a disk: a write, or a barrier that succeeded
-pub data Event : Type 0 where
-  write : (block : ℕ) (bytes : Bytes) → Event
-  barrier : Event
+pub data DiskEvent : Type 0 where
+  write : (block : ℕ) (bytes : Bytes) → DiskEvent
+  barrier : DiskEvent
 
 -- A disk's past: how many blocks it has, what they held at first, and what happened since, the newest first
 pub record Past : Type 0 where
   pub size : ℕ
   pub first : List Bytes
-  pub events : List Event
+  pub events : List DiskEvent
 
 -- What contracts know of a disk. Where it is not honest, its past says nothing but the size
 pub record DiskState : Type 0 where
@@ -28,19 +28,19 @@ newest [] block = block
 newest (bytes ∷ older) block = bytes
 
 -- the writes of block b since the last barrier, the newest first
-abbrev pub pending_in : List Event → ℕ → List Bytes
+abbrev pub pending_in : List DiskEvent → ℕ → List Bytes
 pending_in [] b = []
 pending_in (write c bytes ∷ older) b = if b == c then bytes ∷ pending_in older b else pending_in older b
 pending_in (barrier ∷ older) b = []
 
 -- what block b held at the last barrier, or where there was none at first, which is given
-abbrev pub stable_in : Bytes → List Event → ℕ → Bytes
+abbrev pub stable_in : Bytes → List DiskEvent → ℕ → Bytes
 stable_in block [] b = block
 stable_in block (write c bytes ∷ older) b = stable_in block older b
 stable_in block (barrier ∷ older) b = newest (pending_in older b) (stable_in block older b)
 
 -- what a read of block b gives: the last of its pending writes, else its stable content
-abbrev pub read_in : Bytes → List Event → ℕ → Bytes
+abbrev pub read_in : Bytes → List DiskEvent → ℕ → Bytes
 read_in block events b = newest (pending_in events b) (stable_in block events b)
 
 -- the same of a disk: the pending writes of its block, the stable block, and what a read gives
@@ -62,11 +62,11 @@ abbrev pub past_from : ℕ → List Bytes → Past
 past_from size blocks = record { size = size; first = blocks; events = [] }
 
 -- the past once this happened too
-abbrev pub past_after : Event → Past → Past
+abbrev pub past_after : DiskEvent → Past → Past
 past_after e p = record p { events = e ∷ p.events }
 
 -- this happened, or nothing did
-abbrev pub MayHaveHappened : Event → Past → Past → Type 0
+abbrev pub MayHaveHappened : DiskEvent → Past → Past → Type 0
 MayHaveHappened e old new = (new ≡ old) ⊎ (new ≡ past_after e old)
 
 -- What each call keeps, failed or not, whether the disk is honest or not

@@ -4,18 +4,18 @@ use Rattle.std.proofs.lemmas.List.{get_or-set_same, get_or-set_other}
 use Rattle.std.proofs.lemmas.List.FromFn.{length-map-range_with_len, get_or-map-range_with_len}
 use Rattle.std.proofs.lemmas.Bool.{eq-eqb, cases_eq, ne_eqb}
 use Rattle.journal_block.specs.Block.{Bytes}
-use Rattle.journal_disk.specs.Disks.{Event, write, barrier, Past, block_at, newest, pending_in, pending_of, stable_of, read_of, IsSettled, past_after, MayHaveHappened}
+use Rattle.journal_disk.specs.Disks.{DiskEvent, write, barrier, Past, block_at, newest, pending_in, pending_of, stable_of, read_of, IsSettled, past_after, MayHaveHappened}
 use Rattle.journal_disk.specs.Images.{MayLeave, IsImage, EveryImage, reading, IsOldOrWritten}
 use Rattle.journal_disk.specs.Moments.{Extends, LeavesOnly}
 
 -- Pending writes and reads
 
-pub pending_written : (older : List Event) (b c : ℕ) (bytes : Bytes) → b ≡ c
+pub pending_written : (older : List DiskEvent) (b c : ℕ) (bytes : Bytes) → b ≡ c
     → pending_in (write c bytes ∷ older) b ≡ bytes ∷ pending_in older b
 pending_written older b c bytes here =
     ap (λ (t : Bool). cond t (bytes ∷ pending_in older b) (pending_in older b)) (eq-eqb b c here)
 
-pub pending_other : (older : List Event) (b c : ℕ) (bytes : Bytes) → b ≢ c
+pub pending_other : (older : List DiskEvent) (b c : ℕ) (bytes : Bytes) → b ≢ c
     → pending_in (write c bytes ∷ older) b ≡ pending_in older b
 pending_other older b c bytes other =
     ap (λ (t : Bool). cond t (bytes ∷ pending_in older b) (pending_in older b)) (ne_eqb b c other)
@@ -164,20 +164,20 @@ same_length : {p q : Past} → p ≡ q → length p.events ≡ length q.events
 same_length same = ap (λ (r : Past). length r.events) same
 
 -- what holds of every image before something that may have happened and after it, holds at each moment
-pub leaves_by : (e : Event) (p q : Past) (Q : List Bytes → Type 0)
+pub leaves_by : (e : DiskEvent) (p q : Past) (Q : List Bytes → Type 0)
     → MayHaveHappened e p q → EveryImage p Q → EveryImage q Q → LeavesOnly p q Q
 leaves_by e p q Q happened old new = ⊎_elim
     (λ (none : q ≡ p). record { extends = record { since = []; grown = none }; each = λ m from to. at_none none m from.since to.since from.grown to.grown })
     (λ (one : q ≡ past_after e p). record { extends = record { since = e ∷ []; grown = one }; each = λ m from to. at_one one m from.since to.since from.grown to.grown })
     happened
   where
-    at_none : q ≡ p → (m : Past) (early late : List Event)
+    at_none : q ≡ p → (m : Past) (early late : List DiskEvent)
         → m ≡ record p { events = early ++ p.events } → q ≡ record m { events = late ++ m.events } → EveryImage m Q
     at_none none m [] late from to = subst (λ (r : Past). EveryImage r Q) (sym from) old
     at_none none m (x ∷ early) late from to =
         absurd (omega (arith, same_length none, same_length from, same_length to, length-append late m.events, length-append early p.events))
 
-    at_one : q ≡ past_after e p → (m : Past) (early late : List Event)
+    at_one : q ≡ past_after e p → (m : Past) (early late : List DiskEvent)
         → m ≡ record p { events = early ++ p.events } → q ≡ record m { events = late ++ m.events } → EveryImage m Q
     at_one one m [] late from to = subst (λ (r : Past). EveryImage r Q) (sym from) old
     at_one one m (x ∷ early) [] from to = subst (λ (r : Past). EveryImage r Q) to new
@@ -210,36 +210,12 @@ leaves_by_barrier p q happened = leaves_by barrier p q (IsImage p) happened (λ 
     (λ one. subst (λ (r : Past). EveryImage r (IsImage p)) (sym one) (images_after_barrier p))
     happened)
 
--- where two lists joined are two others joined, one of the cuts comes first
-two_cuts : (xs ys us vs : List Event) → xs ++ ys ≡ us ++ vs
-    → ((m : List Event) × (vs ≡ m ++ ys)) ⊎ ((m : List Event) × (ys ≡ m ++ vs))
-two_cuts [] ys us vs same = inr (us, same)
-two_cuts (x ∷ xs) ys [] vs same = inl (x ∷ xs, sym same)
-two_cuts (x ∷ xs) ys (u ∷ us) vs same = let tails : xs ++ ys ≡ us ++ vs = cc in two_cuts xs ys us vs tails
-
 -- of two pasts that extend one, where one has all the events of the other, it extends it
-extends : (a p q : Past) (since : List Event) → Extends a p → Extends a q → q.events ≡ since ++ p.events → Extends p q
+extends : (a p q : Past) (since : List DiskEvent) → Extends a p → Extends a q → q.events ≡ since ++ p.events → Extends p q
 extends a p q since to_p to_q same = record {
   since = since;
   grown = to_q.grown ∙ (λ i. record (sym to_p.grown i) { events = (sym (ap (λ (r : Past). r.events) to_q.grown) ∙ same) i });
 }
-
--- one run after another
-pub leaves_then : (a b c : Past) (Q : List Bytes → Type 0) → LeavesOnly a b Q → LeavesOnly b c Q → LeavesOnly a c Q
-leaves_then a b c Q first second = record {
-  extends = record {
-    since = second.extends.since ++ first.extends.since;
-    grown = second.extends.grown ∙ (λ i. record (first.extends.grown i) { events = join i });
-  };
-  each = λ m from to. ⊎_elim
-      (λ early. first.each m from (extends a m b early.0 from first.extends early.1))
-      (λ late. second.each m (extends a b m late.0 first.extends from late.1) to)
-      (two_cuts to.since m.events second.extends.since b.events (ap (λ (r : Past). r.events) (sym to.grown ∙ second.extends.grown)));
-}
-  where
-    join : second.extends.since ++ b.events ≡ (second.extends.since ++ first.extends.since) ++ a.events
-    join = ap (λ (r : Past). second.extends.since ++ r.events) first.extends.grown
-        ∙ sym (append_assoc second.extends.since first.extends.since a.events)
 
 -- what is said of each image may be weakened
 pub leaves_also : (a b : Past) (Q R : List Bytes → Type 0) → LeavesOnly a b Q

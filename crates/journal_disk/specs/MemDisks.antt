@@ -2,7 +2,7 @@
 use Rattle.std.specs.Prelude.{ℕ, ◌-◌, ◌+◌, ◌^◌, min, true, List, length, map, filter, drop, nat_lt, slice_index_or}
 use Rattle.std.specs.List.{range_with_len}
 use Rattle.journal_block.specs.Block.{Bytes}
-use Rattle.journal_disk.specs.Disks.{Event, Past, DiskState, block_at, newest, pending_in, stable_in, pending_of, past_from, past_after}
+use Rattle.journal_disk.specs.Disks.{DiskEvent, Past, DiskState, block_at, newest, pending_in, stable_in, pending_of, past_from, past_after}
 
 -- What contracts see of a disk in memory
 pub record MemState : Type 0 where
@@ -16,11 +16,11 @@ abbrev pub state_of : MemState → DiskState
 state_of m = record { past = m.past; honest = true; failures = m.failures }
 
 -- a disk that begins with these blocks: nothing is pending, and no call failed or is to fail
-abbrev pub begun : ℕ → List Bytes → MemState
-begun size blocks = record { past = past_from size blocks; failures = 0; fails_in = 0 }
+abbrev pub disk_from : ℕ → List Bytes → MemState
+disk_from size blocks = record { past = past_from size blocks; failures = 0; fails_in = 0 }
 
 -- once this happened to it
-abbrev pub with_event : Event → MemState → MemState
+abbrev pub with_event : DiskEvent → MemState → MemState
 with_event e m = record m { past = past_after e m.past }
 
 -- after a device call
@@ -44,7 +44,7 @@ abbrev pub pending_blocks : Past → List (ℕ × ℕ)
 pending_blocks p = pending_below p p.size
 
 -- block b where only the first k of its pending writes stand: its stable content where k is 0, the last write where k is too great
-abbrev pub chosen_in : Bytes → List Event → ℕ → ℕ → Bytes
+abbrev pub chosen_in : Bytes → List DiskEvent → ℕ → ℕ → Bytes
 chosen_in block events b k =
     let writes = pending_in events b in newest (drop (length writes - k) writes) (stable_in block events b)
 

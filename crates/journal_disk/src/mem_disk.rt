@@ -1,10 +1,10 @@
 // A disk in memory.
-ghost use Rattle.std.specs.Prelude.{◌≡◌, ◌≢◌, ◌⊎◌, ◌↔◌, ◌<◌, ◌≤◌, ◌-◌, ◌+◌, ◌^◌, min, [], length, replicate, slice_index_or, slice_set, unwrap_or, IsTrue, IfOk, OnOk, OnErr, IsErr, IsOkUnless};
+ghost use Rattle.std.specs.Prelude.{ℕ, ◌≡◌, ◌≢◌, ◌⊎◌, ◌↔◌, ◌<◌, ◌≤◌, ◌-◌, ◌+◌, ◌^◌, min, [], length, replicate, slice_index_or, slice_set, unwrap_or, IsTrue, IfOk, OnOk, OnErr, IsErr, IsOkUnless};
 ghost use Rattle.std.specs.Option.{option_copied};
 ghost use Rattle.journal_world.specs.Addresses.{zeros_of};
 ghost use Rattle.journal_disk.specs.Disks.{Keeps, block_at, write, barrier, pending_of, read_of, IsSettled};
 ghost use Rattle.journal_disk.specs.Images.{IsImage};
-ghost use Rattle.journal_disk.specs.MemDisks.{state_of, begun, with_event, called, failed, pending_blocks, image_of};
+ghost use Rattle.journal_disk.specs.MemDisks.{state_of, disk_from, with_event, called, failed, pending_blocks, image_of};
 
 use crate::events::Record;
 use crate::{BlockDisk, DiskFault};
@@ -50,7 +50,8 @@ impl MemDisk {
     ///
     /// Answers J1 `NoMemory`, and nothing else, where memory for it is refused.
     pub fn new<C>(alloc: Global, blocks: u64) -> Result<MemDisk, Refusal<C>>
-        ensures disk { IfOk result (λ disk. disk ≡ begun blocks (replicate blocks (zeros_of Kind.Block))) }
+        ensures disk { IfOk result (λ disk. disk ≡ disk_from blocks (replicate blocks (zeros_of Kind.Block))) }
+        ensures zeros { IfOk result (λ disk. (b : ℕ) → b < blocks → read_of disk.past b ≡ zeros_of Kind.Block) }
         ensures settled { IfOk result (λ disk. IsSettled disk.past) }
         ensures refusal { IsOkUnless result Refusal.NoMemory }
     {
@@ -60,7 +61,7 @@ impl MemDisk {
 
     // A disk that begins with these blocks.
     fn begin<C>(alloc: Global, first: Vec<Block>) -> Result<MemDisk, Refusal<C>>
-        ensures disk { IfOk result (λ disk. disk ≡ begun (length first.items) first.items) }
+        ensures disk { IfOk result (λ disk. disk ≡ disk_from (length first.items) first.items) }
         ensures refusal { IsOkUnless result Refusal.NoMemory }
     {
         let events = Record::new(alloc, first.len())?;
@@ -111,7 +112,7 @@ impl MemDisk {
     /// The j-th number of the choice is for the j-th block of `pending`: 0 leaves the stable block, k its
     /// k-th pending write. A number that is missing is 0, and one that is too great means the last write.
     pub fn crash(self, choice: &[u32]) -> MemDisk
-        ensures disk { result ≡ begun self.past.size (image_of self.past choice.now) }
+        ensures disk { result ≡ disk_from self.past.size (image_of self.past choice.now) }
         ensures settled { IsSettled result.past }
         ensures image { IsImage self.past result.past.first }
     {
@@ -137,7 +138,7 @@ impl MemDisk {
     /// Answers J1 `NoMemory`, and nothing else, where memory for it is refused.
     pub fn image<C>(&self, choice: &[u32]) -> Result<MemDisk, Refusal<C>>
         ensures disk { IfOk result (λ disk.
-            disk ≡ begun self.now.past.size (image_of self.now.past choice.now)) }
+            disk ≡ disk_from self.now.past.size (image_of self.now.past choice.now)) }
         ensures settled { IfOk result (λ disk. IsSettled disk.past) }
         ensures image { IfOk result (λ disk. IsImage self.now.past disk.past.first) }
         ensures refusal { IsOkUnless result Refusal.NoMemory }
@@ -172,7 +173,7 @@ impl MemDisk {
         ensures ok { OnOk result (self.new ≡ with_event (write block from.now) self.old) }
         ensures err { OnErr result (self.new ≡ self.old) }
     {
-        let bytes = copy(self.alloc, from)?;
+        let bytes = Block::copied_from(self.alloc, from)?;
         self.events.write(block, bytes)?;
         Ok(())
     }
@@ -270,22 +271,13 @@ fn zero_blocks<C>(alloc: Global, blocks: usize) -> Result<Vec<Block>, Refusal<C>
     Ok(all)
 }
 
-fn copy<C>(alloc: Global, from: &Block) -> Result<Block, Refusal<C>>
-    ensures copy { IfOk result (λ block. block ≡ from.now) }
-    ensures refusal { IsOkUnless result Refusal.NoMemory }
-{
-    let mut block = Block::try_new(alloc)?;
-    block.copy_from(from);
-    Ok(block)
-}
-
 fn copies<C>(alloc: Global, blocks: &[Block]) -> Result<Vec<Block>, Refusal<C>>
     ensures copies { IfOk result (λ all. all.items ≡ blocks.now) }
     ensures refusal { IsOkUnless result Refusal.NoMemory }
 {
     let mut all = Vec::with_capacity(alloc, blocks.len())?;
     for block in blocks {
-        all.push(copy(alloc, block)?)?;
+        all.push(Block::copied_from(alloc, block)?)?;
     }
     Ok(all)
 }

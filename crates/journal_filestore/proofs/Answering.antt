@@ -10,16 +10,16 @@ use Rattle.journal_inode.specs.declared.node.Node.{Node}
 use Rattle.journal_inode.specs.declared.node.Node.TheVariants.{Root, File}
 use Rattle.journal_inode.specs.declared.place.TheConstants.{INODES}
 use Rattle.journal_inode.specs.Places.Object.{inode, block, bit}
-use Rattle.journal_inode.specs.Sound.{node_at, IsInPlace, IsSoundFile, Sound}
+use Rattle.journal_inode.specs.Sound.{node_at, IsInPlace, IsSoundFile, HasSoundFiles}
 use Rattle.journal_filestore.specs.declared.reply.Attributes.{Attributes}
 use Rattle.journal_filestore.specs.declared.status.Status.{Status}
 use Rattle.journal_filestore.specs.declared.find.Place.{Place}
 use Rattle.journal_filestore.specs.declared.find.Place.TheVariants.{Gone, Directory, Regular}
 use Rattle.journal_filestore.specs.Files.{FileData, Files, is_file_number, with_entry, files_of}
-use Rattle.journal_filestore.specs.Operations.{Target, Outcome, target_of, attributes, attributes_of_node, changed}
-use Rattle.journal_filestore.specs.Operations.Target.{gone, root, file}
+use Rattle.journal_filestore.specs.Operations.{FileTarget, Outcome, file_target, attributes, attributes_of_node, changed}
+use Rattle.journal_filestore.specs.Operations.FileTarget.{gone, root, file}
 use Rattle.journal_filestore.specs.Handles.{data_of, IsAt}
-use Rattle.journal_filestore.specs.Doing.{IsUnread, ReadsOnly, Tells, Puts, Makes, Does}
+use Rattle.journal_filestore.specs.Doing.{IsNotYetRead, ReadsOnly, Tells, Puts, Makes, Does}
 use Rattle.journal_filestore.proofs.Doings.{IsUnread-first, IsUnread-other, Tells-both, Does-told, Does-made}
 use Rattle.journal_filestore.proofs.FilesReplaced.{IsFileNumber-test}
 use Rattle.journal_filestore.proofs.Finding.{case-gone, case-directory, case-regular, IsAt-is, entry_at}
@@ -34,25 +34,25 @@ not_root zero t from placed = omega arith
 not_root (suc zero) t from placed = omega arith
 not_root (suc (suc k)) t from placed = placed
 
-pub no_root : (m : Map) (j : ℕ) (t : Time) → Sound m → is_file_number j ≡ true → node_at m j ≡ Root t → ⊥
+pub no_root : (m : Map) (j : ℕ) (t : Time) → HasSoundFiles m → is_file_number j ≡ true → node_at m j ≡ Root t → ⊥
 no_root m j t sound number is =
     not_root j t (IsFileNumber-test j number).from (subst (IsInPlace j) is (sound.placed j (IsFileNumber-test j number).to))
 
 -- Blocks, bits and the files' inodes are unread where only one inode was read
-pub unread-block : (t0 t1 : TxnState) (i b : ℕ) → IsUnread t0 (block b) → i < INODES → ReadsOnly t0 t1 (inode i) → FIRST_DATA ≤ b → IsUnread t1 (block b)
+pub unread-block : (t0 t1 : TxnState) (i b : ℕ) → IsNotYetRead t0 (block b) → i < INODES → ReadsOnly t0 t1 (inode i) → FIRST_DATA ≤ b → IsNotYetRead t1 (block b)
 unread-block t0 t1 i b unread low only from = IsUnread-other (suc b) t0 t1 (block b) (inode i) (from, omega arith) low refl only unread
 
-pub unread-bit : (t0 t1 : TxnState) (i k : ℕ) → IsUnread t0 (bit k) → i < INODES → ReadsOnly t0 t1 (inode i) → k < BLOCK_BITS → IsUnread t1 (bit k)
+pub unread-bit : (t0 t1 : TxnState) (i k : ℕ) → IsNotYetRead t0 (bit k) → i < INODES → ReadsOnly t0 t1 (inode i) → k < BLOCK_BITS → IsNotYetRead t1 (bit k)
 unread-bit t0 t1 i k unread low only below = IsUnread-other 0 t0 t1 (bit k) (inode i) below low refl only unread
 
-pub unread-node : (t0 t1 : TxnState) (i j : ℕ) → t0.reads ≡ [] → i ≡ 1 → is_file_number j ≡ true → ReadsOnly t0 t1 (inode i) → IsUnread t1 (inode j)
+pub unread-node : (t0 t1 : TxnState) (i j : ℕ) → t0.reads ≡ [] → i ≡ 1 → is_file_number j ≡ true → ReadsOnly t0 t1 (inode i) → IsNotYetRead t1 (inode j)
 unread-node t0 t1 i j none one number only =
     IsUnread-other 0 t0 t1 (inode j) (inode i) (IsFileNumber-test j number).to (omega (arith, one))
     (ne_eqb j i (λ is. absurd (omega (arith, (IsFileNumber-test j number).from, is, one)))) only (IsUnread-first t0 (inode j) none)
 
-module _ {A : Type 0} (blocks : ℕ) (k : Files → Target → Outcome A) (i generation : ℕ) (p : Place) (t0 t1 : TxnState) (fresh : t0.writes ≡ []) (found : Tells blocks t0 t1 (λ m. IsAt i generation m p)) where
+module _ {A : Type 0} (blocks : ℕ) (k : Files → FileTarget → Outcome A) (i generation : ℕ) (p : Place) (t0 t1 : TxnState) (fresh : t0.writes ≡ []) (found : Tells blocks t0 t1 (λ m. IsAt i generation m p)) where
   abbrev pub case_of : Files → Result A Status → Files → Type 0
-  case_of F r F2 = (r, F2) ≡ k F (target_of F i generation)
+  case_of F r F2 = (r, F2) ≡ k F (file_target F i generation)
 
   pub Does-gone : (answer : Result A Status) → p ≡ Gone → ((F : Files) → k F gone ≡ (answer, F)) → Does blocks case_of t1.reads t1.writes answer
   Does-gone answer is shows =
@@ -73,8 +73,8 @@ module _ {A : Type 0} (blocks : ℕ) (k : Files → Target → Outcome A) (i gen
 
   -- the file is changed, or its block read
   pub Does-changed : (answer : Result A Status) (f : FileNode) (t2 : TxnState) (Q : Map → Map → Type 0) → p ≡ Regular f → Makes blocks t1 t2 Q
-      → ((m n : Map) → Sound m → IsSoundFile m f → is_file_number i ≡ true → node_at m i ≡ File f → Q m n
-      → Sound n × ((answer, files_of n) ≡ k (files_of m) (file i (data_of m f))))
+      → ((m n : Map) → HasSoundFiles m → IsSoundFile m f → is_file_number i ≡ true → node_at m i ≡ File f → Q m n
+      → HasSoundFiles n × ((answer, files_of n) ≡ k (files_of m) (file i (data_of m f))))
       → Does blocks case_of t2.reads t2.writes answer
   Does-changed answer f t2 Q is made shows =
       Does-made blocks case_of t0 t1 t2 answer _ Q found made
@@ -85,14 +85,14 @@ module _ {A : Type 0} (blocks : ℕ) (k : Files → Target → Outcome A) (i gen
 
   -- in the root, an inode was read
   pub Does-in_root : (answer : Result A Status) (t : Time) (j : ℕ) (n : Node) (t2 : TxnState) → p ≡ Directory t → Tells blocks t1 t2 (λ m. node_at m j ≡ n)
-      → ((m : Map) → Sound m → (files_of m).root ≡ t → node_at m j ≡ n → k (files_of m) root ≡ (answer, files_of m)) → Does blocks case_of t2.reads t2.writes answer
+      → ((m : Map) → HasSoundFiles m → (files_of m).root ≡ t → node_at m j ≡ n → k (files_of m) root ≡ (answer, files_of m)) → Does blocks case_of t2.reads t2.writes answer
   Does-in_root answer t j n t2 is read shows =
       Does-told blocks case_of t0 t2 answer _ fresh (Tells-both blocks t0 t1 t2 _ _ found read)
       (λ m sound told. sym (case-directory (k (files_of m)) m i generation p t is told.0 ∙ shows m sound (IsAt-is m i generation p (Directory t) is told.0).1 told.1))
 
   -- in the root, an inode was read, and then something made
   pub Does-made_in_root : (answer : Result A Status) (t : Time) (j : ℕ) (n : Node) (t2 t3 : TxnState) (Q : Map → Map → Type 0) → p ≡ Directory t → Tells blocks t1 t2 (λ m. node_at m j ≡ n) → Makes blocks t2 t3 Q
-      → ((m after : Map) → Sound m → (files_of m).root ≡ t → node_at m j ≡ n → Q m after → Sound after × ((answer, files_of after) ≡ k (files_of m) root))
+      → ((m after : Map) → HasSoundFiles m → (files_of m).root ≡ t → node_at m j ≡ n → Q m after → HasSoundFiles after × ((answer, files_of after) ≡ k (files_of m) root))
       → Does blocks case_of t3.reads t3.writes answer
   Does-made_in_root answer t j n t2 t3 Q is read made shows =
       Does-made blocks case_of t0 t2 t3 answer _ Q (Tells-both blocks t0 t1 t2 _ _ found read) made

@@ -11,8 +11,8 @@ use Rattle.journal_inode.specs.declared.node.TheConstants.{FILE_BYTES}
 use Rattle.journal_inode.specs.declared.place.TheConstants.{INODES}
 use Rattle.journal_inode.specs.Places.{object}
 use Rattle.journal_inode.specs.Places.Object.{superblock, bit, inode, block}
-use Rattle.journal_inode.specs.Nodes.{bytes_of, Fits}
-use Rattle.journal_inode.specs.Sound.{node_at, stored, content, HasBlock, IsTaken, IsBit, IsSoundFile, Sound}
+use Rattle.journal_inode.specs.Nodes.{inode_bytes, Fits}
+use Rattle.journal_inode.specs.Sound.{node_at, stored, content, HasBlock, IsTaken, IsBit, IsSoundFile, HasSoundFiles}
 use Rattle.journal_filestore.proofs.Overwrites.{Overwrites, first_is, first_is_not}
 use Rattle.journal_filestore.proofs.Replacing.{Replaces}
 use Rattle.journal_filestore.specs.Files.{is_file_number}
@@ -22,10 +22,10 @@ use Rattle.journal_filestore.proofs.Writing.{Puts-replaced, file_placed}
 
 -- the file f comes at number i, with these bytes in its block
 abbrev pub comes : (m n : Map) (i : ℕ) (f : FileNode) (p : List ℕ) → Type 0
-comes m n i f p = Overwrites m n ((inode i, bytes_of (File f)) ∷ (bit (f.block - FIRST_DATA), 1 ∷ []) ∷ (block f.block, p ++ replicate (FILE_BYTES - length p) 0) ∷ [])
+comes m n i f p = Overwrites m n ((inode i, inode_bytes (File f)) ∷ (bit (f.block - FIRST_DATA), 1 ∷ []) ∷ (block f.block, p ++ replicate (FILE_BYTES - length p) 0) ∷ [])
 
 -- a clear bit's block is free
-pub clear_is_free : (m : Map) (b : ℕ) → Sound m → FIRST_DATA ≤ b → b < FIRST_DATA + BLOCK_BITS → object m (bit (b - FIRST_DATA)) ≡ 0 ∷ [] → IsTaken m b → ⊥
+pub clear_is_free : (m : Map) (b : ℕ) → HasSoundFiles m → FIRST_DATA ≤ b → b < FIRST_DATA + BLOCK_BITS → object m (bit (b - FIRST_DATA)) ≡ 0 ∷ [] → IsTaken m b → ⊥
 clear_is_free m b sound from to clear taken =
     by_bit (sound.bits (b - FIRST_DATA) (omega arith))
   where
@@ -58,7 +58,7 @@ Replaces-comes m n i g f p was_free low from free fits o = record {
     none b had = subst (λ x. HasBlock x b) was_free had
 
 -- CREATE of a file that was not there
-pub Puts-created : (m n : Map) (i : ℕ) (g : ℕ) (f : FileNode) (p : List ℕ) → is_file_number i ≡ true → Sound m → node_at m i ≡ Free g
+pub Puts-created : (m n : Map) (i : ℕ) (g : ℕ) (f : FileNode) (p : List ℕ) → is_file_number i ≡ true → HasSoundFiles m → node_at m i ≡ Free g
     → FIRST_DATA ≤ f.block → f.block < m.blocks → f.block < FIRST_DATA + BLOCK_BITS → object m (bit (f.block - FIRST_DATA)) ≡ 0 ∷ []
     → 1 ≤ f.generation → f.size ≡ length p → length p ≤ FILE_BYTES → f.mtime.nanos ≤ MAX_NANOS → Fits (File f)
     → comes m n i f p → Puts m n i (record { generation = f.generation; file = Some (record { bytes = p; mtime = f.mtime }) })

@@ -16,8 +16,8 @@ use Rattle.journal_inode.specs.declared.node.Node.TheVariants.{Free, Root, File}
 use Rattle.journal_inode.specs.declared.node.TheConstants.{FILE_BYTES}
 use Rattle.journal_inode.specs.Places.{object}
 use Rattle.journal_inode.specs.Places.Object.{inode, bit, block}
-use Rattle.journal_inode.specs.Nodes.{bytes_of, Fits}
-use Rattle.journal_inode.specs.Sound.{node_at, IsSoundFile, Sound}
+use Rattle.journal_inode.specs.Nodes.{inode_bytes, Fits}
+use Rattle.journal_inode.specs.Sound.{node_at, IsSoundFile, HasSoundFiles}
 use Rattle.journal_filestore.specs.declared.reply.Found.{Found}
 use Rattle.journal_filestore.specs.declared.status.Status.{Status}
 use Rattle.journal_filestore.specs.declared.status.Status.TheVariants.{Exists, TooBig, NoSpace, NotSupported}
@@ -27,7 +27,7 @@ use Rattle.journal_filestore.specs.declared.settings.Settings.{Settings}
 use Rattle.journal_filestore.specs.declared.settings.How.{How}
 use Rattle.journal_filestore.specs.declared.settings.How.TheVariants.{Unchecked, Guarded, Exclusive}
 use Rattle.journal_filestore.specs.Files.{FileData, Files, is_file_number, with_entry, entry_of, files_of}
-use Rattle.journal_filestore.specs.Operations.{attributes, attributes_of_node, of_root, number_of, is_no_time, is_too_big, time_after, with_settings, new_file, created, create_new, create_file, create_number, create_how, create_case, target_of}
+use Rattle.journal_filestore.specs.Operations.{attributes, attributes_of_node, of_root, number_of_name, is_no_time, is_too_big, time_after, with_settings, new_file, created, create_new, create_file, create_number, create_how, create_case, file_target}
 use Rattle.journal_filestore.specs.declared.find.Place.{Place}
 use Rattle.journal_filestore.specs.declared.find.Place.TheVariants.{Directory}
 use Rattle.journal_filestore.specs.Handles.{data_of, set_node, asked, found_node, IsAt}
@@ -47,12 +47,12 @@ create-unsupported room name Exclusive now F is = refl
 create-unsupported room name (Guarded s) now F is = absurd (let e : Some (s, true) ≡ None = is in cc)
 create-unsupported room name (Unchecked s) now F is = absurd (let e : Some (s, false) ≡ None = is in cc)
 
-pub create-asked : (room : Bool) (name : List ℕ) (how : How) (now : Time) (F : Files) (x : Settings × Bool) → asked how ≡ Some x → create_how room name how now F ≡ create_number room x.1 x.0 now F (number_of name)
+pub create-asked : (room : Bool) (name : List ℕ) (how : How) (now : Time) (F : Files) (x : Settings × Bool) → asked how ≡ Some x → create_how room name how now F ≡ create_number room x.1 x.0 now F (number_of_name name)
 create-asked room name Exclusive now F x is = absurd (let e : None ≡ Some x = is in cc)
 create-asked room name (Guarded s) now F x is =
-    let e : (s, true) ≡ x = cc is in ap (λ (y : Settings × Bool). create_number room y.1 y.0 now F (number_of name)) e
+    let e : (s, true) ≡ x = cc is in ap (λ (y : Settings × Bool). create_number room y.1 y.0 now F (number_of_name name)) e
 create-asked room name (Unchecked s) now F x is =
-    let e : (s, false) ≡ x = cc is in ap (λ (y : Settings × Bool). create_number room y.1 y.0 now F (number_of name)) e
+    let e : (s, false) ≡ x = cc is in ap (λ (y : Settings × Bool). create_number room y.1 y.0 now F (number_of_name name)) e
 
 -- a number with a sound time goes by its file
 pub create-file : (room guarded : Bool) (s : Settings) (now : Time) (m : Map) (j : ℕ) (n : Node) → is_no_time s.mtime ≡ false → is_file_number j ≡ true → node_at m j ≡ n
@@ -151,10 +151,10 @@ module _ (blocks : ℕ) (s : Settings) (now : Time) (j last : ℕ) (t : Time) (n
       → Tells blocks t0 t1 (λ m. object m (bit (b - FIRST_DATA)) ≡ w) → w ≡ 0 ∷ []
       → Writes blocks t1 t2 (block b) v → v ≡ zeros_of Block
       → Writes blocks t2 t3 (bit (b - FIRST_DATA)) (1 ∷ [])
-      → Writes blocks t3 t4 (inode j) (bytes_of (File f)) → f ≡ new_node last s now b → Fits (File f) → answer ≡ found_node j f t
+      → Writes blocks t3 t4 (inode j) (inode_bytes (File f)) → f ≡ new_node last s now b → Fits (File f) → answer ≡ found_node j f t
       → Makes blocks t0 t4 (News (Ok answer))
   Makes-new b f answer v w t1 t2 t3 t4 small young in_second read clear wrote_block is_zeros wrote_bit wrote_node made fits told =
-      Makes-written blocks t0 t4 _ ((inode j, bytes_of (File f)) ∷ (bit (b - FIRST_DATA), 1 ∷ []) ∷ (block b, v) ∷ [])
+      Makes-written blocks t0 t4 _ ((inode j, inode_bytes (File f)) ∷ (bit (b - FIRST_DATA), 1 ∷ []) ∷ (block b, v) ∷ [])
       (HasWritten-more blocks t3 t4 _ _ _ wrote_node
       (HasWritten-more blocks t2 t3 _ _ _ wrote_bit
       (HasWritten-more blocks t1 t2 _ _ _ wrote_block (HasWritten-none blocks t1 (read.writes ∙ fresh)))))
@@ -190,7 +190,7 @@ module _ (blocks : ℕ) (s : Settings) (now : Time) (j last : ℕ) (t : Time) (n
       fits_file = size_fits s.size 0 small (omega arith)
 
       comes_as : Map → Map → FileNode → List ℕ → Type 0
-      comes_as m after x v = Overwrites m after ((inode j, bytes_of (File x)) ∷ (bit (b - FIRST_DATA), 1 ∷ []) ∷ (block b, v) ∷ [])
+      comes_as m after x v = Overwrites m after ((inode j, inode_bytes (File x)) ∷ (bit (b - FIRST_DATA), 1 ∷ []) ∷ (block b, v) ∷ [])
 
       has_bit : b < FIRST_DATA + BLOCK_BITS
       has_bit = let low : b - FIRST_DATA < BLOCK_BITS = wrote_bit.on_disk in omega arith
@@ -200,11 +200,11 @@ module _ (blocks : ℕ) (s : Settings) (now : Time) (j last : ℕ) (t : Time) (n
 
 -- The case with some room
 abbrev pub CaseOf : List ℕ → How → Time → ℕ → ℕ → Files → Result Found Status → Files → Type 0
-CaseOf name how now i generation F r F2 = (room : Bool) × ((r, F2) ≡ create_case room name how now F (target_of F i generation))
+CaseOf name how now i generation F r F2 = (room : Bool) × ((r, F2) ≡ create_case room name how now F (file_target F i generation))
 
 -- what it does whatever room there is
 pub Does-room : (blocks : ℕ) (name : List ℕ) (how : How) (now : Time) (i generation : ℕ) (t : TxnState) (answer : Result Found Status) (room : Bool)
-    → Does blocks (λ F r F2. (r, F2) ≡ create_case room name how now F (target_of F i generation)) t.reads t.writes answer
+    → Does blocks (λ F r F2. (r, F2) ≡ create_case room name how now F (file_target F i generation)) t.reads t.writes answer
     → Does blocks (CaseOf name how now i generation) t.reads t.writes answer
 Does-room blocks name how now i generation t answer room does = record {
   sound = does.sound;
@@ -214,7 +214,7 @@ Does-room blocks name how now i generation t answer room does = record {
 -- what it does by the inode that it read in the root
 pub Does-tail : (blocks : ℕ) (name : List ℕ) (how : How) (now : Time) (i generation : ℕ) (p : Place) (t : Time) (j : ℕ) (n : Node) (t0 t1 t2 t3 : TxnState) (answer : Result Found Status) (Q : Map → Map → Type 0)
     → Tells blocks t0 t1 (λ m. IsAt i generation m p) → p ≡ Directory t → Tells blocks t1 t2 (λ m. node_at m j ≡ n) → Makes blocks t2 t3 Q
-    → ((m after : Map) → Sound m → (files_of m).root ≡ t → node_at m j ≡ n → Q m after → Sound after × ((room : Bool) × ((answer, files_of after) ≡ create_how room name how now (files_of m))))
+    → ((m after : Map) → HasSoundFiles m → (files_of m).root ≡ t → node_at m j ≡ n → Q m after → HasSoundFiles after × ((room : Bool) × ((answer, files_of after) ≡ create_how room name how now (files_of m))))
     → Does blocks (CaseOf name how now i generation) t3.reads t3.writes answer
 Does-tail blocks name how now i generation p t j n t0 t1 t2 t3 answer Q found is read made shows =
     Does-made blocks (CaseOf name how now i generation) t0 t2 t3 answer _ Q (Tells-both blocks t0 t1 t2 _ _ found read) made
@@ -225,7 +225,7 @@ Does-tail blocks name how now i generation p t j n t0 t1 t2 t3 answer Q found is
     ))
 
 -- In the root, with a name and a time, it goes by the number's inode
-module _ (name : List ℕ) (how : How) (s : Settings) (guarded : Bool) (now : Time) (j : ℕ) (how_is : asked how ≡ Some (s, guarded)) (named : Some j ≡ number_of name) (timed : is_no_time s.mtime ≡ false) (number : is_file_number j ≡ true) where
+module _ (name : List ℕ) (how : How) (s : Settings) (guarded : Bool) (now : Time) (j : ℕ) (how_is : asked how ≡ Some (s, guarded)) (named : Some j ≡ number_of_name name) (timed : is_no_time s.mtime ≡ false) (number : is_file_number j ≡ true) where
   create-node : (room : Bool) (m : Map) (n : Node) → node_at m j ≡ n
       → create_how room name how now (files_of m) ≡ create_file room guarded s now (files_of m) j (entry_of m n).file
   create-node room m n is =
@@ -234,14 +234,14 @@ module _ (name : List ℕ) (how : How) (s : Settings) (guarded : Bool) (now : Ti
       ∙ create-file room guarded s now m j n timed number is
 
   -- no sound map has the root there
-  pub create-at_root : (m after : Map) (t : Time) (answer : Result Found Status) → Sound m → node_at m j ≡ Root t
-      → Sound after × ((room : Bool) × ((answer, files_of after) ≡ create_how room name how now (files_of m)))
+  pub create-at_root : (m after : Map) (t : Time) (answer : Result Found Status) → HasSoundFiles m → node_at m j ≡ Root t
+      → HasSoundFiles after × ((room : Bool) × ((answer, files_of after) ≡ create_how room name how now (files_of m)))
   create-at_root m after t answer sound is = absurd (no_root m j t sound number is)
 
   pub create-at_file : (m after : Map) (f : FileNode) (answer : Result Found Status) → node_at m j ≡ File f → Leads after answer (create_file true guarded s now (files_of m) j (Some (data_of m f)))
-      → Sound after × ((room : Bool) × ((answer, files_of after) ≡ create_how room name how now (files_of m)))
+      → HasSoundFiles after × ((room : Bool) × ((answer, files_of after) ≡ create_how room name how now (files_of m)))
   create-at_file m after f answer is leads = (leads.0, (true, leads.1 ∙ sym (create-node true m (File f) is)))
 
   pub create-at_free : (m after : Map) (last : ℕ) (answer : Result Found Status) → node_at m j ≡ Free last → (room : Bool) × Leads after answer (create_new room s now (files_of m) j)
-      → Sound after × ((room : Bool) × ((answer, files_of after) ≡ create_how room name how now (files_of m)))
+      → HasSoundFiles after × ((room : Bool) × ((answer, files_of after) ≡ create_how room name how now (files_of m)))
   create-at_free m after last answer is leads = (leads.1.0, (leads.0, leads.1.1 ∙ sym (create-node leads.0 m (Free last) is)))

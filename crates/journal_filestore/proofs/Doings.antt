@@ -10,16 +10,16 @@ use Rattle.journal_world.specs.declared.layout.TheConstants.{FIRST_DATA}
 use Rattle.journal_world.specs.Addresses.{Value, is_value_of, kind_of, is_valid, is_same}
 use Rattle.journal_world.specs.Maps.{Map, Pair, Agrees, SamePairs, value_among, value_at, overwritten, is_object, is_value_at}
 use Rattle.journal_world.proofs.Lookups.{same_addr}
-use Rattle.journal_twophase.specs.Transactions.{TxnState, holding, Reads, Learns, Overwrites as OverwritesAddr}
+use Rattle.journal_twophase.specs.Transactions.{TxnState, holding, ReadsValue, Learns, Overwrites as OverwritesAddr}
 use Rattle.journal_inode.specs.Places.{Object, addr_of, IsOnDisk, is_same_object, object}
 use Rattle.journal_inode.specs.Places.Object.{block}
-use Rattle.journal_inode.specs.Sound.{Sound}
+use Rattle.journal_inode.specs.Sound.{HasSoundFiles}
 use Rattle.journal_filestore.proofs.Overwrites.{Write, pairs_of, AreOnDisk, Overwrites, Overwrites-pairs, same_addr_of}
 use Rattle.journal_filestore.specs.Files.{Files, files_of}
-use Rattle.journal_filestore.specs.Doing.{Gives, MayBeRead, IsUnread, ReadsOnly, Tells, Writes, Makes, Does}
+use Rattle.journal_filestore.specs.Doing.{GivesPairs, MayBeRead, IsNotYetRead, ReadsOnly, Tells, Writes, Makes, Does}
 
 -- what agrees with a map is given by it
-pub Gives-Agrees : (m : Map) (ps : List Pair) → Agrees m ps → Gives m ps
+pub Gives-Agrees : (m : Map) (ps : List Pair) → Agrees m ps → GivesPairs m ps
 Gives-Agrees m [] agrees a v is = let none : None ≡ Some v = is in cc
 Gives-Agrees m (p ∷ ps) agrees a v is =
     by_test (is_same a p.0) refl (Gives-Agrees m ps (All-tail (λ (q : Pair). value_at m q.0 ≡ q.1) p ps agrees) a v)
@@ -38,7 +38,7 @@ not_none None x none is = absurd (let e : None ≡ Some x = is in cc)
 not_none (Some y) x none is = absurd (let e : Some y ≡ None = none in cc)
 
 -- a transaction that has written nothing learns each read
-pub Learns-first : (old new : TxnState) (a : Addr) (v : Value) → old.writes ≡ [] → Reads (holding old a) a v new → Learns (holding old a) a v new
+pub Learns-first : (old new : TxnState) (a : Addr) (v : Value) → old.writes ≡ [] → ReadsValue (holding old a) a v new → Learns (holding old a) a v new
 Learns-first old new a v none read =
     subst (λ ws. MatchOption (value_among ws a) (Learns (holding old a) a v new) (λ w. (v ≡ w) × (new ≡ holding old a))) none read
 
@@ -63,22 +63,22 @@ Tells-read blocks old new a v unread read = record {
     kept b w is false other = ap (λ t. cond t (Some v) (value_among old.reads b)) other ∙ is
 
 -- the first read of an object tells its value
-pub Tells-object : (blocks : ℕ) (old new : TxnState) (o : Object) (a : Addr) (v : Value) → a ≡ addr_of o → old.writes ≡ [] → IsUnread old o → Reads (holding old a) a v new → Tells blocks old new (λ m. object m o ≡ v)
+pub Tells-object : (blocks : ℕ) (old new : TxnState) (o : Object) (a : Addr) (v : Value) → a ≡ addr_of o → old.writes ≡ [] → IsNotYetRead old o → ReadsValue (holding old a) a v new → Tells blocks old new (λ m. object m o ≡ v)
 Tells-object blocks old new o a v is none unread read =
     subst (λ b. Tells blocks old new (λ m. value_at m b ≡ v)) is
     (Tells-read blocks old new a v (ap (value_among old.reads) is ∙ unread) (Learns-first old new a v none read))
 
 -- and nothing else is read
-pub ReadsOnly-object : (old new : TxnState) (o : Object) (a : Addr) (v : Value) → a ≡ addr_of o → old.writes ≡ [] → Reads (holding old a) a v new → ReadsOnly old new o
+pub ReadsOnly-object : (old new : TxnState) (o : Object) (a : Addr) (v : Value) → a ≡ addr_of o → old.writes ≡ [] → ReadsValue (holding old a) a v new → ReadsOnly old new o
 ReadsOnly-object old new o a v is none read b other =
     (Learns-first old new a v none read).reads b ∙ ap (λ t. cond t (Some v) (value_among old.reads b)) (ap (is_same b) is ∙ other)
 
 -- an object is unread still where another was read
-pub IsUnread-other : (blocks : ℕ) (old new : TxnState) (o p : Object) → IsOnDisk blocks o → IsOnDisk blocks p → is_same_object o p ≡ false → ReadsOnly old new p → IsUnread old o → IsUnread new o
+pub IsUnread-other : (blocks : ℕ) (old new : TxnState) (o p : Object) → IsOnDisk blocks o → IsOnDisk blocks p → is_same_object o p ≡ false → ReadsOnly old new p → IsNotYetRead old o → IsNotYetRead new o
 IsUnread-other blocks old new o p here there other only unread = only (addr_of o) (same_addr_of blocks o p here there ∙ other) ∙ unread
 
 -- at first all objects are unread
-pub IsUnread-first : (t : TxnState) (o : Object) → t.reads ≡ [] → IsUnread t o
+pub IsUnread-first : (t : TxnState) (o : Object) → t.reads ≡ [] → IsNotYetRead t o
 IsUnread-first t o none = ap (λ rs. value_among rs (addr_of o)) none
 
 -- two reads tell both
@@ -90,7 +90,7 @@ Tells-both blocks t0 t1 t2 P Q first second = record {
 }
 
 -- what is told may be said otherwise
-pub Tells-like : (blocks : ℕ) (old new : TxnState) (P Q : Map → Type 0) → ((m : Map) → Sound m → P m → Q m) → Tells blocks old new P → Tells blocks old new Q
+pub Tells-like : (blocks : ℕ) (old new : TxnState) (P Q : Map → Type 0) → ((m : Map) → HasSoundFiles m → P m → Q m) → Tells blocks old new P → Tells blocks old new Q
 Tells-like blocks old new P Q like told = record {
   writes = told.writes;
   before = told.before;
@@ -124,7 +124,7 @@ Makes-written blocks t0 t1 Q ws written before shows = record {
 
 -- what it makes that only reads
 pub Makes-told : (blocks : ℕ) (t0 t1 : TxnState) (P : Map → Type 0) (Q : Map → Map → Type 0) → t0.writes ≡ [] → Tells blocks t0 t1 P
-    → ((m : Map) → Sound m → P m → Q m m) → Makes blocks t0 t1 Q
+    → ((m : Map) → HasSoundFiles m → P m → Q m m) → Makes blocks t0 t1 Q
 Makes-told blocks t0 t1 P Q none told shows = record {
   before = told.before;
   now = λ m seen. subst (λ ws. Q m (overwritten m ws)) (sym (told.writes ∙ none)) (shows m seen.sound (told.now m seen));
@@ -135,7 +135,7 @@ pub Makes-nothing : (blocks : ℕ) (t : TxnState) → Makes blocks t t (λ m n. 
 Makes-nothing blocks t = record { before = λ m seen. seen; now = λ m seen. tt }
 
 -- what is made may be said otherwise
-pub Makes-like : (blocks : ℕ) (t0 t1 : TxnState) (P Q : Map → Map → Type 0) → ((m n : Map) → Sound m → P m n → Q m n) → Makes blocks t0 t1 P → Makes blocks t0 t1 Q
+pub Makes-like : (blocks : ℕ) (t0 t1 : TxnState) (P Q : Map → Map → Type 0) → ((m n : Map) → HasSoundFiles m → P m n → Q m n) → Makes blocks t0 t1 P → Makes blocks t0 t1 Q
 Makes-like blocks t0 t1 P Q like made = record {
   before = made.before;
   now = λ m seen. like m _ seen.sound (made.now m seen);
@@ -144,15 +144,15 @@ Makes-like blocks t0 t1 P Q like made = record {
 -- What a transaction does that was told something, and made something of it
 pub Does-made : {A : Type 0} (blocks : ℕ) (case : Files → A → Files → Type 0) (t0 t1 t2 : TxnState) (answer : A) (P : Map → Type 0) (Q : Map → Map → Type 0)
     → Tells blocks t0 t1 P → Makes blocks t1 t2 Q
-    → ((m n : Map) → Sound m → P m → Q m n → Sound n × case (files_of m) answer (files_of n))
+    → ((m n : Map) → HasSoundFiles m → P m → Q m n → HasSoundFiles n × case (files_of m) answer (files_of n))
     → Does blocks case t2.reads t2.writes answer
 Does-made {A} blocks case t0 t1 t2 answer P Q told made shows = record {
   sound = λ m on_disk sound agrees. (both m on_disk sound agrees).0;
   answers = λ m on_disk sound agrees. (both m on_disk sound agrees).1;
 }
   where
-    both : (m : Map) → m.blocks ≡ blocks → Sound m → Agrees m t2.reads
-        → Sound (overwritten m t2.writes) × case (files_of m) answer (files_of (overwritten m t2.writes))
+    both : (m : Map) → m.blocks ≡ blocks → HasSoundFiles m → Agrees m t2.reads
+        → HasSoundFiles (overwritten m t2.writes) × case (files_of m) answer (files_of (overwritten m t2.writes))
     both m on_disk sound agrees =
         let seen : MayBeRead blocks t2.reads m = record { on_disk = on_disk; sound = sound; gives = Gives-Agrees m t2.reads agrees } in
         shows m (overwritten m t2.writes) sound (told.now m (made.before m seen)) (made.now m seen)
@@ -171,13 +171,13 @@ Tells-nothing blocks t = record { writes = refl; before = λ m seen. seen; now =
 
 -- What a transaction does that was told enough to answer, and only read
 pub Does-told : {A : Type 0} (blocks : ℕ) (case : Files → A → Files → Type 0) (old t : TxnState) (answer : A) (P : Map → Type 0) → old.writes ≡ []
-    → Tells blocks old t P → ((m : Map) → Sound m → P m → case (files_of m) answer (files_of m))
+    → Tells blocks old t P → ((m : Map) → HasSoundFiles m → P m → case (files_of m) answer (files_of m))
     → Does blocks case t.reads t.writes answer
 Does-told blocks case old t answer P none told shows =
     Does-made blocks case t t t answer _ _ (Tells-nothing blocks t)
     (record {
       before = λ m seen. seen;
-      now = λ m seen. subst (λ ws. Sound (overwritten m ws) × case (files_of m) answer (files_of (overwritten m ws))) (sym (told.writes ∙ none))
+      now = λ m seen. subst (λ ws. HasSoundFiles (overwritten m ws) × case (files_of m) answer (files_of (overwritten m ws))) (sym (told.writes ∙ none))
           (seen.sound, shows m seen.sound (told.now m seen));
     })
     (λ m n sound nothing both. both)

@@ -13,7 +13,7 @@ use Rattle.journal_filestore.specs.declared.fault.Fault.TheVariants.{Refused, Un
 use Rattle.journal_filestore.specs.declared.status.Status.{Status}
 use Rattle.journal_filestore.specs.Files.{Files, files_of}
 use Rattle.journal_filestore.specs.Doing.{Does}
-use Rattle.journal_filestore.specs.Done.{IsMadeAt, IsDone, IsFault, IsAnswered, IsEnded, Ends, IsEndFault}
+use Rattle.journal_filestore.specs.Done.{IsMadeAt, IsDone, IsOperationFault, IsAnswered, IsEnded, Ends, IsEndFault}
 
 -- an entry that is no opening says nothing of trust
 trusted_before : (found : List Entry) (t : Transaction) (rest : List Entry) → is_trusted (found ++ commit t ∷ rest) ≡ is_trusted found
@@ -121,7 +121,7 @@ module _ {A : Type 0} (case : Files → Result A Status → Files → Type 0) (o
     stable = done.stable;
   }
 
-  pub IsFault-later : (waits : Bool) (fault : Fault Told) → IsFault waits case middle new fault → IsFault waits case old new fault
+  pub IsFault-later : (waits : Bool) (fault : Fault Told) → IsOperationFault waits case middle new fault → IsOperationFault waits case old new fault
   IsFault-later waits (Refused why) is = OnlyExtends-trans old middle new more is
   IsFault-later waits (Unsure why) is = (is.0, (is.1.0, is.1.1, IsMadeAt-later is.1.0 is.1.1 is.1.2))
 
@@ -155,7 +155,7 @@ module _ {A : Type 0} (case other : Files → Result A Status → Files → Type
 
 -- An attempt that has no answer
 pub IsFault-ended : {A : Type 0} (blocks : ℕ) (case : Files → Result A Status → Files → Type 0) (t : TxnState) (answer : Result A Status) (waits waited : Bool) (old new : SessionState) (fault : Fault Told)
-    → Does blocks case t.reads t.writes answer → (IsTrue waited → IsTrue waits) → IsEndFault blocks t waited old new fault → IsFault waits case old new fault
+    → Does blocks case t.reads t.writes answer → (IsTrue waited → IsTrue waits) → IsEndFault blocks t waited old new fault → IsOperationFault waits case old new fault
 IsFault-ended blocks case t answer waits waited old new (Refused why) does only is = is
 IsFault-ended blocks case t answer waits waited old new (Unsure why) does only is =
     (only is.0, (answer, place_of_commit blocks case t answer old new is.1.0 is.1.1, IsMadeAt-ended blocks case t answer old new is.1.0 is.1.1 does))

@@ -7,7 +7,7 @@ use Rattle.journal_inode.specs.declared.node.FileNode.{FileNode}
 use Rattle.journal_inode.specs.declared.node.Node.{Node}
 use Rattle.journal_inode.specs.declared.node.Node.TheVariants.{Free, Root, File}
 use Rattle.journal_inode.specs.declared.place.TheConstants.{INODES}
-use Rattle.journal_inode.specs.Sound.{node_at, stored, Sound}
+use Rattle.journal_inode.specs.Sound.{node_at, stored, HasSoundFiles}
 use Rattle.journal_filestore.proofs.Replacing.{Replaces, node_at-replaced, node_at-other, stored-other}
 use Rattle.journal_filestore.specs.Files.{is_file_number, no_entry, with_entry, entry_of, root_time, files_of}
 
@@ -27,7 +27,7 @@ entry_of-same m n (Free g) same = refl
 entry_of-same m n (Root t) same = refl
 
 -- the files are those of before with this one replaced
-pub files_of-replaced : (m n : Map) (i : ℕ) (new : Node) → is_file_number i ≡ true → Sound m → Replaces m n i new
+pub files_of-replaced : (m n : Map) (i : ℕ) (new : Node) → is_file_number i ≡ true → HasSoundFiles m → Replaces m n i new
     → files_of n ≡ with_entry (files_of m) i (entry_of n new)
 unfolding files_of
 files_of-replaced m n i new file_number sound r =

@@ -8,12 +8,12 @@ use Rattle.journal_inode.specs.declared.node.Node.{Node}
 use Rattle.journal_inode.specs.declared.node.Node.TheVariants.{Free, Root, File}
 use Rattle.journal_inode.specs.declared.place.TheConstants.{INODES}
 use Rattle.journal_inode.specs.Nodes.{Fits}
-use Rattle.journal_inode.specs.Sound.{node_at, IsInPlace, Sound}
+use Rattle.journal_inode.specs.Sound.{node_at, IsInPlace, HasSoundFiles}
 use Rattle.journal_filestore.specs.declared.find.Place.{Place}
 use Rattle.journal_filestore.specs.declared.find.Place.TheVariants.{Gone, Directory, Regular}
 use Rattle.journal_filestore.specs.Files.{is_file_number, no_entry, entry_of, root_time, files_of}
-use Rattle.journal_filestore.specs.Operations.{Target, of_generation, target_of}
-use Rattle.journal_filestore.specs.Operations.Target.{gone, root, file}
+use Rattle.journal_filestore.specs.Operations.{FileTarget, of_generation, file_target}
+use Rattle.journal_filestore.specs.Operations.FileTarget.{gone, root, file}
 use Rattle.journal_filestore.specs.Handles.{data_of, place_of, IsAt, IsPlace}
 
 pub is_file_number-from : (i : ℕ) → 2 ≤ i → i < INODES → is_file_number i ≡ true
@@ -45,19 +45,19 @@ not_root_free (suc zero) g from placed = absurd placed
 not_root_free (suc (suc i)) g from placed = omega arith
 
 -- a handle of another number than the root's
-target_of-entry : (m : Map) (i generation : ℕ) (n : Node) → 2 ≤ i → i < INODES → node_at m i ≡ n → target_of (files_of m) i generation ≡ of_generation i generation (entry_of m n)
+target_of-entry : (m : Map) (i generation : ℕ) (n : Node) → 2 ≤ i → i < INODES → node_at m i ≡ n → file_target (files_of m) i generation ≡ of_generation i generation (entry_of m n)
 target_of-entry m i generation n from to is =
     ap (λ b. cond b (cond (generation == 1) root gone) (of_generation i generation ((files_of m).at i))) (ne_eqb i 1 (λ e. absurd (omega arith)))
     ∙ ap (of_generation i generation) (entry_at m i n (is_file_number-from i from to) is)
 
-pub IsAt-found : (m : Map) (i generation : ℕ) (n : Node) → Sound m → 1 ≤ i → i < INODES → node_at m i ≡ n → IsAt i generation m (place_of n i generation)
+pub IsAt-found : (m : Map) (i generation : ℕ) (n : Node) → HasSoundFiles m → 1 ≤ i → i < INODES → node_at m i ≡ n → IsAt i generation m (place_of n i generation)
 IsAt-found m i generation n sound from to is = by_node n is (subst (IsInPlace i) is (sound.placed i to))
   where
     by_root : (t : Time) (b : Bool) → (generation == 1) ≡ b → node_at m i ≡ Root t → i ≡ 1 → IsAt i generation m (cond b (Directory t) Gone)
     by_root t true is_one is one =
-        (ap (λ k. target_of (files_of m) k generation) one ∙ ap (λ b. cond b root gone) is_one, root_at m t (ap (node_at m) (sym one) ∙ is))
+        (ap (λ k. file_target (files_of m) k generation) one ∙ ap (λ b. cond b root gone) is_one, root_at m t (ap (node_at m) (sym one) ∙ is))
     by_root t false is_one is one =
-        ap (λ k. target_of (files_of m) k generation) one ∙ ap (λ b. cond b root gone) is_one
+        ap (λ k. file_target (files_of m) k generation) one ∙ ap (λ b. cond b root gone) is_one
 
     at_root : (t : Time) → node_at m i ≡ Root t → i ≡ 1 → IsAt i generation m (cond ((i == 1) && (generation == 1)) (Directory t) Gone)
     at_root t is one =
@@ -90,13 +90,13 @@ IsPlace-place_of (File f) i generation fits = by_test (f.generation == generatio
     by_test false = tt
 
 -- what a case is where the handle names this
-pub case-gone : {A : Type 0} (k : Target → A) (m : Map) (i generation : ℕ) (p : Place) → p ≡ Gone → IsAt i generation m p → k (target_of (files_of m) i generation) ≡ k gone
+pub case-gone : {A : Type 0} (k : FileTarget → A) (m : Map) (i generation : ℕ) (p : Place) → p ≡ Gone → IsAt i generation m p → k (file_target (files_of m) i generation) ≡ k gone
 case-gone k m i generation p is at = ap k (let here : IsAt i generation m Gone = subst (IsAt i generation m) is at in here)
 
-pub case-directory : {A : Type 0} (k : Target → A) (m : Map) (i generation : ℕ) (p : Place) (t : Time) → p ≡ Directory t → IsAt i generation m p → k (target_of (files_of m) i generation) ≡ k root
+pub case-directory : {A : Type 0} (k : FileTarget → A) (m : Map) (i generation : ℕ) (p : Place) (t : Time) → p ≡ Directory t → IsAt i generation m p → k (file_target (files_of m) i generation) ≡ k root
 case-directory k m i generation p t is at = ap k (let here : IsAt i generation m (Directory t) = subst (IsAt i generation m) is at in here.0)
 
-pub case-regular : {A : Type 0} (k : Target → A) (m : Map) (i generation : ℕ) (p : Place) (f : FileNode) → p ≡ Regular f → IsAt i generation m p → k (target_of (files_of m) i generation) ≡ k (file i (data_of m f))
+pub case-regular : {A : Type 0} (k : FileTarget → A) (m : Map) (i generation : ℕ) (p : Place) (f : FileNode) → p ≡ Regular f → IsAt i generation m p → k (file_target (files_of m) i generation) ≡ k (file i (data_of m f))
 case-regular k m i generation p f is at = ap k (let here : IsAt i generation m (Regular f) = subst (IsAt i generation m) is at in here.0)
 
 pub IsAt-is : (m : Map) (i generation : ℕ) (p q : Place) → p ≡ q → IsAt i generation m p → IsAt i generation m q

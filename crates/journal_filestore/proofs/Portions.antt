@@ -10,7 +10,7 @@ use Rattle.journal_inode.specs.Sound.{stored, content, IsSoundFile}
 use Rattle.journal_filestore.specs.declared.reply.Attributes.{Attributes}
 use Rattle.journal_filestore.specs.Files.{files_of}
 use Rattle.journal_filestore.specs.Operations.{PortionState, attributes_of_node, portion, read_case}
-use Rattle.journal_filestore.specs.Operations.Target.{file}
+use Rattle.journal_filestore.specs.Operations.FileTarget.{file}
 use Rattle.journal_filestore.specs.Handles.{data_of}
 use Rattle.journal_filestore.specs.Doing.{Tells, Leads, Makes}
 use Rattle.journal_filestore.proofs.Doings.{Makes-told}

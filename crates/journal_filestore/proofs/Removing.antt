@@ -7,8 +7,8 @@ use Rattle.journal_inode.specs.declared.node.FileNode.{FileNode}
 use Rattle.journal_inode.specs.declared.node.Node.TheVariants.{Free, File}
 use Rattle.journal_inode.specs.declared.place.TheConstants.{INODES}
 use Rattle.journal_inode.specs.Places.Object.{superblock, bit, inode, block}
-use Rattle.journal_inode.specs.Nodes.{bytes_of}
-use Rattle.journal_inode.specs.Sound.{node_at, HasBlock, Sound}
+use Rattle.journal_inode.specs.Nodes.{inode_bytes}
+use Rattle.journal_inode.specs.Sound.{node_at, HasBlock, HasSoundFiles}
 use Rattle.journal_filestore.proofs.Overwrites.{Overwrites, first_is, first_is_not}
 use Rattle.journal_filestore.proofs.Replacing.{Replaces, IsInPlace-free}
 use Rattle.journal_filestore.specs.Files.{is_file_number}
@@ -18,7 +18,7 @@ use Rattle.journal_filestore.proofs.Writing.{Puts-replaced}
 
 -- the file f at number i is removed
 abbrev pub goes : (m n : Map) (i : ℕ) (f : FileNode) → Type 0
-goes m n i f = Overwrites m n ((bit (f.block - FIRST_DATA), 0 ∷ []) ∷ (inode i, bytes_of (Free f.generation)) ∷ [])
+goes m n i f = Overwrites m n ((bit (f.block - FIRST_DATA), 0 ∷ []) ∷ (inode i, inode_bytes (Free f.generation)) ∷ [])
 
 pub Replaces-goes : (m n : Map) (i : ℕ) (f : FileNode) → node_at m i ≡ File f → i < INODES → FIRST_DATA ≤ f.block → f.generation < 2 ^ 32 → goes m n i f → Replaces m n i (Free f.generation)
 Replaces-goes m n i f is_file low from fits o = record {
@@ -47,7 +47,7 @@ Free-is-File : (g : ℕ) (f : FileNode) → Free g ≡ File f → ⊥
 Free-is-File g f is = cc
 
 -- REMOVE
-pub Puts-removed : (m n : Map) (i : ℕ) (f : FileNode) → is_file_number i ≡ true → Sound m → node_at m i ≡ File f → f.generation < 2 ^ 32 → goes m n i f → Puts m n i (record { generation = f.generation; file = None })
+pub Puts-removed : (m n : Map) (i : ℕ) (f : FileNode) → is_file_number i ≡ true → HasSoundFiles m → node_at m i ≡ File f → f.generation < 2 ^ 32 → goes m n i f → Puts m n i (record { generation = f.generation; file = None })
 Puts-removed m n i f number sound is_file fits o =
     let among = IsFileNumber-test i number in
     Puts-replaced m n i (Free f.generation) number sound

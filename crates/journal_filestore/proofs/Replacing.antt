@@ -11,8 +11,8 @@ use Rattle.journal_inode.specs.declared.node.TheConstants.{FILE_BYTES}
 use Rattle.journal_inode.specs.declared.place.TheConstants.{INODES}
 use Rattle.journal_inode.specs.Places.{object}
 use Rattle.journal_inode.specs.Places.Object.{superblock, bit, inode, block}
-use Rattle.journal_inode.specs.Nodes.{bytes_of, node_of, Fits}
-use Rattle.journal_inode.specs.Sound.{superblock_of, node_at, stored, HasBlock, IsTaken, IsInPlace, IsSoundFile, IsBit, Sound}
+use Rattle.journal_inode.specs.Nodes.{inode_bytes, node_of, Fits}
+use Rattle.journal_inode.specs.Sound.{superblock_of, node_at, stored, HasBlock, IsTaken, IsInPlace, IsSoundFile, IsBit, HasSoundFiles}
 use Rattle.journal_inode.proofs.Fields.{node_of-bytes_of}
 
 -- What becomes of a bit, where the old inode has its block or not, and the new one has it or not
@@ -26,7 +26,7 @@ pub record BitStep (old new : Type 0) (v w : Value) : Type 0 where
 pub record Replaces (m n : Map) (i : ℕ) (new : Node) : Type 0 where
   pub blocks : n.blocks ≡ m.blocks
   pub begins : object n superblock ≡ object m superblock
-  pub here : object n (inode i) ≡ bytes_of new
+  pub here : object n (inode i) ≡ inode_bytes new
   pub fits : Fits new
   pub others : (j : ℕ) → j < INODES → j ≢ i → object n (inode j) ≡ object m (inode j)
   pub free_or_own : (b : ℕ) → HasBlock new b → HasBlock (node_at m i) b ⊎ (IsTaken m b → ⊥)
@@ -68,7 +68,7 @@ IsSoundFile-same m n f blocks same sound = record {
 }
 
 -- the new inode's blocks are no other file's
-pub alone : (m n : Map) (i : ℕ) (new : Node) → i < INODES → Sound m → Replaces m n i new
+pub alone : (m n : Map) (i : ℕ) (new : Node) → i < INODES → HasSoundFiles m → Replaces m n i new
     → (j b : ℕ) → j < INODES → j ≢ i → HasBlock (node_at m j) b → HasBlock new b → ⊥
 alone m n i new low sound r j b below ne has new_has = by_cases (r.free_or_own b new_has)
   where
@@ -77,7 +77,7 @@ alone m n i new low sound r j b below ne has new_has = by_cases (r.free_or_own b
     by_cases (inr free) = free (inr (j, below, has))
 
 -- what another file stores stays
-pub stored-other : (m n : Map) (i : ℕ) (new : Node) → i < INODES → Sound m → Replaces m n i new
+pub stored-other : (m n : Map) (i : ℕ) (new : Node) → i < INODES → HasSoundFiles m → Replaces m n i new
     → (j : ℕ) (f : FileNode) → j < INODES → j ≢ i → node_at m j ≡ File f → stored n f ≡ stored m f
 stored-other m n i new low sound r j f below ne is_file =
     let old = sound.files j f below is_file in
@@ -85,12 +85,12 @@ stored-other m n i new low sound r j f below ne is_file =
     (alone m n i new low sound r j f.block below ne (subst (λ x. HasBlock x f.block) (sym is_file) refl))
 
 -- The rule is kept where one inode is replaced
-pub Sound-replaced : (m n : Map) (i : ℕ) (new : Node) → i < INODES → Sound m → Replaces m n i new → IsSoundNode n i new → Sound n
+pub Sound-replaced : (m n : Map) (i : ℕ) (new : Node) → i < INODES → HasSoundFiles m → Replaces m n i new → IsSoundNode n i new → HasSoundFiles n
 Sound-replaced m n i new low sound r fine = record {
   begins = r.begins ∙ sound.begins ∙ ap superblock_of (sym r.blocks);
   written = λ j below. by_number j below (cases_eq j i)
-      (λ is. ap (λ k. object n (inode k)) is ∙ r.here ∙ ap bytes_of (sym (here j is)))
-      (λ ne. r.others j below ne ∙ sound.written j below ∙ ap bytes_of (sym (there j below ne)));
+      (λ is. ap (λ k. object n (inode k)) is ∙ r.here ∙ ap inode_bytes (sym (here j is)))
+      (λ ne. r.others j below ne ∙ sound.written j below ∙ ap inode_bytes (sym (there j below ne)));
   placed = λ j below. by_number j below (cases_eq j i)
       (λ is. subst (λ k. IsInPlace k (node_at n k)) (sym is) (subst (IsInPlace i) (sym (node_at-replaced m n i new r)) fine.placed))
       (λ ne. subst (IsInPlace j) (sym (there j below ne)) (sound.placed j below));

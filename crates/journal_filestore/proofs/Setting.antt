@@ -12,8 +12,8 @@ use Rattle.journal_inode.specs.declared.node.Node.TheVariants.{File}
 use Rattle.journal_inode.specs.declared.node.TheConstants.{FILE_BYTES}
 use Rattle.journal_inode.specs.Places.{Object, object, IsOnDisk}
 use Rattle.journal_inode.specs.Places.Object.{superblock, bit, inode, block}
-use Rattle.journal_inode.specs.Nodes.{bytes_of, Fits}
-use Rattle.journal_inode.specs.Sound.{node_at, stored, content, IsSoundFile, Sound}
+use Rattle.journal_inode.specs.Nodes.{inode_bytes, Fits}
+use Rattle.journal_inode.specs.Sound.{node_at, stored, content, IsSoundFile, HasSoundFiles}
 use Rattle.journal_filestore.specs.declared.settings.NewTime.{NewTime}
 use Rattle.journal_filestore.specs.declared.settings.NewTime.TheVariants.{Leave, Server, Client}
 use Rattle.journal_filestore.specs.declared.settings.Settings.{Settings}
@@ -40,7 +40,7 @@ size_fits None old is was = was
 size_fits (Some size) old is was = ltb-false FILE_BYTES size is
 
 -- to overwrite the inode alone is to overwrite the block with what it has
-stays-alone : (m n : Map) (i : ℕ) (f g : FileNode) → IsOnDisk m.blocks (block f.block) → Overwrites m n ((inode i, bytes_of (File g)) ∷ []) → stays m n i f g (stored m f)
+stays-alone : (m n : Map) (i : ℕ) (f g : FileNode) → IsOnDisk m.blocks (block f.block) → Overwrites m n ((inode i, inode_bytes (File g)) ∷ []) → stays m n i f g (stored m f)
 stays-alone m n i f g here o = record {
   blocks = o.blocks;
   objects = λ p there. o.objects p there ∙ same p there;
@@ -52,8 +52,8 @@ stays-alone m n i f g here o = record {
         ∙ sym (first_is (b == f.block) (stored m f) (object m (block b)) None is)
     by_block b false is = sym (first_is_not (b == f.block) (stored m f) (object m (block b)) None is)
 
-    same : (p : Object) → IsOnDisk m.blocks p → unwrap_or (written_to ((inode i, bytes_of (File g)) ∷ []) p) (object m p)
-        ≡ unwrap_or (written_to ((inode i, bytes_of (File g)) ∷ (block f.block, stored m f) ∷ []) p) (object m p)
+    same : (p : Object) → IsOnDisk m.blocks p → unwrap_or (written_to ((inode i, inode_bytes (File g)) ∷ []) p) (object m p)
+        ≡ unwrap_or (written_to ((inode i, inode_bytes (File g)) ∷ (block f.block, stored m f) ∷ []) p) (object m p)
     same superblock there = refl
     same (bit k) there = refl
     same (inode j) there = refl
@@ -61,7 +61,7 @@ stays-alone m n i f g here o = record {
 
 module _ (blocks i : ℕ) (f : FileNode) (s : Settings) (now : Time) (small : is_too_big s.size ≡ false) (timed : is_no_time s.mtime ≡ false) (in_second : now.nanos ≤ MAX_NANOS) (fits : Fits (File (set_node f s now))) where
   -- where the block is what it is to be
-  Puts-set : (m n : Map) (v : Value) → is_file_number i ≡ true → Sound m → node_at m i ≡ File f
+  Puts-set : (m n : Map) (v : Value) → is_file_number i ≡ true → HasSoundFiles m → node_at m i ≡ File f
       → v ≡ resized (content m f) s.size ++ replicate (FILE_BYTES - length (resized (content m f) s.size)) 0
       → stays m n i f (set_node f s now) v
       → Puts m n i (record { generation = f.generation; file = Some (with_settings (data_of m f) s now) })
@@ -78,10 +78,10 @@ module _ (blocks i : ℕ) (f : FileNode) (s : Settings) (now : Time) (small : is
       size = ap (unwrap_or s.size) (sym old.whole) ∙ sym (length-resized (content m f) s.size)
 
   -- no bytes are cut off, and the inode is overwritten
-  pub Makes-set_alone : (g : FileNode) (t0 t1 : TxnState) → t0.writes ≡ [] → Writes blocks t0 t1 (inode i) (bytes_of (File g)) → g ≡ set_node f s now → f.size ≤ g.size
+  pub Makes-set_alone : (g : FileNode) (t0 t1 : TxnState) → t0.writes ≡ [] → Writes blocks t0 t1 (inode i) (inode_bytes (File g)) → g ≡ set_node f s now → f.size ≤ g.size
       → Makes blocks t0 t1 (λ m n. is_file_number i ≡ true → node_at m i ≡ File f → Puts m n i (record { generation = f.generation; file = Some (with_settings (data_of m f) s now) }))
   Makes-set_alone g t0 t1 fresh wrote is more =
-      Makes-written blocks t0 t1 _ ((inode i, bytes_of (File g)) ∷ [])
+      Makes-written blocks t0 t1 _ ((inode i, inode_bytes (File g)) ∷ [])
       (HasWritten-more blocks t0 t1 _ _ _ wrote (HasWritten-none blocks t0 fresh))
       (λ m seen. subst (λ rs. MayBeRead blocks rs m) wrote.reads seen)
       (λ m n seen o number is_file.
@@ -91,15 +91,15 @@ module _ (blocks i : ℕ) (f : FileNode) (s : Settings) (now : Time) (small : is
       (old.padded
       ∙ ap (λ x. content m f ++ replicate (FILE_BYTES - x) 0) (sym old.whole)
       ∙ sym (resized-grown (content m f) FILE_BYTES s.size (subst (λ x. x ≤ unwrap_or s.size x) (sym old.whole) grows) (subst (λ x. unwrap_or s.size x ≤ FILE_BYTES) (sym old.whole) (size_fits s.size f.size small old.small))))
-      (stays-alone m n i f (set_node f s now) (old.data_block, old.on_disk) (subst (λ x. Overwrites m n ((inode i, bytes_of (File x)) ∷ [])) is o)))
+      (stays-alone m n i f (set_node f s now) (old.data_block, old.on_disk) (subst (λ x. Overwrites m n ((inode i, inode_bytes (File x)) ∷ [])) is o)))
 
   -- some are, and the block is overwritten too
   pub Makes-set_block : (g : FileNode) (old_block new_block : Value) (t0 t1 t2 t3 : TxnState) → t0.writes ≡ [] → Tells blocks t0 t1 (λ m. object m (block f.block) ≡ old_block)
-      → Writes blocks t1 t2 (block f.block) new_block → Writes blocks t2 t3 (inode i) (bytes_of (File g))
+      → Writes blocks t1 t2 (block f.block) new_block → Writes blocks t2 t3 (inode i) (inode_bytes (File g))
       → g ≡ set_node f s now → g.size < f.size → length old_block ≡ FILE_BYTES → new_block ≡ take g.size old_block ++ replicate (length old_block - g.size) 0
       → Makes blocks t0 t3 (λ m n. is_file_number i ≡ true → node_at m i ≡ File f → Puts m n i (record { generation = f.generation; file = Some (with_settings (data_of m f) s now) }))
   Makes-set_block g old_block new_block t0 t1 t2 t3 fresh read wrote_block wrote_node is less whole cut =
-      Makes-written blocks t0 t3 _ ((inode i, bytes_of (File g)) ∷ (block f.block, new_block) ∷ [])
+      Makes-written blocks t0 t3 _ ((inode i, inode_bytes (File g)) ∷ (block f.block, new_block) ∷ [])
       (HasWritten-more blocks t2 t3 _ _ _ wrote_node
       (HasWritten-more blocks t1 t2 _ _ _ wrote_block (HasWritten-none blocks t1 (read.writes ∙ fresh))))
       (λ m seen. read.before m (back m seen))

@@ -10,7 +10,7 @@ use Rattle.journal_filestore.specs.declared.settings.Settings.{Settings}
 use Rattle.journal_filestore.specs.declared.status.Status.TheVariants.{Invalid, TooBig, NotSync}
 use Rattle.journal_filestore.specs.Files.{FileData, Files}
 use Rattle.journal_filestore.specs.Operations.{attributes, attributes_of_node, changed, setattr_case, is_other_time, is_no_time, is_too_big, time_after, with_settings}
-use Rattle.journal_filestore.specs.Operations.Target.{file}
+use Rattle.journal_filestore.specs.Operations.FileTarget.{file}
 use Rattle.journal_filestore.specs.Handles.{data_of, set_node}
 use Rattle.journal_filestore.proofs.Resizing.{length-resized}
 

@@ -14,8 +14,8 @@ use Rattle.journal_inode.specs.declared.node.TheConstants.{FILE_BYTES}
 use Rattle.journal_inode.specs.declared.place.TheConstants.{INODES}
 use Rattle.journal_inode.specs.Places.{object}
 use Rattle.journal_inode.specs.Places.Object.{superblock, bit, inode, block}
-use Rattle.journal_inode.specs.Nodes.{bytes_of, Fits}
-use Rattle.journal_inode.specs.Sound.{node_at, stored, content, HasBlock, IsSoundFile, Sound}
+use Rattle.journal_inode.specs.Nodes.{inode_bytes, Fits}
+use Rattle.journal_inode.specs.Sound.{node_at, stored, content, HasBlock, IsSoundFile, HasSoundFiles}
 use Rattle.journal_filestore.proofs.Overwrites.{Overwrites, first_is, first_is_not}
 use Rattle.journal_filestore.proofs.Replacing.{Replaces, IsSoundNode, IsInPlace-file, Sound-replaced}
 use Rattle.journal_filestore.specs.Files.{is_file_number, entry_of}
@@ -24,7 +24,7 @@ use Rattle.journal_filestore.specs.Operations.{placed, with_data}
 use Rattle.journal_filestore.proofs.FilesReplaced.{IsFileNumber-test, files_of-replaced}
 use Rattle.journal_filestore.proofs.Placing.{with_data-placed, length-placed}
 
-pub Puts-replaced : (m n : Map) (i : ℕ) (new : Node) → is_file_number i ≡ true → Sound m → Replaces m n i new → IsSoundNode n i new → Puts m n i (entry_of n new)
+pub Puts-replaced : (m n : Map) (i : ℕ) (new : Node) → is_file_number i ≡ true → HasSoundFiles m → Replaces m n i new → IsSoundNode n i new → Puts m n i (entry_of n new)
 Puts-replaced m n i new number sound r fine = record {
   sound = Sound-replaced m n i new (IsFileNumber-test i number).to sound r fine;
   files = files_of-replaced m n i new number sound r;
@@ -42,7 +42,7 @@ file_placed n i g number sound = record {
 
 -- The file at number i, f, becomes g, in the same block
 abbrev pub stays : (m n : Map) (i : ℕ) (f g : FileNode) (v : Value) → Type 0
-stays m n i f g v = Overwrites m n ((inode i, bytes_of (File g)) ∷ (block f.block, v) ∷ [])
+stays m n i f g v = Overwrites m n ((inode i, inode_bytes (File g)) ∷ (block f.block, v) ∷ [])
 
 pub Replaces-stays : (m n : Map) (i : ℕ) (f g : FileNode) (v : Value) → node_at m i ≡ File f → i < INODES → g.block ≡ f.block → Fits (File g) → stays m n i f g v → Replaces m n i (File g)
 Replaces-stays m n i f g v is_file low same fits o = record {
@@ -73,7 +73,7 @@ stored-stays m n i f g v from to same o =
     ap (λ b. object n (block b)) same ∙ o.objects (block f.block) (from, to) ∙ first_is _ _ _ _ (eq-eqb f.block f.block refl)
 
 -- The file becomes sound and has the bytes p, where its block is p and zeros
-pub Puts-stays : (m n : Map) (i : ℕ) (f g : FileNode) (p : List ℕ) → is_file_number i ≡ true → Sound m → node_at m i ≡ File f
+pub Puts-stays : (m n : Map) (i : ℕ) (f g : FileNode) (p : List ℕ) → is_file_number i ≡ true → HasSoundFiles m → node_at m i ≡ File f
     → g.block ≡ f.block → g.generation ≡ f.generation → g.size ≡ length p → length p ≤ FILE_BYTES → g.mtime.nanos ≤ MAX_NANOS → Fits (File g)
     → stays m n i f g (p ++ replicate (FILE_BYTES - length p) 0)
     → Puts m n i (record { generation = f.generation; file = Some (record { bytes = p; mtime = g.mtime }) })
@@ -113,7 +113,7 @@ abbrev pub written : FileNode → ℕ → List ℕ → Time → FileNode
 written f offset bs now = record f { size = max f.size (offset + length bs); mtime = now }
 
 -- WRITE
-pub Puts-written : (m n : Map) (i : ℕ) (f : FileNode) (offset : ℕ) (bs : List ℕ) (now : Time) → is_file_number i ≡ true → Sound m → node_at m i ≡ File f
+pub Puts-written : (m n : Map) (i : ℕ) (f : FileNode) (offset : ℕ) (bs : List ℕ) (now : Time) → is_file_number i ≡ true → HasSoundFiles m → node_at m i ≡ File f
     → offset + length bs ≤ FILE_BYTES → now.nanos ≤ MAX_NANOS → Fits (File (written f offset bs now))
     → stays m n i f (written f offset bs now) (with_data (stored m f) offset bs)
     → Puts m n i (record { generation = f.generation; file = Some (record { bytes = placed (content m f) offset bs; mtime = now }) })

@@ -11,13 +11,13 @@ use Rattle.journal_inode.specs.declared.node.Node.TheVariants.{File}
 use Rattle.journal_inode.specs.declared.node.TheConstants.{FILE_BYTES}
 use Rattle.journal_inode.specs.Places.{addr_of, object}
 use Rattle.journal_inode.specs.Places.Object.{inode, block}
-use Rattle.journal_inode.specs.Nodes.{bytes_of, IsTime, Fits}
+use Rattle.journal_inode.specs.Nodes.{inode_bytes, IsTime, Fits}
 use Rattle.journal_inode.specs.Sound.{node_at, stored, content, IsSoundFile}
 use Rattle.journal_filestore.specs.declared.reply.Attributes.{Attributes}
 use Rattle.journal_filestore.specs.declared.status.Status.TheVariants.{Invalid, TooBig}
 use Rattle.journal_filestore.specs.Files.{FileData, Files, is_file_number, files_of}
 use Rattle.journal_filestore.specs.Operations.{attributes, attributes_of_node, changed, placed, with_data, write_case}
-use Rattle.journal_filestore.specs.Operations.Target.{file}
+use Rattle.journal_filestore.specs.Operations.FileTarget.{file}
 use Rattle.journal_filestore.specs.Handles.{data_of}
 use Rattle.journal_filestore.specs.Doing.{MayBeRead, Tells, Writes, Places, Puts, Makes}
 use Rattle.journal_filestore.proofs.Doings.{HasWritten-more, Makes-written}
@@ -96,12 +96,12 @@ stored-whole m f sound =
 -- what is made of the file
 pub Makes-write : (blocks i offset : ℕ) (bs : List ℕ) (now : Time) (f g : FileNode) (t0 t1 t2 : TxnState) → t0.writes ≡ []
     → Places blocks t0 t1 f.block offset bs
-    → Writes blocks t1 t2 (inode i) (bytes_of (File g))
+    → Writes blocks t1 t2 (inode i) (inode_bytes (File g))
     → g ≡ written f offset bs now
     → offset + length bs ≤ FILE_BYTES → now.nanos ≤ MAX_NANOS → Fits (File (written f offset bs now))
     → Makes blocks t0 t2 (λ m n. is_file_number i ≡ true → node_at m i ≡ File f → Puts m n i (record { generation = f.generation; file = Some (placed_data m f offset bs now) }))
 Makes-write blocks i offset bs now f g t0 t1 t2 fresh placing wrote_node is end timed fits =
-    Makes-written blocks t0 t2 _ ((inode i, bytes_of (File g)) ∷ (block f.block, placing.value) ∷ [])
+    Makes-written blocks t0 t2 _ ((inode i, inode_bytes (File g)) ∷ (block f.block, placing.value) ∷ [])
     (HasWritten-more blocks t1 t2 _ _ _ wrote_node (record {
       pairs = λ a. placing.pairs a ∙ ap (λ ws. value_among ((addr_of (block f.block), placing.value) ∷ ws) a) fresh;
       on_disk = (placing.on_disk, tt);

@@ -7,24 +7,24 @@ use Rattle.journal_twophase.specs.Transactions.{TxnState}
 use Rattle.journal_inode.specs.declared.node.TheConstants.{FILE_BYTES}
 use Rattle.journal_inode.specs.Places.{Object, addr_of, IsOnDisk, object}
 use Rattle.journal_inode.specs.Places.Object.{block}
-use Rattle.journal_inode.specs.Sound.{Sound}
+use Rattle.journal_inode.specs.Sound.{HasSoundFiles}
 use Rattle.journal_filestore.specs.declared.status.Status.{Status}
-use Rattle.journal_filestore.specs.Files.{Entry, Files, files_of, with_entry}
+use Rattle.journal_filestore.specs.Files.{FileEntry, Files, files_of, with_entry}
 use Rattle.journal_filestore.specs.Operations.{Outcome, with_data}
 
 -- the map gives each address that the pairs name the value that they give it
-abbrev pub Gives : Map → List Pair → Type 0
-Gives m ps = (a : Addr) (v : Value) → value_among ps a ≡ Some v → value_at m a ≡ v
+abbrev pub GivesPairs : Map → List Pair → Type 0
+GivesPairs m ps = (a : Addr) (v : Value) → value_among ps a ≡ Some v → value_at m a ≡ v
 
 -- A map that the transaction may have read: sound, on a disk of so many blocks, and with the values that were read
 pub record MayBeRead (blocks : ℕ) (reads : List Pair) (m : Map) : Type 0 where
   pub on_disk : m.blocks ≡ blocks
-  pub sound : Sound m
-  pub gives : Gives m reads
+  pub sound : HasSoundFiles m
+  pub gives : GivesPairs m reads
 
 -- the transaction has not read the object
-abbrev pub IsUnread : TxnState → Object → Type 0
-IsUnread t o = value_among t.reads (addr_of o) ≡ None
+abbrev pub IsNotYetRead : TxnState → Object → Type 0
+IsNotYetRead t o = value_among t.reads (addr_of o) ≡ None
 
 -- it has read no other object than this since
 abbrev pub ReadsOnly : TxnState → TxnState → Object → Type 0
@@ -51,13 +51,13 @@ pub record Places (blocks : ℕ) (old new : TxnState) (b offset : ℕ) (bs : Lis
   pub placed : (m : Map) → MayBeRead blocks new.reads m → length (object m (block b)) ≡ FILE_BYTES → value ≡ with_data (object m (block b)) offset bs
 
 -- The map is sound still, and its files are those of before with this entry
-pub record Puts (m n : Map) (i : ℕ) (e : Entry) : Type 0 where
-  pub sound : Sound n
+pub record Puts (m n : Map) (i : ℕ) (e : FileEntry) : Type 0 where
+  pub sound : HasSoundFiles n
   pub files : files_of n ≡ with_entry (files_of m) i e
 
 -- the map is sound still, and answer and files are what a case comes to
 abbrev pub Leads : {A : Type 0} → Map → Result A Status → Outcome A → Type 0
-Leads n answer outcome = Sound n × ((answer, files_of n) ≡ outcome)
+Leads n answer outcome = HasSoundFiles n × ((answer, files_of n) ≡ outcome)
 
 -- P holds of each map that the transaction may have read, and what its writes make of it
 pub record Makes (blocks : ℕ) (old new : TxnState) (P : Map → Map → Type 0) : Type 0 where
@@ -66,5 +66,5 @@ pub record Makes (blocks : ℕ) (old new : TxnState) (P : Map → Map → Type 0
 
 -- Wherever a sound map gives what was read, the writes leave it sound, and the answer fits the files before and after
 pub record Does {A : Type 0} (blocks : ℕ) (case : Files → A → Files → Type 0) (reads writes : List Pair) (answer : A) : Type 0 where
-  pub sound : (m : Map) → m.blocks ≡ blocks → Sound m → Agrees m reads → Sound (overwritten m writes)
-  pub answers : (m : Map) → m.blocks ≡ blocks → Sound m → Agrees m reads → case (files_of m) answer (files_of (overwritten m writes))
+  pub sound : (m : Map) → m.blocks ≡ blocks → HasSoundFiles m → Agrees m reads → HasSoundFiles (overwritten m writes)
+  pub answers : (m : Map) → m.blocks ≡ blocks → HasSoundFiles m → Agrees m reads → case (files_of m) answer (files_of (overwritten m writes))

@@ -8,7 +8,7 @@ use Rattle.journal_history.specs.Tokens.{SessionState, OnlyExtends, IsExact, Com
 use Rattle.journal_core.specs.Causes.{Told}
 use Rattle.journal_twophase.specs.Transactions.{TxnState, core_of}
 use Rattle.journal_twophase.specs.Commits.{IsCommitted}
-use Rattle.journal_inode.specs.Sound.{Sound}
+use Rattle.journal_inode.specs.Sound.{HasSoundFiles}
 use Rattle.journal_filestore.specs.declared.fault.Fault.{Fault}
 use Rattle.journal_filestore.specs.declared.fault.Fault.TheVariants.{Refused, Unsure}
 use Rattle.journal_filestore.specs.declared.status.Status.{Status}
@@ -26,7 +26,7 @@ pub record IsMadeAt {A : Type 0} (case : Files → Result A Status → Files →
   pub one_more : commits_of new.number new.mine ≡ commits_of old.number old.mine ++ made ∷ []
   -- where the disk was honest and settled, the answer fits the files of the maps before and after it, and the map is sound after each number of commits
   pub answers : IsTrue (is_trusted new.seen) → case (files_of (latest (take place new.seen))) answer (files_of (apply made (latest (take place new.seen))))
-  pub ruled : IsTrue (is_trusted new.seen) → (n : ℕ) → Sound (at new.seen n)
+  pub ruled : IsTrue (is_trusted new.seen) → (n : ℕ) → HasSoundFiles (at new.seen n)
 
 -- The operation was done, and answered
 pub record IsDone {A : Type 0} (waits : Bool) (case : Files → Result A Status → Files → Type 0) (old new : SessionState) (answer : Result A Status) : Type 0 where
@@ -38,21 +38,21 @@ pub record IsDone {A : Type 0} (waits : Bool) (case : Files → Result A Status 
   pub stable : IsTrue waits → OnOk answer (count (take (place + 1) new.seen) ≤ floor new.seen)
 
 -- Refused, it was not done. In doubt, it was done with some answer that the case gives, and is not known to be stable
-abbrev pub IsFault : {A : Type 0} → Bool → (Files → Result A Status → Files → Type 0) → SessionState → SessionState → Fault Told → Type 0
-IsFault waits case old new (Refused why) = OnlyExtends old new
-IsFault {A} waits case old new (Unsure why) = IsTrue waits × ((answer : Result A Status) × (place : ℕ) × IsMadeAt case old new answer place)
+abbrev pub IsOperationFault : {A : Type 0} → Bool → (Files → Result A Status → Files → Type 0) → SessionState → SessionState → Fault Told → Type 0
+IsOperationFault waits case old new (Refused why) = OnlyExtends old new
+IsOperationFault {A} waits case old new (Unsure why) = IsTrue waits × ((answer : Result A Status) × (place : ℕ) × IsMadeAt case old new answer place)
 
 -- What an operation comes to
 abbrev pub IsAnswered : {A : Type 0} → Bool → (Files → Result A Status → Files → Type 0) → SessionState → SessionState → Result (Result A Status) (Fault Told) → Type 0
 IsAnswered waits case old new (Ok answer) = IsDone waits case old new answer
-IsAnswered waits case old new (Err fault) = IsFault waits case old new fault
+IsAnswered waits case old new (Err fault) = IsOperationFault waits case old new fault
 
 -- The transaction was committed, and the session may have seen more since
 pub record IsEnded (blocks : ℕ) (t : TxnState) (old new : SessionState) (place : CommitPlace) : Type 0 where
   pub then_seen : SessionState
-  pub committed : IsCommitted Sound blocks t.began (core_of t) old then_seen place
+  pub committed : IsCommitted HasSoundFiles blocks t.began (core_of t) old then_seen place
   pub more : OnlyExtends then_seen new
-  pub ruled : IsTrue (is_trusted new.seen) → (n : ℕ) → Sound (at new.seen n)
+  pub ruled : IsTrue (is_trusted new.seen) → (n : ℕ) → HasSoundFiles (at new.seen n)
 
 -- The session is exact, and where it waited the commit is marked as stable
 pub record Ends (blocks : ℕ) (t : TxnState) (waits : Bool) (old new : SessionState) : Type 0 where

@@ -14,28 +14,28 @@ pub record FileData : Type 0 where
   pub mtime : Time
 
 -- what a number has: the generation of its last file, and that file if it is there
-pub record Entry : Type 0 where
+pub record FileEntry : Type 0 where
   pub generation : ℕ
   pub file : Option FileData
 
 -- The root's time, and what each number has
 pub record Files : Type 0 where
   pub root : Time
-  pub at : ℕ → Entry
+  pub at : ℕ → FileEntry
 
 -- files have the numbers 2 to 511
 abbrev pub is_file_number : ℕ → Bool
 is_file_number i = nat_le 2 i && nat_lt i INODES
 
-abbrev pub no_entry : Entry
+abbrev pub no_entry : FileEntry
 no_entry = record { generation = 0; file = None }
 
 -- the files with one of them, or its absence, replaced
-abbrev pub with_entry : Files → ℕ → Entry → Files
+abbrev pub with_entry : Files → ℕ → FileEntry → Files
 with_entry F i e = record { root = F.root; at = λ j. if j == i then e else F.at j }
 
 -- what an inode of the map makes of its number
-abbrev pub entry_of : Map → Node → Entry
+abbrev pub entry_of : Map → Node → FileEntry
 entry_of m (File f) = record { generation = f.generation; file = Some (record { bytes = content m f; mtime = f.mtime }) }
 entry_of m (Free generation) = record { generation = generation; file = None }
 entry_of m (Root mtime) = no_entry

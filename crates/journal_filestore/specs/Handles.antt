@@ -15,8 +15,8 @@ use Rattle.journal_filestore.specs.declared.settings.Settings.{Settings}
 use Rattle.journal_filestore.specs.declared.settings.How.{How}
 use Rattle.journal_filestore.specs.declared.settings.How.TheVariants.{Unchecked, Guarded, Exclusive}
 use Rattle.journal_filestore.specs.Files.{FileData, is_file_number, files_of}
-use Rattle.journal_filestore.specs.Operations.{attributes_of_node, of_root, target_of, time_after}
-use Rattle.journal_filestore.specs.Operations.Target.{gone, root, file}
+use Rattle.journal_filestore.specs.Operations.{attributes_of_node, of_root, file_target, time_after}
+use Rattle.journal_filestore.specs.Operations.FileTarget.{gone, root, file}
 
 -- a moment, as inodes have it
 abbrev pub time_of : Moment → Time
@@ -48,10 +48,10 @@ place_of (File f) i generation = if f.generation == generation then Regular f el
 
 -- This is what the handle names
 abbrev pub IsAt : ℕ → ℕ → Map → Place → Type 0
-IsAt i generation m Gone = target_of (files_of m) i generation ≡ gone
-IsAt i generation m (Directory t) = (target_of (files_of m) i generation ≡ root) × ((files_of m).root ≡ t)
+IsAt i generation m Gone = file_target (files_of m) i generation ≡ gone
+IsAt i generation m (Directory t) = (file_target (files_of m) i generation ≡ root) × ((files_of m).root ≡ t)
 IsAt i generation m (Regular f) =
-    (target_of (files_of m) i generation ≡ file i (data_of m f)) × (node_at m i ≡ File f) × (is_file_number i ≡ true)
+    (file_target (files_of m) i generation ≡ file i (data_of m f)) × (node_at m i ≡ File f) × (is_file_number i ≡ true)
 
 -- the numbers of a file's inode fit their bytes, and the root alone is a directory
 abbrev pub IsPlace : ℕ → Place → Type 0

@@ -16,7 +16,7 @@ use Rattle.journal_filestore.specs.declared.settings.How.{How}
 use Rattle.journal_filestore.specs.declared.settings.How.TheVariants.{Unchecked, Guarded, Exclusive}
 use Rattle.journal_filestore.specs.declared.settings.Stability.{Stability}
 use Rattle.journal_filestore.specs.declared.settings.Stability.TheVariants.{Unstable, Stable}
-use Rattle.journal_filestore.specs.Files.{FileData, Entry, Files, is_file_number, with_entry}
+use Rattle.journal_filestore.specs.Files.{FileData, FileEntry, Files, is_file_number, with_entry}
 
 -- What an operation comes to: its answer, and the files after it
 abbrev pub Outcome : Type 0 → Type 0
@@ -27,20 +27,20 @@ abbrev pub refused : {A : Type 0} → Status → Files → Outcome A
 refused status F = (Err status, F)
 
 -- What a handle names: nothing any more, the root, or the file of a number
-pub data Target : Type 0 where
-  gone : Target
-  root : Target
-  file : ℕ → FileData → Target
+pub data FileTarget : Type 0 where
+  gone : FileTarget
+  root : FileTarget
+  file : ℕ → FileData → FileTarget
 
-abbrev pub file_or_gone : ℕ → Bool → Option FileData → Target
+abbrev pub file_or_gone : ℕ → Bool → Option FileData → FileTarget
 file_or_gone i is_current None = gone
 file_or_gone i is_current (Some d) = if is_current then file i d else gone
 
-abbrev pub of_generation : ℕ → ℕ → Entry → Target
+abbrev pub of_generation : ℕ → ℕ → FileEntry → FileTarget
 of_generation i generation e = file_or_gone i (e.generation == generation) e.file
 
-abbrev pub target_of : Files → ℕ → ℕ → Target
-target_of F number generation =
+abbrev pub file_target : Files → ℕ → ℕ → FileTarget
+file_target F number generation =
     if number == 1 then (if generation == 1 then root else gone) else of_generation number generation (F.at number)
 
 -- the attributes of a root of this time
@@ -66,7 +66,7 @@ abbrev pub changed : Files → ℕ → FileData → FileData → Outcome Changed
 changed F i old new = (Ok (record { before = attributes i old; after = attributes i new }), with_file F i new)
 
 -- GETATTR
-abbrev pub getattr_case : Files → Target → Outcome Attributes
+abbrev pub getattr_case : Files → FileTarget → Outcome Attributes
 getattr_case F gone = refused Stale F
 getattr_case F root = (Ok (root_attributes F), F)
 getattr_case F (file i d) = (Ok (attributes i d), F)
@@ -105,7 +105,7 @@ root_set s guard mtime =
     else if is_no_time s.mtime then Err Invalid
     else Ok (record { before = of_root mtime; after = of_root mtime })
 
-abbrev pub setattr_case : Settings → Option Time → Time → Files → Target → Outcome Changed
+abbrev pub setattr_case : Settings → Option Time → Time → Files → FileTarget → Outcome Changed
 setattr_case s guard now F gone = refused Stale F
 setattr_case s guard now F root = (root_set s guard F.root, F)
 setattr_case s guard now F (file i d) =
@@ -115,17 +115,17 @@ setattr_case s guard now F (file i d) =
     else changed F i d (with_settings d s now)
 
 -- the number of a name: f and three decimal digits, f002 to f511
-abbrev pub number_of : List ℕ → Option ℕ
-number_of (f ∷ a ∷ b ∷ c ∷ []) =
+abbrev pub number_of_name : List ℕ → Option ℕ
+number_of_name (f ∷ a ∷ b ∷ c ∷ []) =
     let i = (a - 48) * 100 + (b - 48) * 10 + (c - 48) in
     if f == 102 && is_digit a && is_digit b && is_digit c && is_file_number i then Some i else None
   where
     is_digit : ℕ → Bool
     is_digit c = nat_le 48 c && nat_le c 57
-number_of _ = None
+number_of_name _ = None
 
 -- a directory is asked for
-abbrev pub in_root : {A : Type 0} → Files → Target → Outcome A → Outcome A
+abbrev pub in_root : {A : Type 0} → Files → FileTarget → Outcome A → Outcome A
 in_root F gone outcome = refused Stale F
 in_root F root outcome = outcome
 in_root F (file i d) outcome = refused NotDirectory F
@@ -135,15 +135,15 @@ abbrev pub lookup_file : Files → ℕ → ℕ → Option FileData → Outcome F
 lookup_file F i generation None = refused NoEntry F
 lookup_file F i generation (Some d) = (Ok (record { generation = generation; file = attributes i d; root = root_attributes F }), F)
 
-abbrev pub lookup_entry : Files → ℕ → Entry → Outcome Found
+abbrev pub lookup_entry : Files → ℕ → FileEntry → Outcome Found
 lookup_entry F i e = lookup_file F i e.generation e.file
 
 abbrev pub lookup_number : Files → Option ℕ → Outcome Found
 lookup_number F None = refused NoEntry F
 lookup_number F (Some i) = lookup_entry F i (F.at i)
 
-abbrev pub lookup_case : List ℕ → Files → Target → Outcome Found
-lookup_case name F dir = in_root F dir (lookup_number F (number_of name))
+abbrev pub lookup_case : List ℕ → Files → FileTarget → Outcome Found
+lookup_case name F dir = in_root F dir (lookup_number F (number_of_name name))
 
 -- READ: the attributes, the bytes, and whether they reach the file's end
 pub record PortionState : Type 0 where
@@ -158,7 +158,7 @@ portion offset n i d = record {
   is_end = nat_le (length d.bytes) (offset + n);
 }
 
-abbrev pub read_case : ℕ → ℕ → Files → Target → Outcome PortionState
+abbrev pub read_case : ℕ → ℕ → Files → FileTarget → Outcome PortionState
 read_case offset count F gone = refused Stale F
 read_case offset count F root = refused Invalid F
 read_case offset count F (file i d) = (Ok (portion offset (min count (length d.bytes - offset)) i d), F)
@@ -176,7 +176,7 @@ abbrev pub is_waiting : Stability → Bool
 is_waiting Unstable = false
 is_waiting Stable = true
 
-abbrev pub write_case : ℕ → ℕ → List ℕ → Time → Files → Target → Outcome Changed
+abbrev pub write_case : ℕ → ℕ → List ℕ → Time → Files → FileTarget → Outcome Changed
 write_case offset count bs now F gone = refused Stale F
 write_case offset count bs now F root = refused Invalid F
 write_case offset count bs now F (file i d) =
@@ -218,10 +218,10 @@ create_number room guarded s now F (Some i) =
 
 abbrev pub create_how : Bool → List ℕ → How → Time → Files → Outcome Found
 create_how room name Exclusive now F = refused NotSupported F
-create_how room name (Guarded s) now F = create_number room true s now F (number_of name)
-create_how room name (Unchecked s) now F = create_number room false s now F (number_of name)
+create_how room name (Guarded s) now F = create_number room true s now F (number_of_name name)
+create_how room name (Unchecked s) now F = create_number room false s now F (number_of_name name)
 
-abbrev pub create_case : Bool → List ℕ → How → Time → Files → Target → Outcome Found
+abbrev pub create_case : Bool → List ℕ → How → Time → Files → FileTarget → Outcome Found
 create_case room name how now F dir = in_root F dir (create_how room name how now F)
 
 -- REMOVE: the root's attributes, which stay; the generation is kept
@@ -229,18 +229,18 @@ abbrev pub remove_file : Files → ℕ → ℕ → Option FileData → Outcome A
 remove_file F i generation None = refused NoEntry F
 remove_file F i generation (Some d) = (Ok (root_attributes F), with_entry F i (record { generation = generation; file = None }))
 
-abbrev pub remove_entry : Files → ℕ → Entry → Outcome Attributes
+abbrev pub remove_entry : Files → ℕ → FileEntry → Outcome Attributes
 remove_entry F i e = remove_file F i e.generation e.file
 
 abbrev pub remove_number : Files → Option ℕ → Outcome Attributes
 remove_number F None = refused NoEntry F
 remove_number F (Some i) = remove_entry F i (F.at i)
 
-abbrev pub remove_case : List ℕ → Files → Target → Outcome Attributes
-remove_case name F dir = in_root F dir (remove_number F (number_of name))
+abbrev pub remove_case : List ℕ → Files → FileTarget → Outcome Attributes
+remove_case name F dir = in_root F dir (remove_number F (number_of_name name))
 
 -- COMMIT
-abbrev pub commit_case : Files → Target → Outcome Attributes
+abbrev pub commit_case : Files → FileTarget → Outcome Attributes
 commit_case F gone = refused Stale F
 commit_case F root = refused Invalid F
 commit_case F (file i d) = (Ok (attributes i d), F)
@@ -269,18 +269,18 @@ pub data Reply : Type 0 where
 -- The call, answered at a moment: it leads from these files to those with this reply
 pub data Op : Call → Time → Files → Reply → Files → Type 0 where
   answers_getattr : (i g : ℕ) (now : Time) (F F2 : Files) (r : Result Attributes Status)
-      → (r, F2) ≡ getattr_case F (target_of F i g) → Op (getattr i g) now F (got r) F2
+      → (r, F2) ≡ getattr_case F (file_target F i g) → Op (getattr i g) now F (got r) F2
   answers_setattr : (i g : ℕ) (s : Settings) (guard : Option Time) (now : Time) (F F2 : Files) (r : Result Changed Status)
-      → (r, F2) ≡ setattr_case s guard now F (target_of F i g) → Op (setattr i g s guard) now F (set r) F2
+      → (r, F2) ≡ setattr_case s guard now F (file_target F i g) → Op (setattr i g s guard) now F (set r) F2
   answers_lookup : (i g : ℕ) (name : List ℕ) (now : Time) (F F2 : Files) (r : Result Found Status)
-      → (r, F2) ≡ lookup_case name F (target_of F i g) → Op (lookup i g name) now F (found r) F2
+      → (r, F2) ≡ lookup_case name F (file_target F i g) → Op (lookup i g name) now F (found r) F2
   answers_read : (i g offset count : ℕ) (now : Time) (F F2 : Files) (r : Result PortionState Status)
-      → (r, F2) ≡ read_case offset count F (target_of F i g) → Op (read i g offset count) now F (bytes_read r) F2
+      → (r, F2) ≡ read_case offset count F (file_target F i g) → Op (read i g offset count) now F (bytes_read r) F2
   answers_write : (i g offset count : ℕ) (bs : List ℕ) (now : Time) (F F2 : Files) (r : Result Changed Status)
-      → (r, F2) ≡ write_case offset count bs now F (target_of F i g) → Op (write i g offset count bs) now F (wrote r) F2
+      → (r, F2) ≡ write_case offset count bs now F (file_target F i g) → Op (write i g offset count bs) now F (wrote r) F2
   answers_create : (i g : ℕ) (name : List ℕ) (how : How) (room : Bool) (now : Time) (F F2 : Files) (r : Result Found Status)
-      → (r, F2) ≡ create_case room name how now F (target_of F i g) → Op (create i g name how) now F (made r) F2
+      → (r, F2) ≡ create_case room name how now F (file_target F i g) → Op (create i g name how) now F (made r) F2
   answers_remove : (i g : ℕ) (name : List ℕ) (now : Time) (F F2 : Files) (r : Result Attributes Status)
-      → (r, F2) ≡ remove_case name F (target_of F i g) → Op (remove i g name) now F (removed r) F2
+      → (r, F2) ≡ remove_case name F (file_target F i g) → Op (remove i g name) now F (removed r) F2
   answers_commit : (i g : ℕ) (now : Time) (F F2 : Files) (r : Result Attributes Status)
-      → (r, F2) ≡ commit_case F (target_of F i g) → Op (commit i g) now F (committed r) F2
+      → (r, F2) ≡ commit_case F (file_target F i g) → Op (commit i g) now F (committed r) F2

@@ -2,7 +2,7 @@
 ghost use Rattle.std.specs.Prelude.{◌≡◌, true};
 ghost use Rattle.journal_inode.specs.declared.node.Time.{Time};
 ghost use Rattle.journal_filestore.specs.Done.{IsAnswered};
-ghost use Rattle.journal_filestore.specs.Operations.{Op, target_of, commit_case};
+ghost use Rattle.journal_filestore.specs.Operations.{Op, file_target, commit_case};
 ghost use Rattle.journal_filestore.specs.Operations.Call.{commit};
 ghost use Rattle.journal_filestore.specs.Operations.Reply.{committed};
 
@@ -26,7 +26,7 @@ pub(crate) struct Commit {
 impl<J: Naming> Operation<J> for Commit {
     type Reply = Attributes;
 
-    ghost case = { λ w F r F2. (r, F2) ≡ commit_case F (target_of F w.handle.number w.handle.generation) };
+    ghost case = { λ w F r F2. (r, F2) ≡ commit_case F (file_target F w.handle.number w.handle.generation) };
 
     ghost is_waiting = { λ w. true };
 

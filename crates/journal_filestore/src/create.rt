@@ -6,10 +6,10 @@ ghost use Rattle.journal_inode.specs.Nodes.{Fits};
 ghost use Rattle.journal_inode.specs.Sound.{node_at};
 ghost use Rattle.journal_inode.specs.Places.Object.{block, bit};
 ghost use Rattle.journal_filestore.specs.Files.{is_file_number, files_of};
-ghost use Rattle.journal_filestore.specs.Doing.{IsUnread, Leads, Makes};
+ghost use Rattle.journal_filestore.specs.Doing.{IsNotYetRead, Leads, Makes};
 ghost use Rattle.journal_filestore.specs.Done.{IsAnswered};
 ghost use Rattle.journal_filestore.specs.Handles.{time_of, data_of, asked, found_node};
-ghost use Rattle.journal_filestore.specs.Operations.{Op, target_of, create_case, create_new, create_file, is_no_time};
+ghost use Rattle.journal_filestore.specs.Operations.{Op, file_target, create_case, create_new, create_file, is_no_time};
 ghost use Rattle.journal_filestore.specs.Operations.Call.{create};
 ghost use Rattle.journal_filestore.specs.Operations.Reply.{made};
 
@@ -44,7 +44,7 @@ pub(crate) struct Create<'a> {
 impl<'a, J: Naming> Operation<J> for Create<'a> {
     type Reply = Found;
 
-    ghost case = { λ w F r F2. (room : Bool) × ((r, F2) ≡ create_case room w.name.now w.how (time_of w.moment) F (target_of F w.directory.number w.directory.generation)) };
+    ghost case = { λ w F r F2. (room : Bool) × ((r, F2) ≡ create_case room w.name.now w.how (time_of w.moment) F (file_target F w.directory.number w.directory.generation)) };
 
     ghost is_waiting = { λ w. true };
 
@@ -106,7 +106,7 @@ impl<'a> Create<'a> {
         requires number { is_file_number number ≡ true }
         requires fits { Fits (File file) }
         requires timed { is_no_time settings.mtime ≡ false }
-        requires unread { FIRST_DATA ≤ file.block → IsUnread txn.old (block file.block) }
+        requires unread { FIRST_DATA ≤ file.block → IsNotYetRead txn.old (block file.block) }
         requires writes { txn.old.writes ≡ [] }
         ensures { IfOk result (λ answer. Makes J.blocks txn.old txn.new (λ m n. node_at m number ≡ File file → (files_of m).root ≡ root
             → Leads n answer (create_file true is_guarded settings (time_of self.now.moment) (files_of m) number (Some (data_of m file))))) }
@@ -134,7 +134,7 @@ impl<'a> Create<'a> {
     ) -> Result<Answer<Found>, Why<'b, J>>
         requires number { is_file_number number ≡ true }
         requires timed { is_no_time settings.mtime ≡ false }
-        requires unread { (k : ℕ) → k < BLOCK_BITS → IsUnread txn.old (bit k) }
+        requires unread { (k : ℕ) → k < BLOCK_BITS → IsNotYetRead txn.old (bit k) }
         requires writes { txn.old.writes ≡ [] }
         ensures { IfOk result (λ answer. Makes J.blocks txn.old txn.new (λ m n. node_at m number ≡ Free last → (files_of m).root ≡ root
             → (room : Bool) × Leads n answer (create_new room settings (time_of self.now.moment) (files_of m) number))) }

@@ -2,13 +2,13 @@
 ghost use Rattle.std.specs.Prelude.{◌≡◌, ◌<◌, ◌≤◌, ◌-◌, true, IfSome};
 ghost use Rattle.journal_inode.specs.declared.place.TheConstants.{INODES};
 ghost use Rattle.journal_filestore.specs.Files.{is_file_number};
-ghost use Rattle.journal_filestore.specs.Operations.{number_of};
+ghost use Rattle.journal_filestore.specs.Operations.{number_of_name};
 
 use journal_inode::INODES;
 
 // The number of a name: f and three decimal digits.
 pub(crate) fn number_of(name: &[u8]) -> Option<u32>
-    ensures value { result ≡ number_of name.now }
+    ensures value { result ≡ number_of_name name.now }
     ensures number { IfSome result (λ i. is_file_number i ≡ true) }
     ensures range { IfSome result (λ i. i < INODES) }
 {

@@ -7,9 +7,9 @@ ghost use Rattle.journal_world.specs.Addresses.{is_value_of};
 ghost use Rattle.journal_inode.specs.declared.place.TheConstants.{INODES};
 ghost use Rattle.journal_inode.specs.Places.{object};
 ghost use Rattle.journal_inode.specs.Places.Object.{bit, inode, block};
-ghost use Rattle.journal_inode.specs.Nodes.{bytes_of, Fits};
+ghost use Rattle.journal_inode.specs.Nodes.{inode_bytes, Fits};
 ghost use Rattle.journal_inode.specs.Sound.{node_at};
-ghost use Rattle.journal_filestore.specs.Doing.{Tells, Writes, IsUnread, ReadsOnly};
+ghost use Rattle.journal_filestore.specs.Doing.{Tells, Writes, IsNotYetRead, ReadsOnly};
 
 use crate::store::{FileTxn, Why};
 use journal_disk::BlockDisk;
@@ -25,7 +25,7 @@ pub(crate) fn read_node<'j, 'b, D: BlockDisk, J: Naming, W: Wait>(
     number: u32,
 ) -> Result<Node, Why<'b, J>>
     requires number { number < INODES }
-    requires unread { IsUnread txn.old (inode number) }
+    requires unread { IsNotYetRead txn.old (inode number) }
     requires writes { txn.old.writes ≡ [] }
     ensures told { IfOk result (λ node. Tells J.blocks txn.old txn.new (λ m. node_at m number ≡ node)) }
     ensures reads { OnOk result (ReadsOnly txn.old txn.new (inode number)) }
@@ -41,7 +41,7 @@ pub(crate) fn read_block<'j, 'b, D: BlockDisk, J: Naming, W: Wait>(
     txn: &mut FileTxn<'j, 'b, D, J>,
     number: u64,
 ) -> Result<Value, Why<'b, J>>
-    requires unread { FIRST_DATA ≤ number → IsUnread txn.old (block number) }
+    requires unread { FIRST_DATA ≤ number → IsNotYetRead txn.old (block number) }
     requires writes { txn.old.writes ≡ [] }
     ensures told { IfOk result (λ value. Tells J.blocks txn.old txn.new (λ m. object m (block number) ≡ value)) }
     ensures whole { IfOk result (λ value. length value ≡ 4096) }
@@ -59,7 +59,7 @@ pub(crate) fn read_bit<'j, 'b, D: BlockDisk, J: Naming, W: Wait>(
     txn: &mut FileTxn<'j, 'b, D, J>,
     number: u64,
 ) -> Result<bool, Why<'b, J>>
-    requires unread { (k : ℕ) → k < BLOCK_BITS → IsUnread txn.old (bit k) }
+    requires unread { (k : ℕ) → k < BLOCK_BITS → IsNotYetRead txn.old (bit k) }
     requires writes { txn.old.writes ≡ [] }
     ensures told { IfOk result (λ is_set. Tells J.blocks txn.old txn.new
         (λ m. object m (bit (number - FIRST_DATA)) ≡ (if is_set then 1 else 0) ∷ [])) }
@@ -80,7 +80,7 @@ pub(crate) fn write_node<'j, 'b, D: BlockDisk, J: Naming, W: Wait>(
     node: &Node,
 ) -> Result<(), Why<'b, J>>
     requires { number < INODES }
-    ensures { OnOk result (Writes J.blocks txn.old txn.new (inode number) (bytes_of node.now)) }
+    ensures { OnOk result (Writes J.blocks txn.old txn.new (inode number) (inode_bytes node.now)) }
 {
     txn.overwrite(rt, inode_addr(number), &node.bytes())
 }

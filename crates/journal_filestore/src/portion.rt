@@ -23,7 +23,7 @@ impl Model for Portion {
 
     ghost view = { λ p. record { file = p.file; bytes = slice_range p.block p.from p.to; is_end = p.is_end } };
 
-    ghost invariant = { λ p. (p.from ≤ p.to) × (p.to ≤ length p.block) };
+    ghost invariant = { λ p. (p.from ≤ p.to) × (p.to ≤ length p.block) × (length p.block ≤ 4096) };
 }
 
 impl Portion {
@@ -37,6 +37,7 @@ impl Portion {
     ) -> Portion
         requires in_order { from ≤ to }
         requires in_range { to ≤ length block }
+        requires short { length block ≤ 4096 }
         ensures { result ≡ record { file = file; bytes = slice_range block from to; is_end = is_end } }
     {
         Portion {
@@ -57,7 +58,8 @@ impl Portion {
 
     /// The bytes.
     pub fn bytes(&self) -> &[u8]
-        ensures { result.now ≡ self.now.bytes }
+        ensures bytes { result.now ≡ self.now.bytes }
+        ensures short { length self.now.bytes ≤ 4096 }
     {
         &self.block.bytes()[self.from..self.to]
     }

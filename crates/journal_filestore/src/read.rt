@@ -2,7 +2,7 @@
 ghost use Rattle.std.specs.Prelude.{◌≡◌, ◌≤◌, ◌-◌, false, min};
 ghost use Rattle.journal_inode.specs.declared.node.Time.{Time};
 ghost use Rattle.journal_filestore.specs.Done.{IsAnswered};
-ghost use Rattle.journal_filestore.specs.Operations.{Op, target_of, read_case};
+ghost use Rattle.journal_filestore.specs.Operations.{Op, file_target, read_case};
 ghost use Rattle.journal_filestore.specs.Operations.Call.{read};
 ghost use Rattle.journal_filestore.specs.Operations.Reply.{bytes_read};
 
@@ -32,7 +32,7 @@ pub(crate) struct Read {
 impl<J: Naming> Operation<J> for Read {
     type Reply = Portion;
 
-    ghost case = { λ w F r F2. (r, F2) ≡ read_case w.offset w.count F (target_of F w.handle.number w.handle.generation) };
+    ghost case = { λ w F r F2. (r, F2) ≡ read_case w.offset w.count F (file_target F w.handle.number w.handle.generation) };
 
     ghost is_waiting = { λ w. false };
 

@@ -2,7 +2,7 @@
 ghost use Rattle.std.specs.Prelude.{◌≡◌, true};
 ghost use Rattle.journal_inode.specs.declared.node.Time.{Time};
 ghost use Rattle.journal_filestore.specs.Done.{IsAnswered};
-ghost use Rattle.journal_filestore.specs.Operations.{Op, target_of, remove_case};
+ghost use Rattle.journal_filestore.specs.Operations.{Op, file_target, remove_case};
 ghost use Rattle.journal_filestore.specs.Operations.Call.{remove};
 ghost use Rattle.journal_filestore.specs.Operations.Reply.{removed};
 
@@ -29,7 +29,7 @@ pub(crate) struct Remove<'a> {
 impl<'a, J: Naming> Operation<J> for Remove<'a> {
     type Reply = Attributes;
 
-    ghost case = { λ w F r F2. (r, F2) ≡ remove_case w.name.now F (target_of F w.directory.number w.directory.generation) };
+    ghost case = { λ w F r F2. (r, F2) ≡ remove_case w.name.now F (file_target F w.directory.number w.directory.generation) };
 
     ghost is_waiting = { λ w. true };
 

@@ -7,7 +7,7 @@ ghost use Rattle.journal_inode.specs.Nodes.{IsTime, Fits};
 ghost use Rattle.journal_inode.specs.Sound.{node_at};
 ghost use Rattle.journal_inode.specs.Places.Object.{block};
 ghost use Rattle.journal_filestore.specs.Files.{is_file_number};
-ghost use Rattle.journal_filestore.specs.Doing.{IsUnread, Puts, Makes};
+ghost use Rattle.journal_filestore.specs.Doing.{IsNotYetRead, Puts, Makes};
 ghost use Rattle.journal_filestore.specs.Handles.{time_of, data_of, set_node};
 ghost use Rattle.journal_filestore.specs.Operations.{is_no_time, is_too_big, time_after, with_settings};
 
@@ -34,7 +34,7 @@ pub(crate) fn set_file<'j, 'b, D: BlockDisk, J: Naming, W: Wait>(
     requires fits { Fits (File file) }
     requires small { is_too_big settings.size ≡ false }
     requires timed { is_no_time settings.mtime ≡ false }
-    requires unread { FIRST_DATA ≤ file.block → IsUnread txn.old (block file.block) }
+    requires unread { FIRST_DATA ≤ file.block → IsNotYetRead txn.old (block file.block) }
     requires writes { txn.old.writes ≡ [] }
     ensures node { IfOk result (λ after. after ≡ set_node file settings (time_of now)) }
     ensures makes { OnOk result (Makes J.blocks txn.old txn.new (λ m n. is_file_number number ≡ true → node_at m number ≡ File file

@@ -2,7 +2,7 @@
 ghost use Rattle.std.specs.Prelude.{◌≡◌, true};
 ghost use Rattle.journal_filestore.specs.Done.{IsAnswered};
 ghost use Rattle.journal_filestore.specs.Handles.{time_of};
-ghost use Rattle.journal_filestore.specs.Operations.{Op, target_of, setattr_case, root_set, is_other_time};
+ghost use Rattle.journal_filestore.specs.Operations.{Op, file_target, setattr_case, root_set, is_other_time};
 ghost use Rattle.journal_filestore.specs.Operations.Call.{setattr};
 ghost use Rattle.journal_filestore.specs.Operations.Reply.{set};
 
@@ -31,7 +31,7 @@ pub(crate) struct SetSize {
 impl<J: Naming> Operation<J> for SetSize {
     type Reply = Changed;
 
-    ghost case = { λ w F r F2. (r, F2) ≡ setattr_case w.settings w.guard (time_of w.moment) F (target_of F w.handle.number w.handle.generation) };
+    ghost case = { λ w F r F2. (r, F2) ≡ setattr_case w.settings w.guard (time_of w.moment) F (file_target F w.handle.number w.handle.generation) };
 
     ghost is_waiting = { λ w. true };
 

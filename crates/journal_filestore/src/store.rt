@@ -6,7 +6,7 @@ ghost use Rattle.journal_disk.specs.Disks.{IsSettled};
 ghost use Rattle.journal_disk.specs.Images.{EveryImage};
 ghost use Rattle.journal_history.specs.Tokens.{OnlyExtends};
 ghost use Rattle.journal_core.specs.Cores.{Leaves};
-ghost use Rattle.journal_inode.specs.Sound.{Sound};
+ghost use Rattle.journal_inode.specs.Sound.{HasSoundFiles};
 ghost use Rattle.journal_twophase.specs.Journals.{BeginsWith, IsCloseRefusal};
 ghost use Rattle.journal_filestore.specs.Done.{IsAnswered, IsEndOf};
 ghost use Rattle.journal_filestore.specs.Mounts.{IsMountRefusal};
@@ -74,7 +74,7 @@ impl<'b, D: BlockDisk, J: Naming> FileStore<'b, D, J> {
         requires book { book.now ≡ J.book }
         requires blocks { (D.state disk).past.size ≡ J.blocks }
         requires settled { IsTrue (D.state disk).honest → IsSettled (D.state disk).past }
-        ensures begun { IfOk result (λ store. BeginsWith Sound (D.state disk) store.start) }
+        ensures begun { IfOk result (λ store. BeginsWith HasSoundFiles (D.state disk) store.start) }
         ensures refusal { IfErr result (λ refused. IsMountRefusal (D.state disk) (D.state refused.disk) refused.refusal) }
     {
         let blocks = disk.size();
@@ -193,7 +193,7 @@ fn end<'j, 'b, D: BlockDisk, J: Naming, W: Wait>(
     txn: FileTxn<'j, 'b, D, J>,
     waits: bool,
 ) -> Result<(), FileFault<'b, J>>
-    requires rule { (m : Map) → m.blocks ≡ J.blocks → Sound m → Agrees m txn.reads → Sound (overwritten m txn.writes) }
+    requires rule { (m : Map) → m.blocks ≡ J.blocks → HasSoundFiles m → Agrees m txn.reads → HasSoundFiles (overwritten m txn.writes) }
     ensures { IsEndOf J.blocks txn.entry waits session.old session.new result }
 {
     if !waits {

@@ -3,10 +3,10 @@ ghost use Rattle.std.specs.Prelude.{◌≡◌, ◌≤◌, ◌+◌, [], length, O
 ghost use Rattle.journal_world.specs.declared.layout.TheConstants.{FIRST_DATA};
 ghost use Rattle.journal_inode.specs.declared.node.TheConstants.{FILE_BYTES};
 ghost use Rattle.journal_inode.specs.Places.Object.{block};
-ghost use Rattle.journal_filestore.specs.Doing.{IsUnread, Places};
+ghost use Rattle.journal_filestore.specs.Doing.{IsNotYetRead, Places};
 ghost use Rattle.journal_filestore.specs.Done.{IsAnswered};
 ghost use Rattle.journal_filestore.specs.Handles.{time_of};
-ghost use Rattle.journal_filestore.specs.Operations.{Op, target_of, write_case, with_data, is_waiting};
+ghost use Rattle.journal_filestore.specs.Operations.{Op, file_target, write_case, with_data, is_waiting};
 ghost use Rattle.journal_filestore.specs.Operations.Call.{write};
 ghost use Rattle.journal_filestore.specs.Operations.Reply.{wrote};
 
@@ -37,7 +37,7 @@ pub(crate) struct Write<'a> {
 impl<'a, J: Naming> Operation<J> for Write<'a> {
     type Reply = Changed;
 
-    ghost case = { λ w F r F2. (r, F2) ≡ write_case w.offset w.count w.bytes.now (time_of w.moment) F (target_of F w.handle.number w.handle.generation) };
+    ghost case = { λ w F r F2. (r, F2) ≡ write_case w.offset w.count w.bytes.now (time_of w.moment) F (file_target F w.handle.number w.handle.generation) };
 
     ghost is_waiting = { λ w. is_waiting w.stability };
 
@@ -94,7 +94,7 @@ fn put_data<'j, 'b, D: BlockDisk, J: Naming, W: Wait>(
     bytes: &[u8],
 ) -> Result<(), Why<'b, J>>
     requires room { offset + length bytes.now ≤ FILE_BYTES }
-    requires unread { FIRST_DATA ≤ number → IsUnread txn.old (block number) }
+    requires unread { FIRST_DATA ≤ number → IsNotYetRead txn.old (block number) }
     requires writes { txn.old.writes ≡ [] }
     ensures { OnOk result (Places J.blocks txn.old txn.new number offset bytes.now) }
 {

@@ -9,7 +9,7 @@ use Rattle.journal_world.proofs.LongerHistories.{commits_of-commit, count-commit
 use Rattle.journal_world.proofs.Marks.{floor-commit, floor-mark, count-mark}
 use Rattle.journal_world.proofs.Prefixes.{IsPrefix-refl, IsPrefix-trans}
 use Rattle.journal_world.proofs.SessionCommits.{commits_of-same}
-use Rattle.journal_history.specs.Tokens.{SessionState, made, next_of, IsSession, Commits, IsReceiptFor, IsWhole}
+use Rattle.journal_history.specs.Tokens.{SessionState, made, next_transaction, IsSession, Commits, IsReceiptFor, IsWhole}
 
 -- a session that has seen just a front, with as many commits under its number as it made, is exact
 pub exact_at : (s : SessionState) (front : List Entry) → IsPrefix s.mine s.seen → IsPrefix s.seen front
@@ -26,7 +26,7 @@ slice_get-last (y ∷ xs) x = slice_get-last xs x
 -- the session s commits its next transaction, after all that it has seen
 module _ (s : SessionState) (whole : List Entry) (reads writes : List Pair) (own : IsPrefix s.mine s.seen) (later : IsPrefix s.seen whole) (as_many : length (commits_of s.number whole) ≡ made s) where
   abbrev pub next : Transaction
-  next = next_of s reads writes
+  next = next_transaction s reads writes
 
   abbrev pub longer : List Entry
   longer = whole ++ commit next ∷ []

@@ -10,7 +10,7 @@ use Rattle.journal_world.specs.Histories.{Entry, floor}
 use Rattle.journal_world.proofs.Prefixes.{IsPrefix-whole, IsPrefix-length, IsPrefix-trans}
 use Rattle.journal_world.proofs.Marks.{floor-append-le}
 use Rattle.journal_history.specs.Soundness.{IsSound, MayAdd}
-use Rattle.journal_history.specs.Steps.{IsKept, ExchangesHead, ExchangesFloor}
+use Rattle.journal_history.specs.Steps.{IsLawful, ExchangesHead, ExchangesFloor}
 use Rattle.journal_history.proofs.Growth.{IsSound-snoc}
 
 abbrev shown : List Entry → List Entry
@@ -29,7 +29,7 @@ having_seen seen = (seen, (no_nib, None))
 
 module _ (rule : Map → Type 0) (seen mine : List Entry) (e : Entry) (old : ℕ) (len : length mine ≡ old) (may : MayAdd rule mine e) (begins : IsPrefix mine seen) where
   abbrev AddGoes : List Cell → List Entry → Type 0
-  AddGoes cells history = Goes (IsKept rule) shown moved 0 (having_seen seen) (exchanged old (old + 1)) (ExchangesHead rule (step 0 old (old + 1) e) (having_seen seen)) cells history
+  AddGoes cells history = Goes (IsLawful rule) shown moved 0 (having_seen seen) (exchanged old (old + 1)) (ExchangesHead rule (step 0 old (old + 1) e) (having_seen seen)) cells history
 
   module _ (history : List Entry) (told : ℕ) (sound : IsSound rule history) (marked : told ≤ floor history) (pre : IsPrefix seen history) where
     add_goes : (b : Bool) → (length history == old) ≡ b → AddGoes ((length history, true) ∷ (told, true) ∷ []) history
@@ -63,7 +63,7 @@ module _ (rule : Map → Type 0) (seen mine : List Entry) (e : Entry) (old : ℕ
         )
 
   -- the exchange of HEAD adds the entry to all that was seen, or finds that the history is longer
-  pub add_moves : Moves (IsKept rule) shown moved 0 (having_seen seen) (exchanged old (old + 1)) (ExchangesHead rule (step 0 old (old + 1) e) (having_seen seen))
+  pub add_moves : Moves (IsLawful rule) shown moved 0 (having_seen seen) (exchanged old (old + 1)) (ExchangesHead rule (step 0 old (old + 1) e) (having_seen seen))
   add_moves cells history kept pre away =
       let P : List Cell → Type 0 = λ cs. (0 < length cs) × ((cell cs 0).1 ≡ true) × AddGoes cs history in
       subst P (sym kept.words) (omega arith, refl, add_goes history kept.told kept.sound kept.marked pre (length history == old) refl)
@@ -74,14 +74,14 @@ either-le false m n k first second = second
 
 -- the exchange of FLOOR to a number that is at most a mark that was seen
 pub tell_moves : (rule : Map → Type 0) (seen : List Entry) (ask : Entry) (old new : ℕ) → new ≤ floor seen
-    → Moves (IsKept rule) shown moved 1 (having_seen seen) (exchanged old new) (ExchangesFloor rule (step 1 old new ask) (having_seen seen))
+    → Moves (IsLawful rule) shown moved 1 (having_seen seen) (exchanged old new) (ExchangesFloor rule (step 1 old new ask) (having_seen seen))
 tell_moves rule seen ask old new covered cells history kept pre away =
     let all : history ++ [] ≡ history = append-nil history in
     let grown : floor seen ≤ floor history = subst (λ (h : List Entry). floor seen ≤ floor h) pre.1 (floor-append-le seen pre.0) in
     let below : exchanged old new kept.told ≤ floor history = either-le (kept.told == old) new kept.told (floor history) (omega arith) kept.marked in
     let sound' : IsSound rule (history ++ []) = subst (IsSound rule) (sym all) kept.sound in
     let P : List Cell → Type 0 =
-    λ cs. (1 < length cs) × ((cell cs 1).1 ≡ true) × Goes (IsKept rule) shown moved 1 (having_seen seen) (exchanged old new) (ExchangesFloor rule (step 1 old new ask) (having_seen seen)) cs history in
+    λ cs. (1 < length cs) × ((cell cs 1).1 ≡ true) × Goes (IsLawful rule) shown moved 1 (having_seen seen) (exchanged old new) (ExchangesFloor rule (step 1 old new ask) (having_seen seen)) cs history in
     subst P (sym kept.words) (
       omega arith,
       refl,

@@ -58,11 +58,3 @@ module _ (rule : Map → Type 0) where
     agrees = λ trusted. agrees (trusted_before history (commit t ∷ []) some trusted);
     ruled = λ trusted. subst rule (sym (latest-commit history t some)) (keeps (trusted_before history (commit t ∷ []) some trusted));
   }
-
--- the opening, where the rule holds of its map of objects
-pub may_open : (rule : Map → Type 0) (m : Map) (trusted : Bool) → (IsTrue trusted → IsTrue (are_objects m.blocks m.pairs)) → (IsTrue trusted → rule m) → MayAdd rule [] (opening m trusted)
-may_open rule m trusted objects keeps = record {
-  follows = refl;
-  agrees = λ is. (objects is, keeps is);
-  ruled = keeps;
-}

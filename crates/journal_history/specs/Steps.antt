@@ -6,22 +6,22 @@ use Rattle.journal_world.specs.Histories.{Entry, floor}
 use Rattle.journal_history.specs.Soundness.{IsSound}
 
 -- HEAD is the length of the history, which is sound; FLOOR is at most its greatest mark
-pub record IsKept (rule : Map → Type 0) (cells : List Cell) (history : List Entry) : Type 0 where
+pub record IsLawful (rule : Map → Type 0) (cells : List Cell) (history : List Entry) : Type 0 where
   pub told : ℕ
   pub words : cells ≡ (length history, true) ∷ (told, true) ∷ []
   pub marked : told ≤ floor history
   pub sound : IsSound rule history
 
-abbrev pub head_of : Book → Named
-head_of book = record { tracked = true; key = 0; book = book }
+abbrev pub head_word : Book → Named
+head_word book = record { tracked = true; key = 0; book = book }
 
-abbrev pub floor_of : Book → Named
-floor_of book = record { tracked = true; key = 1; book = book }
+abbrev pub floor_word : Book → Named
+floor_word book = record { tracked = true; key = 1; book = book }
 
 -- A book's words, with a token that has seen nothing of it
 pub record IsBook (book : Book) (head floor : Named) (seen : List Entry) : Type 0 where
-  pub head_is : head ≡ head_of book
-  pub floor_is : floor ≡ floor_of book
+  pub head_is : head ≡ head_word book
+  pub floor_is : floor ≡ floor_word book
   pub empty : seen ≡ []
 
 -- A front of a journal's book: it has the book itself, a token of it that has seen a sound history, and that history's length

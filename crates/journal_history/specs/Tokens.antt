@@ -26,8 +26,8 @@ pub record OnlyExtends (old new : SessionState) : Type 0 where
   pub seen : IsPrefix old.seen new.seen
 
 -- the session's next transaction
-abbrev pub next_of : SessionState → List Pair → List Pair → Transaction
-next_of s reads writes = record { session = s.number; number = made s; reads = reads; writes = writes }
+abbrev pub next_transaction : SessionState → List Pair → List Pair → Transaction
+next_transaction s reads writes = record { session = s.number; number = made s; reads = reads; writes = writes }
 
 -- What each session keeps, on a disk of so many blocks, with its number of commits
 pub record IsSession (blocks commits : ℕ) (s : SessionState) : Type 0 where

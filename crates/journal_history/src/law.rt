@@ -25,9 +25,9 @@ pub struct Law<R: MapRule> {
 impl<R: MapRule> Rule<LogEntry, u64> for Law<R> {
     ghost use Rattle.std.specs.Prelude.{[]};
     ghost use base.Fml.{ftrue};
-    ghost use Rattle.journal_history.specs.Steps.{IsKept};
+    ghost use Rattle.journal_history.specs.Steps.{IsLawful};
 
-    ghost holds = { λ cells history. IsKept R.statement cells history };
+    ghost holds = { λ cells history. IsLawful R.statement cells history };
 
     ghost first = { [] };
 

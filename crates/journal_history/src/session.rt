@@ -4,7 +4,7 @@ ghost use mathlib.Core.List.{IsPrefix};
 ghost use Rattle.journal_world.specs.Maps.{Agrees, are_objects, overwritten};
 ghost use Rattle.journal_world.specs.Histories.{floor, commits_of, opened, is_trusted, latest, IsLegal};
 ghost use Rattle.journal_history.specs.Soundness.{IsSound, IsLonger};
-ghost use Rattle.journal_history.specs.Tokens.{made, IsExact, OnlyExtends, next_of, Commits};
+ghost use Rattle.journal_history.specs.Tokens.{made, IsExact, OnlyExtends, next_transaction, Commits};
 
 use crate::book::Naming;
 use crate::front::Front;
@@ -142,7 +142,7 @@ impl<'b, J: Naming, R: MapRule> Session<'b, J, R> {
         requires agrees { IsTrue (is_trusted whole.now) → Agrees (latest whole.now) (T.reads transaction.now) }
         requires rule { IsTrue (is_trusted whole.now) → R.statement (overwritten (latest whole.now) (T.writes transaction.now)) }
         ensures committed { IfOk result (λ front.
-            Commits (next_of self.old (T.reads transaction.now) (T.writes transaction.now)) self.old self.new whole.now front) }
+            Commits (next_transaction self.old (T.reads transaction.now) (T.writes transaction.now)) self.old self.new whole.now front) }
         ensures stale { IfErr result (λ front. IsLonger whole.now front) }
         ensures unchanged { OnErr result (self.new ≡ self.old) }
     {

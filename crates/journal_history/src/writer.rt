@@ -5,7 +5,7 @@ ghost use Rattle.journal_world.specs.Maps.{Agrees, are_objects, overwritten};
 ghost use Rattle.journal_world.specs.Histories.{floor, count, commits_of, opened, is_trusted, latest, IsLegal};
 ghost use Rattle.journal_world.specs.Histories.Entry.{opening, stable};
 ghost use Rattle.journal_history.specs.Soundness.{IsSound, IsLonger};
-ghost use Rattle.journal_history.specs.Tokens.{made, IsExact, OnlyExtends, next_of, Commits, IsReceiptFor};
+ghost use Rattle.journal_history.specs.Tokens.{made, IsExact, OnlyExtends, next_transaction, Commits, IsReceiptFor};
 
 use crate::book::{Book, Naming};
 use crate::front::Front;
@@ -19,8 +19,8 @@ use std::marker::Model;
 
 /// The right to add entries to the history, with all of it that was added. Contracts see the history.
 ///
-/// Only who begins a book's history has a writer, and there is no copy of it. So whoever keeps it decides
-/// which sessions there are, and no one else adds a commit, a mark or an opening. Each call is safe all the
+/// Beginning a book's history makes its one writer, which cannot be copied. So its owner alone decides which
+/// sessions there are, and adds commits and marks. Each call is safe all the
 /// same where the book has more entries: it is refused, and gives the longer history as a front.
 #[derive(Drop)]
 pub struct Writer<'b, J: Naming, R: MapRule> {
@@ -139,8 +139,8 @@ impl<'b, J: Naming, R: MapRule> Writer<'b, J, R> {
         requires written { IsTrue (are_objects J.blocks (T.writes transaction.now)) }
         requires agrees { IsTrue (is_trusted self.old) → Agrees (latest self.old) (T.reads transaction.now) }
         requires rule { IsTrue (is_trusted self.old) → R.statement (overwritten (latest self.old) (T.writes transaction.now)) }
-        ensures committed { OnOk result (Commits (next_of session.old (T.reads transaction.now) (T.writes transaction.now)) session.old session.new self.old self.new) }
-        ensures receipt { IfOk result (IsReceiptFor (next_of session.old (T.reads transaction.now) (T.writes transaction.now)) self.new (length self.old)) }
+        ensures committed { OnOk result (Commits (next_transaction session.old (T.reads transaction.now) (T.writes transaction.now)) session.old session.new self.old self.new) }
+        ensures receipt { IfOk result (IsReceiptFor (next_transaction session.old (T.reads transaction.now) (T.writes transaction.now)) self.new (length self.old)) }
         ensures stale { IfErr result (λ front. IsLonger self.old front) }
         ensures unchanged { OnErr result ((self.new ≡ self.old) × (session.new ≡ session.old)) }
     {
@@ -163,7 +163,7 @@ impl<'b, J: Naming, R: MapRule> Writer<'b, J, R> {
         ensures stale { IfErr result (λ front. IsLonger self.old front) }
         ensures unchanged { OnErr result (self.new ≡ self.old) }
     {
-        // It tells the proof that the history is sound.
+        // Called for its contract: the history is sound.
         let _len = self.front.len();
         self.front = self.front.add_after::<u64, AskMark>(&self.front, &n)?;
         self.mark = n;

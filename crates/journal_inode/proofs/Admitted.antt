@@ -9,7 +9,7 @@ use Rattle.journal_world.specs.Maps.{Map}
 use Rattle.journal_inode.specs.declared.place.TheConstants.{INODES}
 use Rattle.journal_inode.specs.Places.{object}
 use Rattle.journal_inode.specs.Places.Object.{superblock, bit}
-use Rattle.journal_inode.specs.Sound.{superblock_of, IsTaken, IsBit, Sound}
+use Rattle.journal_inode.specs.Sound.{superblock_of, IsTaken, IsBit, HasSoundFiles}
 use Rattle.journal_inode.specs.Admitting.{AreSoundBelow, AreOwners, bit_asked, AreBitsBelow, AreBitsScanned}
 
 -- what a place of the table is
@@ -43,7 +43,7 @@ taken_by m owners k owned whole (inr (inr is)) =
 
 -- The map is sound
 pub Sound-scanned : (m : Map) (owners : List Bool) → object m superblock ≡ superblock_of m.blocks → AreSoundBelow m INODES → AreOwners m INODES owners
-    → FIRST_DATA + length owners ≡ m.blocks → AreBitsBelow m owners BLOCK_BITS → Sound m
+    → FIRST_DATA + length owners ≡ m.blocks → AreBitsBelow m owners BLOCK_BITS → HasSoundFiles m
 Sound-scanned m owners begins below owned whole bits = record {
   begins = begins;
   written = λ i low. (below.each i low).written;
@@ -59,14 +59,14 @@ Sound-scanned m owners begins below owned whole bits = record {
     by_taken k low (inr clear) = inr (bits k low ∙ clear.0, clear.1)
 
 -- A sound map's inodes are
-pub AreSoundBelow-Sound : (m : Map) → Sound m → AreSoundBelow m INODES
+pub AreSoundBelow-Sound : (m : Map) → HasSoundFiles m → AreSoundBelow m INODES
 AreSoundBelow-Sound m sound = record {
   each = λ i low. record { written = sound.written i low; placed = sound.placed i low; file = λ f is. sound.files i f low is };
   apart = sound.apart;
 }
 
 -- A sound map's bits are as the table asks
-pub AreBitsBelow-Sound : (m : Map) (owners : List Bool) → Sound m → AreOwners m INODES owners → FIRST_DATA + length owners ≡ m.blocks → AreBitsBelow m owners BLOCK_BITS
+pub AreBitsBelow-Sound : (m : Map) (owners : List Bool) → HasSoundFiles m → AreOwners m INODES owners → FIRST_DATA + length owners ≡ m.blocks → AreBitsBelow m owners BLOCK_BITS
 AreBitsBelow-Sound m owners sound owned whole = λ k low. by_both k (sound.bits k low) (taken_by m owners k owned whole (table_cases owners k))
   where
     by_both : (k : ℕ) → IsBit (object m (bit k)) (IsTaken m (FIRST_DATA + k))
@@ -95,7 +95,7 @@ bits_more before now after trusted still later failed fails failing owners k v s
 
 -- what is answered of a map whose superblock is its disk's and whose inodes are sound
 pub admitted_by_bits : (m : Map) (owners : List Bool) (admitted : Bool) → object m superblock ≡ superblock_of m.blocks → AreSoundBelow m INODES → AreOwners m INODES owners → FIRST_DATA + length owners ≡ m.blocks
-    → (IsTrue admitted ↔ AreBitsBelow m owners BLOCK_BITS) → IsTrue admitted ↔ Sound m
+    → (IsTrue admitted ↔ AreBitsBelow m owners BLOCK_BITS) → IsTrue admitted ↔ HasSoundFiles m
 admitted_by_bits m owners admitted begins below owned whole bits = (
   (λ is. Sound-scanned m owners begins below owned whole (bits.0 is)),
   (λ sound. bits.1 (AreBitsBelow-Sound m owners sound owned whole)),
@@ -103,10 +103,10 @@ admitted_by_bits m owners admitted begins below owned whole bits = (
 
 -- a map without sound inodes is not sound
 pub none_admitted : {X : Type 0} (m0 m1 : Map) (t0 t1 : Bool) (found : Option X) (Q : X → Type 0) → m1 ≡ m0 → t1 ≡ t0
-    → (IsTrue t1 → MatchOption found (AreSoundBelow m1 INODES → ⊥) Q) → found ≡ None → IsTrue t0 → Sound m0 → ⊥
+    → (IsTrue t1 → MatchOption found (AreSoundBelow m1 INODES → ⊥) Q) → found ≡ None → IsTrue t0 → HasSoundFiles m0 → ⊥
 none_admitted m0 m1 t0 t1 found Q same_map same_trust told is trust sound =
     let no : AreSoundBelow m1 INODES → ⊥ = subst (λ o. MatchOption o (AreSoundBelow m1 INODES → ⊥) Q) is (told (subst IsTrue (sym same_trust) trust)) in
-    no (AreSoundBelow-Sound m1 (subst Sound (sym same_map) sound))
+    no (AreSoundBelow-Sound m1 (subst HasSoundFiles (sym same_map) sound))
 
 -- what is answered of a map by its bits is the rule
 pub some_admitted : {X E : Type 0} (items : X → List Bool) (m0 m1 m2 : Map) (t0 t1 t2 : Bool) (has : Bool) (found : Option X) (x : X) (table : List Bool) (r : Result Bool E)
@@ -115,7 +115,7 @@ pub some_admitted : {X E : Type 0} (items : X → List Bool) (m0 m1 m2 : Map) (t
     → (IsTrue t1 → MatchOption found (AreSoundBelow m1 INODES → ⊥) (λ y. AreSoundBelow m1 INODES × AreOwners m1 INODES (items y))) → found ≡ Some x
     → IfSome found (λ y. FIRST_DATA + length (items y) ≡ m1.blocks)
     → (IsTrue t2 → IfOk r (λ admitted. IsTrue admitted ↔ AreBitsBelow m2 table BLOCK_BITS)) → table ≡ items x
-    → IsTrue t0 → IfOk r (λ admitted. IsTrue admitted ↔ Sound m0)
+    → IsTrue t0 → IfOk r (λ admitted. IsTrue admitted ↔ HasSoundFiles m0)
 some_admitted {X} {E} items m0 m1 m2 t0 t1 t2 has found x table r same_1 same_2 trust_1 trust_2 begins yes_begins told is whole bits table_is trust =
     by_answer r (bits (subst IsTrue (sym (trust_2 ∙ trust_1)) trust))
   where
@@ -127,7 +127,7 @@ some_admitted {X} {E} items m0 m1 m2 t0 t1 t2 has found x table r same_1 same_2 
     length_is : FIRST_DATA + length (items x) ≡ m0.blocks
     length_is = subst (λ m. FIRST_DATA + length (items x) ≡ m.blocks) same_1 (subst (λ o. IfSome o (λ y. FIRST_DATA + length (items y) ≡ m1.blocks)) is whole)
 
-    by_answer : (r : Result Bool E) → IfOk r (λ admitted. IsTrue admitted ↔ AreBitsBelow m2 table BLOCK_BITS) → IfOk r (λ admitted. IsTrue admitted ↔ Sound m0)
+    by_answer : (r : Result Bool E) → IfOk r (λ admitted. IsTrue admitted ↔ AreBitsBelow m2 table BLOCK_BITS) → IfOk r (λ admitted. IsTrue admitted ↔ HasSoundFiles m0)
     by_answer (Ok admitted) asked =
         admitted_by_bits m0 (items x) admitted ((begins trust).0 yes_begins) inodes.0 inodes.1 length_is
         (subst (λ m. IsTrue admitted ↔ AreBitsBelow m (items x) BLOCK_BITS) (same_2 ∙ same_1) (subst (λ t. IsTrue admitted ↔ AreBitsBelow m2 t BLOCK_BITS) table_is asked))

@@ -8,7 +8,7 @@ use Rattle.journal_disk.specs.Disks.{Past, read_of, past_after, write, barrier}
 use Rattle.journal_disk.specs.Laws.{read_written, read_other}
 use Rattle.journal_inode.specs.declared.node.Time.{Time}
 use Rattle.journal_inode.specs.declared.node.Node.TheVariants.{Free, Root}
-use Rattle.journal_inode.specs.Nodes.{bytes_of}
+use Rattle.journal_inode.specs.Nodes.{inode_bytes}
 use Rattle.journal_inode.specs.Sound.{superblock_of}
 use Rattle.journal_inode.specs.Formats.{AreZeros, IsFormatted, inode_in}
 use Rattle.journal_inode.proofs.Zeros.{zero_inode}
@@ -17,8 +17,8 @@ use Rattle.journal_inode.proofs.Zeros.{zero_inode}
 pub record AreMade (blocks : ℕ) (made : Time) (superblock bitmap inodes : Bytes) : Type 0 where
   pub superblock_is : superblock ≡ superblock_of blocks
   pub bits : (k : ℕ) → k < BLOCK_BITS → bit_of bitmap k ≡ nat_le (blocks - FIRST_DATA) k
-  pub root : slice_range inodes 128 256 ≡ bytes_of (Root made)
-  pub others : (i : ℕ) → i < 32 → i ≢ 1 → slice_range inodes (i * 128) (i * 128 + 128) ≡ bytes_of (Free 0)
+  pub root : slice_range inodes 128 256 ≡ inode_bytes (Root made)
+  pub others : (i : ℕ) → i < 32 → i ≢ 1 → slice_range inodes (i * 128) (i * 128 + 128) ≡ inode_bytes (Free 0)
 
 -- what is read once they are written
 reads : (p : Past) (blocks : ℕ) (made : Time) (sb bm ino : Bytes) → MIN_BLOCKS ≤ blocks → AreZeros blocks (read_of p) → AreMade blocks made sb bm ino
@@ -44,7 +44,7 @@ reads p blocks made sb bm ino enough zeros are = record {
     other : (b : ℕ) → b ≢ 513 → b ≢ 514 → b ≢ 515 → read_of p3 b ≡ read_of p b
     other b ne ne_2 ne_3 = read_other p2 b 515 ino ne_3 ∙ read_other p1 b 514 bm ne_2 ∙ read_other p b 513 sb ne
 
-    free_inode : (i : ℕ) → i < 512 → i ≢ 1 → (i / 32 ≡ 0) ⊎ (i / 32 ≡ 0 → ⊥) → inode_in (read_of p3) i ≡ bytes_of (Free 0)
+    free_inode : (i : ℕ) → i < 512 → i ≢ 1 → (i / 32 ≡ 0) ⊎ (i / 32 ≡ 0 → ⊥) → inode_in (read_of p3) i ≡ inode_bytes (Free 0)
     free_inode i low ne (inl is) =
         let place : i % 32 ≡ i = omega (arith, is) in
         ap (λ q. slice_range (read_of p3 (515 + q)) (i % 32 * 128) (i % 32 * 128 + 128)) is

@@ -17,11 +17,11 @@ use Rattle.journal_inode.specs.declared.node.Node.TheVariants.{Free, Root, File}
 use Rattle.journal_inode.specs.declared.node.Time.{Time}
 use Rattle.journal_inode.specs.declared.place.TheConstants.{INODES}
 use Rattle.journal_inode.specs.Formats.{IsFormatted, inode_in}
-use Rattle.journal_inode.specs.Nodes.{bytes_of, node_of, IsTime}
+use Rattle.journal_inode.specs.Nodes.{inode_bytes, node_of, IsTime}
 use Rattle.journal_inode.specs.Places.{addr_of, object}
 use Rattle.journal_inode.specs.Places.Object.{superblock, bit, inode}
 use Rattle.journal_inode.specs.SameFiles.{IsOnDisk-is_valid}
-use Rattle.journal_inode.specs.Sound.{node_at, HasBlock, IsTaken, IsInPlace, IsBit, Sound}
+use Rattle.journal_inode.specs.Sound.{node_at, HasBlock, IsTaken, IsInPlace, IsBit, HasSoundFiles}
 use Rattle.journal_inode.proofs.Fields.{node_of-bytes_of}
 
 superblock_read : (m : Map) (read : ℕ → Bytes) → IsMapOf read m → object m superblock ≡ read 513
@@ -66,7 +66,7 @@ at_or_past blocks k is = grind (arith, nat_tests)
 not_past : (blocks k : ℕ) → nat_le (blocks - FIRST_DATA) k ≡ false → blocks ≤ FIRST_DATA + k → ⊥
 not_past blocks k is past = grind (arith, nat_tests)
 
-pub IsFormatted-Sound : (m : Map) (made : Time) (read : ℕ → Bytes) → IsTime made → made.nanos ≤ MAX_NANOS → IsFormatted m.blocks made read → IsMapOf read m → Sound m
+pub IsFormatted-Sound : (m : Map) (made : Time) (read : ℕ → Bytes) → IsTime made → made.nanos ≤ MAX_NANOS → IsFormatted m.blocks made read → IsMapOf read m → HasSoundFiles m
 IsFormatted-Sound m made read fits timed formatted is = record {
   begins = superblock_read m read is ∙ formatted.superblock;
   written = λ i low. written_at i low (cases_eq i 1);
@@ -82,11 +82,11 @@ IsFormatted-Sound m made read fits timed formatted is = record {
     free : (i : ℕ) → i < INODES → i ≢ 1 → node_at m i ≡ Free 0
     free i low ne = ap node_of (inode_read m read i is low ∙ formatted.free i low ne) ∙ node_of-bytes_of (Free 0) (lit< tt)
 
-    written_at : (i : ℕ) → i < INODES → (i ≡ 1) ⊎ (i ≡ 1 → ⊥) → object m (inode i) ≡ bytes_of (node_at m i)
+    written_at : (i : ℕ) → i < INODES → (i ≡ 1) ⊎ (i ≡ 1 → ⊥) → object m (inode i) ≡ inode_bytes (node_at m i)
     written_at i low (inl one) =
-        subst (λ j. object m (inode j) ≡ bytes_of (node_at m j)) (sym one)
-        (inode_read m read 1 is (lit< tt) ∙ formatted.root ∙ sym (ap bytes_of root))
-    written_at i low (inr ne) = inode_read m read i is low ∙ formatted.free i low ne ∙ sym (ap bytes_of (free i low ne))
+        subst (λ j. object m (inode j) ≡ inode_bytes (node_at m j)) (sym one)
+        (inode_read m read 1 is (lit< tt) ∙ formatted.root ∙ sym (ap inode_bytes root))
+    written_at i low (inr ne) = inode_read m read i is low ∙ formatted.free i low ne ∙ sym (ap inode_bytes (free i low ne))
 
     placed_at : (i : ℕ) → i < INODES → (i ≡ 1) ⊎ (i ≡ 1 → ⊥) → IsInPlace i (node_at m i)
     placed_at i low (inl one) = subst (λ j. IsInPlace j (node_at m j)) (sym one) (subst (IsInPlace 1) (sym root) timed)

@@ -11,7 +11,7 @@ use Rattle.journal_inode.specs.declared.node.FileNode.{FileNode}
 use Rattle.journal_inode.specs.declared.node.TheConstants.{FILE_BYTES}
 use Rattle.journal_inode.specs.Places.{addr_of}
 use Rattle.journal_inode.specs.Places.Object.{block}
-use Rattle.journal_inode.specs.Sound.{front_of, superblock_of, stored, IsSoundFile}
+use Rattle.journal_inode.specs.Sound.{superblock_head, superblock_of, stored, IsSoundFile}
 use Rattle.journal_inode.specs.Admitting.{AllZero}
 
 -- so many zeros
@@ -59,17 +59,17 @@ tail_decides m f v tail b here whole born small from to timed is_tail decides = 
       (subst (λ x. x ≡ take f.size x ++ zeros (FILE_BYTES - f.size)) here sound.padded)))),
 )
 
-length-front : (blocks : ℕ) → length (front_of blocks) ≡ 24
-unfolding front_of
+length-front : (blocks : ℕ) → length (superblock_head blocks) ≡ 24
+unfolding superblock_head
 length-front blocks = refl
 
 -- the bytes of the superblock begin with its front
-pub superblock_begins : (bytes : List ℕ) (blocks : ℕ) → bytes ≡ superblock_of blocks → take 24 bytes ≡ front_of blocks
+pub superblock_begins : (bytes : List ℕ) (blocks : ℕ) → bytes ≡ superblock_of blocks → take 24 bytes ≡ superblock_head blocks
 unfolding superblock_of
-superblock_begins bytes blocks is = ap (take 24) is ∙ take_at (front_of blocks) _ 24 (length-front blocks)
+superblock_begins bytes blocks is = ap (take 24) is ∙ take_at (superblock_head blocks) _ 24 (length-front blocks)
 
 -- with that front, they are the superblock's where the rest is zero
-pub superblock_decides : (bytes tail : List ℕ) (blocks : ℕ) (b : Bool) → length bytes ≡ 4096 → take 24 bytes ≡ front_of blocks → tail ≡ drop 24 bytes → (IsTrue b ↔ AllZero tail) → IsTrue b ↔ (bytes ≡ superblock_of blocks)
+pub superblock_decides : (bytes tail : List ℕ) (blocks : ℕ) (b : Bool) → length bytes ≡ 4096 → take 24 bytes ≡ superblock_head blocks → tail ≡ drop 24 bytes → (IsTrue b ↔ AllZero tail) → IsTrue b ↔ (bytes ≡ superblock_of blocks)
 unfolding superblock_of
 superblock_decides bytes tail blocks b whole front is_tail decides = (
   (λ is. padded-AllZero bytes 4096 24 whole (lit≤ tt) (subst AllZero is_tail (decides.0 is)) ∙ ap (λ x. x ++ zeros (4096 - 24)) front),

@@ -10,8 +10,8 @@ use Rattle.journal_world.specs.declared.address.Kind.TheVariants.{Block}
 use Rattle.journal_world.specs.Addresses.{zeros_of}
 use Rattle.journal_block.specs.Block.{Bytes, bit_of, with_bytes}
 use Rattle.journal_inode.specs.declared.node.Node.TheVariants.{Free}
-use Rattle.journal_inode.specs.Nodes.{bytes_of, bytes_of_fields}
-use Rattle.journal_inode.specs.Sound.{front_of, superblock_of}
+use Rattle.journal_inode.specs.Nodes.{inode_bytes, bytes_of_fields}
+use Rattle.journal_inode.specs.Sound.{superblock_head, superblock_of}
 
 zero_byte : (n i : ℕ) → slice_index (replicate n 0) i ≡ 0
 zero_byte zero i = refl
@@ -28,19 +28,19 @@ zero_range n i inside =
     let e : i + 128 - i ≡ 128 = omega arith in
     ap (λ m. take {A = ℕ} m (drop i (replicate n 0))) e ∙ ap (take 128) (drop-replicate {X = ℕ} i n 0) ∙ take-replicate {X = ℕ} 128 (n - i) 0 (omega arith)
 
-free_bytes : bytes_of (Free 0) ≡ replicate 128 0
+free_bytes : inode_bytes (Free 0) ≡ replicate 128 0
 unfolding bytes_of_fields
 free_bytes = refl
 
 -- each 128 bytes are those of a free inode
-pub zero_inode : (i : ℕ) → i + 128 ≤ 4096 → slice_range (zeros_of Block) i (i + 128) ≡ bytes_of (Free 0)
+pub zero_inode : (i : ℕ) → i + 128 ≤ 4096 → slice_range (zeros_of Block) i (i + 128) ≡ inode_bytes (Free 0)
 unfolding zeros_of
 zero_inode i inside = zero_range 4096 i inside ∙ sym free_bytes
 
 -- a block of zeros that begins with the superblock's front is the superblock
-pub zeros-superblock : (blocks : ℕ) → with_bytes (zeros_of Block) 0 (front_of blocks) ≡ superblock_of blocks
-unfolding with_bytes zeros_of superblock_of front_of
-zeros-superblock blocks = ap (λ rest. front_of blocks ++ rest) (drop-replicate {X = ℕ} 24 4096 0)
+pub zeros-superblock : (blocks : ℕ) → with_bytes (zeros_of Block) 0 (superblock_head blocks) ≡ superblock_of blocks
+unfolding with_bytes zeros_of superblock_of superblock_head
+zeros-superblock blocks = ap (λ rest. superblock_head blocks ++ rest) (drop-replicate {X = ℕ} 24 4096 0)
 
 -- no bit is set from a place on and below it
 pub none_between : (place k : ℕ) → (nat_le place k && nat_lt k place) ≡ false
@@ -50,7 +50,7 @@ none_between place k = grind (arith, nat_tests)
 pub other_inode : (old new : Bytes) (i : ℕ) → old ≡ zeros_of Block → i < 32 → i ≢ 1
     → ((j k : ℕ) → k ≤ 128 → slice_range new j k ≡ slice_range old j k)
     → ((j k : ℕ) → 256 ≤ j → slice_range new j k ≡ slice_range old j k)
-    → slice_range new (i * 128) (i * 128 + 128) ≡ bytes_of (Free 0)
+    → slice_range new (i * 128) (i * 128 + 128) ≡ inode_bytes (Free 0)
 other_inode old new i zeros low ne before after =
     by_side (cases_eq i 0) ∙ ap (λ (b : Bytes). slice_range b (i * 128) (i * 128 + 128)) zeros ∙ zero_inode (i * 128) (omega (arith, low))
   where

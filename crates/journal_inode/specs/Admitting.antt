@@ -8,7 +8,7 @@ use Rattle.journal_inode.specs.declared.node.Node.{Node}
 use Rattle.journal_inode.specs.declared.node.Node.TheVariants.{File}
 use Rattle.journal_inode.specs.Places.{object}
 use Rattle.journal_inode.specs.Places.Object.{inode, bit}
-use Rattle.journal_inode.specs.Nodes.{bytes_of}
+use Rattle.journal_inode.specs.Nodes.{inode_bytes}
 use Rattle.journal_inode.specs.Sound.{node_at, HasBlock, IsInPlace, IsSoundFile}
 
 abbrev pub AllZero : List ℕ → Type 0
@@ -16,7 +16,7 @@ AllZero bytes = All (λ byte. byte ≡ 0) bytes
 
 -- What the rule says of one inode alone
 pub record IsSoundInode (m : Map) (i : ℕ) : Type 0 where
-  pub written : object m (inode i) ≡ bytes_of (node_at m i)
+  pub written : object m (inode i) ≡ inode_bytes (node_at m i)
   pub placed : IsInPlace i (node_at m i)
   pub file : (f : FileNode) → node_at m i ≡ File f → IsSoundFile m f
 

@@ -10,7 +10,7 @@ use Rattle.journal_disk.specs.Disks.{DiskState, HasFailed}
 use Rattle.journal_inode.specs.declared.node.Time.{Time}
 use Rattle.journal_inode.specs.declared.node.Node.TheVariants.{Free, Root}
 use Rattle.journal_inode.specs.declared.place.TheConstants.{INODES}
-use Rattle.journal_inode.specs.Nodes.{bytes_of}
+use Rattle.journal_inode.specs.Nodes.{inode_bytes}
 use Rattle.journal_inode.specs.Sound.{superblock_of}
 
 -- each of so many blocks is all zeros
@@ -26,13 +26,13 @@ pub record IsFormatted (blocks : ℕ) (made : Time) (read : ℕ → Bytes) : Typ
   pub superblock : read SUPERBLOCK ≡ superblock_of blocks
   -- the bit of each data block is clear, and all others are set
   pub bits : (k : ℕ) → k < BLOCK_BITS → bit_of (read BITMAP) k ≡ nat_le (blocks - FIRST_DATA) k
-  pub root : inode_in read 1 ≡ bytes_of (Root made)
-  pub free : (i : ℕ) → i < INODES → i ≢ 1 → inode_in read i ≡ bytes_of (Free 0)
+  pub root : inode_in read 1 ≡ inode_bytes (Root made)
+  pub free : (i : ℕ) → i < INODES → i ≢ 1 → inode_in read i ≡ inode_bytes (Free 0)
   pub log : (b : ℕ) → b < SUPERBLOCK → read b ≡ zeros_of Block
   pub empty : (b : ℕ) → FIRST_DATA ≤ b → b < blocks → read b ≡ zeros_of Block
 
 -- Why what writes is refused: for want of memory, or by the device, which failed meanwhile
-abbrev pub IsOfWriting : {C : Type 0} → DiskState → DiskState → Refusal C → Type 0
-IsOfWriting old new NoMemory = Unit {0}
-IsOfWriting old new (DeviceFailed cause) = HasFailed old new
-IsOfWriting old new other = ⊥
+abbrev pub IsWritingRefusal : {C : Type 0} → DiskState → DiskState → Refusal C → Type 0
+IsWritingRefusal old new NoMemory = Unit {0}
+IsWritingRefusal old new (DeviceFailed cause) = HasFailed old new
+IsWritingRefusal old new other = ⊥

@@ -21,10 +21,10 @@ bytes_of_fields kind generation size block mtime =
     ++ to_le_bytes w32 mtime.secs ++ to_le_bytes w32 mtime.nanos ++ replicate 96 0
 
 -- the bytes of an inode: kind 0 is free, 1 a directory, 2 a file
-abbrev pub bytes_of : Node → Value
-bytes_of (Free generation) = bytes_of_fields 0 generation 0 0 no_time
-bytes_of (Root mtime) = bytes_of_fields 1 1 0 0 mtime
-bytes_of (File f) = bytes_of_fields 2 f.generation f.size f.block f.mtime
+abbrev pub inode_bytes : Node → Value
+inode_bytes (Free generation) = bytes_of_fields 0 generation 0 0 no_time
+inode_bytes (Root mtime) = bytes_of_fields 1 1 0 0 mtime
+inode_bytes (File f) = bytes_of_fields 2 f.generation f.size f.block f.mtime
 
 -- the numbers of 4 and of 8 bytes from a place on
 unfoldable pub word_at : Value → ℕ → ℕ

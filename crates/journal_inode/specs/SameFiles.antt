@@ -11,8 +11,8 @@ use Rattle.journal_inode.specs.declared.node.TheConstants.{FILE_BYTES}
 use Rattle.journal_inode.specs.declared.place.TheConstants.{INODES}
 use Rattle.journal_inode.specs.Places.{Object, addr_of, IsOnDisk, object}
 use Rattle.journal_inode.specs.Places.Object.{superblock, bit, inode, block}
-use Rattle.journal_inode.specs.Nodes.{bytes_of, node_of}
-use Rattle.journal_inode.specs.Sound.{superblock_of, node_at, HasBlock, IsTaken, IsInPlace, IsSoundFile, IsBit, Sound}
+use Rattle.journal_inode.specs.Nodes.{inode_bytes, node_of}
+use Rattle.journal_inode.specs.Sound.{superblock_of, node_at, HasBlock, IsTaken, IsInPlace, IsSoundFile, IsBit, HasSoundFiles}
 
 -- each object of a disk has a valid address
 pub IsOnDisk-is_valid : (blocks : ℕ) (o : Object) → IsOnDisk blocks o → IsTrue (is_valid blocks (addr_of o))
@@ -26,10 +26,10 @@ pub object-same : (m n : Map) (o : Object) → SameMap m n → IsOnDisk m.blocks
 object-same m n o same here = same.values (addr_of o) (IsOnDisk-is_valid m.blocks o here)
 
 -- a map that gives the same values is sound too
-pub Sound-same : (m n : Map) → SameMap m n → Sound m → Sound n
+pub Sound-same : (m n : Map) → SameMap m n → HasSoundFiles m → HasSoundFiles n
 Sound-same m n same sound = record {
   begins = sym (objects superblock tt) ∙ sound.begins ∙ ap superblock_of same.blocks;
-  written = λ i low. sym (objects (inode i) low) ∙ sound.written i low ∙ ap bytes_of (nodes i low);
+  written = λ i low. sym (objects (inode i) low) ∙ sound.written i low ∙ ap inode_bytes (nodes i low);
   placed = λ i low. subst (IsInPlace i) (nodes i low) (sound.placed i low);
   files = λ i f low is. file f (sound.files i f low (nodes i low ∙ is));
   apart = λ i j b low_i low_j has_i has_j. sound.apart i j b low_i low_j (back i b low_i has_i) (back j b low_j has_j);

@@ -12,15 +12,15 @@ use Rattle.journal_inode.specs.declared.node.TheConstants.{FILE_BYTES}
 use Rattle.journal_inode.specs.declared.place.TheConstants.{INODES}
 use Rattle.journal_inode.specs.Places.{object}
 use Rattle.journal_inode.specs.Places.Object.{superblock, bit, inode, block}
-use Rattle.journal_inode.specs.Nodes.{bytes_of, node_of}
+use Rattle.journal_inode.specs.Nodes.{inode_bytes, node_of}
 
 -- "GJNLDSK1", the version 1 and the number of blocks
-unfoldable pub front_of : ℕ → Value
-front_of blocks = (0x47 ∷ 0x4a ∷ 0x4e ∷ 0x4c ∷ 0x44 ∷ 0x53 ∷ 0x4b ∷ 0x31 ∷ []) ++ to_le_bytes w64 1 ++ to_le_bytes w64 blocks
+unfoldable pub superblock_head : ℕ → Value
+superblock_head blocks = (0x47 ∷ 0x4a ∷ 0x4e ∷ 0x4c ∷ 0x44 ∷ 0x53 ∷ 0x4b ∷ 0x31 ∷ []) ++ to_le_bytes w64 1 ++ to_le_bytes w64 blocks
 
 -- the rest of the superblock is zero
 unfoldable pub superblock_of : ℕ → Value
-superblock_of blocks = front_of blocks ++ replicate (4096 - 24) 0
+superblock_of blocks = superblock_head blocks ++ replicate (4096 - 24) 0
 
 -- inode i of the map
 abbrev pub node_at : Map → ℕ → Node
@@ -66,11 +66,11 @@ abbrev pub IsBit : Value → Type 0 → Type 0
 IsBit v P = ((v ≡ 1 ∷ []) × P) ⊎ ((v ≡ 0 ∷ []) × (P → ⊥))
 
 -- A map of sound files
-pub record Sound (m : Map) : Type 0 where
+pub record HasSoundFiles (m : Map) : Type 0 where
   -- the superblock is that of a disk of so many blocks
   pub begins : object m superblock ≡ superblock_of m.blocks
   -- the bytes of each inode are those of some inode, so what its kind has not is zero
-  pub written : (i : ℕ) → i < INODES → object m (inode i) ≡ bytes_of (node_at m i)
+  pub written : (i : ℕ) → i < INODES → object m (inode i) ≡ inode_bytes (node_at m i)
   -- each is in its place
   pub placed : (i : ℕ) → i < INODES → IsInPlace i (node_at m i)
   -- each file is sound

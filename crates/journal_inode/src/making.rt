@@ -7,9 +7,9 @@ ghost use Rattle.journal_disk.specs.Disks.{Keeps, IsSettled, read_of, past_after
 ghost use Rattle.journal_disk.specs.Disks.{write as written, barrier};
 ghost use Rattle.journal_world.specs.Maps.{Map};
 ghost use Rattle.journal_object.specs.Objects.{IsMapOf};
-ghost use Rattle.journal_inode.specs.Nodes.{bytes_of};
-ghost use Rattle.journal_inode.specs.Sound.{superblock_of, Sound};
-ghost use Rattle.journal_inode.specs.Formats.{AreZeros, IsFormatted, IsOfWriting};
+ghost use Rattle.journal_inode.specs.Nodes.{inode_bytes};
+ghost use Rattle.journal_inode.specs.Sound.{superblock_of, HasSoundFiles};
+ghost use Rattle.journal_inode.specs.Formats.{AreZeros, IsFormatted, IsWritingRefusal};
 
 use crate::superblock::front;
 use crate::{NODE_BYTES, Node, Time};
@@ -39,10 +39,10 @@ pub fn format<D: BlockDisk>(alloc: Global, disk: D, moment: Moment) -> Result<D,
 
     // The map that its blocks make is one of sound files.
     ensures sound { IsTrue (D.state disk).honest → IfOk result (λ formatted. (m : Map)
-        → m.blocks ≡ (D.state disk).past.size → IsMapOf (read_of (D.state formatted).past) m → Sound m) }
+        → m.blocks ≡ (D.state disk).past.size → IsMapOf (read_of (D.state formatted).past) m → HasSoundFiles m) }
 
     ensures refusal { IfErr result (λ refused.
-        IsOfWriting (D.state disk) (D.state refused.disk) refused.refusal) }
+        IsWritingRefusal (D.state disk) (D.state refused.disk) refused.refusal) }
     ensures handed_back { IfErr result (λ refused. Keeps (D.state disk) (D.state refused.disk)) }
 {
     let mut disk = disk;
@@ -62,7 +62,7 @@ fn write_all<D: BlockDisk>(alloc: Global, disk: &mut D, moment: Moment) -> Resul
         (IsFormatted (D.state disk.old).past.size (record { secs = moment.secs; nanos = moment.nanos })
         (read_of (D.state disk.new).past)) }
     ensures settled { IsTrue (D.state disk.old).honest → OnOk result (IsSettled (D.state disk.new).past) }
-    ensures refusal { IfErr result (IsOfWriting (D.state disk.old) (D.state disk.new)) }
+    ensures refusal { IfErr result (IsWritingRefusal (D.state disk.old) (D.state disk.new)) }
 {
     let blocks = disk.size();
     let superblock = super_block(alloc, blocks)?;
@@ -102,9 +102,9 @@ fn bitmap(alloc: Global, blocks: u64) -> Result<Block, Refusal<()>>
 
 // The first block of inodes: the root directory's among zeros.
 fn first_inodes(alloc: Global, made: Time) -> Result<Block, Refusal<()>>
-    ensures root { IfOk result (λ block. slice_range block 128 256 ≡ bytes_of (Node.Root made)) }
+    ensures root { IfOk result (λ block. slice_range block 128 256 ≡ inode_bytes (Node.Root made)) }
     ensures others { IfOk result (λ block. (i : ℕ) → i < 32 → i ≢ 1
-        → slice_range block (i * 128) (i * 128 + 128) ≡ bytes_of (Node.Free 0)) }
+        → slice_range block (i * 128) (i * 128 + 128) ≡ inode_bytes (Node.Free 0)) }
     ensures refusal { IsOkUnless result Refusal.NoMemory }
 {
     let mut block = Block::try_new(alloc)?;
@@ -118,7 +118,7 @@ fn write<D: BlockDisk>(disk: &mut D, block: u64, bytes: &Block) -> Result<(), Re
     ensures keeps { Keeps (D.state disk.old) (D.state disk.new) }
     ensures written { IsTrue (D.state disk.old).honest → OnOk result
         ((D.state disk.new).past ≡ past_after (written block bytes.now) (D.state disk.old).past) }
-    ensures refusal { IfErr result (IsOfWriting (D.state disk.old) (D.state disk.new)) }
+    ensures refusal { IfErr result (IsWritingRefusal (D.state disk.old) (D.state disk.new)) }
 {
     match disk.write(block, bytes) {
         Ok(()) => Ok(()),
@@ -131,7 +131,7 @@ fn sync<D: BlockDisk>(disk: &mut D) -> Result<(), Refusal<()>>
     ensures keeps { Keeps (D.state disk.old) (D.state disk.new) }
     ensures synced { IsTrue (D.state disk.old).honest → OnOk result
         ((D.state disk.new).past ≡ past_after barrier (D.state disk.old).past) }
-    ensures refusal { IfErr result (IsOfWriting (D.state disk.old) (D.state disk.new)) }
+    ensures refusal { IfErr result (IsWritingRefusal (D.state disk.old) (D.state disk.new)) }
 {
     match disk.barrier() {
         Ok(()) => Ok(()),

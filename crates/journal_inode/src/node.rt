@@ -1,6 +1,6 @@
 // An inode, and its bytes.
 ghost use Rattle.std.specs.Prelude.{◌≡◌, ◌≤◌, ◌+◌, length};
-ghost use Rattle.journal_inode.specs.Nodes.{with_piece, bytes_of_fields, bytes_of, word_at, long_at, time_at, node_of, Fits};
+ghost use Rattle.journal_inode.specs.Nodes.{with_piece, bytes_of_fields, inode_bytes, word_at, long_at, time_at, node_of, Fits};
 
 use journal_world::Moment;
 
@@ -88,9 +88,9 @@ impl Node {
         ensures fits { Fits result }
 
         // What was written is read again, and writes the same bytes.
-        ensures read_back { (node : Node) → Fits node → bytes.now ≡ bytes_of node → result ≡ node }
-        ensures writes_back { (node : Node) → Fits node → bytes.now ≡ bytes_of node
-            → bytes_of result ≡ bytes.now }
+        ensures read_back { (node : Node) → Fits node → bytes.now ≡ inode_bytes node → result ≡ node }
+        ensures writes_back { (node : Node) → Fits node → bytes.now ≡ inode_bytes node
+            → inode_bytes result ≡ bytes.now }
     {
         match word(bytes, KIND_AT) {
             FILE => Node::File(FileNode {
@@ -106,7 +106,7 @@ impl Node {
 
     /// The bytes of the inode.
     pub fn bytes(&self) -> [u8; NODE_BYTES]
-        ensures bytes { result ≡ bytes_of self.now }
+        ensures bytes { result ≡ inode_bytes self.now }
 
         // They are read as this inode.
         ensures read_back { node_of result ≡ self.now }

@@ -1,7 +1,7 @@
 // Whether the files of a map are sound.
 ghost use Rattle.std.specs.Prelude.{ℕ, ◌≡◌, ◌<◌, ◌≤◌, ◌+◌, ◌↔◌, length, IsTrue, IfOk, IfErr, IfSome, MatchOption};
 ghost use Rattle.journal_inode.specs.Sound.{superblock_of, node_at, IsInPlace, IsSoundFile};
-ghost use Rattle.journal_world.specs.Refusals.{IsOfReading};
+ghost use Rattle.journal_world.specs.Refusals.{IsReadingRefusal};
 ghost use Rattle.journal_inode.specs.Places.{object};
 ghost use Rattle.journal_inode.specs.Places.Object.{superblock};
 ghost use Rattle.journal_inode.specs.Admitting.{IsSoundInode, IsDataBlock, HasDataBlocks, AreSoundBelow, AreOwners, Claims, bit_asked, AreBitsBelow};
@@ -30,10 +30,10 @@ impl SoundFiles {
 }
 
 impl MapRule for SoundFiles {
-    ghost use Rattle.journal_inode.specs.Sound.{Sound};
+    ghost use Rattle.journal_inode.specs.Sound.{HasSoundFiles};
     ghost use Rattle.journal_inode.specs.SameFiles.{Sound-same};
 
-    ghost statement = { Sound };
+    ghost statement = { HasSoundFiles };
 
     ghost respects = { Sound-same };
 
@@ -52,7 +52,7 @@ impl MapRule for SoundFiles {
 fn has_superblock<O: ObjectReader>(reader: &mut O) -> Result<bool, Refusal<O::Cause>>
     ensures sound { IsTrue (O.trusted reader.old) → IfOk result (λ has.
         IsTrue has ↔ (object (O.map reader.old) superblock ≡ superblock_of (O.map reader.old).blocks)) }
-    ensures refused { IfErr result (IsOfReading (O.failed reader.new)) }
+    ensures refusal { IfErr result (IsReadingRefusal (O.failed reader.new)) }
     ensures stays_failed { IsTrue (O.failed reader.old) → IsTrue (O.failed reader.new) }
     ensures same_map { O.map reader.new ≡ O.map reader.old }
     ensures same_trust { O.trusted reader.new ≡ O.trusted reader.old }
@@ -82,7 +82,7 @@ fn is_file_sound<O: ObjectReader>(reader: &mut O, file: FileNode) -> Result<bool
     ensures sound { IsTrue (O.trusted reader.old) → IfOk result (λ sound.
         IsTrue sound ↔ IsSoundFile (O.map reader.old) file) }
     ensures in_range { IfOk result (λ sound. IsTrue sound → IsDataBlock (O.map reader.old).blocks file.block) }
-    ensures refused { IfErr result (IsOfReading (O.failed reader.new)) }
+    ensures refusal { IfErr result (IsReadingRefusal (O.failed reader.new)) }
     ensures stays_failed { IsTrue (O.failed reader.old) → IsTrue (O.failed reader.new) }
     ensures same_map { O.map reader.new ≡ O.map reader.old }
     ensures same_trust { O.trusted reader.new ≡ O.trusted reader.old }
@@ -105,7 +105,7 @@ fn sound_inode<O: ObjectReader>(reader: &mut O, i: u32) -> Result<Option<Node>, 
         MatchOption found (IsSoundInode (O.map reader.old) i → ⊥)
         (λ node. (node_at (O.map reader.old) i ≡ node) × IsSoundInode (O.map reader.old) i)) }
     ensures in_range { IfOk result (λ found. IfSome found (HasDataBlocks (O.map reader.old).blocks)) }
-    ensures refused { IfErr result (IsOfReading (O.failed reader.new)) }
+    ensures refusal { IfErr result (IsReadingRefusal (O.failed reader.new)) }
     ensures stays_failed { IsTrue (O.failed reader.old) → IsTrue (O.failed reader.new) }
     ensures same_map { O.map reader.new ≡ O.map reader.old }
     ensures same_trust { O.trusted reader.new ≡ O.trusted reader.old }
@@ -134,7 +134,7 @@ fn owners<O: ObjectReader>(
         (λ owners. AreSoundBelow (O.map reader.old) INODES × AreOwners (O.map reader.old) INODES owners.items)) }
     ensures whole { IfOk result (λ found. IfSome found (λ owners.
         FIRST_DATA + length owners.items ≡ (O.map reader.old).blocks)) }
-    ensures refused { IfErr result (IsOfReading (O.failed reader.new)) }
+    ensures refusal { IfErr result (IsReadingRefusal (O.failed reader.new)) }
     ensures stays_failed { IsTrue (O.failed reader.old) → IsTrue (O.failed reader.new) }
     ensures same_map { O.map reader.new ≡ O.map reader.old }
     ensures same_trust { O.trusted reader.new ≡ O.trusted reader.old }
@@ -178,7 +178,7 @@ fn are_bits_sound<O: ObjectReader>(
 ) -> Result<bool, Refusal<O::Cause>>
     ensures sound { IsTrue (O.trusted reader.old) → IfOk result (λ sound.
         IsTrue sound ↔ AreBitsBelow (O.map reader.old) owners.now BLOCK_BITS) }
-    ensures refused { IfErr result (IsOfReading (O.failed reader.new)) }
+    ensures refusal { IfErr result (IsReadingRefusal (O.failed reader.new)) }
     ensures stays_failed { IsTrue (O.failed reader.old) → IsTrue (O.failed reader.new) }
     ensures same_map { O.map reader.new ≡ O.map reader.old }
     ensures same_trust { O.trusted reader.new ≡ O.trusted reader.old }

@@ -1,7 +1,7 @@
 // The superblock.
 ghost use Rattle.std.specs.Prelude.{◌≡◌, ◌↔◌, length, IsTrue};
 ghost use Rattle.journal_world.specs.declared.layout.TheConstants.{BLOCK_BYTES};
-ghost use Rattle.journal_inode.specs.Sound.{front_of, superblock_of};
+ghost use Rattle.journal_inode.specs.Sound.{superblock_head, superblock_of};
 ghost use Rattle.journal_inode.specs.Admitting.{AllZero};
 
 use crate::node::put;
@@ -19,7 +19,7 @@ pub(crate) const FRONT_BYTES: usize = 24;
 
 // The name of the format, its version and the number of blocks.
 pub(crate) fn front(blocks: u64) -> [u8; FRONT_BYTES]
-    ensures { result ≡ front_of blocks }
+    ensures { result ≡ superblock_head blocks }
 {
     let mut front = [0; FRONT_BYTES];
     put(&mut front, 0, MAGIC);

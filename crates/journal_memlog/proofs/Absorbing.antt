@@ -3,7 +3,7 @@ use Rattle.std.proofs.Common.{◌≡◌, ℕ, ◌+◌, ◌-◌, ◌<◌, ◌≤�
 use Rattle.std.proofs.lemmas.List.{take-append-drop}
 use Rattle.std.proofs.lemmas.List.Elements.{All-head, All-tail, All-cons, All-nil}
 use Rattle.journal_block.specs.declared.update.Update.{Update}
-use Rattle.journal_memlog.specs.Logs.{LogState, IsLog, next_of, head_of, tail_of, with_update, absorbed, appended, CanTake}
+use Rattle.journal_memlog.specs.Logs.{LogState, IsMemLog, next_position, head_of, tail_of, with_update, absorbed, appended, CanTake}
 use Rattle.journal_memlog.specs.Laws.{length-absorbed_ge, head_of-appended, tail_of-appended}
 
 -- no updates change nothing
@@ -16,7 +16,7 @@ appended_none log =
     room_is : log.room + length (tail_of log) - length (tail_of log) ≡ log.room
     room_is = omega arith
 
-module _ (log : LogState) (u : Update) (rest : List Update) (sound : IsLog log) (can : CanTake log (u ∷ rest)) where
+module _ (log : LogState) (u : Update) (rest : List Update) (sound : IsMemLog log) (can : CanTake log (u ∷ rest)) where
   -- the log with the first update in it
   abbrev one : LogState
   one = appended log (u ∷ [])
@@ -57,5 +57,5 @@ module _ (log : LogState) (u : Update) (rest : List Update) (sound : IsLog log) 
   can_take_rest = record {
     on_disk = All-tail (λ v. v.block < log.blocks) u rest can.on_disk;
     room = subst (λ (t : List Update). length (absorbed t rest) ≤ length t + one.room) (sym tail_is) (omega (arith, can.room, fewer));
-    below = subst (λ (l : LogState). next_of l < 2 ^ 62) (sym appended_more) can.below;
+    below = subst (λ (l : LogState). next_position l < 2 ^ 62) (sym appended_more) can.below;
   }

@@ -9,7 +9,7 @@ use Rattle.journal_block.specs.declared.update.Update.{Update}
 use Rattle.journal_block.specs.Block.{Bytes}
 use Rattle.journal_block.specs.Updates.{updated, updates_block}
 use Rattle.journal_block.specs.UpdateLaws.{updated-unnamed}
-use Rattle.journal_memlog.specs.Logs.{LogState, HasBounds, IsLog, next_of, head_of, tail_of, replaced, with_update, appended, CanTake}
+use Rattle.journal_memlog.specs.Logs.{LogState, HasBounds, IsMemLog, next_position, head_of, tail_of, replaced, with_update, appended, CanTake}
 use Rattle.journal_memlog.specs.Index.{no_update, update_at, Names, IsIndexed}
 
 -- Updates by place
@@ -75,7 +75,7 @@ module _ (log : LogState) (newest : List ℕ) (indexed : IsIndexed log newest) w
       (λ past. absurd (omega (arith, get_or_past newest b 0 past))) (cases_lt b (length newest))
 
   -- no entry is past the end
-  pub entry_before : (b : ℕ) → slice_index newest b ≤ next_of log
+  pub entry_before : (b : ℕ) → slice_index newest b ≤ next_position log
   entry_before b = ⊎_elim (λ none. omega (arith, none)) (λ names. omega (arith, names.position, names.within)) (indexed.names b)
 
   -- each block has an entry
@@ -99,7 +99,7 @@ module _ (log : LogState) (newest : List ℕ) (indexed : IsIndexed log newest) w
       omega (arith, entry_at i within, entry_at j lt, ap (slice_index newest) here)
 
   -- what holds of every log
-  pub is_log : log.blocks ≡ length newest → IsLog log
+  pub is_log : log.blocks ≡ length newest → IsMemLog log
   is_log size = record {
     bounds = indexed.bounds;
     on_disk = λ k d lt.
@@ -352,7 +352,7 @@ module _ (log : LogState) (newest : List ℕ) (indexed : IsIndexed log newest) w
       start_to_logged = indexed.bounds.start_to_logged;
       logged_to_cut = indexed.bounds.logged_to_cut;
       cut_to_next = omega (arith, indexed.bounds.cut_to_next, length_push log.updates u);
-      below = subst (λ (l : LogState). next_of l < 2 ^ 62) appended_fresh can.below;
+      below = subst (λ (l : LogState). next_position l < 2 ^ 62) appended_fresh can.below;
     }
 
   -- The first position dropped

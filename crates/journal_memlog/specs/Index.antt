@@ -4,8 +4,8 @@ use Rattle.journal_block.specs.declared.update.Update.{Update}
 use Rattle.journal_memlog.specs.Logs.{LogState, HasBounds}
 
 -- what contracts see of the fields
-abbrev pub state_of : ℕ → ℕ → ℕ → List Update → ℕ → List ℕ → LogState
-state_of start logged cut updates room newest =
+abbrev pub state_of_fields : ℕ → ℕ → ℕ → List Update → ℕ → List ℕ → LogState
+state_of_fields start logged cut updates room newest =
     record { blocks = length newest; start = start; logged = logged; cut = cut; updates = updates; room = room }
 
 -- the update at a place, and what stands for one where there is none

@@ -1,7 +1,7 @@
 -- What follows from the definitions for every tail and every log.
-use Rattle.std.proofs.Common.{◌≡◌, ℕ, ◌+◌, ◌-◌, ◌≤◌, ◌<◌, ◌^◌, eqb, ◌||◌, Bool, true, false, not, cond, List, [], ◌∷◌, ◌++◌, length, take, drop, map, refl, sym, ap, ◌∙◌, arith, append_assoc, length-append, length-drop}
+use Rattle.std.proofs.Common.{◌≡◌, ℕ, ◌+◌, ◌-◌, ◌≤◌, ◌<◌, ◌^◌, eqb, ◌||◌, Bool, true, false, not, cond, List, [], ◌∷◌, ◌++◌, length, take, drop, map, refl, sym, ap, ◌∙◌, arith, append_assoc, length-append}
 use Rattle.std.specs.List.{All}
-use Rattle.std.proofs.lemmas.List.{append-nil, length-map, length-take-le, length_push, take-append-drop, take-take, take_all, take_at, drop_at, drop-take, drop-drop}
+use Rattle.std.proofs.lemmas.List.{append-nil, length-map, length-take-le, length_push, take-append-drop, take_at, drop_at}
 use Rattle.std.proofs.lemmas.List.Sums.{sum_by-cons}
 use Rattle.std.proofs.lemmas.List.Elements.{All-head, All-tail, All-cons, All-push, All-append, All-take, All-drop}
 use Rattle.std.proofs.lemmas.Bool.{cond-true, cond-false, cond_both, eq-eqb, eqb-true}
@@ -9,7 +9,7 @@ use Rattle.journal_block.specs.declared.update.Update.{Update}
 use Rattle.journal_block.specs.Block.{Bytes}
 use Rattle.journal_block.specs.Updates.{updated, updates_block}
 use Rattle.journal_block.specs.UpdateLaws.{updated-append}
-use Rattle.journal_memlog.specs.Logs.{LogState, next_of, head_of, tail_of, updates_between, replaced, with_update, absorbed, fresh_count, appended, trimmed, AreOnDisk, CanTake}
+use Rattle.journal_memlog.specs.Logs.{LogState, next_position, head_of, tail_of, replaced, with_update, absorbed, fresh_count, appended, AreOnDisk, CanTake}
 
 -- Lists of updates
 
@@ -158,10 +158,6 @@ All-with_update P tail u all this =
 
 -- Many
 
-pub absorbed-append : (tail first later : List Update) → absorbed tail (first ++ later) ≡ absorbed (absorbed tail first) later
-absorbed-append tail [] later = refl
-absorbed-append tail (u ∷ first) later = absorbed-append (with_update tail u) first later
-
 -- absorbing loses nothing: each block has what it has after the tail and the updates, one after the other
 pub updated-absorbed : (tail updates : List Update) (b : ℕ) (bytes : Bytes)
     → updated (absorbed tail updates) b bytes ≡ updated (tail ++ updates) b bytes
@@ -172,17 +168,6 @@ updated-absorbed tail (u ∷ later) b bytes =
     ∙ ap (updated later b) (updated-with_update tail u b bytes)
     ∙ sym (updated-append (tail ++ u ∷ []) later b bytes)
     ∙ ap (λ (us : List Update). updated us b bytes) (append_assoc tail (u ∷ []) later)
-
--- it has the blocks of both
-pub updates_block-absorbed : (tail updates : List Update) (b : ℕ)
-    → updates_block (absorbed tail updates) b ≡ updates_block (tail ++ updates) b
-updates_block-absorbed tail [] b = ap (λ (us : List Update). updates_block us b) (sym (append-nil tail))
-updates_block-absorbed tail (u ∷ later) b =
-    updates_block-absorbed (with_update tail u) later b
-    ∙ updates_block-append (with_update tail u) later b
-    ∙ ap (λ (v : Bool). v || updates_block later b) (updates_block-with_update tail u b)
-    ∙ sym (updates_block-append (tail ++ u ∷ []) later b)
-    ∙ ap (λ (us : List Update). updates_block us b) (append_assoc tail (u ∷ []) later)
 
 -- and no update but theirs
 pub All-absorbed : (P : Update → Type 0) (tail updates : List Update) → All P tail → All P updates → All P (absorbed tail updates)
@@ -226,12 +211,12 @@ length-absorbed_le tail (u ∷ later) =
 -- Logs
 
 -- what was cut is as it was
-pub head_of-appended : (log : LogState) (updates : List Update) → log.start ≤ log.cut → log.cut ≤ next_of log
+pub head_of-appended : (log : LogState) (updates : List Update) → log.start ≤ log.cut → log.cut ≤ next_position log
     → head_of (appended log updates) ≡ head_of log
 head_of-appended log updates from to =
     take_at (head_of log) (absorbed (tail_of log) updates) (log.cut - log.start) (length-take-le (log.cut - log.start) log.updates (omega arith))
 
-pub tail_of-appended : (log : LogState) (updates : List Update) → log.start ≤ log.cut → log.cut ≤ next_of log
+pub tail_of-appended : (log : LogState) (updates : List Update) → log.start ≤ log.cut → log.cut ≤ next_position log
     → tail_of (appended log updates) ≡ absorbed (tail_of log) updates
 tail_of-appended log updates from to =
     drop_at (head_of log) (absorbed (tail_of log) updates) (log.cut - log.start) (length-take-le (log.cut - log.start) log.updates (omega arith))
@@ -246,14 +231,6 @@ updated-appended log updates b bytes =
     ∙ ap (updated updates b) (sym (updated-split (log.cut - log.start) log.updates b bytes))
     ∙ sym (updated-append log.updates updates b bytes)
 
-pub updates_block-appended : (log : LogState) (updates : List Update) (b : ℕ)
-    → updates_block (appended log updates).updates b ≡ updates_block (log.updates ++ updates) b
-updates_block-appended log updates b =
-    updates_block-append (head_of log) (absorbed (tail_of log) updates) b
-    ∙ ap (λ (v : Bool). updates_block (head_of log) b || v) (updates_block-absorbed (tail_of log) updates b)
-    ∙ sym (updates_block-append (head_of log) (tail_of log ++ updates) b)
-    ∙ ap (λ (us : List Update). updates_block us b) (sym (append_assoc (head_of log) (tail_of log) updates) ∙ ap (λ (us : List Update). us ++ updates) (take-append-drop (log.cut - log.start) log.updates))
-
 pub All-appended : (P : Update → Type 0) (log : LogState) (updates : List Update) → All P log.updates → All P updates
     → All P (appended log updates).updates
 All-appended P log updates old new =
@@ -261,43 +238,8 @@ All-appended P log updates old new =
     (All-take P (log.cut - log.start) log.updates old)
     (All-absorbed P (tail_of log) updates (All-drop P (log.cut - log.start) log.updates old) new)
 
--- so no position before the cut changes
-pub updates_between-appended : (log : LogState) (updates : List Update) (first end : ℕ)
-    → log.start ≤ first → first ≤ end → end ≤ log.cut → log.cut ≤ next_of log
-    → updates_between (appended log updates) first end ≡ updates_between log first end
-updates_between-appended log updates first end from before to within =
-    from_front (appended log updates).updates ∙ ap (drop n) same ∙ sym (from_front log.updates)
-  where
-    n : ℕ
-    n = first - log.start
-
-    m : ℕ
-    m = end - first
-
-    same : take (n + m) (appended log updates).updates ≡ take (n + m) log.updates
-    same = sym (take-take (n + m) (log.cut - log.start) (appended log updates).updates (omega arith))
-        ∙ ap (take (n + m)) (head_of-appended log updates (omega arith) within)
-        ∙ take-take (n + m) (log.cut - log.start) log.updates (omega arith)
-
-    from_front : (us : List Update) → take m (drop n us) ≡ drop n (take (n + m) us)
-    from_front us = sym (drop-take n m us)
-
--- what is cut is what stood in the tail
-pub updates_between-cut : (log : LogState) → log.start ≤ log.cut → updates_between log log.cut (next_of log) ≡ tail_of log
-updates_between-cut log from =
-    take_all (next_of log - log.cut) (tail_of log) (omega (arith, length-drop (log.cut - log.start) log.updates))
-
--- and a trim leaves the positions from there on
-pub updates_between-trimmed : (log : LogState) (upto first end : ℕ) → log.start ≤ upto → upto ≤ first
-    → updates_between (trimmed log upto) first end ≡ updates_between log first end
-updates_between-trimmed log upto first end from to =
-    ap (take (end - first)) (drop-drop (first - upto) (upto - log.start) log.updates ∙ ap (λ (n : ℕ). drop n log.updates) steps)
-  where
-    steps : upto - log.start + (first - upto) ≡ first - log.start
-    steps = omega arith
-
 pub next_of-appended : (log : LogState) (updates : List Update)
-    → next_of (appended log updates) + length (tail_of log) ≡ next_of log + length (absorbed (tail_of log) updates)
+    → next_position (appended log updates) + length (tail_of log) ≡ next_position log + length (absorbed (tail_of log) updates)
 next_of-appended log updates =
     omega (
       arith,
@@ -308,33 +250,19 @@ next_of-appended log updates =
 
 -- it grows by no more than the fresh ones, nor than its room
 pub next_of-appended_le : (log : LogState) (updates : List Update)
-    → next_of (appended log updates) ≤ next_of log + fresh_count (tail_of log) updates
+    → next_position (appended log updates) ≤ next_position log + fresh_count (tail_of log) updates
 next_of-appended_le log updates = omega (arith, length-absorbed_le (tail_of log) updates, next_of-appended log updates)
 
 pub next_of-taken_le : (log : LogState) (updates : List Update) → CanTake log updates
-    → next_of (appended log updates) ≤ next_of log + log.room
+    → next_position (appended log updates) ≤ next_position log + log.room
 next_of-taken_le log updates can = omega (arith, can.room, next_of-appended log updates)
 
 -- what is asked where updates are appended, by the number of the fresh ones
 pub can_take_fresh : (log : LogState) (updates : List Update) → AreOnDisk log.blocks updates
-    → fresh_count (tail_of log) updates ≤ log.room → next_of log + fresh_count (tail_of log) updates < 2 ^ 62
+    → fresh_count (tail_of log) updates ≤ log.room → next_position log + fresh_count (tail_of log) updates < 2 ^ 62
     → CanTake log updates
 can_take_fresh log updates on_disk room below = record {
   on_disk = on_disk;
   room = omega (arith, length-absorbed_le (tail_of log) updates);
   below = omega (arith, next_of-appended_le log updates);
 }
-
--- a trim in two steps
-pub trimmed-trimmed : (log : LogState) (mid upto : ℕ) → log.start ≤ mid → mid ≤ upto
-    → trimmed (trimmed log mid) upto ≡ trimmed log upto
-trimmed-trimmed log mid upto from to =
-    ap (λ (us : List Update). record log { start = upto; updates = us; room = log.room + (mid - log.start) + (upto - mid) })
-    (drop-drop (upto - mid) (mid - log.start) log.updates ∙ ap (λ (n : ℕ). drop n log.updates) steps)
-    ∙ ap (λ (n : ℕ). record log { start = upto; updates = drop (upto - log.start) log.updates; room = n }) room
-  where
-    steps : mid - log.start + (upto - mid) ≡ upto - log.start
-    steps = omega arith
-
-    room : log.room + (mid - log.start) + (upto - mid) ≡ log.room + (upto - log.start)
-    room = omega arith

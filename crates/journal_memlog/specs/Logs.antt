@@ -18,12 +18,12 @@ pub record LogState : Type 0 where
   pub room : ℕ
 
 -- the position after the last
-abbrev pub next_of : LogState → ℕ
-next_of log = log.start + length log.updates
+abbrev pub next_position : LogState → ℕ
+next_position log = log.start + length log.updates
 
 -- where its parts begin, as callers are told
 abbrev pub bounds_of : LogState → Bounds
-bounds_of log = record { start = log.start; logged = log.logged; cut = log.cut; next = next_of log }
+bounds_of log = record { start = log.start; logged = log.logged; cut = log.cut; next = next_position log }
 
 -- the updates that were cut, and those that were not
 abbrev pub head_of : LogState → List Update
@@ -31,10 +31,6 @@ head_of log = take (log.cut - log.start) log.updates
 
 abbrev pub tail_of : LogState → List Update
 tail_of log = drop (log.cut - log.start) log.updates
-
--- the updates at the positions from `first` on, before `end`
-abbrev pub updates_between : LogState → ℕ → ℕ → List Update
-updates_between log first end = take (end - first) (drop (first - log.start) log.updates)
 
 -- no two of the updates are of one block
 abbrev pub HasDistinctBlocks : List Update → Type 0
@@ -48,11 +44,11 @@ AreOnDisk blocks updates = All (λ u. u.block < blocks) updates
 pub record HasBounds (log : LogState) : Type 0 where
   pub start_to_logged : log.start ≤ log.logged
   pub logged_to_cut : log.logged ≤ log.cut
-  pub cut_to_next : log.cut ≤ next_of log
-  pub below : next_of log < 2 ^ 62
+  pub cut_to_next : log.cut ≤ next_position log
+  pub below : next_position log < 2 ^ 62
 
 -- What holds of every log
-pub record IsLog (log : LogState) : Type 0 where
+pub record IsMemLog (log : LogState) : Type 0 where
   pub bounds : HasBounds log
   pub on_disk : AreOnDisk log.blocks log.updates
   pub distinct : HasDistinctBlocks (tail_of log)
@@ -79,14 +75,14 @@ fresh_count tail updates = count_by (λ u. not (updates_block tail u.block)) upd
 -- What each call makes of a log
 
 -- one that begins at a position, and is empty
-abbrev pub begun : ℕ → ℕ → ℕ → LogState
-begun blocks start room =
+abbrev pub empty_log : ℕ → ℕ → ℕ → LogState
+empty_log blocks start room =
     record { blocks = blocks; start = start; logged = start; cut = start; updates = []; room = room }
 
 -- with one more position, which is on the disk
 abbrev pub with_logged : LogState → Update → ℕ → LogState
 with_logged log u room =
-    record log { logged = next_of log + 1; cut = next_of log + 1; updates = log.updates ++ u ∷ []; room = room }
+    record log { logged = next_position log + 1; cut = next_position log + 1; updates = log.updates ++ u ∷ []; room = room }
 
 -- with this tail, whose new positions take up room
 abbrev pub with_tail : LogState → List Update → LogState
@@ -105,4 +101,4 @@ trimmed log upto =
 pub record CanTake (log : LogState) (updates : List Update) : Type 0 where
   pub on_disk : AreOnDisk log.blocks updates
   pub room : length (absorbed (tail_of log) updates) ≤ length (tail_of log) + log.room
-  pub below : next_of (appended log updates) < 2 ^ 62
+  pub below : next_position (appended log updates) < 2 ^ 62

@@ -2,7 +2,7 @@
 ghost use Rattle.std.specs.Prelude.{ℕ, ◌≡◌, ◌+◌, ◌-◌, ◌<◌, ◌≤◌, ◌^◌, ◌++◌, [], ◌∷◌, length, slice_get, slice_index, is_some, Some, IfSome, IfOk, OnOk, OnErr, IsOkUnless};
 ghost use Rattle.journal_block.specs.Block.{Bytes};
 ghost use Rattle.journal_block.specs.Updates.{updated, updates_block};
-ghost use Rattle.journal_memlog.specs.Logs.{LogState, IsLog, HasDistinctBlocks, bounds_of, next_of, head_of, tail_of, begun, with_logged, appended, trimmed, CanTake};
+ghost use Rattle.journal_memlog.specs.Logs.{LogState, IsMemLog, HasDistinctBlocks, bounds_of, next_position, head_of, tail_of, empty_log, with_logged, appended, trimmed, CanTake};
 
 use crate::{Bounds, Group};
 use journal_block::{Block, Update};
@@ -28,14 +28,14 @@ impl Model for MemLog {
     ghost use Rattle.std.specs.Prelude.{◌-◌, length};
     ghost use Rattle.std.specs.VecDeque.{deque_len, deque_capacity};
     ghost use Rattle.journal_memlog.specs.Logs.{LogState};
-    ghost use Rattle.journal_memlog.specs.Index.{IsIndexed, state_of};
+    ghost use Rattle.journal_memlog.specs.Index.{IsIndexed, state_of_fields};
 
     ghost Value = { LogState };
 
-    ghost view = { λ log. state_of log.start log.logged log.cut log.updates.items
+    ghost view = { λ log. state_of_fields log.start log.logged log.cut log.updates.items
         (deque_capacity log.updates - deque_len log.updates) log.newest.items };
 
-    ghost invariant = { λ log. IsIndexed (state_of log.start log.logged log.cut log.updates.items
+    ghost invariant = { λ log. IsIndexed (state_of_fields log.start log.logged log.cut log.updates.items
         (deque_capacity log.updates - deque_len log.updates) log.newest.items) log.newest.items };
 }
 
@@ -45,8 +45,8 @@ impl MemLog {
     /// Answers J1 `NoMemory`, and nothing else, where memory for the index is refused.
     pub fn new<C>(alloc: Global, blocks: u64, start: u64) -> Result<MemLog, Refusal<C>>
         requires { start < 2 ^ 62 }
-        ensures log { IfOk result (λ log. log ≡ begun blocks start log.room) }
-        ensures sound { IfOk result IsLog }
+        ensures log { IfOk result (λ log. log ≡ empty_log blocks start log.room) }
+        ensures sound { IfOk result IsMemLog }
         ensures refusal { IsOkUnless result Refusal.NoMemory }
     {
         let newest = vec![in alloc; 0u64; blocks as usize]?;
@@ -62,7 +62,7 @@ impl MemLog {
     /// The positions that bound the parts of the log.
     pub fn bounds(&self) -> Bounds
         ensures bounds { result ≡ bounds_of self.now }
-        ensures sound { IsLog self.now }
+        ensures sound { IsMemLog self.now }
     {
         Bounds {
             start: self.start,
@@ -74,8 +74,8 @@ impl MemLog {
 
     // The position that the next fresh block gets.
     fn next(&self) -> u64
-        ensures next { result ≡ next_of self.now }
-        ensures sound { IsLog self.now }
+        ensures next { result ≡ next_position self.now }
+        ensures sound { IsMemLog self.now }
     {
         self.start + self.updates.len() as u64
     }
@@ -97,7 +97,7 @@ impl MemLog {
     /// The update at a position.
     pub fn at(&self, position: u64) -> &Update
         requires from_start { self.now.start ≤ position }
-        requires to_next { position < next_of self.now }
+        requires to_next { position < next_position self.now }
         ensures { slice_get self.now.updates (position - self.now.start) ≡ Some result.now }
     {
         &self.updates[(position - self.start) as usize]
@@ -123,13 +123,13 @@ impl MemLog {
     /// but may have more room.
     pub fn push_logged<C>(&mut self, update: Update) -> Result<(), Refusal<C>>
         requires no_group { self.old.logged ≡ self.old.cut }
-        requires no_tail { self.old.cut ≡ next_of self.old }
+        requires no_tail { self.old.cut ≡ next_position self.old }
         requires on_disk { update.block < self.old.blocks }
-        requires below { next_of self.old + 1 < 2 ^ 62 }
+        requires below { next_position self.old + 1 < 2 ^ 62 }
         ensures ok { OnOk result (self.new ≡ with_logged self.old update self.new.room) }
         ensures err { OnErr result (self.new ≡ record self.old { room = self.new.room }) }
         ensures room { self.old.room ≤ self.new.room + 1 }
-        ensures sound { IsLog self.new }
+        ensures sound { IsMemLog self.new }
         ensures refusal { IsOkUnless result Refusal.NoMemory }
     {
         let block = update.block as usize;
@@ -149,7 +149,7 @@ impl MemLog {
         ensures same { self.new ≡ record self.old { room = self.new.room } }
         ensures enough { n ≤ self.old.room → self.new ≡ self.old }
         ensures kept { self.old.room ≤ self.new.room }
-        ensures sound { IsLog self.new }
+        ensures sound { IsMemLog self.new }
         ensures refusal { IsOkUnless result Refusal.NoMemory }
     {
         if n <= self.updates.capacity() - self.updates.len() {
@@ -169,8 +169,8 @@ impl MemLog {
         ensures content { (b : ℕ) (before : Bytes) →
             updated self.new.updates b before ≡ updated (self.old.updates ++ updates.items) b before }
         ensures head { head_of self.new ≡ head_of self.old }
-        ensures room { next_of self.new ≤ next_of self.old + self.old.room }
-        ensures sound { IsLog self.new }
+        ensures room { next_position self.new ≤ next_position self.old + self.old.room }
+        ensures sound { IsMemLog self.new }
     {
         prove!(self.cut <= self.next());
         for update in updates {
@@ -182,7 +182,7 @@ impl MemLog {
     fn absorb(&mut self, update: Update)
         requires { CanTake self.old (update ∷ []) }
         ensures log { self.new ≡ appended self.old (update ∷ []) }
-        ensures sound { IsLog self.new }
+        ensures sound { IsMemLog self.new }
     {
         let block = update.block as usize;
         let entry = self.newest[block];
@@ -197,10 +197,10 @@ impl MemLog {
     /// Makes the whole tail a group, and answers its positions. The group has no block twice, and may be empty.
     pub fn cut(&mut self) -> Group
         ensures first { result.first ≡ self.old.cut }
-        ensures end { result.end ≡ next_of self.old }
-        ensures log { self.new ≡ record self.old { cut = next_of self.old } }
+        ensures end { result.end ≡ next_position self.old }
+        ensures log { self.new ≡ record self.old { cut = next_position self.old } }
         ensures distinct { HasDistinctBlocks (tail_of self.old) }
-        ensures sound { IsLog self.new }
+        ensures sound { IsMemLog self.new }
     {
         let group = Group {
             first: self.cut,
@@ -215,7 +215,7 @@ impl MemLog {
         requires from_logged { self.old.logged ≤ upto }
         requires to_cut { upto ≤ self.old.cut }
         ensures log { self.new ≡ record self.old { logged = upto } }
-        ensures sound { IsLog self.new }
+        ensures sound { IsMemLog self.new }
     {
         self.logged = upto;
     }
@@ -225,7 +225,7 @@ impl MemLog {
         requires from_start { self.old.start ≤ upto }
         requires to_logged { upto ≤ self.old.logged }
         ensures log { self.new ≡ trimmed self.old upto }
-        ensures sound { IsLog self.new }
+        ensures sound { IsMemLog self.new }
     {
         prove!(upto <= self.next());
         while self.start < upto {
@@ -237,7 +237,7 @@ impl MemLog {
     fn drop_first(&mut self)
         requires { self.old.start < self.old.logged }
         ensures log { self.new ≡ trimmed self.old (self.old.start + 1) }
-        ensures sound { IsLog self.new }
+        ensures sound { IsMemLog self.new }
     {
         let block = self.updates.pop_front().unwrap().block as usize;
         self.start += 1;

@@ -1,5 +1,5 @@
 -- The map of a disk's blocks has each valid address, with the object there.
-use Rattle.std.proofs.Common.{◌≡◌, ◌≢◌, ◌<◌, ◌≤◌, ◌+◌, ◌*◌, ◌/◌, ◌%◌, ℕ, zero, suc, Bool, true, false, ◌==◌, List, [], ◌∷◌, IsTrue, Some, None, cond, refl, ap, sym, ◌∙◌, subst, arith, ⊎_elim}
+use Rattle.std.proofs.Common.{◌≡◌, ◌≢◌, ◌<◌, ◌≤◌, ◌+◌, ◌*◌, ◌/◌, ◌%◌, ℕ, zero, suc, Bool, true, false, ◌==◌, List, [], ◌∷◌, IsTrue, Some, None, cond, refl, ap, sym, ◌∙◌, subst, arith, ◌⊎◌, inl, inr, ⊎_elim}
 use Rattle.std.specs.Prelude.{unwrap_or}
 use Rattle.std.specs.List.{list_all}
 use Rattle.std.proofs.lemmas.Bool.{and_from, eq-eqb, false≢true, cases_eq, cases_lt}
@@ -27,15 +27,15 @@ nth_addr-number : (a : Addr) (n : ℕ) → a.off < 32768 → a.block * 32768 + a
 nth_addr-number a n inside is =
     and_from (a.block == n / 32768) (a.off == n % 32768) (eq-eqb a.block (n / 32768) (omega arith)) (eq-eqb a.off (n % 32768) (omega arith))
 
--- a disk has no objects past its end
-kind_past : (blocks block : ℕ) → 532 ≤ blocks → blocks ≤ block → kind_of blocks block ≡ None
-kind_past blocks block low past = grind (arith, nat_tests)
+-- the block of a valid address is one that holds objects
+no_kind : (blocks : ℕ) (a : Addr) → (a.block < 513) ⊎ (blocks ≤ a.block) → 532 ≤ blocks → kind_of blocks a.block ≡ None
+no_kind blocks a outside low = ⊎_elim (λ (below : a.block < 513). grind (arith, nat_tests)) (λ (past : blocks ≤ a.block). grind (arith, nat_tests)) outside
 
-valid_block : (blocks : ℕ) (a : Addr) → 532 ≤ blocks → IsTrue (is_valid blocks a) → a.block < blocks
-valid_block blocks a low valid = ⊎_elim
-    (λ (inside : a.block < blocks). inside)
-    (λ (past : blocks ≤ a.block). absurd (false≢true (rw (kind_past blocks a.block low past) at valid)))
-    (cases_lt a.block blocks)
+pub valid_block : (blocks : ℕ) (a : Addr) → 532 ≤ blocks → IsTrue (is_valid blocks a) → (513 ≤ a.block) × (a.block < blocks)
+valid_block blocks a low valid = (
+  ⊎_elim (λ below. absurd (false≢true (rw (no_kind blocks a (inl below) low) at valid))) (λ above. above) (cases_lt a.block 513),
+  ⊎_elim (λ inside. inside) (λ past. absurd (false≢true (rw (no_kind blocks a (inr past) low) at valid))) (cases_lt a.block blocks),
+)
 
 -- what holds of all pairs, where the first may be left out
 kept_all : (test : Pair → Bool) (p : Pair) (rest : List Pair) (kept : Bool) → (kept ≡ true → test p ≡ true) → list_all test rest ≡ true
@@ -73,7 +73,7 @@ module _ (blocks : ℕ) (content : ℕ → Bytes) where
   unfolding map_of_blocks
   IsMapOf-map_of_blocks low = record {
     values = λ a valid.
-        let block = valid_block blocks a low valid in
+        let block = (valid_block blocks a low valid).1 in
         let off = starts_inside (kind_of blocks a.block) a.off valid in
         ap (λ o. unwrap_or o (zeros_at (kind_of blocks a.block))) (found_below (blocks * 32768) a valid (omega arith));
   }

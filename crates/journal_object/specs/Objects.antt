@@ -22,13 +22,13 @@ with_object_of (Some Bit) bytes off value = with_bit bytes off (slice_index valu
 with_object_of (Some Inode) bytes off value = with_bytes bytes (off / 8) value
 with_object_of (Some Block) bytes off value = value
 
-abbrev pub size_of : Option Kind → ℕ
-size_of None = 0
-size_of (Some kind) = bytes_of kind
+abbrev pub value_size : Option Kind → ℕ
+value_size None = 0
+value_size (Some kind) = bytes_of kind
 
 -- On a disk of so many blocks: how many bytes a value of the address has
 abbrev pub size_at : ℕ → Addr → ℕ
-size_at blocks a = size_of (kind_of blocks a.block)
+size_at blocks a = value_size (kind_of blocks a.block)
 
 -- the object that the address names, where its block holds these bytes
 abbrev pub object_at : ℕ → Bytes → Addr → Value

@@ -1,5 +1,5 @@
 // Reading and overwriting one object of a block.
-ghost use Rattle.std.specs.Prelude.{◌≡◌, ◌≢◌, ◌<◌, ◌%◌, ◌↔◌, ℕ, Bool, false, length, IsTrue, IsSome, IfSome, IsOk, OnOk, OnErr, IsErrOf};
+ghost use Rattle.std.specs.Prelude.{◌≡◌, ◌≢◌, ◌<◌, ◌%◌, ◌↔◌, ℕ, Bool, false, length, IsTrue, IsOk, OnOk, OnErr, IsErrOf};
 ghost use Rattle.journal_world.specs.Addresses.{kind_of, is_valid, is_value_of, bits_of, bytes_of};
 ghost use Rattle.journal_world.specs.Maps.{is_value_at, is_object};
 ghost use Rattle.journal_object.specs.Objects.{object_of, with_object_of, object_at, with_object_at, size_at, ChangesOnly, OverwritesMap};
@@ -26,7 +26,7 @@ pub fn load<C>(layout: &Layout, block: &Block, addr: Addr, out: &mut [u8]) -> Re
     ensures object { OnOk result (IsTrue (is_object layout.now.blocks (addr, out.new))) }
     ensures err { OnErr result (out.new ≡ out.old) }
 {
-    let Some(kind) = kind_at(layout, addr) else {
+    let Some(kind) = layout.kind_at(addr) else {
         return Err(Refusal::BadAddress);
     };
     if out.len() != kind.bytes() {
@@ -62,7 +62,7 @@ pub fn store<C>(
     ensures size { OnOk result (length block.new ≡ BLOCK_BYTES) }
     ensures err { OnErr result (block.new ≡ block.old) }
 {
-    let Some(kind) = kind_at(layout, addr) else {
+    let Some(kind) = layout.kind_at(addr) else {
         return Err(Refusal::BadAddress);
     };
     if !kind.admits(value) {
@@ -70,19 +70,6 @@ pub fn store<C>(
     }
     write(kind, block, addr.off as usize, value);
     Ok(())
-}
-
-// The kind of the object that the address names, if it names one.
-fn kind_at(layout: &Layout, addr: Addr) -> Option<Kind>
-    ensures valid { IsSome result ↔ IsTrue (is_valid layout.now.blocks addr) }
-    ensures kind { IfSome result (λ kind. kind_of layout.now.blocks addr.block ≡ Some kind) }
-    ensures inside { IfSome result (λ kind. addr.off < BLOCK_BITS) }
-    ensures multiple { IfSome result (λ kind. addr.off % bits_of kind ≡ 0) }
-{
-    match layout.kind(addr.block) {
-        Some(kind) if layout.is_valid(addr) => Some(kind),
-        _ => None,
-    }
 }
 
 // Reads the object of a kind that begins at bit `off`.

@@ -6,7 +6,7 @@ use Rattle.std.proofs.lemmas.List.Folds.{list_all-append}
 use Rattle.journal_world.specs.Maps.{Pair, is_object, are_objects}
 use Rattle.journal_world.specs.Orders.{HasAscendingBlocks}
 use Rattle.journal_objlog.specs.Writes.{writes_block, written_blocks}
-use Rattle.journal_objlog.specs.Staging.{IsBelow, first_block}
+use Rattle.journal_objlog.specs.Staging.{IsAboveNone, first_block}
 
 not_equal : (m b : ℕ) → b < m → (m == b) ≡ false
 not_equal m b lt = by (m == b) refl
@@ -26,7 +26,7 @@ under_all b m (q ∷ ws) lt all =
     or_both (q.0.block == b) (writes_block ws b) (not_equal q.0.block b (omega (arith, all.0))) (under_all b m ws lt all.1)
 
 -- a block above none of the writes is the first one's, or none of theirs
-pub not_first : (b : ℕ) (ws : List Pair) → HasAscendingBlocks ws → IsBelow b ws → (first_block ws ≡ Some b → ⊥) → writes_block ws b ≡ false
+pub not_first : (b : ℕ) (ws : List Pair) → HasAscendingBlocks ws → IsAboveNone b ws → (first_block ws ≡ Some b → ⊥) → writes_block ws b ≡ false
 not_first b [] ascending below other = refl
 not_first b (q ∷ ws) ascending below other = ⊎_elim
     (λ (same : q.0.block ≡ b). absurd (other (ap Some same)))
@@ -43,7 +43,7 @@ is_first b (q ∷ ws) first =
 
 -- of writes that are split at one of them
 pub ascending_later : (left : List Pair) (p : Pair) (done : List Pair) → HasAscendingBlocks (left ++ p ∷ done)
-    → IsBelow p.0.block done × HasAscendingBlocks done
+    → IsAboveNone p.0.block done × HasAscendingBlocks done
 ascending_later [] p done ascending = (ascending.0, ascending.1)
 ascending_later (q ∷ left) p done ascending = ascending_later left p done ascending.1
 

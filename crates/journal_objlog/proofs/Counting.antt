@@ -8,8 +8,8 @@ use Rattle.journal_world.specs.Orders.{HasAscendingBlocks}
 use Rattle.journal_block.specs.declared.update.Update.{Update}
 use Rattle.journal_block.specs.Updates.{updates_block}
 use Rattle.journal_objlog.specs.Writes.{writes_block, written_blocks, fresh_among}
-use Rattle.journal_objlog.specs.Staging.{IsBelow, first_block}
-use Rattle.journal_objlog.proofs.MapsOfBlocks.{valid_block}
+use Rattle.journal_objlog.specs.Staging.{IsAboveNone, first_block}
+use Rattle.journal_object.proofs.MapOfBlocks.{valid_block}
 use Rattle.journal_objlog.proofs.Ascending.{not_first, is_first, ascending_later, objects_split, written_named, written_fresh, fresh_named, fresh_unnamed}
 
 -- so many blocks, the least of which is this one, are all below n
@@ -26,11 +26,7 @@ pub record IsCounted (tail : List Update) (n : ℕ) (writes left done : List Pai
   pub fewer : fresh ≤ blocks
   pub bound : IsBounded n (first_block done) blocks
 
-pub bounded : (n : ℕ) (o : Option ℕ) (blocks : ℕ) → IsBounded n o blocks → blocks ≤ n
-bounded n None blocks is = omega (arith, is)
-bounded n (Some b) blocks is = omega (arith, is)
-
-more_bounded : (n b : ℕ) (done : List Pair) (blocks : ℕ) → b < n → IsBelow b done → writes_block done b ≡ false → (first_block done ≡ Some b → ⊥)
+more_bounded : (n b : ℕ) (done : List Pair) (blocks : ℕ) → b < n → IsAboveNone b done → writes_block done b ≡ false → (first_block done ≡ Some b → ⊥)
     → IsBounded n (first_block done) blocks → blocks + 1 + b ≤ n
 more_bounded n b [] blocks inside below unnamed other is = omega (arith, is)
 more_bounded n b (q ∷ done) blocks inside below unnamed other is =
@@ -42,7 +38,7 @@ module _ (tail : List Update) (n : ℕ) (writes left rest done : List Pair) (p :
   split : writes ≡ rest ++ p ∷ done
   split = counted.split ∙ ap (λ (ws : List Pair). ws ++ done) took ∙ append_assoc rest (p ∷ []) done
 
-  below : IsBelow p.0.block done × HasAscendingBlocks done
+  below : IsAboveNone p.0.block done × HasAscendingBlocks done
   below = ascending_later rest p done (subst HasAscendingBlocks split ascending)
 
   parts : IsTrue (are_objects n rest) × IsTrue (is_object n p)

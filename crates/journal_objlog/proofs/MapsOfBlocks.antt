@@ -1,28 +1,22 @@
 -- The map that blocks make has their objects, and equal blocks make the same map.
-use Rattle.std.proofs.Common.{◌≡◌, ◌<◌, ◌≤◌, ◌==◌, ◌&&◌, ◌*◌, ℕ, zero, suc, Bool, true, false, cond, List, [], ◌∷◌, IsTrue, Option, Some, None, refl, sym, ap, subst, ◌∙◌, arith, ⊎_elim}
+use Rattle.std.proofs.Common.{◌≡◌, ◌≤◌, ◌&&◌, ◌*◌, ℕ, zero, suc, Bool, true, false, cond, List, [], ◌∷◌, IsTrue, Option, Some, None, refl, sym, ap, subst, ◌∙◌}
 use Rattle.std.specs.Prelude.{unwrap_or}
 use Rattle.std.specs.List.{AllByRecursion, filter}
-use Rattle.std.proofs.lemmas.Bool.{and_parts, eqb-true, false≢true, cases_lt}
-use Rattle.std.proofs.lemmas.Bool.Decides.{nat_tests}
+use Rattle.std.proofs.lemmas.Bool.{false≢true}
 use Rattle.journal_world.specs.declared.address.Addr.{Addr}
-use Rattle.journal_world.specs.Addresses.{Value, kind_of, starts_object, is_valid, is_same}
+use Rattle.journal_world.specs.Addresses.{Value, kind_of, is_valid, is_same}
 use Rattle.journal_world.specs.Maps.{Pair, Map, value_among, zeros_at, SameMap, is_value_at, is_object}
+use Rattle.journal_world.proofs.Lookups.{same_addr}
+use Rattle.journal_world.proofs.SameMaps.{SameMap-refl}
 use Rattle.journal_block.specs.Updates.{Content}
 use Rattle.journal_object.specs.Objects.{object_at, nth_addr, objects_below, map_of_blocks, IsMapOf}
+use Rattle.journal_object.proofs.MapOfBlocks.{valid_block}
 use Rattle.journal_wal.specs.Wal.{SameBlocks}
 use Rattle.journal_objlog.specs.Maps.{object_or_zeros, HasObjects, map_of}
 
 -- the law of the map that blocks make, at one size
 abbrev pub Law : ℕ → Type 0
 Law n = (content : Content) → IsMapOf content (map_of_blocks n content)
-
--- addresses with the same fields are one
-pub same_addr : (a b : Addr) → is_same a b ≡ true → a ≡ b
-same_addr a b same =
-    let parts = and_parts (a.block == b.block) (a.off == b.off) same in
-    let block : a.block ≡ b.block = eqb-true a.block b.block parts.0 in
-    let off : a.off ≡ b.off = eqb-true a.off b.off parts.1 in
-    λ i. record { block = block i; off = off i }
 
 same_cond : (b : Bool) (o : Option Value) → o ≡ cond b o o
 same_cond true o = refl
@@ -84,33 +78,8 @@ HasObjects-map_of n law content = record {
       ∙ ap (λ b. cond b value (zeros_at kind)) (and_true (is_valid n a) (is_value_at kind value) valid);
 }
 
--- the block of a valid address is one that holds objects
-kind_low : (n b : ℕ) → b < 513 → kind_of n b ≡ None
-kind_low n b low = grind (arith, nat_tests)
-
-kind_past : (n b : ℕ) → 532 ≤ n → n ≤ b → kind_of n b ≡ None
-kind_past n b low past = grind (arith, nat_tests)
-
-no_kind : (n : ℕ) (a : Addr) → IsTrue (is_valid n a) → kind_of n a.block ≡ None → ⊥
-no_kind n a valid none = false≢true (sym (ap (λ k. starts_object k a.off) none) ∙ valid)
-
-pub valid_block : (n : ℕ) (a : Addr) → 532 ≤ n → IsTrue (is_valid n a) → (513 ≤ a.block) × (a.block < n)
-valid_block n a low valid = (
-  ⊎_elim (λ (below : a.block < 513). absurd (no_kind n a valid (kind_low n a.block below))) (λ (above : 513 ≤ a.block). above) (cases_lt a.block 513),
-  ⊎_elim (λ (inside : a.block < n). inside) (λ (past : n ≤ a.block). absurd (no_kind n a valid (kind_past n a.block low past))) (cases_lt a.block n),
-)
-
-pub SameMap-refl : (m : Map) → SameMap m m
-SameMap-refl m = record { blocks = refl; values = λ a valid. refl }
-
 pub SameMap-path : {m k : Map} → m ≡ k → SameMap m k
 SameMap-path {m} {k} is = subst (λ (x : Map). SameMap m x) is (SameMap-refl m)
-
-pub SameMap-trans : (l m n : Map) → SameMap l m → SameMap m n → SameMap l n
-SameMap-trans l m n first second = record {
-  blocks = first.blocks ∙ second.blocks;
-  values = λ a valid. first.values a valid ∙ second.values a (subst (λ (b : ℕ). IsTrue (is_valid b a)) first.blocks valid);
-}
 
 -- two maps that have the objects of the same blocks are the same
 pub same_objects : (f g : Content) (m k : Map) → HasObjects f m → HasObjects g k → m.blocks ≡ k.blocks → 532 ≤ m.blocks

@@ -9,11 +9,11 @@ use Rattle.journal_disk.specs.Images.{EveryImage}
 use Rattle.journal_disk.specs.Moments.{LeavesOnly}
 use Rattle.journal_disk.specs.Laws.{leaves_none, leaves_also}
 use Rattle.journal_circ.specs.StandsFor.{StandsFor}
-use Rattle.journal_wal.specs.Wal.{WalState, size_of, blocks_now, blocks_cut, blocks_logged, IsCrash, Crashes, KeepsBlocks, Reads}
+use Rattle.journal_wal.specs.Wal.{WalState, size_of, blocks_now, blocks_cut, blocks_logged, MayStandFor, Crashes, KeepsBlocks, OnlyReads as LogOnlyReads}
 use Rattle.journal_objlog.specs.Maps.{map_of, OpensAs}
-use Rattle.journal_objlog.specs.ObjectLogs.{map_cut, map_logged, MayOpenAs, KeepsMaps, MayCrash, OnlyReads}
+use Rattle.journal_objlog.specs.ObjectLogs.{map_cut, map_logged, MayOpenAs, KeepsMaps, Crashes as MapCrashes, OnlyReads}
 use Rattle.journal_objlog.specs.ReadLaws.{now_read}
-use Rattle.journal_objlog.specs.Soundness.{IsSound}
+use Rattle.journal_objlog.specs.Soundness.{IsObjectLog}
 use Rattle.journal_objlog.proofs.MapsOfBlocks.{Law, HasObjects-map_of, map_of-same, SameMap-path}
 
 -- what stands for blocks opens as their map
@@ -21,7 +21,7 @@ pub opens : (n : ℕ) → Law n → (content : Content) (image : List Bytes) →
 unfolding map_of
 opens n law content image stands = record { content = content; stands = stands; objects = HasObjects-map_of n law content }
 
-module _ (n : ℕ) (w : WalState) (sound : IsSound n w) where
+module _ (n : ℕ) (w : WalState) (sound : IsObjectLog n w) where
   pub law_of : Law (size_of w)
   law_of = subst Law sound.size sound.law
 
@@ -29,14 +29,14 @@ module _ (n : ℕ) (w : WalState) (sound : IsSound n w) where
   low_of = subst (λ (k : ℕ). 532 ≤ k) sound.size sound.low
 
 -- a crash leaves what opens as one of the two maps
-pub opens_crash : (w : WalState) → Law (size_of w) → (image : List Bytes) → IsCrash w image → MayOpenAs w image
+pub opens_crash : (w : WalState) → Law (size_of w) → (image : List Bytes) → MayStandFor w image → MayOpenAs w image
 opens_crash w law image crash = ⊎_elim
     (λ logged. inl (opens (size_of w) law (blocks_logged w) image logged))
     (λ cut. inr (opens (size_of w) law (blocks_cut w) image cut))
     crash
 
 -- blocks that are as before make maps that are
-pub keeps_maps : (n : ℕ) (old new : WalState) → IsSound n old → size_of new ≡ size_of old → KeepsBlocks old new → KeepsMaps old new
+pub keeps_maps : (n : ℕ) (old new : WalState) → IsObjectLog n old → size_of new ≡ size_of old → KeepsBlocks old new → KeepsMaps old new
 keeps_maps n old new sound size keeps = record {
   now = at (blocks_now new) (blocks_now old) keeps.now;
   cut = at (blocks_cut new) (blocks_cut old) keeps.cut;
@@ -47,10 +47,10 @@ keeps_maps n old new sound size keeps = record {
     at f g same = subst (λ (k : ℕ). SameMap (map_of k f) (map_of (size_of old) g)) (sym size)
         (map_of-same (size_of old) (law_of n old sound) (low_of n old sound) f g same)
 
-pub may_crash : (n : ℕ) (old new : WalState) → IsSound n old → Crashes old new → MayCrash old new
+pub may_crash : (n : ℕ) (old new : WalState) → IsObjectLog n old → Crashes old new → MapCrashes old new
 may_crash n old new sound crash = record {
   keeps = crash.keeps;
-  moments = λ honest. leaves_also old.ring.disk.past new.ring.disk.past (IsCrash old) (MayOpenAs old) (crash.moments honest)
+  moments = λ honest. leaves_also old.ring.disk.past new.ring.disk.past (MayStandFor old) (MayOpenAs old) (crash.moments honest)
       (λ image. opens_crash old (law_of n old sound) image);
   images = λ honest image is. opens_crash new (subst Law (sym crash.keeps.size) (law_of n old sound)) image (crash.images honest image is);
 }
@@ -123,7 +123,7 @@ OnlyReads-trans a b c first second = record {
 }
 
 -- reads leave what a crash left before
-pub crash_read : (n : ℕ) (old new : WalState) → IsSound n old → OnlyReads old new → MayCrash old new
+pub crash_read : (n : ℕ) (old new : WalState) → IsObjectLog n old → OnlyReads old new → MapCrashes old new
 crash_read n old new sound reads = record {
   keeps = reads.keeps;
   moments = λ honest. leaves_none old.ring.disk.past new.ring.disk.past (MayOpenAs old) (reads.past honest) (images honest);
@@ -136,7 +136,7 @@ crash_read n old new sound reads = record {
     images honest image is = opens_crash old (law_of n old sound) image (sound.images honest image is)
 
 -- what a call says of images after reads
-pub crash_after : (a b c : WalState) → OnlyReads a b → MayCrash b c → MayCrash a c
+pub crash_after : (a b c : WalState) → OnlyReads a b → MapCrashes b c → MapCrashes a c
 crash_after a b c reads crash = record {
   keeps = record {
     size = crash.keeps.size ∙ reads.keeps.size;
@@ -151,7 +151,7 @@ crash_after a b c reads crash = record {
 }
 
 -- a read of the log's is one
-pub OnlyReads-from : (old new : WalState) → Reads old new → OnlyReads old new
+pub OnlyReads-from : (old new : WalState) → LogOnlyReads old new → OnlyReads old new
 OnlyReads-from old new reads = record {
   same = reads.same ∙ (λ i. record old {
     ring = record old.ring { disk = new.ring.disk; faulted = sym (ap (λ (w : WalState). w.ring.faulted) reads.same) i };

@@ -6,18 +6,18 @@ use Rattle.journal_world.specs.declared.refusal.Refusal.{Refusal}
 use Rattle.journal_world.specs.declared.refusal.Refusal.TheVariants.{NoMemory, BadAddress, BadSize, TooLarge, Busy, DeviceFailed, BadLog, BadSuper, Stale, Stranger, Worn, Full, Closed, Fenced}
 use Rattle.journal_world.specs.Addresses.{is_valid}
 use Rattle.journal_world.specs.Maps.{value_at}
-use Rattle.journal_world.specs.Refusals.{IsOfReading}
+use Rattle.journal_world.specs.Refusals.{IsReadingRefusal}
 use Rattle.journal_wal.specs.Wal.{WalState, size_of, blocks_now}
-use Rattle.journal_objlog.specs.ObjectLogs.{map_now, KeepsMaps, MayCrash, OnlyReads, IsLeft, IsReadRefusal}
+use Rattle.journal_objlog.specs.ObjectLogs.{map_now, KeepsMaps, Crashes, OnlyReads, IsLeft, IsReadRefusal}
 use Rattle.journal_objlog.specs.MapLaws.{map_of-blocks}
-use Rattle.journal_objlog.specs.Reading.{IsRead}
-use Rattle.journal_objlog.specs.Soundness.{IsSound}
+use Rattle.journal_objlog.specs.Reading.{OnlyReadSince}
+use Rattle.journal_objlog.specs.Soundness.{IsObjectLog}
 use Rattle.journal_objlog.proofs.Openings.{crash_after, OnlyReads-refl, OnlyReads-trans}
 use Rattle.journal_objlog.proofs.Refusing.{keeps_trans, still}
 use Rattle.journal_objlog.proofs.StepsOfMaps.{KeepsMaps-refl}
 
 -- nothing was read yet
-pub read_nothing : (n : ℕ) (inside now : WalState) → IsSound n inside → inside ≡ now → IsRead now now
+pub read_nothing : (n : ℕ) (inside now : WalState) → IsObjectLog n inside → inside ≡ now → OnlyReadSince now now
 read_nothing n inside now sound is = record {
   only = OnlyReads-refl now;
   maps = λ honest. KeepsMaps-refl now;
@@ -25,8 +25,8 @@ read_nothing n inside now sound is = record {
 }
 
 -- a further read
-pub read_on : (opened old new : WalState) → IsRead opened old → OnlyReads old new → (IsTrue old.ring.disk.honest → KeepsMaps old new)
-    → MayCrash old new → IsRead opened new
+pub read_on : (opened old new : WalState) → OnlyReadSince opened old → OnlyReads old new → (IsTrue old.ring.disk.honest → KeepsMaps old new)
+    → Crashes old new → OnlyReadSince opened new
 read_on opened old new read reads maps crash = record {
   only = OnlyReads-trans opened old new read.only reads;
   maps = λ honest. keeps_trans opened old new (read.maps honest) (maps (subst IsTrue (sym read.crash.keeps.honest) honest));
@@ -34,18 +34,12 @@ read_on opened old new read reads maps crash = record {
 }
 
 -- the map that is read has as many blocks as at first
-pub blocks_read : (opened old : WalState) → IsRead opened old → (map_now old).blocks ≡ (map_now opened).blocks
+pub blocks_read : (opened old : WalState) → OnlyReadSince opened old → (map_now old).blocks ≡ (map_now opened).blocks
 blocks_read opened old read = map_of-blocks (size_of old) (blocks_now old) ∙ read.crash.keeps.size ∙ sym (map_of-blocks (size_of opened) (blocks_now opened))
 
--- and gives the same values
-pub value_read : (opened old : WalState) → IsRead opened old → (a : Addr) → IsTrue (is_valid (map_now opened).blocks a)
-    → IsTrue opened.ring.disk.honest → value_at (map_now old) a ≡ value_at (map_now opened) a
-value_read opened old read a valid honest =
-    (read.maps honest).now.values a (subst (λ (n : ℕ). IsTrue (is_valid n a)) (sym (blocks_read opened old read)) valid)
-
 -- a read of a valid address is refused for want of memory, or by the device, which then has failed
-pub refusal_read : (opened old new : WalState) → IsRead opened old → (a : Addr) → IsTrue (is_valid (map_now opened).blocks a)
-    → (refusal : Refusal Unit) → IsReadRefusal old a new refusal → IsLeft new refusal → IsOfReading new.ring.faulted refusal
+pub refusal_read : (opened old new : WalState) → OnlyReadSince opened old → (a : Addr) → IsTrue (is_valid (map_now opened).blocks a)
+    → (refusal : Refusal Unit) → IsReadRefusal old a new refusal → IsLeft new refusal → IsReadingRefusal new.ring.faulted refusal
 refusal_read opened old new read a valid NoMemory is left = tt
 refusal_read opened old new read a valid (DeviceFailed cause) is left = left
 refusal_read opened old new read a valid BadAddress is left =

@@ -3,21 +3,21 @@ use Rattle.std.proofs.Common.{◌≡◌, ⊎_elim, ℕ, true, false, IsTrue, Res
 use Rattle.journal_world.specs.declared.refusal.Refusal.{Refusal}
 use Rattle.journal_world.specs.declared.refusal.Refusal.TheVariants.{NoMemory, BadAddress, BadSize, TooLarge, Busy, DeviceFailed, BadLog, BadSuper, Stale, Stranger, Worn, Full, Closed, Fenced}
 use Rattle.journal_circ.specs.Ring.{IsFault}
-use Rattle.journal_wal.specs.Wal.{WalState, Reads, Crashes}
-use Rattle.journal_objlog.specs.ObjectLogs.{map_now, map_cut, map_logged, KeepsMaps, MayCrash, OnlyReads}
+use Rattle.journal_wal.specs.Wal.{WalState, OnlyReads as LogOnlyReads, Crashes}
+use Rattle.journal_objlog.specs.ObjectLogs.{map_now, map_cut, map_logged, KeepsMaps, Crashes as MapCrashes, OnlyReads}
 use Rattle.journal_objlog.specs.Writes.{IsLateRefusal}
-use Rattle.journal_objlog.specs.Soundness.{IsSound}
+use Rattle.journal_objlog.specs.Soundness.{IsObjectLog}
 use Rattle.journal_objlog.specs.Staging.{RefusesLate}
-use Rattle.journal_objlog.proofs.MapsOfBlocks.{SameMap-trans}
+use Rattle.journal_world.proofs.SameMaps.{SameMap-trans}
 use Rattle.journal_objlog.proofs.Openings.{may_crash, maps_read, crash_read, crash_after, failed_after, OnlyReads-refl, OnlyReads-from}
 
 -- J1, where all before it was reads
-pub refuses_memory : (old new : WalState) → OnlyReads old new → new.ring.faulted ≡ false → MayCrash old new → RefusesLate old new NoMemory
+pub refuses_memory : (old new : WalState) → OnlyReads old new → new.ring.faulted ≡ false → MapCrashes old new → RefusesLate old new NoMemory
 refuses_memory old new reads fine crash = record { reason = tt; left = fine; maps = maps_read old new reads; crash = crash }
 
 -- J6 of a call on a log that had no fault
-pub refuses_device : (n : ℕ) (old new : WalState) → IsSound n old → old.ring.faulted ≡ false → (refusal : Refusal Unit)
-    → IsFault old.ring.faulted old.ring.disk new.ring.disk refusal → Reads old new → new.ring.faulted ≡ true → Crashes old new
+pub refuses_device : (n : ℕ) (old new : WalState) → IsObjectLog n old → old.ring.faulted ≡ false → (refusal : Refusal Unit)
+    → IsFault old.ring.faulted old.ring.disk new.ring.disk refusal → LogOnlyReads old new → new.ring.faulted ≡ true → Crashes old new
     → RefusesLate old new refusal
 refuses_device n old new sound fine refusal fault reads faulted crash = subst (λ (r : Refusal Unit). RefusesLate old new r) (sym fault.0) (record {
   reason = ⊎_elim (λ was. let impossible : ⊥ = cc in absurd impossible) (λ failed. failed) fault.1;
@@ -65,5 +65,5 @@ if_err (Ok x) Q P and go = tt
 if_err (Err e) Q P and go = go e and
 
 -- nothing was done
-pub still : (n : ℕ) (inside now : WalState) → IsSound n inside → inside ≡ now → MayCrash now now
-still n inside now sound is = subst (λ (w : WalState). MayCrash w w) is (crash_read n inside inside sound (OnlyReads-refl inside))
+pub still : (n : ℕ) (inside now : WalState) → IsObjectLog n inside → inside ≡ now → MapCrashes now now
+still n inside now sound is = subst (λ (w : WalState). MapCrashes w w) is (crash_read n inside inside sound (OnlyReads-refl inside))

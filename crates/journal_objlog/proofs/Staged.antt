@@ -16,8 +16,8 @@ use Rattle.journal_wal.specs.Wal.{WalState, AreHomes, size_of, blocks_now}
 use Rattle.journal_objlog.specs.Maps.{HasObjects, map_of}
 use Rattle.journal_objlog.specs.ObjectLogs.{map_now, OnlyReads}
 use Rattle.journal_objlog.specs.Writes.{writes_block, fresh_among}
-use Rattle.journal_objlog.specs.Staging.{IsBelow, first_update, first_bytes, with_first, CoversBlocks, IsStaged, IsOpen}
-use Rattle.journal_objlog.proofs.MapsOfBlocks.{valid_block}
+use Rattle.journal_objlog.specs.Staging.{IsAboveNone, first_update, first_bytes, with_first, CoversBlocks, IsStaged, IsOpen}
+use Rattle.journal_object.proofs.MapOfBlocks.{valid_block}
 use Rattle.journal_objlog.specs.ReadLaws.{now_read}
 use Rattle.journal_objlog.proofs.Stored.{HasObjects-stored}
 use Rattle.journal_objlog.proofs.Updates.{updated_first, updated_later}
@@ -47,7 +47,7 @@ open_first w ws us a staged first = record {
 
 -- it is put before the others
 pub open_more : (w : WalState) (ws : List Pair) (us : List Update) (a : Addr) (bytes : Bytes) → 532 ≤ size_of w → IsTrue (is_valid (size_of w) a)
-    → IsStaged w ws us → HasAscendingBlocks ws → IsBelow a.block ws → (first_update us ≡ Some a.block → ⊥)
+    → IsStaged w ws us → HasAscendingBlocks ws → IsAboveNone a.block ws → (first_update us ≡ Some a.block → ⊥)
     → (IsTrue w.ring.disk.honest → (kind_of (size_of w) a.block ≡ Some Block) ⊎ (bytes ≡ blocks_now w a.block))
     → IsOpen w ws a (record { block = a.block; bytes = bytes } ∷ us)
 open_more w ws us a bytes low valid staged ascending below other read = record {

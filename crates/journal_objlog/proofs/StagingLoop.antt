@@ -9,12 +9,12 @@ use Rattle.journal_block.specs.declared.update.Update.{Update}
 use Rattle.journal_object.specs.Objects.{ChangesOnly}
 use Rattle.journal_wal.specs.Wal.{WalState, size_of, blocks_now}
 use Rattle.journal_objlog.specs.ObjectLogs.{OnlyReads}
-use Rattle.journal_objlog.specs.Staging.{IsBelow, first_update, first_bytes, with_first, IsStaged, IsOpen}
+use Rattle.journal_objlog.specs.Staging.{IsAboveNone, first_update, first_bytes, with_first, IsStaged, IsOpen}
 use Rattle.journal_objlog.proofs.Ascending.{ascending_later, objects_split}
 use Rattle.journal_objlog.proofs.Openings.{OnlyReads-refl, OnlyReads-trans, law_of}
 use Rattle.journal_objlog.proofs.Staged.{stored}
 use Rattle.journal_objlog.proofs.MapsOfBlocks.{Law, HasObjects-map_of}
-use Rattle.journal_objlog.specs.Soundness.{IsSound}
+use Rattle.journal_objlog.specs.Soundness.{IsObjectLog}
 use Rattle.std.proofs.lemmas.List.{append-nil}
 
 pub record IsStaging (start now : WalState) (writes left done : List Pair) (updates : List Update) : Type 0 where
@@ -29,7 +29,7 @@ module _ (start now : WalState) (writes left rest done : List Pair) (p : Pair) (
   split : writes ≡ rest ++ p ∷ done
   split = staging.split ∙ ap (λ (ws : List Pair). ws ++ done) took ∙ append_assoc rest (p ∷ []) done
 
-  pub below : IsBelow p.0.block done × HasAscendingBlocks done
+  pub below : IsAboveNone p.0.block done × HasAscendingBlocks done
   below = ascending_later rest p done (subst HasAscendingBlocks split ascending)
 
   parts : IsTrue (are_objects (size_of now) rest) × IsTrue (is_object (size_of now) p)
@@ -60,7 +60,7 @@ some_first [] b is = let impossible : ⊥ = cc in absurd impossible
 some_first (u ∷ us) b is = omega arith
 
 -- before the first
-pub staging_begins : (n : ℕ) (inside start : WalState) (writes left : List Pair) (updates : List Update) → IsSound n inside → inside ≡ start → left ≡ writes → updates ≡ []
+pub staging_begins : (n : ℕ) (inside start : WalState) (writes left : List Pair) (updates : List Update) → IsObjectLog n inside → inside ≡ start → left ≡ writes → updates ≡ []
     → start.ring.faulted ≡ false → IsTrue (are_objects (size_of start) writes) → IsStaging start start writes left [] updates
 staging_begins n inside start writes left updates sound is whole empty fine objects = record {
   split = sym whole ∙ sym (append-nil left);

@@ -12,12 +12,13 @@ use Rattle.journal_block.specs.declared.update.Update.{Update}
 use Rattle.journal_block.specs.Block.{Bytes}
 use Rattle.journal_object.specs.Objects.{object_at}
 use Rattle.journal_block.specs.Updates.{Content, with_updates}
-use Rattle.journal_wal.specs.Wal.{WalState, size_of, blocks_now, blocks_cut, blocks_logged, log_steps, Fails, LogAnswers, LogMoves, InstallAnswers, IsInstallFault, SameBlocks, Appends}
+use Rattle.journal_wal.specs.Wal.{WalState, size_of, blocks_now, blocks_cut, blocks_logged, log_steps, Fails, LogAnswers, LogMoves, InstallAnswers, IsInstallRefusal, SameBlocks, Appends}
 use Rattle.journal_objlog.specs.Maps.{map_of}
 use Rattle.journal_objlog.specs.ObjectLogs.{map_now, map_cut, map_logged, KeepsMaps, LogsMaps, LogMovesMaps}
 use Rattle.journal_objlog.specs.Writes.{IsPrepared}
-use Rattle.journal_objlog.specs.Soundness.{IsSound}
-use Rattle.journal_objlog.proofs.MapsOfBlocks.{HasObjects-map_of, map_of-same, SameMap-refl, SameMap-trans}
+use Rattle.journal_objlog.specs.Soundness.{IsObjectLog}
+use Rattle.journal_world.proofs.SameMaps.{SameMap-refl, SameMap-trans}
+use Rattle.journal_objlog.proofs.MapsOfBlocks.{HasObjects-map_of, map_of-same}
 use Rattle.journal_objlog.proofs.Openings.{law_of, low_of, keeps_maps}
 
 pub KeepsMaps-refl : (w : WalState) → KeepsMaps w w
@@ -26,7 +27,7 @@ KeepsMaps-refl w = record { now = SameMap-refl (map_now w); cut = SameMap-refl (
 pub KeepsMaps-path : (old new : WalState) → new ≡ old → KeepsMaps old new
 KeepsMaps-path old new is = subst (λ (w : WalState). KeepsMaps old w) (sym is) (KeepsMaps-refl old)
 
-module _ (n : ℕ) (old new : WalState) (sound : IsSound n old) (size : size_of new ≡ size_of old) where
+module _ (n : ℕ) (old new : WalState) (sound : IsObjectLog n old) (size : size_of new ≡ size_of old) where
   pub same_map : (f g : Content) → SameBlocks (size_of old) f g → SameMap (map_of (size_of new) f) (map_of (size_of old) g)
   same_map f g same = subst (λ (k : ℕ). SameMap (map_of k f) (map_of (size_of old) g)) (sym size)
       (map_of-same (size_of old) (law_of n old sound) (low_of n old sound) f g same)
@@ -55,7 +56,7 @@ module _ (n : ℕ) (old new : WalState) (sound : IsSound n old) (size : size_of 
   fails_maps honest (Ok step) fails = tt
   fails_maps honest (Err refusal) fails = keeps_maps n old new sound size (fails.blocks honest)
 
-  fault_maps : IsTrue old.ring.disk.honest → (refusal : Refusal Unit) → IsInstallFault old new refusal → KeepsMaps old new
+  fault_maps : IsTrue old.ring.disk.honest → (refusal : Refusal Unit) → IsInstallRefusal old new refusal → KeepsMaps old new
   fault_maps honest NoMemory fault = KeepsMaps-path old new fault.1
   fault_maps honest (DeviceFailed cause) fault = keeps_maps n old new sound size (fault.1.blocks honest)
   fault_maps honest BadAddress fault = absurd fault
@@ -72,27 +73,27 @@ module _ (n : ℕ) (old new : WalState) (sound : IsSound n old) (size : size_of 
   fault_maps honest Fenced fault = absurd fault
 
   pub installs_maps : IsTrue old.ring.disk.honest → (result : Result Step (Refusal Unit)) → IfOk result (λ step. InstallAnswers old step new)
-      → IfErr result (IsInstallFault old new) → KeepsMaps old new
+      → IfErr result (IsInstallRefusal old new) → KeepsMaps old new
   installs_maps honest (Ok Idle) answers fault = KeepsMaps-path old new answers.1
   installs_maps honest (Ok Moved) answers fault = keeps_maps n old new sound size (answers.blocks honest)
   installs_maps honest (Err refusal) answers fault = fault_maps honest refusal fault
 
 -- what is prepared overwrites the map now
-pub applied : (n : ℕ) (old new : WalState) (updates : List Update) → IsSound n old → Appends old updates new → (writes : List Pair)
+pub applied : (n : ℕ) (old new : WalState) (updates : List Update) → IsObjectLog n old → Appends old updates new → (writes : List Pair)
     → IsTrue old.ring.disk.honest → IsPrepared old updates writes → SameMap (map_now new) (overwritten (map_now old) writes)
 applied n old new updates sound appends writes honest prepared =
     SameMap-trans (map_now new) (map_of (size_of old) (with_updates (blocks_now old) updates)) (overwritten (map_now old) writes)
     (same_map n old new sound (ap size_of appends.log) (blocks_now new) (with_updates (blocks_now old) updates) appends.now)
     (prepared.map honest)
 
-pub applied_cut : (n : ℕ) (old new : WalState) (updates : List Update) → IsSound n old → Appends old updates new → SameMap (map_cut new) (map_cut old)
+pub applied_cut : (n : ℕ) (old new : WalState) (updates : List Update) → IsObjectLog n old → Appends old updates new → SameMap (map_cut new) (map_cut old)
 applied_cut n old new updates sound appends = same_map n old new sound (ap size_of appends.log) (blocks_cut new) (blocks_cut old) appends.cut
 
-pub applied_logged : (n : ℕ) (old new : WalState) (updates : List Update) → IsSound n old → Appends old updates new → SameMap (map_logged new) (map_logged old)
+pub applied_logged : (n : ℕ) (old new : WalState) (updates : List Update) → IsObjectLog n old → Appends old updates new → SameMap (map_logged new) (map_logged old)
 applied_logged n old new updates sound appends = same_map n old new sound (ap size_of appends.log) (blocks_logged new) (blocks_logged old) appends.logged
 
 -- the object of the block as it is now is the map's value
-pub read_value : (n : ℕ) (w : WalState) → IsSound n w → (a : Addr) (bytes : Bytes) (value : Value) → IsTrue (is_object n (a, value))
+pub read_value : (n : ℕ) (w : WalState) → IsObjectLog n w → (a : Addr) (bytes : Bytes) (value : Value) → IsTrue (is_object n (a, value))
     → value ≡ object_at n bytes a → bytes ≡ blocks_now w a.block → value ≡ value_at (map_now w) a
 unfolding map_of
 read_value n w sound a bytes value object is now =

@@ -12,7 +12,7 @@ use Rattle.journal_block.specs.Block.{Bytes}
 use Rattle.journal_block.specs.Updates.{Content}
 use Rattle.journal_object.specs.Objects.{object_at, ChangesOnly}
 use Rattle.journal_objlog.specs.Maps.{object_or_zeros, HasObjects}
-use Rattle.journal_objlog.proofs.MapsOfBlocks.{same_addr}
+use Rattle.journal_world.proofs.Lookups.{same_addr}
 
 value_at-first : (n : ℕ) (p : Pair) (ps : List Pair) (a : Addr)
     → value_at (record { blocks = n; pairs = p ∷ ps }) a ≡ cond (is_same a p.0) p.1 (value_at (record { blocks = n; pairs = ps }) a)

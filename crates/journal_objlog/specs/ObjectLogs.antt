@@ -53,7 +53,7 @@ pub record KeepsMaps (old new : WalState) : Type 0 where
 
 -- What each call says of the disk: at every moment of it an image opens as one of the two maps that a crash might have
 -- left before, and at its end as one of those that it may leave now
-pub record MayCrash (old new : WalState) : Type 0 where
+pub record Crashes (old new : WalState) : Type 0 where
   pub keeps : Keeps old.ring.disk new.ring.disk
   pub moments : IsTrue old.ring.disk.honest → LeavesOnly old.ring.disk.past new.ring.disk.past (MayOpenAs old)
   pub images : IsTrue new.ring.disk.honest → EveryImage new.ring.disk.past (MayOpenAs new)

@@ -1,13 +1,13 @@
 -- What reads leave of an object log, whatever order they come in and whatever asks for them.
 use Rattle.std.specs.Prelude.{false, IsTrue, []}
 use Rattle.journal_wal.specs.Wal.{WalState, log_blocks, install_none}
-use Rattle.journal_objlog.specs.ObjectLogs.{KeepsMaps, MayCrash, OnlyReads}
+use Rattle.journal_objlog.specs.ObjectLogs.{KeepsMaps, Crashes, OnlyReads}
 
 -- The log was only read since this state of it
-pub record IsRead (opened now : WalState) : Type 0 where
+pub record OnlyReadSince (opened now : WalState) : Type 0 where
   pub only : OnlyReads opened now
   pub maps : IsTrue opened.ring.disk.honest → KeepsMaps opened now
-  pub crash : MayCrash opened now
+  pub crash : Crashes opened now
 
 -- the log of no disk
 abbrev pub no_log : WalState
@@ -15,7 +15,7 @@ no_log = record {
   ring = record {
     disk = record { past = record { size = 0; first = []; events = [] }; honest = false; failures = 0 };
     header = [];
-    marks = record { start = 0; freed = 0; end = 0; coming = 0; stable = 0; homes = false };
+    extent = record { start = 0; freed = 0; end = 0; coming = 0; stable = 0; homes = false };
     next = 0;
     faulted = false;
   };

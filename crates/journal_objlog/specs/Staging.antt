@@ -12,12 +12,12 @@ use Rattle.journal_block.specs.Updates.{Content, updates_block, with_updates}
 use Rattle.journal_memlog.specs.Logs.{HasDistinctBlocks, tail_of, fresh_count}
 use Rattle.journal_wal.specs.Wal.{WalState, AreHomes, size_of, blocks_now}
 use Rattle.journal_objlog.specs.Maps.{HasObjects}
-use Rattle.journal_objlog.specs.ObjectLogs.{map_now, KeepsMaps, MayCrash, IsLeft}
+use Rattle.journal_objlog.specs.ObjectLogs.{map_now, KeepsMaps, Crashes, IsLeft}
 use Rattle.journal_objlog.specs.Writes.{writes_block, written_blocks, fresh_blocks, IsLateRefusal}
 
 -- block b is above none of the writes'
-abbrev pub IsBelow : ℕ → List Pair → Type 0
-IsBelow b writes = AllByRecursion (λ q. b ≤ q.0.block) writes
+abbrev pub IsAboveNone : ℕ → List Pair → Type 0
+IsAboveNone b writes = AllByRecursion (λ q. b ≤ q.0.block) writes
 
 -- the block of the first write, and of the first update
 abbrev pub first_block : List Pair → Option ℕ
@@ -68,4 +68,4 @@ pub record RefusesLate (old new : WalState) (refusal : Refusal Unit) : Type 0 wh
   pub reason : IsLateRefusal old new refusal
   pub left : IsLeft new refusal
   pub maps : IsTrue old.ring.disk.honest → KeepsMaps old new
-  pub crash : MayCrash old new
+  pub crash : Crashes old new

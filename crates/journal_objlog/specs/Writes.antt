@@ -8,10 +8,11 @@ use Rattle.journal_world.specs.Maps.{Pair, SameMap, are_objects, overwritten}
 use Rattle.journal_block.specs.declared.update.Update.{Update}
 use Rattle.journal_block.specs.Updates.{updates_block, with_updates}
 use Rattle.journal_disk.specs.Disks.{HasFailed}
-use Rattle.journal_memlog.specs.Logs.{next_of, tail_of}
+use Rattle.journal_memlog.specs.Logs.{next_position, tail_of}
 use Rattle.journal_wal.specs.Wal.{WalState, HasRoom, AreHomes, size_of, tail_length, blocks_now}
 use Rattle.journal_objlog.specs.Maps.{map_of}
 use Rattle.journal_objlog.specs.ObjectLogs.{map_now}
+use Rattle.journal_wal.specs.declared.append.TheConstants.{MAX_TAIL, MAX_UPDATES}
 
 -- whether one of the writes is in block b
 abbrev pub writes_block : List Pair → ℕ → Bool
@@ -41,22 +42,22 @@ are_valid blocks writes = list_all (λ p. is_valid blocks p.0) writes
 pub record CanPrepare (w : WalState) (writes : List Pair) : Type 0 where
   pub fine : w.ring.faulted ≡ false
   pub objects : IsTrue (are_objects (size_of w) writes)
-  pub few : written_blocks writes ≤ 128
-  pub small : next_of w.log + fresh_blocks w writes < 2 ^ 62
-  pub tail : tail_length w + fresh_blocks w writes ≤ 255
+  pub few : written_blocks writes ≤ MAX_UPDATES
+  pub small : next_position w.log + fresh_blocks w writes < 2 ^ 62
+  pub tail : tail_length w + fresh_blocks w writes ≤ MAX_TAIL
 
 -- What refuses writes before memory and the device are asked: the first of these that holds
 abbrev pub IsWriteRefusal : WalState → List Pair → Refusal Unit → Type 0
 IsWriteRefusal w writes (DeviceFailed cause) = IsTrue w.ring.faulted
 IsWriteRefusal w writes BadAddress = (w.ring.faulted ≡ false) × (are_valid (size_of w) writes ≡ false)
 IsWriteRefusal w writes BadSize = (w.ring.faulted ≡ false) × IsTrue (are_valid (size_of w) writes) × (are_objects (size_of w) writes ≡ false)
-IsWriteRefusal w writes TooLarge = (w.ring.faulted ≡ false) × IsTrue (are_objects (size_of w) writes) × (128 < written_blocks writes)
+IsWriteRefusal w writes TooLarge = (w.ring.faulted ≡ false) × IsTrue (are_objects (size_of w) writes) × (MAX_UPDATES < written_blocks writes)
 IsWriteRefusal w writes (Worn cause) =
-    (w.ring.faulted ≡ false) × IsTrue (are_objects (size_of w) writes) × (written_blocks writes ≤ 128)
-    × (2 ^ 62 ≤ next_of w.log + fresh_blocks w writes)
+    (w.ring.faulted ≡ false) × IsTrue (are_objects (size_of w) writes) × (written_blocks writes ≤ MAX_UPDATES)
+    × (2 ^ 62 ≤ next_position w.log + fresh_blocks w writes)
 IsWriteRefusal w writes (Full cause) =
-    (w.ring.faulted ≡ false) × IsTrue (are_objects (size_of w) writes) × (written_blocks writes ≤ 128)
-    × (next_of w.log + fresh_blocks w writes < 2 ^ 62) × (255 < tail_length w + fresh_blocks w writes)
+    (w.ring.faulted ≡ false) × IsTrue (are_objects (size_of w) writes) × (written_blocks writes ≤ MAX_UPDATES)
+    × (next_position w.log + fresh_blocks w writes < 2 ^ 62) × (MAX_TAIL < tail_length w + fresh_blocks w writes)
 IsWriteRefusal w writes other = ⊥
 
 -- What refuses them then: J1, or J6 where the device failed

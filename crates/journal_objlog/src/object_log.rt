@@ -3,10 +3,11 @@ ghost use Rattle.std.specs.Prelude.{ℕ, ◌≡◌, ◌<◌, ◌↔◌, ◌⊎�
 ghost use Rattle.journal_disk.specs.Disks.{Keeps, IsSettled};
 ghost use Rattle.journal_disk.specs.Images.{EveryImage, reading};
 ghost use Rattle.journal_circ.specs.Log.{IsWellFormed};
-ghost use Rattle.journal_circ.specs.Ring.{IsReason};
-ghost use Rattle.journal_wal.specs.Wal.{IsOpened, IsWithin, log_steps, tail_length, size_of};
+ghost use Rattle.journal_circ.specs.Ring.{IsOpenRefusal};
+ghost use Rattle.journal_wal.specs.Wal.{IsAtRest, HasBoundsIn, log_steps, tail_length, size_of};
 ghost use Rattle.journal_objlog.specs.Maps.{OpensAs};
 ghost use Rattle.journal_objlog.specs.ObjectLogs.{map_now};
+ghost use Rattle.journal_wal.specs.declared.append.TheConstants.{MAX_TAIL};
 
 use journal_block::Block;
 use journal_disk::{BlockDisk, MemDisk};
@@ -28,13 +29,13 @@ pub struct ObjectLog<D: BlockDisk> {
 
 impl<D: BlockDisk> Model for ObjectLog<D> {
     ghost use Rattle.journal_wal.specs.Wal.{WalState};
-    ghost use Rattle.journal_objlog.specs.Soundness.{IsSound};
+    ghost use Rattle.journal_objlog.specs.Soundness.{IsObjectLog};
 
     ghost Value = { WalState };
 
     ghost view = { λ o. o.wal };
 
-    ghost invariant = { λ o. IsSound o.layout.blocks o.wal };
+    ghost invariant = { λ o. IsObjectLog o.layout.blocks o.wal };
 }
 
 impl<D: BlockDisk> ObjectLog<D> {
@@ -48,7 +49,7 @@ impl<D: BlockDisk> ObjectLog<D> {
         requires size { (D.state disk).past.size ≡ layout.blocks }
         requires settled { IsTrue (D.state disk).honest → IsSettled (D.state disk).past }
         ensures refusal { IfErr result (λ refused.
-            IsReason (D.state disk) (D.state refused.disk) refused.refusal) }
+            IsOpenRefusal (D.state disk) (D.state refused.disk) refused.refusal) }
         ensures keeps { MatchResult result
             (λ log. Keeps (D.state disk) log.ring.disk)
             (λ refused. Keeps (D.state disk) (D.state refused.disk)) }
@@ -56,9 +57,9 @@ impl<D: BlockDisk> ObjectLog<D> {
             (λ log. log.ring.disk.past ≡ (D.state disk).past)
             (λ refused. (D.state refused.disk).past ≡ (D.state disk).past) }
         ensures well_formed { IsTrue (D.state disk).honest → IfOk result (λ _. IsWellFormed (reading (D.state disk).past)) }
-        ensures opened { IfOk result IsOpened }
+        ensures opened { IfOk result IsAtRest }
         // The bounds are those that the disk tells.
-        ensures bounds { IsTrue (D.state disk).honest → IfOk result (IsWithin (reading (D.state disk).past)) }
+        ensures bounds { IsTrue (D.state disk).honest → IfOk result (HasBoundsIn (reading (D.state disk).past)) }
         ensures blocks { IfOk result (λ log. (map_now log).blocks ≡ layout.blocks) }
         // Each image opens as the map now.
         ensures images { IsTrue (D.state disk).honest → IfOk result (λ log.
@@ -104,7 +105,7 @@ impl<D: BlockDisk> ObjectLog<D> {
     /// How many blocks stand in the tail, at most 255.
     pub fn tail_len(&self) -> u64
         ensures length { result ≡ tail_length self.now }
-        ensures few { result ≤ 255 }
+        ensures few { result ≤ MAX_TAIL }
     {
         self.wal.tail_len()
     }

@@ -2,7 +2,7 @@
 ghost use Rattle.std.specs.Prelude.{◌≡◌, IsTrue, IsErr, OnOk, IfOk, IfErr, List};
 ghost use Rattle.journal_world.specs.Maps.{Pair, SameMap, overwritten};
 ghost use Rattle.journal_wal.specs.Wal.{Appends};
-ghost use Rattle.journal_objlog.specs.ObjectLogs.{map_now, map_cut, map_logged, KeepsMaps, MayCrash, OnlyReads, IsLeft};
+ghost use Rattle.journal_objlog.specs.ObjectLogs.{map_now, map_cut, map_logged, KeepsMaps, Crashes, OnlyReads, IsLeft};
 ghost use Rattle.journal_objlog.specs.Places.{places_of};
 ghost use Rattle.journal_objlog.specs.Writes.{CanPrepare, IsWriteRefusal, IsPrepareRefusal, IsReady, IsPrepared};
 
@@ -53,7 +53,7 @@ impl<D: BlockDisk> ObjectLog<D> {
         ensures reads { OnlyReads self.old self.new }
         ensures left { IfErr result (IsLeft self.new) }
         ensures maps { IsTrue self.old.ring.disk.honest → KeepsMaps self.old self.new }
-        ensures crash { MayCrash self.old self.new }
+        ensures crash { Crashes self.old self.new }
     {
         let places = self.check(writes)?;
         let updates = self.stage(writes, spares)?;
@@ -70,7 +70,7 @@ impl<D: BlockDisk> ObjectLog<D> {
             → SameMap (map_now self.new) (overwritten (map_now self.old) writes) }
         ensures cut { SameMap (map_cut self.new) (map_cut self.old) }
         ensures logged { SameMap (map_logged self.new) (map_logged self.old) }
-        ensures crash { MayCrash self.old self.new }
+        ensures crash { Crashes self.old self.new }
     {
         self.wal.append_reserved(prepared.updates);
     }
@@ -81,7 +81,7 @@ impl<D: BlockDisk> ObjectLog<D> {
         ensures ok { OnOk result (CanPrepare self.now writes.now) }
         ensures places { IfOk result (λ places. places ≡ places_of self.now writes.now) }
         ensures refusal { IfErr result (IsWriteRefusal self.now writes.now) }
-        ensures crash { MayCrash self.now self.now }
+        ensures crash { Crashes self.now self.now }
     {
         if self.wal.is_faulted() {
             return Err(Refusal::DeviceFailed(()));

@@ -4,7 +4,7 @@ ghost use Rattle.journal_world.specs.Addresses.{is_valid};
 ghost use Rattle.journal_object.specs.Objects.{object_at, size_at};
 ghost use Rattle.journal_wal.specs.Wal.{size_of};
 ghost use Rattle.journal_world.specs.Maps.{value_at, is_object};
-ghost use Rattle.journal_objlog.specs.ObjectLogs.{map_now, KeepsMaps, MayCrash, OnlyReads, IsLeft, IsLookRefusal, IsReadRefusal};
+ghost use Rattle.journal_objlog.specs.ObjectLogs.{map_now, KeepsMaps, Crashes, OnlyReads, IsLeft, IsLookRefusal, IsReadRefusal};
 
 use crate::object_log::ObjectLog;
 use journal_block::Block;
@@ -29,7 +29,7 @@ impl<D: BlockDisk> ObjectLog<D> {
         ensures reads { OnlyReads self.old self.new }
         ensures left { IfErr result (IsLeft self.new) }
         ensures maps { IsTrue self.old.ring.disk.honest → KeepsMaps self.old self.new }
-        ensures crash { MayCrash self.old self.new }
+        ensures crash { Crashes self.old self.new }
     {
         let mut bytes = self.room_for(addr)?;
         self.read_into(addr, &mut bytes)?;
@@ -43,7 +43,7 @@ impl<D: BlockDisk> ObjectLog<D> {
         ensures fine { OnOk result (self.now.ring.faulted ≡ false) }
         ensures refusal { IfErr result (IsReadRefusal self.now addr self.now) }
         ensures left { IfErr result (IsLeft self.now) }
-        ensures crash { MayCrash self.now self.now }
+        ensures crash { Crashes self.now self.now }
     {
         if self.wal.is_faulted() {
             return Err(Refusal::DeviceFailed(()));
@@ -73,7 +73,7 @@ impl<D: BlockDisk> ObjectLog<D> {
         ensures reads { OnlyReads self.old self.new }
         ensures left { IfErr result (IsLeft self.new) }
         ensures maps { IsTrue self.old.ring.disk.honest → KeepsMaps self.old self.new }
-        ensures crash { MayCrash self.old self.new }
+        ensures crash { Crashes self.old self.new }
     {
         if self.wal.is_faulted() {
             return Err(Refusal::DeviceFailed(()));

@@ -1,15 +1,15 @@
 // Asking a rule about the map now.
 ghost use Rattle.std.specs.Prelude.{◌≡◌, ◌↔◌, false, IsTrue, IsErr, OnOk, IfOk, IfErr};
-ghost use Rattle.journal_world.specs.Refusals.{IsOfReading};
-ghost use Rattle.journal_objlog.specs.ObjectLogs.{map_now, KeepsMaps, MayCrash, OnlyReads, IsLeft};
-ghost use Rattle.journal_objlog.specs.Reading.{IsRead};
+ghost use Rattle.journal_world.specs.Refusals.{IsReadingRefusal};
+ghost use Rattle.journal_objlog.specs.ObjectLogs.{map_now, KeepsMaps, Crashes, OnlyReads, IsLeft};
+ghost use Rattle.journal_objlog.specs.Reading.{OnlyReadSince};
 
 use crate::object_log::ObjectLog;
 use journal_disk::BlockDisk;
 use journal_world::{Addr, Layout, MapRule, ObjectReader, Refusal, Value};
 use std::marker::{Brand, Model, PhantomData};
 
-// The log before its map was read. It stands in proofs alone, and whoever lets the map be read picks it.
+// The log before its map was read. It stands in proofs alone, and is picked where the reading begins.
 trait Opening {
     ghost use Rattle.journal_wal.specs.Wal.{WalState};
 
@@ -31,13 +31,13 @@ struct MapReader<D: BlockDisk, O: Opening> {
 
 impl<D: BlockDisk, O: Opening> Model for MapReader<D, O> {
     ghost use Rattle.journal_wal.specs.Wal.{WalState};
-    ghost use Rattle.journal_objlog.specs.Reading.{IsRead};
+    ghost use Rattle.journal_objlog.specs.Reading.{OnlyReadSince};
 
     ghost Value = { WalState };
 
     ghost view = { λ r. r.log };
 
-    ghost invariant = { λ r. IsRead O.log r.log };
+    ghost invariant = { λ r. OnlyReadSince O.log r.log };
 }
 
 impl<D: BlockDisk, O: Opening> ObjectReader for MapReader<D, O> {
@@ -67,13 +67,13 @@ impl<D: BlockDisk> ObjectLog<D> {
     pub fn admitted_by<R: MapRule>(self, rule: &R) -> (ObjectLog<D>, Result<bool, Refusal<()>>)
         ensures admitted { IsTrue self.ring.disk.honest →
             IfOk result.1 (λ admitted. IsTrue admitted ↔ R.statement (map_now self)) }
-        ensures refusal { IfErr result.1 (IsOfReading result.0.ring.faulted) }
+        ensures refusal { IfErr result.1 (IsReadingRefusal result.0.ring.faulted) }
         ensures faulted { IsTrue self.ring.faulted → IsErr result.1 × (result.0 ≡ self) }
         ensures fine { OnOk result.1 ((self.ring.faulted ≡ false) × (result.0.ring.faulted ≡ false)) }
         ensures reads { OnlyReads self result.0 }
         ensures left { IfErr result.1 (IsLeft result.0) }
         ensures maps { IsTrue self.ring.disk.honest → KeepsMaps self result.0 }
-        ensures crash { MayCrash self result.0 }
+        ensures crash { Crashes self result.0 }
     {
         if self.wal.is_faulted() {
             return (self, Err(Refusal::DeviceFailed(())));
@@ -87,7 +87,7 @@ impl<D: BlockDisk> ObjectLog<D> {
 
     // A log that was not read since.
     fn untouched(&self)
-        ensures { IsRead self.now self.now }
+        ensures { OnlyReadSince self.now self.now }
     {
         let _ = &self.wal;
     }
@@ -101,8 +101,8 @@ fn read_by<O: Opening, D: BlockDisk, R: MapRule>(
     requires { log ≡ O.log }
     ensures admitted { IsTrue O.log.ring.disk.honest →
         IfOk result.1 (λ admitted. IsTrue admitted ↔ R.statement (map_now O.log)) }
-    ensures refusal { IfErr result.1 (IsOfReading result.0.ring.faulted) }
-    ensures read { IsRead O.log result.0 }
+    ensures refusal { IfErr result.1 (IsReadingRefusal result.0.ring.faulted) }
+    ensures read { OnlyReadSince O.log result.0 }
 {
     log.untouched();
     let mut reader = MapReader::<D, O> {

@@ -6,8 +6,8 @@ ghost use Rattle.journal_world.specs.Maps.{Pair, is_object, are_objects};
 ghost use Rattle.journal_world.specs.Orders.{HasAscendingBlocks};
 ghost use Rattle.journal_object.specs.Objects.{ChangesOnly};
 ghost use Rattle.journal_wal.specs.Wal.{size_of, blocks_now};
-ghost use Rattle.journal_objlog.specs.ObjectLogs.{MayCrash, OnlyReads};
-ghost use Rattle.journal_objlog.specs.Staging.{IsBelow, IsStaged, IsOpen, RefusesLate, first_update, first_bytes, with_first};
+ghost use Rattle.journal_objlog.specs.ObjectLogs.{Crashes, OnlyReads};
+ghost use Rattle.journal_objlog.specs.Staging.{IsAboveNone, IsStaged, IsOpen, RefusesLate, first_update, first_bytes, with_first};
 
 use crate::object_log::ObjectLog;
 use crate::spares::Spares;
@@ -118,7 +118,7 @@ impl<D: BlockDisk> ObjectLog<D> {
         requires valid { IsTrue (is_valid (size_of self.old) addr) }
         requires fine { self.old.ring.faulted ≡ false }
         ensures opened { OnOk result ((writes : List Pair) → IsStaged self.old writes updates.old
-            → HasAscendingBlocks writes → IsBelow addr.block writes → IsOpen self.new writes addr updates.new) }
+            → HasAscendingBlocks writes → IsAboveNone addr.block writes → IsOpen self.new writes addr updates.new) }
         ensures fine { OnOk result (self.new.ring.faulted ≡ false) }
         ensures reads { OnlyReads self.old self.new }
         ensures refusal { IfErr result (RefusesLate self.old self.new) }
@@ -139,7 +139,7 @@ impl<D: BlockDisk> ObjectLog<D> {
     fn block_before(&mut self, spares: &mut Spares, addr: Addr) -> Result<Block, Refusal<()>>
         requires valid { IsTrue (is_valid (size_of self.old) addr) }
         requires fine { self.old.ring.faulted ≡ false }
-        ensures crash { MayCrash self.old self.new }
+        ensures crash { Crashes self.old self.new }
         ensures low { MIN_BLOCKS ≤ size_of self.old }
         ensures block { IsTrue self.old.ring.disk.honest → IfOk result (λ block.
             (kind_of (size_of self.old) addr.block ≡ Some Kind.Block) ⊎ (block ≡ blocks_now self.old addr.block)) }

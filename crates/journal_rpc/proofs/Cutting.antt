@@ -8,32 +8,32 @@ use Rattle.std.proofs.lemmas.Nat.{from_be_bytes-to_be_bytes_4}
 use Rattle.journal_xdr.specs.Basic.{word}
 use Rattle.journal_rpc.specs.declared.part.Part.{Part}
 use Rattle.journal_rpc.specs.declared.part.Part.TheVariants.{Start, First, Second, Third, Body, TooLong}
-use Rattle.journal_rpc.specs.Stream.{Stream, record_limit, fresh, ended, begins, opened, after}
-use Rattle.journal_rpc.specs.Cuts.{header, fragment, Cut, together, spelled, record_of, cut_text, IsRecord, IsBegun, Spells}
+use Rattle.journal_rpc.specs.Stream.{Stream, record_limit, fresh, stream_ended, begins, stream_opened, after}
+use Rattle.journal_rpc.specs.Cuts.{header, fragment, Cut, together, spelled, record_of, cut_text, IsRecord, IsBegun, SpellsStream}
 use Rattle.journal_rpc.proofs.Streams.{stream, after-append, body_ends, body_on, after_too_long}
 
 -- ---- what is spelled is read
 
-header_comes : (records : List (List ℕ)) (begun : List ℕ) (n : ℕ) → n < 2 ^ 32 → after (stream records begun Start) (word.spelling n) ≡ opened records begun n
+header_comes : (records : List (List ℕ)) (begun : List ℕ) (n : ℕ) → n < 2 ^ 32 → after (stream records begun Start) (word.spelling n) ≡ stream_opened records begun n
 unfolding after word
-header_comes records begun n lt = ap (opened records begun) (from_be_bytes-to_be_bytes_4 n lt)
+header_comes records begun n lt = ap (stream_opened records begun) (from_be_bytes-to_be_bytes_4 n lt)
 
 is_last : (last : Bool) (size : ℕ) → size < 2 ^ 31 → (nat_le (2 ^ 31) (header last size) ≡ last) × (header last size % 2 ^ 31 ≡ size) × (header last size < 2 ^ 32)
 is_last true size lt = (le-leb _ _ (omega arith), omega arith, omega arith)
 is_last false size lt = (lt-leb (2 ^ 31) (0 + size) (omega arith), omega arith, omega arith)
 
-begins_fits : (records : List (List ℕ)) (begun : List ℕ) (last : Bool) (bytes : List ℕ) → length begun + length bytes ≤ record_limit → after (begins records begun last (length bytes)) bytes ≡ ended records (begun ++ bytes) last
+begins_fits : (records : List (List ℕ)) (begun : List ℕ) (last : Bool) (bytes : List ℕ) → length begun + length bytes ≤ record_limit → after (begins records begun last (length bytes)) bytes ≡ stream_ended records (begun ++ bytes) last
 unfolding after
 begins_fits records begun last [] le =
-    ap (λ b. if b then stream records begun TooLong else ended records begun last) (le-ltb record_limit (length begun + 0) (omega (arith, le)))
-    ∙ ap (λ (b : List ℕ). ended records b last) (sym (append-nil begun))
+    ap (λ b. if b then stream records begun TooLong else stream_ended records begun last) (le-ltb record_limit (length begun + 0) (omega (arith, le)))
+    ∙ ap (λ (b : List ℕ). stream_ended records b last) (sym (append-nil begun))
 begins_fits records begun last (x ∷ bytes) le =
     let some : eqb (suc (length bytes)) 0 ≡ false = ne_eqb (suc (length bytes)) 0 (λ e. omega arith) in
-    ap (λ b. after (if b then stream records begun TooLong else (if suc (length bytes) == 0 then ended records begun last else stream records begun (Body last (suc (length bytes))))) (x ∷ bytes)) (le-ltb record_limit (length begun + suc (length bytes)) (omega (arith, le)))
-    ∙ ap (λ b. after (if b then ended records begun last else stream records begun (Body last (suc (length bytes)))) (x ∷ bytes)) some
+    ap (λ b. after (if b then stream records begun TooLong else (if suc (length bytes) == 0 then stream_ended records begun last else stream records begun (Body last (suc (length bytes))))) (x ∷ bytes)) (le-ltb record_limit (length begun + suc (length bytes)) (omega (arith, le)))
+    ∙ ap (λ b. after (if b then stream_ended records begun last else stream records begun (Body last (suc (length bytes)))) (x ∷ bytes)) some
     ∙ body_ends (x ∷ bytes) records begun last (suc (length bytes)) (omega arith) refl
 
-pub fragment_comes : (records : List (List ℕ)) (begun : List ℕ) (last : Bool) (bytes : List ℕ) → length begun + length bytes ≤ record_limit → after (stream records begun Start) (fragment last bytes) ≡ ended records (begun ++ bytes) last
+pub fragment_comes : (records : List (List ℕ)) (begun : List ℕ) (last : Bool) (bytes : List ℕ) → length begun + length bytes ≤ record_limit → after (stream records begun Start) (fragment last bytes) ≡ stream_ended records (begun ++ bytes) last
 fragment_comes records begun last bytes le =
     let h = is_last last (length bytes) (omega (arith, le)) in
     after-append (stream records begun Start) (word.spelling (header last (length bytes))) bytes
@@ -71,8 +71,8 @@ body_begins records begun got last left some le =
     let filled : (size == 0) ≡ false = ne_eqb size 0 (λ e. omega (arith, some, e)) in
     after-append (stream records begun Start) (word.spelling (header last size)) got
     ∙ ap (λ (s : Stream). after s got) (header_comes records begun (header last size) h.2 ∙ ap (λ l. begins records begun l (header last size % 2 ^ 31)) h.0 ∙ ap (begins records begun last) h.1
-    ∙ ap (λ b. if b then stream records begun TooLong else (if size == 0 then ended records begun last else stream records begun (Body last size))) fits
-    ∙ ap (λ b. if b then ended records begun last else stream records begun (Body last size)) filled)
+    ∙ ap (λ b. if b then stream records begun TooLong else (if size == 0 then stream_ended records begun last else stream records begun (Body last size))) fits
+    ∙ ap (λ b. if b then stream_ended records begun last else stream records begun (Body last size)) filled)
     ∙ body_on got records begun last size (omega (arith, some))
     ∙ ap (λ k. stream records (begun ++ got) (Body last k)) (omega arith)
 
@@ -83,7 +83,7 @@ header_above records begun more n lt above =
     let big : nat_lt record_limit (length begun + n % 2 ^ 31) ≡ true = lt-ltb record_limit (length begun + n % 2 ^ 31) above in
     after-append (stream records begun Start) (word.spelling n) more
     ∙ ap (λ (s : Stream). after s more) (header_comes records begun n lt
-    ∙ ap (λ b. if b then stream records begun TooLong else (if n % 2 ^ 31 == 0 then ended records begun (nat_le (2 ^ 31) n) else stream records begun (Body (nat_le (2 ^ 31) n) (n % 2 ^ 31)))) big)
+    ∙ ap (λ b. if b then stream records begun TooLong else (if n % 2 ^ 31 == 0 then stream_ended records begun (nat_le (2 ^ 31) n) else stream records begun (Body (nat_le (2 ^ 31) n) (n % 2 ^ 31)))) big)
     ∙ after_too_long records begun more
 
 begun_comes : (records : List (List ℕ)) (front begun tail : List ℕ) (p : Part) → IsBegun p front begun tail → after (stream records front Start) tail ≡ stream records begun p
@@ -106,7 +106,7 @@ cuts_come records (c ∷ cuts) each =
     ∙ cuts_come (records ++ record_of c ∷ []) cuts each.1
     ∙ ap (λ (rs : List (List ℕ)). stream rs [] Start) (append_assoc records (record_of c ∷ []) (map record_of cuts))
 
-pub spelled_comes : (bytes : List ℕ) (s : Stream) → Spells bytes s → s ≡ after fresh bytes
+pub spelled_comes : (bytes : List ℕ) (s : Stream) → SpellsStream bytes s → s ≡ after fresh bytes
 spelled_comes bytes s h =
     let cuts = h.cuts in
     let come : after fresh bytes ≡ s =

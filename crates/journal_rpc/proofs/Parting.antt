@@ -10,8 +10,8 @@ use Rattle.std.proofs.lemmas.Nat.{be_bytes_4}
 use Rattle.journal_xdr.specs.Basic.{word}
 use Rattle.journal_rpc.specs.declared.part.Part.{Part}
 use Rattle.journal_rpc.specs.declared.part.Part.TheVariants.{Start, First, Second, Third, Body, TooLong}
-use Rattle.journal_rpc.specs.Stream.{Stream, record_limit, fresh, ended, byte_came, after}
-use Rattle.journal_rpc.specs.Cuts.{header, fragment, Cut, together, spelled, record_of, cut_text, IsRecord, IsBegun, Spells}
+use Rattle.journal_rpc.specs.Stream.{Stream, record_limit, fresh, stream_ended, byte_came, after}
+use Rattle.journal_rpc.specs.Cuts.{header, fragment, Cut, together, spelled, record_of, cut_text, IsRecord, IsBegun, SpellsStream}
 use Rattle.journal_rpc.proofs.Streams.{stream}
 
 -- the bytes are the spellings of whole records and of whole fragments, and then these
@@ -45,7 +45,7 @@ each-last (x ∷ cuts) c h f = (h.0, each-last cuts c h.1 f)
 -- a fragment is whole
 whole : (bytes : List ℕ) (records : List (List ℕ)) (begun got : List ℕ) (last : Bool) (cuts : List Cut) (before : List (List ℕ))
     → bytes ≡ parts cuts before (fragment last got) → AllByRecursion IsRecord cuts → records ≡ map record_of cuts → begun ≡ together before ++ got → length (together before) + length got ≤ record_limit
-    → Spells bytes (ended records begun last)
+    → SpellsStream bytes (stream_ended records begun last)
 whole bytes records begun got true cuts before e each rs is fits =
     let c : Cut = record { before = before; last = got } in
     record {
@@ -83,7 +83,7 @@ more_left (suc (suc n)) some h = omega arith
 whole_header : (bytes : List ℕ) (records : List (List ℕ)) (begun : List ℕ) (n : ℕ) (cuts : List Cut) (before : List (List ℕ)) (big none : Bool)
     → n < 2 ^ 32 → length (together before) ≤ record_limit → nat_lt record_limit (length begun + n % 2 ^ 31) ≡ big → (n % 2 ^ 31 == 0) ≡ none → header (nat_le (2 ^ 31) n) (n % 2 ^ 31) ≡ n
     → bytes ≡ parts cuts before (word.spelling n) → AllByRecursion IsRecord cuts → records ≡ map record_of cuts → begun ≡ together before
-    → Spells bytes (if big then stream records begun TooLong else (if none then ended records begun (nat_le (2 ^ 31) n) else stream records begun (Body (nat_le (2 ^ 31) n) (n % 2 ^ 31))))
+    → SpellsStream bytes (if big then stream records begun TooLong else (if none then stream_ended records begun (nat_le (2 ^ 31) n) else stream records begun (Body (nat_le (2 ^ 31) n) (n % 2 ^ 31))))
 whole_header bytes records begun n cuts before true none lt fits tb tn h e each rs is =
     record {
       cuts = cuts;
@@ -135,13 +135,13 @@ unfolding word
 header_text a b c d p q r s = be_bytes_4 (a ∷ b ∷ c ∷ d ∷ []) (from_be_bytes w32 (a ∷ b ∷ c ∷ d ∷ [])) refl (are_bytes a b c d p q r s) refl
 
 -- the same fragments are whole, and more has come of the next
-grows : (bytes : List ℕ) (s : Stream) (b : ℕ) (begun tail : List ℕ) (p : Part) (h : Spells bytes s) → h.tail ++ b ∷ [] ≡ tail → IsBegun p (together h.before) begun tail → Spells (bytes ++ b ∷ []) (stream s.records begun p)
+grows : (bytes : List ℕ) (s : Stream) (b : ℕ) (begun tail : List ℕ) (p : Part) (h : SpellsStream bytes s) → h.tail ++ b ∷ [] ≡ tail → IsBegun p (together h.before) begun tail → SpellsStream (bytes ++ b ∷ []) (stream s.records begun p)
 grows bytes s b begun tail p h e rest =
     record { cuts = h.cuts; before = h.before; tail = tail; is = longer bytes b h.cuts h.before h.tail h.is ∙ ap (parts h.cuts h.before) e; each = h.each; records = h.records; fits = h.fits; rest = rest }
 
-body_grows : (bytes : List ℕ) (s : Stream) (b : ℕ) (last : Bool) (left : ℕ) (h : Spells bytes s) → IsBegun (Body last left) (together h.before) s.begun h.tail
+body_grows : (bytes : List ℕ) (s : Stream) (b : ℕ) (last : Bool) (left : ℕ) (h : SpellsStream bytes s) → IsBegun (Body last left) (together h.before) s.begun h.tail
     → (done : Bool) → ((done ≡ true) × (left ≡ 1)) ⊎ ((done ≡ false) × (left ≢ 1))
-    → Spells (bytes ++ b ∷ []) (if done then ended s.records (s.begun ++ b ∷ []) last else stream s.records (s.begun ++ b ∷ []) (Body last (left - 1)))
+    → SpellsStream (bytes ++ b ∷ []) (if done then stream_ended s.records (s.begun ++ b ∷ []) last else stream s.records (s.begun ++ b ∷ []) (Body last (left - 1)))
 body_grows bytes s b last left h r done is =
     let front = together h.before in
     let got = r.0 ++ b ∷ [] in
@@ -152,7 +152,7 @@ body_grows bytes s b last left h r done is =
   where
     at : (got front : List ℕ) → length got ≡ length r.0 + 1 → s.begun ++ b ∷ [] ≡ together h.before ++ got → h.tail ++ b ∷ [] ≡ word.spelling (header last (length r.0 + left)) ++ got
         → (done : Bool) → ((done ≡ true) × (left ≡ 1)) ⊎ ((done ≡ false) × (left ≢ 1))
-        → Spells (bytes ++ b ∷ []) (if done then ended s.records (s.begun ++ b ∷ []) last else stream s.records (s.begun ++ b ∷ []) (Body last (left - 1)))
+        → SpellsStream (bytes ++ b ∷ []) (if done then stream_ended s.records (s.begun ++ b ∷ []) last else stream s.records (s.begun ++ b ∷ []) (Body last (left - 1)))
     at got front len begun tail true (inl is) =
         let text : word.spelling (header last (length r.0 + left)) ++ got ≡ fragment last got = ap (λ k. word.spelling (header last k) ++ got) (omega (arith, len, is.1)) in
         whole (bytes ++ b ∷ []) s.records (s.begun ++ b ∷ []) got last h.cuts h.before (longer bytes b h.cuts h.before h.tail h.is ∙ ap (parts h.cuts h.before) (tail ∙ text)) h.each h.records begun (omega (arith, r.4, len, is.1))
@@ -164,10 +164,10 @@ body_grows bytes s b last left h r done is =
         (got, begun, ap (λ k. word.spelling (header last k) ++ got) (omega (arith, len, more)), omega (arith, more), omega (arith, r.4, len, more))
 
 -- one more byte
-byte_parts : (bytes : List ℕ) (s : Stream) (b : ℕ) → b < 256 → Spells bytes s → Spells (bytes ++ b ∷ []) (byte_came s.records s.begun s.part b)
+byte_parts : (bytes : List ℕ) (s : Stream) (b : ℕ) → b < 256 → SpellsStream bytes s → SpellsStream (bytes ++ b ∷ []) (byte_came s.records s.begun s.part b)
 byte_parts bytes s b fits h = came s.part h.rest
   where
-    came : (p : Part) → IsBegun p (together h.before) s.begun h.tail → Spells (bytes ++ b ∷ []) (byte_came s.records s.begun p b)
+    came : (p : Part) → IsBegun p (together h.before) s.begun h.tail → SpellsStream (bytes ++ b ∷ []) (byte_came s.records s.begun p b)
     came Start r = grows bytes s b s.begun (b ∷ []) (First b) h (ap (λ (t : List ℕ). t ++ b ∷ []) r.1) (r.0, refl, fits)
     came (First x) r = grows bytes s b s.begun (x ∷ b ∷ []) (Second x b) h (ap (λ (t : List ℕ). t ++ b ∷ []) r.1) (r.0, refl, r.2, fits)
     came (Second x y) r = grows bytes s b s.begun (x ∷ y ∷ b ∷ []) (Third x y b) h (ap (λ (t : List ℕ). t ++ b ∷ []) r.1) (r.0, refl, r.2, r.3, fits)
@@ -181,15 +181,15 @@ byte_parts bytes s b fits h = came s.part h.rest
     came TooLong r =
         grows bytes s b s.begun (word.spelling r.0 ++ (r.1 ++ b ∷ [])) TooLong h (ap (λ (t : List ℕ). t ++ b ∷ []) r.3 ∙ append_assoc (word.spelling r.0) r.1 (b ∷ [])) (r.0, r.1 ++ b ∷ [], r.2, refl, r.4, r.5)
 
-pub all_parts : (bytes : List ℕ) (s : Stream) (more : List ℕ) → ((i : ℕ) → get_or more i 0 < 256) → Spells bytes s → Spells (bytes ++ more) (after s more)
+pub all_parts : (bytes : List ℕ) (s : Stream) (more : List ℕ) → ((i : ℕ) → get_or more i 0 < 256) → SpellsStream bytes s → SpellsStream (bytes ++ more) (after s more)
 unfolding after
-all_parts bytes s [] fits h = subst (λ (x : List ℕ). Spells x s) (sym (append-nil bytes)) h
+all_parts bytes s [] fits h = subst (λ (x : List ℕ). SpellsStream x s) (sym (append-nil bytes)) h
 all_parts bytes s (b ∷ more) fits h =
-    subst (λ (x : List ℕ). Spells x (after (byte_came s.records s.begun s.part b) more)) (append_assoc bytes (b ∷ []) more)
+    subst (λ (x : List ℕ). SpellsStream x (after (byte_came s.records s.begun s.part b) more)) (append_assoc bytes (b ∷ []) more)
     (all_parts (bytes ++ b ∷ []) (byte_came s.records s.begun s.part b) more (λ i. fits (suc i)) (byte_parts bytes s b (fits 0) h))
 
-nothing : Spells [] fresh
+nothing : SpellsStream [] fresh
 nothing = record { cuts = []; before = []; tail = []; is = refl; each = tt; records = refl; fits = omega arith; rest = (refl, refl) }
 
-pub is_spelled : (bytes : List ℕ) → ((i : ℕ) → get_or bytes i 0 < 256) → Spells bytes (after fresh bytes)
+pub is_spelled : (bytes : List ℕ) → ((i : ℕ) → get_or bytes i 0 < 256) → SpellsStream bytes (after fresh bytes)
 is_spelled bytes fits = all_parts [] fresh bytes fits nothing

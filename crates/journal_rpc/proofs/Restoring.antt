@@ -3,7 +3,7 @@ use Rattle.std.proofs.Common.{◌≡◌, ℕ, suc, ◌+◌, ◌<◌, ◌≤◌, 
 use Rattle.std.proofs.lemmas.List.{length-append}
 use Rattle.std.proofs.Math.Seq.{take-append_seam, drop-append_seam, take-append-add}
 use Rattle.journal_rpc.specs.declared.part.Part.{Part}
-use Rattle.journal_rpc.specs.Stream.{Stream, Extends, Grown, Completed}
+use Rattle.journal_rpc.specs.Stream.{Stream, ExtendsStream, Grown, Completed}
 use Rattle.journal_rpc.proofs.Streams.{stream}
 
 same_length : (xs ys : List (List ℕ)) → xs ≡ ys → length xs ≡ length ys
@@ -11,7 +11,7 @@ same_length xs ys e = ap (λ (zs : List (List ℕ)). length zs) e
 
 -- the last record that is complete becomes the one that is begun
 pub one_back : (old : Stream) (ws : List (List ℕ)) (r begun : List ℕ) (p q : Part) → length old.records < length ws + 1
-    → Extends old (stream (ws ++ r ∷ []) begun p) → Extends old (stream ws r q)
+    → ExtendsStream old (stream (ws ++ r ∷ []) begun p) → ExtendsStream old (stream ws r q)
 one_back old ws r begun p q lt (Grown e is b) = absurd (omega (arith, length-append ws (r ∷ []), same_length _ _ is))
 one_back old ws r begun p q lt (Completed e [] is) =
     let lens = same_length _ _ is in
@@ -29,7 +29,7 @@ one_back old ws r begun p q lt (Completed e (y ∷ m) is) =
 
 -- with as many complete records as there were, only the record that was begun has grown
 pub all_back : (old : Stream) (records : List (List ℕ)) (begun : List ℕ) (p : Part) → length records ≤ length old.records
-    → Extends old (stream records begun p) → stream records (take (length old.begun) begun) old.part ≡ old
+    → ExtendsStream old (stream records begun p) → stream records (take (length old.begun) begun) old.part ≡ old
 all_back old records begun p le (Grown e is b) =
     ap (λ (rs : List (List ℕ)). stream rs (take (length old.begun) begun) old.part) is
     ∙ ap (λ (x : List ℕ). stream old.records x old.part) (ap (take (length old.begun)) b ∙ take-append_seam old.begun e)

@@ -6,7 +6,7 @@ use Rattle.std.proofs.lemmas.Bool.{ne_eqb, eq-eqb}
 use Rattle.std.proofs.lemmas.List.{append-nil}
 use Rattle.journal_rpc.specs.declared.part.Part.{Part}
 use Rattle.journal_rpc.specs.declared.part.Part.TheVariants.{Start, First, Second, Third, Body, TooLong}
-use Rattle.journal_rpc.specs.Stream.{Stream, record_limit, ended, byte_came, after, Extends, Grown, Completed}
+use Rattle.journal_rpc.specs.Stream.{Stream, record_limit, stream_ended, byte_came, after, ExtendsStream, Grown, Completed}
 
 -- what has come, from its parts
 abbrev pub stream : List (List ℕ) → List ℕ → Part → Stream
@@ -16,10 +16,6 @@ pub after-append : (s : Stream) (a b : List ℕ) → after s (a ++ b) ≡ after 
 unfolding after
 after-append s [] b = refl
 after-append s (x ∷ a) b = after-append (byte_came s.records s.begun s.part x) a b
-
-pub after_one : (s : Stream) (x : ℕ) → after s (x ∷ []) ≡ byte_came s.records s.begun s.part x
-unfolding after
-after_one s x = refl
 
 pub after_none : (s : Stream) (bytes : List ℕ) → bytes ≡ [] → after s bytes ≡ s
 unfolding after
@@ -37,10 +33,10 @@ too_long_stays s bytes is =
 
 -- ---- a stream that goes on
 
-pub Extends-refl : (s : Stream) → Extends s s
+pub Extends-refl : (s : Stream) → ExtendsStream s s
 Extends-refl s = Grown [] refl (sym (append-nil s.begun))
 
-pub Extends-trans : (old mid new : Stream) → Extends old mid → Extends mid new → Extends old new
+pub Extends-trans : (old mid new : Stream) → ExtendsStream old mid → ExtendsStream mid new → ExtendsStream old new
 Extends-trans old mid new (Grown e r b) (Grown f s c) = Grown (e ++ f) (s ∙ r) (c ∙ ap (λ (x : List ℕ). x ++ f) b ∙ append_assoc old.begun e f)
 Extends-trans old mid new (Grown e r b) (Completed f m s) =
     Completed (e ++ f) m (s ∙ ap (λ (rs : List (List ℕ)). rs ++ (mid.begun ++ f) ∷ m) r ∙ ap (λ (x : List ℕ). old.records ++ x ∷ m) (ap (λ (x : List ℕ). x ++ f) b ∙ append_assoc old.begun e f))
@@ -48,29 +44,29 @@ Extends-trans old mid new (Completed e m r) (Grown f s c) = Completed e m (s ∙
 Extends-trans old mid new (Completed e m r) (Completed f n s) =
     Completed e (m ++ (mid.begun ++ f) ∷ n) (s ∙ ap (λ (rs : List (List ℕ)). rs ++ (mid.begun ++ f) ∷ n) r ∙ append_assoc old.records ((old.begun ++ e) ∷ m) ((mid.begun ++ f) ∷ n))
 
-same_part : (records : List (List ℕ)) (begun : List ℕ) (p q : Part) → Extends (stream records begun p) (stream records begun q)
+same_part : (records : List (List ℕ)) (begun : List ℕ) (p q : Part) → ExtendsStream (stream records begun p) (stream records begun q)
 same_part records begun p q = Grown [] refl (sym (append-nil begun))
 
-pub Extends-begun : (records : List (List ℕ)) (begun extra : List ℕ) (p q : Part) → Extends (stream records begun p) (stream records (begun ++ extra) q)
+pub Extends-begun : (records : List (List ℕ)) (begun extra : List ℕ) (p q : Part) → ExtendsStream (stream records begun p) (stream records (begun ++ extra) q)
 Extends-begun records begun extra p q = Grown extra refl refl
 
-Extends-ended : (records : List (List ℕ)) (begun extra : List ℕ) (p : Part) (last : Bool) → Extends (stream records begun p) (ended records (begun ++ extra) last)
+Extends-ended : (records : List (List ℕ)) (begun extra : List ℕ) (p : Part) (last : Bool) → ExtendsStream (stream records begun p) (stream_ended records (begun ++ extra) last)
 Extends-ended records begun extra p true = Completed extra [] refl
 Extends-ended records begun extra p false = Grown extra refl refl
 
-Extends-ended_now : (records : List (List ℕ)) (begun : List ℕ) (p : Part) (last : Bool) → Extends (stream records begun p) (ended records begun last)
-Extends-ended_now records begun p last = subst (λ (b : List ℕ). Extends (stream records begun p) (ended records b last)) (append-nil begun) (Extends-ended records begun [] p last)
+Extends-ended_now : (records : List (List ℕ)) (begun : List ℕ) (p : Part) (last : Bool) → ExtendsStream (stream records begun p) (stream_ended records begun last)
+Extends-ended_now records begun p last = subst (λ (b : List ℕ). ExtendsStream (stream records begun p) (stream_ended records b last)) (append-nil begun) (Extends-ended records begun [] p last)
 
-Extends-begins : (records : List (List ℕ)) (begun : List ℕ) (p : Part) (last : Bool) (size : ℕ) (big none : Bool) → Extends (stream records begun p) (if big then stream records begun TooLong else (if none then ended records begun last else stream records begun (Body last size)))
+Extends-begins : (records : List (List ℕ)) (begun : List ℕ) (p : Part) (last : Bool) (size : ℕ) (big none : Bool) → ExtendsStream (stream records begun p) (if big then stream records begun TooLong else (if none then stream_ended records begun last else stream records begun (Body last size)))
 Extends-begins records begun p last size true none = same_part records begun p TooLong
 Extends-begins records begun p last size false true = Extends-ended_now records begun p last
 Extends-begins records begun p last size false false = same_part records begun p (Body last size)
 
-Extends-body : (records : List (List ℕ)) (begun : List ℕ) (b left : ℕ) (p : Part) (last : Bool) (done : Bool) → Extends (stream records begun p) (if done then ended records (begun ++ b ∷ []) last else stream records (begun ++ b ∷ []) (Body last (left - 1)))
+Extends-body : (records : List (List ℕ)) (begun : List ℕ) (b left : ℕ) (p : Part) (last : Bool) (done : Bool) → ExtendsStream (stream records begun p) (if done then stream_ended records (begun ++ b ∷ []) last else stream records (begun ++ b ∷ []) (Body last (left - 1)))
 Extends-body records begun b left p last true = Extends-ended records begun (b ∷ []) p last
 Extends-body records begun b left p last false = Extends-begun records begun (b ∷ []) p (Body last (left - 1))
 
-Extends-byte : (records : List (List ℕ)) (begun : List ℕ) (p : Part) (b : ℕ) → Extends (stream records begun p) (byte_came records begun p b)
+Extends-byte : (records : List (List ℕ)) (begun : List ℕ) (p : Part) (b : ℕ) → ExtendsStream (stream records begun p) (byte_came records begun p b)
 Extends-byte records begun Start b = same_part records begun Start (First b)
 Extends-byte records begun (First x) b = same_part records begun (First x) (Second x b)
 Extends-byte records begun (Second x y) b = same_part records begun (Second x y) (Third x y b)
@@ -80,7 +76,7 @@ Extends-byte records begun (Third x y z) b =
 Extends-byte records begun (Body last left) b = Extends-body records begun b left (Body last left) last (left == 1)
 Extends-byte records begun TooLong b = same_part records begun TooLong TooLong
 
-pub Extends-after : (s : Stream) (bytes : List ℕ) → Extends s (after s bytes)
+pub Extends-after : (s : Stream) (bytes : List ℕ) → ExtendsStream s (after s bytes)
 unfolding after
 Extends-after s [] = Extends-refl s
 Extends-after s (x ∷ bytes) = Extends-trans s (byte_came s.records s.begun s.part x) (after (byte_came s.records s.begun s.part x) bytes) (Extends-byte s.records s.begun s.part x) (Extends-after (byte_came s.records s.begun s.part x) bytes)
@@ -99,22 +95,22 @@ unfolding after
 body_on [] records begun last left lt = ap (λ (b : List ℕ). stream records b (Body last left)) (sym (append-nil begun)) ∙ ap (λ k. stream records (begun ++ []) (Body last k)) (omega arith)
 body_on (x ∷ bytes) records begun last left lt =
     let more : eqb left 1 ≡ false = ne_eqb left 1 (λ e. omega arith) in
-    ap (λ (s : Stream). after s bytes) (ap (λ b. if b then ended records (begun ++ x ∷ []) last else stream records (begun ++ x ∷ []) (Body last (left - 1))) more)
+    ap (λ (s : Stream). after s bytes) (ap (λ b. if b then stream_ended records (begun ++ x ∷ []) last else stream records (begun ++ x ∷ []) (Body last (left - 1))) more)
     ∙ body_on bytes records (begun ++ x ∷ []) last (left - 1) (omega arith)
     ∙ ap (λ (b : List ℕ). stream records b (Body last (left - 1 - length bytes))) (append_assoc begun (x ∷ []) bytes)
     ∙ ap (λ k. stream records (begun ++ x ∷ bytes) (Body last k)) (omega arith)
 
-pub body_ends : (bytes : List ℕ) (records : List (List ℕ)) (begun : List ℕ) (last : Bool) (left : ℕ) → 0 < left → length bytes ≡ left → after (stream records begun (Body last left)) bytes ≡ ended records (begun ++ bytes) last
+pub body_ends : (bytes : List ℕ) (records : List (List ℕ)) (begun : List ℕ) (last : Bool) (left : ℕ) → 0 < left → length bytes ≡ left → after (stream records begun (Body last left)) bytes ≡ stream_ended records (begun ++ bytes) last
 unfolding after
 body_ends [] records begun last left some is = absurd (omega arith)
 body_ends (x ∷ []) records begun last left some is =
     let done : eqb left 1 ≡ true = eq-eqb left 1 (omega arith) in
-    ap (λ b. if b then ended records (begun ++ x ∷ []) last else stream records (begun ++ x ∷ []) (Body last (left - 1))) done
+    ap (λ b. if b then stream_ended records (begun ++ x ∷ []) last else stream records (begun ++ x ∷ []) (Body last (left - 1))) done
 body_ends (x ∷ y ∷ bytes) records begun last left some is =
     let more : eqb left 1 ≡ false = ne_eqb left 1 (λ e. omega arith) in
-    ap (λ (s : Stream). after s (y ∷ bytes)) (ap (λ b. if b then ended records (begun ++ x ∷ []) last else stream records (begun ++ x ∷ []) (Body last (left - 1))) more)
+    ap (λ (s : Stream). after s (y ∷ bytes)) (ap (λ b. if b then stream_ended records (begun ++ x ∷ []) last else stream records (begun ++ x ∷ []) (Body last (left - 1))) more)
     ∙ body_ends (y ∷ bytes) records (begun ++ x ∷ []) last (left - 1) (omega arith) (omega arith)
-    ∙ ap (λ (b : List ℕ). ended records b last) (append_assoc begun (x ∷ []) (y ∷ bytes))
+    ∙ ap (λ (b : List ℕ). stream_ended records b last) (append_assoc begun (x ∷ []) (y ∷ bytes))
 
 -- ---- what a body's bytes do to a stream whose parts are these
 
@@ -125,16 +121,16 @@ body_goes s records begun grown part last left bytes view here lt is =
     ∙ ap (λ p. after (stream records begun p) bytes) (sym (ap (λ (t : Stream). t.part) view ∙ here))
     ∙ ap (λ (t : Stream). after t bytes) view
 
-pub body_done : (s : Stream) (records : List (List ℕ)) (begun grown : List ℕ) (part : Part) (last : Bool) (left : ℕ) (bytes : List ℕ) → stream records begun part ≡ s → s.part ≡ Body last left → 0 < left → length bytes ≡ left → grown ≡ begun ++ bytes → ended records grown last ≡ after s bytes
+pub body_done : (s : Stream) (records : List (List ℕ)) (begun grown : List ℕ) (part : Part) (last : Bool) (left : ℕ) (bytes : List ℕ) → stream records begun part ≡ s → s.part ≡ Body last left → 0 < left → length bytes ≡ left → grown ≡ begun ++ bytes → stream_ended records grown last ≡ after s bytes
 body_done s records begun grown part last left bytes view here some len is =
-    ap (λ (b : List ℕ). ended records b last) is
+    ap (λ (b : List ℕ). stream_ended records b last) is
     ∙ sym (body_ends bytes records begun last left some len)
     ∙ ap (λ p. after (stream records begun p) bytes) (sym (ap (λ (t : Stream). t.part) view ∙ here))
     ∙ ap (λ (t : Stream). after t bytes) view
 
-pub has_grown : (s new : Stream) (records : List (List ℕ)) (begun extra grown : List ℕ) (part : Part) → stream records begun part ≡ s → grown ≡ begun ++ extra → new ≡ stream records grown part → Extends s new
+pub has_grown : (s new : Stream) (records : List (List ℕ)) (begun extra grown : List ℕ) (part : Part) → stream records begun part ≡ s → grown ≡ begun ++ extra → new ≡ stream records grown part → ExtendsStream s new
 has_grown s new records begun extra grown part view is e =
-    subst (λ (t : Stream). Extends t new) view (subst (λ (t : Stream). Extends (stream records begun part) t) (sym e) (Grown extra refl is))
+    subst (λ (t : Stream). ExtendsStream t new) view (subst (λ (t : Stream). ExtendsStream (stream records begun part) t) (sym e) (Grown extra refl is))
 
 -- ---- on the error, and on success
 

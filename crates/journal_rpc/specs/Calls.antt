@@ -1,6 +1,6 @@
 -- Calls (RFC 5531, sections 8.2 and 9), as whole byte lists.
 use Rattle.std.specs.Prelude.{◌≢◌, ℕ, ◌==◌, if◌then◌else◌, List, Option, Some}
-use Rattle.journal_xdr.specs.Items.{Item, ◌>>=◌, pair, made, Spelled}
+use Rattle.journal_xdr.specs.Items.{Item, ◌>>=◌, pair, mapped_item, Spelled}
 use Rattle.journal_xdr.specs.Basic.{word, opaque, constant}
 
 -- What every call begins with: its number, the message type 0 for a call, and the version of RPC
@@ -9,7 +9,7 @@ pub record Beginning : Type 0 where
   pub rpc_version : ℕ
 
 unfoldable pub beginning : Item Beginning
-beginning = made (pair word (pair (constant 0) word)) (λ p. record { xid = p.0; rpc_version = p.1.1 }) (λ b. (b.xid, (tt, b.rpc_version)))
+beginning = mapped_item (pair word (pair (constant 0) word)) (λ p. record { xid = p.0; rpc_version = p.1.1 }) (λ b. (b.xid, (tt, b.rpc_version)))
 
 -- a credential or a verifier: a flavor, and at most 400 bytes
 pub record Auth : Type 0 where
@@ -17,7 +17,7 @@ pub record Auth : Type 0 where
   pub body : List ℕ
 
 unfoldable pub auth : Item Auth
-auth = made (pair word (opaque 400)) (λ p. record { flavor = p.0; body = p.1 }) (λ a. (a.flavor, a.body))
+auth = mapped_item (pair word (opaque 400)) (λ p. record { flavor = p.0; body = p.1 }) (λ a. (a.flavor, a.body))
 
 -- the rest of the header of a call in version 2 of RPC
 pub record Target : Type 0 where
@@ -28,7 +28,7 @@ pub record Target : Type 0 where
   pub verifier : Auth
 
 unfoldable pub target : Item Target
-target = made (pair word (pair word (pair word (pair auth auth))))
+target = mapped_item (pair word (pair word (pair word (pair auth auth))))
     (λ p. record { program = p.0; version = p.1.0; procedure = p.1.1.0; credential = p.1.1.1.0; verifier = p.1.1.1.1 })
     (λ t. (t.program, (t.version, (t.procedure, (t.credential, t.verifier)))))
 

@@ -52,7 +52,7 @@ IsBegun TooLong front begun tail =
 
 -- The bytes are these records, each in some cutting, and then what has come of the next: some whole fragments
 -- of it, and less than another or a header that takes it above the limit
-pub record Spells (bytes : List ℕ) (s : Stream) : Type 0 where
+pub record SpellsStream (bytes : List ℕ) (s : Stream) : Type 0 where
   pub cuts : List Cut
   pub before : List (List ℕ)
   pub tail : List ℕ

@@ -21,12 +21,12 @@ one_fragment body = fragment true body
 abbrev pub accepted : ℕ → List ℕ
 accepted status = 1 ∷ 0 ∷ 0 ∷ 0 ∷ status ∷ []
 
-abbrev pub number_of : AcceptStatus → ℕ
-number_of status.Success = 0
-number_of status.ProgramUnavailable = 1
-number_of status.ProgramMismatch = 2
-number_of status.ProcedureUnavailable = 3
-number_of status.GarbageArguments = 4
+abbrev pub accept_number : AcceptStatus → ℕ
+accept_number status.Success = 0
+accept_number status.ProgramUnavailable = 1
+accept_number status.ProgramMismatch = 2
+accept_number status.ProcedureUnavailable = 3
+accept_number status.GarbageArguments = 4
 
 -- What stands behind the number of a call that is refused. Denied is 1, its cause here 0, and the versions
 -- of RPC are from 2 to 2

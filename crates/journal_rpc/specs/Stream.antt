@@ -20,28 +20,28 @@ abbrev pub fresh : Stream
 fresh = record { records = []; begun = []; part = Start }
 
 -- a fragment is at its end
-abbrev pub ended : List (List ℕ) → List ℕ → Bool → Stream
-ended records begun true = record { records = records ++ begun ∷ []; begun = []; part = Start }
-ended records begun false = record { records = records; begun = begun; part = Start }
+abbrev pub stream_ended : List (List ℕ) → List ℕ → Bool → Stream
+stream_ended records begun true = record { records = records ++ begun ∷ []; begun = []; part = Start }
+stream_ended records begun false = record { records = records; begun = begun; part = Start }
 
 -- a fragment of so many bytes begins
 abbrev pub begins : List (List ℕ) → List ℕ → Bool → ℕ → Stream
 begins records begun last size =
     if nat_lt record_limit (length begun + size) then record { records = records; begun = begun; part = TooLong }
-    else (if size == 0 then ended records begun last else record { records = records; begun = begun; part = Body last size })
+    else (if size == 0 then stream_ended records begun last else record { records = records; begun = begun; part = Body last size })
 
 -- a header: its top bit marks the last fragment, the others give the length
-abbrev pub opened : List (List ℕ) → List ℕ → ℕ → Stream
-opened records begun header = begins records begun (nat_le (2 ^ 31) header) (header % 2 ^ 31)
+abbrev pub stream_opened : List (List ℕ) → List ℕ → ℕ → Stream
+stream_opened records begun header = begins records begun (nat_le (2 ^ 31) header) (header % 2 ^ 31)
 
 -- a byte comes
 abbrev pub byte_came : List (List ℕ) → List ℕ → Part → ℕ → Stream
 byte_came records begun Start b = record { records = records; begun = begun; part = First b }
 byte_came records begun (First x) b = record { records = records; begun = begun; part = Second x b }
 byte_came records begun (Second x y) b = record { records = records; begun = begun; part = Third x y b }
-byte_came records begun (Third x y z) b = opened records begun (from_be_bytes w32 (x ∷ y ∷ z ∷ b ∷ []))
+byte_came records begun (Third x y z) b = stream_opened records begun (from_be_bytes w32 (x ∷ y ∷ z ∷ b ∷ []))
 byte_came records begun (Body last left) b =
-    if left == 1 then ended records (begun ++ b ∷ []) last else record { records = records; begun = begun ++ b ∷ []; part = Body last (left - 1) }
+    if left == 1 then stream_ended records (begun ++ b ∷ []) last else record { records = records; begun = begun ++ b ∷ []; part = Body last (left - 1) }
 byte_came records begun TooLong b = record { records = records; begun = begun; part = TooLong }
 
 -- the stream after some bytes
@@ -51,9 +51,9 @@ after s (b ∷ bs) = after (byte_came s.records s.begun s.part b) bs
 
 -- The new stream has all that the old one had, and perhaps more: the record that was begun has grown, or it
 -- is complete with what came of it
-pub data Extends (old new : Stream) : Type 0 where
-  Grown : (extra : List ℕ) → new.records ≡ old.records → new.begun ≡ old.begun ++ extra → Extends old new
-  Completed : (extra : List ℕ) → (more : List (List ℕ)) → new.records ≡ old.records ++ (old.begun ++ extra) ∷ more → Extends old new
+pub data ExtendsStream (old new : Stream) : Type 0 where
+  Grown : (extra : List ℕ) → new.records ≡ old.records → new.begun ≡ old.begun ++ extra → ExtendsStream old new
+  Completed : (extra : List ℕ) → (more : List (List ℕ)) → new.records ≡ old.records ++ (old.begun ++ extra) ∷ more → ExtendsStream old new
 
 -- nothing has come of the next record
 pub record IsBetween (s : Stream) : Type 0 where

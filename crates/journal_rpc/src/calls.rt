@@ -1,6 +1,6 @@
 // What a record asks.
 ghost use Rattle.std.specs.Prelude.{◌≡◌, IfSome, IfNone};
-ghost use Rattle.journal_xdr.specs.Items.{Reads};
+ghost use Rattle.journal_xdr.specs.Items.{ReadsItem};
 ghost use Rattle.journal_rpc.specs.Calls.{beginning, auth, target, Message, IsCall};
 ghost use Rattle.journal_rpc.specs.CallViews.{beginning_of, auth_of, target_of, message_of, asked_of, ReadsCall, Routes, routed, request_of};
 
@@ -135,7 +135,7 @@ fn read_message(bytes: &[u8]) -> Option<Call<'_>>
 
 #[tactic(auto, unfolding(crate::specs::Calls::beginning))]
 fn read_beginning(reader: &mut Reader<'_>) -> Option<Beginning>
-    ensures { Reads beginning beginning_of reader.old reader.new result }
+    ensures { ReadsItem beginning beginning_of reader.old reader.new result }
 {
     let xid = reader.word()?;
     if reader.word()? != CALL {
@@ -147,7 +147,7 @@ fn read_beginning(reader: &mut Reader<'_>) -> Option<Beginning>
 
 #[tactic(auto, unfolding(crate::specs::Calls::auth))]
 fn read_auth<'a>(reader: &mut Reader<'a>) -> Option<Auth<'a>>
-    ensures { Reads auth auth_of reader.old reader.new result }
+    ensures { ReadsItem auth auth_of reader.old reader.new result }
 {
     Some(Auth {
         flavor: reader.word()?,
@@ -157,7 +157,7 @@ fn read_auth<'a>(reader: &mut Reader<'a>) -> Option<Auth<'a>>
 
 #[tactic(auto, unfolding(crate::specs::Calls::target))]
 fn read_target<'a>(reader: &mut Reader<'a>) -> Option<Target<'a>>
-    ensures { Reads target target_of reader.old reader.new result }
+    ensures { ReadsItem target target_of reader.old reader.new result }
 {
     Some(Target {
         program: reader.word()?,

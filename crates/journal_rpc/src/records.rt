@@ -1,7 +1,7 @@
 // Records out of pieces of a stream.
 ghost use Rattle.std.specs.Prelude.{◌≡◌, ◌≢◌, ℕ, ◌+◌, ◌<◌, ◌≤◌, List, [], ◌∷◌, ◌++◌, length, take, OnOk, OnErr, IfOk, MatchOption, MatchBool, IsErrOf};
-ghost use Rattle.journal_rpc.specs.Stream.{fresh, after, ended, opened, Stream, Extends, IsBetween};
-ghost use Rattle.journal_rpc.specs.Cuts.{Spells};
+ghost use Rattle.journal_rpc.specs.Stream.{fresh, after, stream_ended, stream_opened, Stream, ExtendsStream, IsBetween};
+ghost use Rattle.journal_rpc.specs.Cuts.{SpellsStream};
 ghost use Rattle.journal_rpc.specs.Parts.{HasMore};
 ghost use Rattle.journal_rpc.specs.declared.part.Part.TheVariants.{Body, TooLong};
 
@@ -112,8 +112,8 @@ impl Records {
             → (self.new ≡ after self.old piece.now) × (self.new.part ≡ TooLong) }
 
         // Where the bytes so far were the spellings of what had come, they are with the piece too.
-        ensures spelled { result ≢ Err FeedRefused.NoMemory → (bytes : List ℕ) → Spells bytes self.old
-            → Spells (bytes ++ piece.now) self.new }
+        ensures spelled { result ≢ Err FeedRefused.NoMemory → (bytes : List ℕ) → SpellsStream bytes self.old
+            → SpellsStream (bytes ++ piece.now) self.new }
     {
         let (records, bytes, part) = (self.waiting.len(), self.begun.len(), self.part);
         if self.take_in(piece).is_err() {
@@ -129,7 +129,7 @@ impl Records {
     // Takes all of the piece.
     fn take_in(&mut self, piece: &[u8]) -> Result<(), AllocError>
         ensures ok { OnOk result (self.new ≡ after self.old piece.now) }
-        ensures err { OnErr result (Extends self.old self.new) }
+        ensures err { OnErr result (ExtendsStream self.old self.new) }
     {
         let mut rest = piece;
         while !rest.is_empty() {
@@ -144,7 +144,7 @@ impl Records {
         requires { 0 < length bytes.now }
         ensures ok { IfOk result (λ n. (0 < n) × (n ≤ length bytes.now)
             × (self.new ≡ after self.old (take n bytes.now))) }
-        ensures err { OnErr result (Extends self.old self.new) }
+        ensures err { OnErr result (ExtendsStream self.old self.new) }
     {
         let byte = bytes[0];
         match self.part {
@@ -168,7 +168,7 @@ impl Records {
         requires within { length bytes.now ≤ left }
         requires here { self.old.part ≡ Body last left }
         ensures ok { OnOk result (self.new ≡ after self.old bytes.now) }
-        ensures err { OnErr result (Extends self.old self.new) }
+        ensures err { OnErr result (ExtendsStream self.old self.new) }
     {
         self.begun.extend_from_slice(bytes)?;
         if bytes.len() == left {
@@ -183,7 +183,7 @@ impl Records {
 
     // A header has come.
     fn open_fragment(&mut self, header: u32) -> Result<(), AllocError>
-        ensures ok { OnOk result (self.new ≡ opened self.old.records self.old.begun header) }
+        ensures ok { OnOk result (self.new ≡ stream_opened self.old.records self.old.begun header) }
         ensures err { OnErr result (self.new ≡ self.old) }
     {
         let last = header >= LAST_FRAGMENT;
@@ -207,7 +207,7 @@ impl Records {
 
     // A fragment is at its end.
     fn end_fragment(&mut self, last: bool) -> Result<(), AllocError>
-        ensures ok { OnOk result (self.new ≡ ended self.old.records self.old.begun last) }
+        ensures ok { OnOk result (self.new ≡ stream_ended self.old.records self.old.begun last) }
         ensures err { OnErr result (self.new ≡ self.old) }
     {
         if last {
@@ -223,7 +223,7 @@ impl Records {
     fn go_back(&mut self, records: usize, bytes: usize, part: Part)
         requires { HasMore part }
         ensures { (old : Stream) → length old.records ≡ records → length old.begun ≡ bytes → old.part ≡ part
-            → Extends old self.old → self.new ≡ old }
+            → ExtendsStream old self.old → self.new ≡ old }
     {
         while self.waiting.len() > records {
             if let Some(record) = self.waiting.pop_back() {

@@ -1,7 +1,7 @@
 // Replies, each as one fragment.
 ghost use Rattle.std.specs.Prelude.{◌≡◌, ◌<◌, ◌^◌, ◌++◌, [], List, ℕ, length, IfOk, OnOk};
 ghost use Rattle.std.specs.Result.{ForOk};
-ghost use Rattle.journal_rpc.specs.Replies.{words, one_fragment, reply, why, accepted, number_of};
+ghost use Rattle.journal_rpc.specs.Replies.{words, one_fragment, reply, why, accepted, accept_number};
 
 use crate::protocol::{
     ACCEPTED, AUTH_NONE, AcceptStatus, DENIED, HEADER_BYTES, LAST_FRAGMENT, REPLY, RPC_MISMATCH,
@@ -116,7 +116,7 @@ fn write_refusal(writer: &mut Writer, refusal: CallRefused) -> Result<(), AllocE
 
 // Writes what stands behind the number of a call that is accepted: a verifier of no bytes, and the status.
 fn write_accepted(writer: &mut Writer, status: AcceptStatus) -> Result<(), AllocError>
-    ensures { OnOk result (writer.new ≡ writer.old ++ words (accepted (number_of status))) }
+    ensures { OnOk result (writer.new ≡ writer.old ++ words (accepted (accept_number status))) }
 {
     write_words(writer, &[REPLY, ACCEPTED, AUTH_NONE, 0, status as u32])
 }

@@ -7,7 +7,7 @@ use Rattle.journal_world.specs.Histories.{Entry, is_trusted, latest, commits_of,
 use Rattle.journal_world.specs.Histories.Entry.{commit}
 use Rattle.journal_world.proofs.Prefixes.{IsPrefix-trans}
 use Rattle.journal_history.specs.Soundness.{IsSound}
-use Rattle.journal_history.specs.Tokens.{SessionState, CommitPlace, next_of, Commits, IsReceiptFor}
+use Rattle.journal_history.specs.Tokens.{SessionState, CommitPlace, next_transaction, Commits, IsReceiptFor}
 use Rattle.journal_core.specs.Causes.{Told}
 use Rattle.journal_core.specs.Cores.{CoreState}
 use Rattle.journal_core.specs.Transactions.{TransactionState}
@@ -22,12 +22,12 @@ use Rattle.journal_twophase.proofs.Knowing.{some_before, ruled_before, blocks_be
 module _ (rule : Map → Type 0) (blocks : ℕ) where
   -- what the core's histories before and after its commit, and what is known of the latter, say of the transaction
   from_histories : (t : TransactionState) (s new : SessionState) (found history : List Entry) (place : CommitPlace)
-      → Commits (next_of s t.reads t.writes) s new found history
-      → IsReceiptFor (next_of s t.reads t.writes) history (length found) place
+      → Commits (next_transaction s t.reads t.writes) s new found history
+      → IsReceiptFor (next_transaction s t.reads t.writes) history (length found) place
       → IsPrefix t.seen found → (IsTrue (is_trusted found) → Agrees (latest found) t.reads) → IsKnown rule blocks new.seen
       → IsCommitted rule blocks t.seen t s new place
   from_histories t s new found history place commits receipt later agrees known =
-      let u : Transaction = next_of s t.reads t.writes in
+      let u : Transaction = next_transaction s t.reads t.writes in
       let whole : new.seen ≡ history = ap (λ (n : SessionState). n.seen) commits.session in
       let mine : new.mine ≡ history = ap (λ (n : SessionState). n.mine) commits.session in
       let here : history ≡ found ++ commit u ∷ [] = commits.added in
@@ -50,7 +50,7 @@ module _ (rule : Map → Type 0) (blocks : ℕ) where
 
   pub committed : (t : TransactionState) (s new : SessionState) (old core : CoreState) (answer : Result CommitPlace (Refusal Told))
       → AnswersCommit old s t answer core new
-      → IfOk answer (IsReceiptFor (next_of s t.reads t.writes) core.history (length old.history))
+      → IfOk answer (IsReceiptFor (next_transaction s t.reads t.writes) core.history (length old.history))
       → IsKnown rule blocks new.seen
       → IfOk answer (IsCommitted rule blocks t.seen t s new)
   committed t s new old core (Err why) step receipt known = tt

@@ -6,11 +6,12 @@ use Rattle.journal_world.specs.declared.refusal.Refusal.TheVariants.{NoMemory, T
 use Rattle.journal_world.specs.Maps.{Map, Agrees}
 use Rattle.journal_world.specs.Histories.{Entry, is_trusted, latest, commits_of}
 use Rattle.journal_objlog.specs.Writes.{written_blocks}
-use Rattle.journal_history.specs.Tokens.{SessionState, CommitPlace, made, next_of, IsExact, Commits, IsReceiptFor}
+use Rattle.journal_history.specs.Tokens.{SessionState, CommitPlace, made, next_transaction, IsExact, Commits, IsReceiptFor}
 use Rattle.journal_core.specs.Causes.{Told, IsUnexplained}
 use Rattle.journal_core.specs.Transactions.{TransactionState}
 use Rattle.journal_twophase.specs.Journals.{IsKnown, IsShown}
 use Rattle.journal_twophase.specs.Transactions.{ShowsMoved}
+use Rattle.journal_wal.specs.declared.append.TheConstants.{MAX_UPDATES}
 
 -- The transaction was committed as the session's next one, with exactly what it read and overwrote
 pub record IsCommitted (rule : Map → Type 0) (blocks : ℕ) (began : List Entry) (t : TransactionState) (old new : SessionState) (place : CommitPlace) : Type 0 where
@@ -23,11 +24,11 @@ pub record IsCommitted (rule : Map → Type 0) (blocks : ℕ) (began : List Entr
   pub ruled : IsTrue (is_trusted found) → rule (latest found)
   pub on_disk : (latest found).blocks ≡ blocks
   -- it was added to that history, after all that the session had seen, and the session has seen it
-  pub committed : Commits (next_of old t.reads t.writes) old new found new.seen
+  pub committed : Commits (next_transaction old t.reads t.writes) old new found new.seen
   pub exact : IsExact new
   pub known : IsKnown rule blocks new.seen
   -- the receipt names its place
-  pub receipt : IsReceiptFor (next_of old t.reads t.writes) new.seen (length found) place
+  pub receipt : IsReceiptFor (next_transaction old t.reads t.writes) new.seen (length found) place
 
 -- The cause shows a history that has a commit under the session's number which the session did not make
 abbrev pub ShowsStrange : SessionState → Told → Type 0
@@ -39,9 +40,9 @@ IsTryRefusal t s (Closed cause) = IsUnexplained cause
 IsTryRefusal t s (DeviceFailed cause) = IsUnexplained cause
 IsTryRefusal t s (Stale cause) = IsShown cause
 IsTryRefusal t s (Stranger cause) = ShowsStrange s cause ⊎ ShowsMoved t cause
-IsTryRefusal t s TooLarge = 128 < written_blocks t.writes
-IsTryRefusal t s (Worn cause) = (written_blocks t.writes ≤ 128) × IsUnexplained cause
-IsTryRefusal t s (Full cause) = (written_blocks t.writes ≤ 128) × IsUnexplained cause
+IsTryRefusal t s TooLarge = MAX_UPDATES < written_blocks t.writes
+IsTryRefusal t s (Worn cause) = (written_blocks t.writes ≤ MAX_UPDATES) × IsUnexplained cause
+IsTryRefusal t s (Full cause) = (written_blocks t.writes ≤ MAX_UPDATES) × IsUnexplained cause
 IsTryRefusal t s NoMemory = Unit {0}
 IsTryRefusal t s other = ⊥
 

@@ -46,8 +46,8 @@ abbrev pub holding : TxnState → Addr → TxnState
 holding t a = record t { held = with_slot t.held (slot_of a) }
 
 -- the slot is not held, and a greater one is
-abbrev pub IsBelow : ℕ → List ℕ → Type 0
-IsBelow slot held = (holds held slot ≡ false) × IsTrue (holds_above held slot)
+abbrev pub IsBelowHeld : ℕ → List ℕ → Type 0
+IsBelowHeld slot held = (holds held slot ≡ false) × IsTrue (holds_above held slot)
 
 -- It remembers what the map gives the address, at the end of the history that it has then seen
 pub record Learns (old : TxnState) (a : Addr) (v : Value) (new : TxnState) : Type 0 where
@@ -57,8 +57,8 @@ pub record Learns (old : TxnState) (a : Addr) (v : Value) (new : TxnState) : Typ
   pub others : new ≡ record old { reads = new.reads; seen = new.seen }
 
 -- What a read answers and leaves: the transaction's own overwrite, where there is one, else what the map gives
-abbrev pub Reads : TxnState → Addr → Value → TxnState → Type 0
-Reads old a v new = MatchOption (value_among old.writes a) (Learns old a v new) (λ own. (v ≡ own) × (new ≡ old))
+abbrev pub ReadsValue : TxnState → Addr → Value → TxnState → Type 0
+ReadsValue old a v new = MatchOption (value_among old.writes a) (Learns old a v new) (λ own. (v ≡ own) × (new ≡ old))
 
 -- The address is overwritten
 pub record Overwrites (old : TxnState) (a : Addr) (v : Value) (new : TxnState) : Type 0 where
@@ -84,7 +84,7 @@ IsEndRefusal other = ⊥
 
 -- Why a slot is not taken
 abbrev pub IsSlotRefusal : List ℕ → ℕ → Refusal Told → Type 0
-IsSlotRefusal held slot Busy = IsBelow slot held
+IsSlotRefusal held slot Busy = IsBelowHeld slot held
 IsSlotRefusal held slot NoMemory = Unit {0}
 IsSlotRefusal held slot other = ⊥
 
@@ -102,7 +102,7 @@ abbrev pub IsReadRefusal : ℕ → TxnState → Addr → Refusal Told → Type 0
 IsReadRefusal blocks t a (Closed cause) = IsUnexplained cause
 IsReadRefusal blocks t a (DeviceFailed cause) = IsUnexplained cause
 IsReadRefusal blocks t a BadAddress = is_valid blocks a ≡ false
-IsReadRefusal blocks t a Busy = IsTrue (is_valid blocks a) × IsBelow (slot_of a) t.held
+IsReadRefusal blocks t a Busy = IsTrue (is_valid blocks a) × IsBelowHeld (slot_of a) t.held
 IsReadRefusal blocks t a other = IsTrue (is_valid blocks a) × IsLookRefusal (core_of t) other
 
 -- Why it is not overwritten

@@ -6,7 +6,7 @@ ghost use Rattle.journal_disk.specs.Disks.{IsSettled};
 ghost use Rattle.journal_disk.specs.Images.{EveryImage};
 ghost use Rattle.journal_history.specs.Tokens.{made, IsExact, OnlyExtends};
 ghost use Rattle.journal_core.specs.Cores.{Leaves};
-ghost use Rattle.journal_core.specs.Openings.{IsOpenRefusal, IsHandedBack};
+ghost use Rattle.journal_core.specs.Openings.{IsOpenRefusal, OnlyReadsDisk};
 ghost use Rattle.journal_twophase.specs.Journals.{BeginsWith, IsKnown, IsSessionRefusal, IsLogRefusal, IsInstallRefusal, IsCloseRefusal, IsImageRefusal};
 ghost use Rattle.journal_twophase.specs.Waits.{IsStable, IsWaitRefusal};
 ghost use Rattle.journal_twophase.specs.Transactions.{begun};
@@ -64,7 +64,7 @@ impl<'b, D: BlockDisk, R: MapRule, J: Naming> Journal<'b, D, R, J> {
         requires settled { IsTrue (D.state disk).honest → IsSettled (D.state disk).past }
         ensures begun { IfOk result (λ journal. BeginsWith R.statement (D.state disk) journal.start) }
         ensures refusal { IfErr result (λ refused. IsOpenRefusal R.statement (D.state disk) (D.state refused.disk) refused.refusal) }
-        ensures left { IfErr result (λ refused. IsHandedBack (D.state disk) (D.state refused.disk)) }
+        ensures left { IfErr result (λ refused. OnlyReadsDisk (D.state disk) (D.state refused.disk)) }
     {
         let Some(layout) = Layout::new(disk.size()) else {
             return Err(Refused {
@@ -102,7 +102,7 @@ impl<'b, D: BlockDisk, R: MapRule, J: Naming> Journal<'b, D, R, J> {
         Ok(session)
     }
 
-    // It tells the proof that what a session has seen begins with the journal's opening, as both are of one
+    // Called for its contract: what a session has seen begins with the journal's opening, since both are of one
     // history, and what is known of it.
     fn begins(&self, session: &Session<'b, J, R>)
         ensures start { IsPrefix self.now.start session.now.seen }

@@ -12,7 +12,7 @@ ghost use Rattle.journal_disk.specs.Disks.{IsSettled};
 ghost use Rattle.journal_disk.specs.Images.{EveryImage};
 ghost use Rattle.journal_history.specs.Tokens.{made, IsExact, OnlyExtends};
 ghost use Rattle.journal_core.specs.Cores.{Leaves};
-ghost use Rattle.journal_core.specs.Openings.{IsOpenRefusal, IsHandedBack};
+ghost use Rattle.journal_core.specs.Openings.{IsOpenRefusal, OnlyReadsDisk};
 ghost use Rattle.journal_twophase.specs.Journals.{BeginsWith, IsSessionRefusal, IsLogRefusal, IsInstallRefusal, IsCloseRefusal, IsImageRefusal};
 ghost use Rattle.journal_twophase.specs.Transactions.{Finds, IsLookRefusal, IsEndRefusal};
 ghost use Rattle.journal_twophase.specs.Commits.{IsCommitted, IsTryRefusal, IsCommitRefusal};
@@ -76,7 +76,7 @@ impl<'b, D: BlockDisk, R: MapRule, J: Naming> SharedCore<'b, D, R, J> {
         requires settled { IsTrue (D.state disk).honest → IsSettled (D.state disk).past }
         ensures begun { IfOk result (λ opened. BeginsWith R.statement (D.state disk) opened.1) }
         ensures refusal { IfErr result (λ refused. IsOpenRefusal R.statement (D.state disk) (D.state refused.disk) refused.refusal) }
-        ensures left { IfErr result (λ refused. IsHandedBack (D.state disk) (D.state refused.disk)) }
+        ensures left { IfErr result (λ refused. OnlyReadsDisk (D.state disk) (D.state refused.disk)) }
     {
         let core = Core::open_step(alloc, book, disk, rule)?;
         let start = core.front();
@@ -463,7 +463,7 @@ fn commit_step<'b, D: BlockDisk, R: MapRule, J: Naming>(
     ensures session { OnErr result (OnlyExtends session.old session.new) }
 {
     let answer = core.commit_step(session, transaction, spares);
-    // It tells the proof that what the session has then seen is sound.
+    // Called for its contract: what the session has then seen is sound.
     let _seen = session.seen();
     answer
 }

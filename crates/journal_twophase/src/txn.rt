@@ -6,7 +6,7 @@ ghost use Rattle.journal_world.specs.Addresses.{is_valid};
 ghost use Rattle.journal_world.specs.Maps.{is_object, value_among, Agrees};
 ghost use Rattle.journal_object.specs.Objects.{size_at};
 ghost use Rattle.journal_world.specs.Histories.{is_trusted, latest};
-ghost use Rattle.journal_twophase.specs.Transactions.{TxnState, core_of, begun, holding, holds, holds_above, with_slot, Learns, Reads, Overwrites, IsSlotRefusal, IsLookRefusal, IsEndRefusal, IsReadRefusal, IsOverwriteRefusal};
+ghost use Rattle.journal_twophase.specs.Transactions.{TxnState, core_of, begun, holding, holds, holds_above, with_slot, Learns, ReadsValue, Overwrites, IsSlotRefusal, IsLookRefusal, IsEndRefusal, IsReadRefusal, IsOverwriteRefusal};
 
 use crate::journal::Journal;
 use crate::shared::Why;
@@ -89,7 +89,7 @@ impl<'j, 'b, D: BlockDisk, R: MapRule, J: Naming> Txn<'j, 'b, D, R, J> {
     /// `NoMemory` where memory is refused, or J6 where the device fails in this call. The transaction is then as it
     /// was, with the slots that it held.
     pub fn read<W: Wait>(&mut self, rt: &W, addr: Addr) -> Result<Value, Why<'b, J, R>>
-        ensures reads { IfOk result (λ value. Reads (holding self.old addr) addr value self.new) }
+        ensures reads { IfOk result (λ value. ReadsValue (holding self.old addr) addr value self.new) }
         ensures object { IfOk result (λ value. IsTrue (is_object J.blocks (addr, value))) }
         ensures agrees { OnOk result (IsTrue (is_trusted self.new.seen) → Agrees (latest self.new.seen) self.new.reads) }
         ensures refusal { IfErr result (IsReadRefusal J.blocks self.old addr) }
@@ -108,7 +108,7 @@ impl<'j, 'b, D: BlockDisk, R: MapRule, J: Naming> Txn<'j, 'b, D, R, J> {
         if answer.is_err() {
             self.give_back(rt, took);
         }
-        // It tells the proof that all that was read is what one map gives.
+        // Called for its contract: all that was read is what one map gives.
         let _front = self.front();
         answer
     }
@@ -139,7 +139,7 @@ impl<'j, 'b, D: BlockDisk, R: MapRule, J: Naming> Txn<'j, 'b, D, R, J> {
     // Its own overwrite, else what the map gives, which it remembers.
     fn look_up<W: Wait>(&mut self, rt: &W, addr: Addr) -> Result<Value, Why<'b, J, R>>
         requires valid { IsTrue (is_valid J.blocks addr) }
-        ensures reads { IfOk result (λ value. Reads self.old addr value self.new) }
+        ensures reads { IfOk result (λ value. ReadsValue self.old addr value self.new) }
         ensures object { IfOk result (λ value. IsTrue (is_object J.blocks (addr, value))) }
         ensures refusal { IfErr result (IsLookRefusal (core_of self.old)) }
         ensures same { OnErr result (self.new ≡ self.old) }
@@ -195,7 +195,7 @@ impl<'j, 'b, D: BlockDisk, R: MapRule, J: Naming> Txn<'j, 'b, D, R, J> {
         ensures own { option_copied result ≡ value_among self.now.writes addr }
         ensures object { IfSome (option_copied result) (λ value. IsTrue (is_object J.blocks (addr, value))) }
     {
-        // It tells the proof that what it overwrites are objects.
+        // Called for its contract: what it overwrites are objects.
         let _front = self.transaction.front();
         self.transaction.own(addr)
     }

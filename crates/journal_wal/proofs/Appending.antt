@@ -1,7 +1,7 @@
 -- Updates enter the tail.
 use Rattle.std.proofs.Common.{◌≡◌, inl, inr, ⊎_elim, ◌<◌, ◌≤◌, ◌-◌, ℕ, List, length, length-append, Result, Ok, Err, OnOk, IfErr, IsOkUnless, IsTrue, refl, sym, ap, subst, ◌∙◌, arith}
 use Rattle.std.proofs.lemmas.Result.{IfErr-weaker}
-use Rattle.std.proofs.lemmas.List.{take-append-le, length-take-le}
+use Rattle.std.proofs.lemmas.List.{take-append-le, length-take-le, take-take}
 use Rattle.journal_world.specs.declared.refusal.Refusal.{Refusal}
 use Rattle.journal_world.specs.declared.refusal.Refusal.TheVariants.{NoMemory}
 use Rattle.journal_block.specs.declared.update.Update.{Update}
@@ -14,10 +14,9 @@ use Rattle.journal_circ.specs.StandsFor.{StandsFor}
 use Rattle.journal_circ.specs.Ring.{Ring, home_of}
 use Rattle.journal_memlog.specs.Logs.{LogState, tail_of, head_of, absorbed, appended, fresh_count, CanTake}
 use Rattle.journal_memlog.specs.Laws.{tail_of-appended, updated-appended, All-appended, can_take_fresh, length-absorbed_le}
-use Rattle.journal_wal.specs.Wal.{WalState, Logging, log_blocks, log_end, log_sync, log_spent, Crashes, IsCrash, HasRoom, AreHomes, Appends, with_room, size_of, blocks_at}
-use Rattle.journal_wal.specs.States.{updates_to, AreTied, IsInStep, IsLogging}
-use Rattle.journal_wal.specs.Rooms.{HasPlaces, HasRoomFor, IsShortage, IsRefusal}
-use Rattle.journal_wal.proofs.Lists.{take-take}
+use Rattle.journal_wal.specs.Wal.{WalState, Logging, log_blocks, log_end, log_sync, log_spent, Crashes, MayStandFor, HasRoom, AreHomes, Appends, with_room, size_of, blocks_at}
+use Rattle.journal_wal.specs.States.{updates_to, AreTied, IsWal, IsLogging}
+use Rattle.journal_wal.specs.Rooms.{HasPlaces, HasRoomFor, IsRoomRefusal, IsAppendRefusal}
 use Rattle.journal_wal.proofs.Frames.{KeepsInstalling, installing_stays}
 use Rattle.journal_wal.proofs.Logger.{Leaves}
 
@@ -29,7 +28,7 @@ same_marks ring log later cut logged log_end is = (is.0, is.1, is.2 ∙ sym cut,
 same_marks ring log later cut logged log_sync is = (is.0 ∙ sym cut, is.1 ∙ sym cut, omega (arith, is.2, cut, logged))
 same_marks ring log later cut logged log_spent is = is
 
-module _ (w : WalState) (updates : List Update) (is : IsInStep w) (room : HasRoom w updates)
+module _ (w : WalState) (updates : List Update) (is : IsWal w) (room : HasRoom w updates)
     (homes : AreHomes (size_of w) updates) where
   abbrev pub new : WalState
   new = record w { log = appended w.log updates }
@@ -72,7 +71,7 @@ module _ (w : WalState) (updates : List Update) (is : IsInStep w) (room : HasRoo
     coming = is.tied.coming;
   }
 
-  images : IsTrue w.ring.disk.honest → EveryImage w.ring.disk.past (IsCrash new)
+  images : IsTrue w.ring.disk.honest → EveryImage w.ring.disk.past (MayStandFor new)
   images honest image one = ⊎_elim
       (λ logged. inl (stands w.log.logged in_group image logged))
       (λ cut. inr (stands w.log.cut (omega arith) image cut))
@@ -104,7 +103,7 @@ module _ (w : WalState) (updates : List Update) (is : IsInStep w) (room : HasRoo
       };
       crash = record {
         keeps = record { size = refl; honest = refl; failures = omega arith };
-        moments = λ honest. leaves_none w.ring.disk.past w.ring.disk.past (IsCrash w) refl (is.images honest);
+        moments = λ honest. leaves_none w.ring.disk.past w.ring.disk.past (MayStandFor w) refl (is.images honest);
         images = images;
       };
     },
@@ -117,7 +116,7 @@ module _ (w : WalState) (updates : List Update) (is : IsInStep w) (room : HasRoo
   )
 
 -- other room in memory changes nothing else
-pub room_made : (w : WalState) (room : ℕ) → IsInStep w → IsInStep (with_room w room)
+pub room_made : (w : WalState) (room : ℕ) → IsWal w → IsWal (with_room w room)
 room_made w room is = record {
   tied = record {
     size = is.tied.size;
@@ -154,7 +153,7 @@ room_made w room is = record {
     later = record w.log { room = room }
 
 -- once there is room for the fresh blocks
-pub has_room : (w : WalState) (updates : List Update) (later : LogState) → IsInStep w → AreHomes (size_of w) updates
+pub has_room : (w : WalState) (updates : List Update) (later : LogState) → IsWal w → AreHomes (size_of w) updates
     → (fresh : ℕ) → fresh ≡ fresh_count (tail_of w.log) updates → HasPlaces w (length updates) fresh
     → later ≡ record w.log { room = later.room }
     → {E : Type 0} (result : Result Unit E) → OnOk result (fresh ≤ later.room) → OnOk result (HasRoom (record w { log = later }) updates)
@@ -171,7 +170,7 @@ has_room w updates later is homes fresh number has same (Ok unit) room = record 
 }
 
 -- so it has for any of so many blocks
-pub has_room_for : (w : WalState) (blocks fresh : ℕ) (later : LogState) → IsInStep w → HasPlaces w blocks fresh
+pub has_room_for : (w : WalState) (blocks fresh : ℕ) (later : LogState) → IsWal w → HasPlaces w blocks fresh
     → later ≡ record w.log { room = later.room }
     → {E : Type 0} (result : Result Unit E) → OnOk result (fresh ≤ later.room) → OnOk result (HasRoomFor (record w { log = later }) blocks fresh)
 has_room_for w blocks fresh later is has same (Err error) room = tt
@@ -188,14 +187,14 @@ has_room_of w updates fresh (Err error) homes number room = tt
 
 -- what lacks room refuses an append
 pub refuses_shortage : (w : WalState) (updates : List Update) (fresh : ℕ) → fresh ≡ fresh_count (tail_of w.log) updates
-    → (refusal : Refusal Unit) → IsShortage w (length updates) fresh refusal → IsRefusal w updates refusal
-refuses_shortage w updates fresh number refusal short = inl (subst (λ (n : ℕ). IsShortage w (length updates) n refusal) number short)
+    → (refusal : Refusal Unit) → IsRoomRefusal w (length updates) fresh refusal → IsAppendRefusal w updates refusal
+refuses_shortage w updates fresh number refusal short = inl (subst (λ (n : ℕ). IsRoomRefusal w (length updates) n refusal) number short)
 
 -- and where nothing does, memory
 pub refuses_memory : (w : WalState) (updates : List Update) (fresh : ℕ) → fresh ≡ fresh_count (tail_of w.log) updates
-    → HasPlaces w (length updates) fresh → (result : Result Unit (Refusal Unit)) → IsOkUnless result NoMemory → IfErr result (IsRefusal w updates)
+    → HasPlaces w (length updates) fresh → (result : Result Unit (Refusal Unit)) → IsOkUnless result NoMemory → IfErr result (IsAppendRefusal w updates)
 refuses_memory w updates fresh number has result =
-    IfErr-weaker result (λ e. e ≡ NoMemory) (IsRefusal w updates)
+    IfErr-weaker result (λ e. e ≡ NoMemory) (IsAppendRefusal w updates)
     (λ e is. inr (subst (λ (n : ℕ). HasPlaces w (length updates) n) number has, is))
 
 -- room makes no difference to what is appended
@@ -213,10 +212,10 @@ appends_reserved old mid new updates same appends =
     appends_in old new mid.log.room updates (subst (λ (w : WalState). Appends w updates new) same appends)
 
 -- nor to what a crash may leave
-pub crashes_room : (w : WalState) (room : ℕ) → IsInStep w → Crashes w (with_room w room)
+pub crashes_room : (w : WalState) (room : ℕ) → IsWal w → Crashes w (with_room w room)
 crashes_room w room is = record {
   keeps = record { size = refl; honest = refl; failures = omega arith };
-  moments = λ honest. leaves_none w.ring.disk.past w.ring.disk.past (IsCrash w) refl (is.images honest);
+  moments = λ honest. leaves_none w.ring.disk.past w.ring.disk.past (MayStandFor w) refl (is.images honest);
   images = is.images;
 }
 

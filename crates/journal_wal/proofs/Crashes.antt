@@ -1,5 +1,6 @@
 -- What the log on the disk says of images, in the words of the log in memory.
 use Rattle.std.proofs.Common.{◌≡◌, ◌⊎◌, inl, inr, ⊎_elim, ◌≤◌, ◌-◌, ℕ, List, take, refl, ap, subst, ◌∙◌, arith}
+use Rattle.std.proofs.lemmas.List.{take-take}
 use Rattle.journal_block.specs.declared.update.Update.{Update}
 use Rattle.journal_block.specs.Block.{Bytes}
 use Rattle.journal_block.specs.Updates.{updated}
@@ -11,14 +12,13 @@ use Rattle.journal_circ.specs.StandsFor.{StandsFor}
 use Rattle.journal_circ.specs.Ring.{Ring, log_of, home_of, blocks_to, StandsForEither}
 use Rattle.journal_circ.specs.Laws.{stands_same}
 use Rattle.journal_memlog.specs.Logs.{LogState}
-use Rattle.journal_wal.specs.Wal.{WalState, IsCrash, size_of, blocks_at}
+use Rattle.journal_wal.specs.Wal.{WalState, MayStandFor, size_of, blocks_at}
 use Rattle.journal_wal.specs.States.{AreTied, updates_to}
-use Rattle.journal_wal.proofs.Lists.{take-take}
 
 -- the log on the disk, up to a position that was put
-pub ring_updates : (ring : Ring) (log : LogState) → ring.marks.start ≡ log.start
+pub ring_updates : (ring : Ring) (log : LogState) → ring.extent.start ≡ log.start
     → log_of ring ≡ take (ring.next - log.start) log.updates → (to : ℕ) → to ≤ ring.next
-    → take (to - ring.marks.start) (log_of ring) ≡ updates_to log to
+    → take (to - ring.extent.start) (log_of ring) ≡ updates_to log to
 ring_updates ring log start same to le =
     (λ i. take (to - start i) (same i)) ∙ take-take (to - log.start) (ring.next - log.start) log.updates (omega (arith, le))
 
@@ -34,7 +34,7 @@ module _ (w : WalState) (tied : AreTied w.ring w.log) (same : log_of w.ring ≡ 
 
   pub is_crash : (end coming : ℕ) → end ≡ w.log.logged
       → (coming ≡ w.log.logged) ⊎ ((coming ≡ w.log.cut) × (w.ring.next ≡ w.log.cut))
-      → (image : List Bytes) → StandsForEither w.ring end coming image → IsCrash w image
+      → (image : List Bytes) → StandsForEither w.ring end coming image → MayStandFor w image
   is_crash end coming end_is coming_is image either = ⊎_elim
       (λ old. inl (stands_at end w.log.logged image end_is (omega (arith, end_is, tied.end_to_next)) old))
       (λ new. ⊎_elim
@@ -43,14 +43,14 @@ module _ (w : WalState) (tied : AreTied w.ring w.log) (same : log_of w.ring ≡ 
       coming_is)
       either
 
-  pub images_of : EveryImage w.ring.disk.past (StandsForEither w.ring w.ring.marks.end w.ring.marks.coming)
-      → EveryImage w.ring.disk.past (IsCrash w)
-  images_of every image is = is_crash w.ring.marks.end w.ring.marks.coming tied.end tied.coming image (every image is)
+  pub images_of : EveryImage w.ring.disk.past (StandsForEither w.ring w.ring.extent.end w.ring.extent.coming)
+      → EveryImage w.ring.disk.past (MayStandFor w)
+  images_of every image is = is_crash w.ring.extent.end w.ring.extent.coming tied.end tied.coming image (every image is)
 
   pub moments_of : (later : Past) (coming : ℕ)
       → (coming ≡ w.log.logged) ⊎ ((coming ≡ w.log.cut) × (w.ring.next ≡ w.log.cut))
-      → LeavesOnly w.ring.disk.past later (StandsForEither w.ring w.ring.marks.end coming)
-      → LeavesOnly w.ring.disk.past later (IsCrash w)
+      → LeavesOnly w.ring.disk.past later (StandsForEither w.ring w.ring.extent.end coming)
+      → LeavesOnly w.ring.disk.past later (MayStandFor w)
   moments_of later coming coming_is leaves =
-      leaves_also w.ring.disk.past later (StandsForEither w.ring w.ring.marks.end coming) (IsCrash w) leaves
-      (λ image. is_crash w.ring.marks.end coming tied.end coming_is image)
+      leaves_also w.ring.disk.past later (StandsForEither w.ring w.ring.extent.end coming) (MayStandFor w) leaves
+      (λ image. is_crash w.ring.extent.end coming tied.end coming_is image)

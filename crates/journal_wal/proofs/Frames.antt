@@ -43,9 +43,9 @@ keeps_covered old new c log homes order named = record {
 pub record KeepsInstalling (ring now : Ring) (log later : LogState) : Type 0 where
   pub size : now.disk.past.size ≡ ring.disk.past.size
   pub honest : now.disk.honest ≡ ring.disk.honest
-  pub start : now.marks.start ≡ ring.marks.start
-  pub freed : now.marks.freed ≡ ring.marks.freed
-  pub homes : now.marks.homes ≡ ring.marks.homes
+  pub start : now.extent.start ≡ ring.extent.start
+  pub freed : now.extent.freed ≡ ring.extent.freed
+  pub homes : now.extent.homes ≡ ring.extent.homes
   pub faulted : IsTrue ring.faulted → IsTrue now.faulted
   pub home : IsTrue ring.disk.honest → SameHome ring now
   pub first : later.start ≡ log.start
@@ -62,7 +62,7 @@ module _ (ring now : Ring) (log later : LogState) (keeps : KeepsInstalling ring 
       let same : home_of now b ≡ home_of ring b = keeps.home (subst IsTrue keeps.honest honest) b home (omega (arith, lt, keeps.size)) in
       (λ i. updated (keeps.updates upto le i) b (same i)) ∙ is ∙ sym same
 
-  has_homes : (upto freed freed2 : ℕ) → now.marks.freed ≡ freed2 → HasHomes ring log upto freed → HasHomes now later upto freed2
+  has_homes : (upto freed freed2 : ℕ) → now.extent.freed ≡ freed2 → HasHomes ring log upto freed → HasHomes now later upto freed2
   has_homes upto freed freed2 idle is = record {
     idle = idle;
     position = in_log upto is.position;
@@ -80,14 +80,14 @@ module _ (ring now : Ring) (log later : LogState) (keeps : KeepsInstalling ring 
     done = λ honest b home lt none. is_home upto b honest is.position.below home lt
         (is.done (subst IsTrue keeps.honest honest) b home (omega (arith, lt, keeps.size)) none);
   }
-  installing_stays (install_start upto) is = (has_homes upto ring.marks.start now.marks.start (keeps.freed ∙ is.0.idle ∙ sym keeps.start) is.0, subst IsTrue (sym keeps.homes) is.1)
+  installing_stays (install_start upto) is = (has_homes upto ring.extent.start now.extent.start (keeps.freed ∙ is.0.idle ∙ sym keeps.start) is.0, subst IsTrue (sym keeps.homes) is.1)
   installing_stays (install_sync upto) is = has_homes upto upto upto (keeps.freed ∙ is.idle) is
   installing_stays install_spent faulted = keeps.faulted faulted
 
 -- the log on the disk went on, from the same start to the same end
 pub tied_by : (ring now : Ring) (log : LogState) → AreTied ring log → now.disk.past.size ≡ ring.disk.past.size
-    → now.marks.start ≡ ring.marks.start → now.marks.end ≡ ring.marks.end → ring.next ≤ now.next → now.next ≤ log.cut
-    → (now.marks.coming ≡ log.logged) ⊎ ((now.marks.coming ≡ log.cut) × (now.next ≡ log.cut)) → AreTied now log
+    → now.extent.start ≡ ring.extent.start → now.extent.end ≡ ring.extent.end → ring.next ≤ now.next → now.next ≤ log.cut
+    → (now.extent.coming ≡ log.logged) ⊎ ((now.extent.coming ≡ log.cut) × (now.next ≡ log.cut)) → AreTied now log
 tied_by ring now log tied size start end more less coming = record {
   size = size ∙ tied.size;
   start = start ∙ tied.start;
@@ -104,8 +104,8 @@ tied_by ring now log tied size start end more less coming = record {
 }
 
 -- a step of the logger leaves the installer what it relies on
-pub keeps_installing : (ring now : Ring) (log : LogState) → Keeps ring.disk now.disk → now.marks.start ≡ ring.marks.start
-    → now.marks.freed ≡ ring.marks.freed → now.marks.homes ≡ ring.marks.homes → (IsTrue ring.faulted → IsTrue now.faulted)
+pub keeps_installing : (ring now : Ring) (log : LogState) → Keeps ring.disk now.disk → now.extent.start ≡ ring.extent.start
+    → now.extent.freed ≡ ring.extent.freed → now.extent.homes ≡ ring.extent.homes → (IsTrue ring.faulted → IsTrue now.faulted)
     → (IsTrue ring.disk.honest → SameHome ring now) → KeepsInstalling ring now log log
 keeps_installing ring now log keeps start freed homes faulted home = record {
   size = keeps.size;

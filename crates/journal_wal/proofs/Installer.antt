@@ -5,7 +5,7 @@ use Rattle.std.specs.BTreeMap.{is_at}
 use Rattle.std.specs.Ordering.{nat_cmp}
 use Rattle.std.specs.Cmp.{unsigned_ties}
 use Rattle.std.proofs.lemmas.Bool.{cases_eq, cond-false, ne_eqb}
-use Rattle.std.proofs.lemmas.List.{drop-take, get_or-take, take-append-drop, take_all}
+use Rattle.std.proofs.lemmas.List.{drop-take, get_or-take, take-append-drop, take_all, take-take}
 use Rattle.std.proofs.lemmas.List.Elements.{All-drop}
 use Rattle.std.proofs.lemmas.Option.{get_or_from_slice_get, slice_get-get_or, slice_get_within}
 use Rattle.journal_block.specs.declared.update.Update.{Update}
@@ -14,19 +14,19 @@ use Rattle.journal_block.specs.Updates.{updated, updates_block}
 use Rattle.journal_block.specs.UpdateLaws.{updated-append, updated-unnamed}
 use Rattle.journal_disk.specs.Disks.{write, DiskState}
 use Rattle.journal_disk.specs.Images.{EveryImage}
-use Rattle.journal_circ.specs.Ring.{Ring, log_of, home_of, Steps, SameHome, SameHomeBut, IsLogged, IsInstalled, Happens}
-use Rattle.journal_memlog.specs.Logs.{LogState, next_of, trimmed}
-use Rattle.journal_wal.specs.Wal.{WalState, planned, IsPlanOf, Makes, install_call, after_call, Logging, log_blocks, log_end, log_sync, log_spent, Installing, install_none, install_homes, install_start, install_sync, install_spent, Fails, KeepsBlocks, IsCrash, size_of, blocks_now, blocks_at, SameBlocks, Installs, InstallMoves, install_steps_by, log_steps_by}
-use Rattle.journal_wal.specs.States.{updates_to, IsInLog, IsHomeOf, PutsHomes, AreTied, IsInStep, IsLogging, IsInstalling}
-use Rattle.journal_wal.proofs.Lists.{take-take, updates_block-longer}
+use Rattle.journal_circ.specs.Ring.{Ring, log_of, home_of, Crashes, SameHome, SameHomeBut, IsLogged, IsInstalled, MakesCall}
+use Rattle.journal_memlog.specs.Logs.{LogState, next_position, trimmed}
+use Rattle.journal_wal.specs.Wal.{WalState, planned, IsPlanOf, MakesDueCall, install_call, after_call, Logging, log_blocks, log_end, log_sync, log_spent, Installing, install_none, install_homes, install_start, install_sync, install_spent, Fails, KeepsBlocks, MayStandFor, size_of, blocks_now, blocks_at, SameBlocks, Installs, InstallMoves, install_steps_by, log_steps_by}
+use Rattle.journal_wal.specs.States.{updates_to, IsInLog, IsHomeOf, PutsHomes, AreTied, IsWal, IsLogging, IsInstalling}
+use Rattle.journal_wal.proofs.Lists.{updates_block-longer}
 use Rattle.journal_wal.proofs.Crashes.{images_of, moments_of, ring_updates}
 use Rattle.journal_wal.proofs.Frames.{keeps_homes, keeps_covered, tied_by}
 use Rattle.journal_wal.proofs.Homes.{home_at}
 use Rattle.journal_wal.proofs.Logger.{Leaves, stepped}
 
 -- a step of the installer leaves the logger what it relies on
-pub logging_stays : (ring now : Ring) (log later : LogState) → now.marks.coming ≡ ring.marks.coming → now.marks.end ≡ ring.marks.end
-    → now.marks.stable ≡ ring.marks.stable → now.next ≡ ring.next → (IsTrue ring.faulted → IsTrue now.faulted)
+pub logging_stays : (ring now : Ring) (log later : LogState) → now.extent.coming ≡ ring.extent.coming → now.extent.end ≡ ring.extent.end
+    → now.extent.stable ≡ ring.extent.stable → now.next ≡ ring.next → (IsTrue ring.faulted → IsTrue now.faulted)
     → later.cut ≡ log.cut → later.logged ≡ log.logged → (phase : Logging) → IsLogging ring log phase → IsLogging now later phase
 logging_stays ring now log later coming end stable next faulted cut logged log_blocks is = coming ∙ is ∙ sym end
 logging_stays ring now log later coming end stable next faulted cut logged log_end is =
@@ -67,19 +67,30 @@ module _ (ring now : Ring) (log : LogState) (logging : Logging) where
   -- What a device call of the installer keeps of the numbers
   record Same : Type 0 where
     next : now.next ≡ ring.next
-    start : now.marks.start ≡ ring.marks.start
-    end : now.marks.end ≡ ring.marks.end
-    coming : now.marks.coming ≡ ring.marks.coming
-    stable : now.marks.stable ≡ ring.marks.stable
+    start : now.extent.start ≡ ring.extent.start
+    end : now.extent.end ≡ ring.extent.end
+    coming : now.extent.coming ≡ ring.extent.coming
+    stable : now.extent.stable ≡ ring.extent.stable
     faulted : IsTrue ring.faulted → IsTrue now.faulted
 
+  same_by : (freed : ℕ) (homes faulted : Bool) → now ≡ record ring { disk = now.disk; extent = record ring.extent { freed = freed; homes = homes }; faulted = faulted }
+      → (IsTrue ring.faulted → IsTrue faulted) → Same
+  same_by freed homes faulted is_now stays = record {
+    next = ap (λ (r : Ring). r.next) is_now;
+    start = ap (λ (r : Ring). r.extent.start) is_now;
+    end = ap (λ (r : Ring). r.extent.end) is_now;
+    coming = ap (λ (r : Ring). r.extent.coming) is_now;
+    stable = ap (λ (r : Ring). r.extent.stable) is_now;
+    faulted = λ was. subst IsTrue (sym (ap (λ (r : Ring). r.faulted) is_now)) (stays was);
+  }
+
   -- a device call of the installer, done or failed, that keeps start and end
-  called : (phase after : Installing) → IsInStep (at ring phase) → Steps ring.marks.coming ring now → Same
+  called : (phase after : Installing) → IsWal (at ring phase) → Crashes ring.extent.coming ring now → Same
       → (IsTrue ring.disk.honest → log_of now ≡ log_of ring) → IsInstalling now log after → Leaves (at ring phase) (at now after)
   called phase after is steps same log_is after_is =
-      stepped (at ring phase) now logging after ring.marks.coming is steps is.tied.coming
+      stepped (at ring phase) now logging after ring.extent.coming is steps is.tied.coming
       (tied_by ring now log is.tied steps.keeps.size same.start same.end (omega (arith, same.next)) (omega (arith, same.next, is.tied.next_to_cut))
-      (⊎_elim (λ (e : ring.marks.coming ≡ log.logged). inl (same.coming ∙ e)) (λ e. inr (same.coming ∙ e.0, same.next ∙ e.1)) is.tied.coming))
+      (⊎_elim (λ (e : ring.extent.coming ≡ log.logged). inl (same.coming ∙ e)) (λ e. inr (same.coming ∙ e.0, same.next ∙ e.1)) is.tied.coming))
       (λ honest. log_is honest ∙ is.log honest ∙ (λ i. take (sym same.next i - log.start) log.updates))
       (logging_stays ring now log log same.coming same.end same.stable same.next same.faulted refl refl logging is.logging)
       after_is
@@ -103,25 +114,25 @@ module _ (ring now : Ring) (log : LogState) (logging : Logging) where
         (home_at ring log tied (q - log.start) u found)
 
     -- what the write asks
-    pub logged_on_disk : (phase : Installing) → IsInStep (at ring phase) → IsTrue ring.disk.honest → IsLogged ring b
+    pub logged_on_disk : (phase : Installing) → IsWal (at ring phase) → IsTrue ring.disk.honest → IsLogged ring b
     logged_on_disk phase is honest =
         ap (λ (us : List Update). updates_block us b)
-        ((λ i. take (is.tied.end i - ring.marks.start) (log_of ring))
+        ((λ i. take (is.tied.end i - ring.extent.start) (log_of ring))
         ∙ ring_updates ring log is.tied.start (is.log honest) log.logged is.tied.end_to_next)
         ∙ is_logged
 
     -- a home block
-    pub home_put : (rest : List (ℕ × ℕ)) (u : Update) (phase : Installing) → IsInStep (at ring phase)
+    pub home_put : (rest : List (ℕ × ℕ)) (u : Update) (phase : Installing) → IsWal (at ring phase)
         → ((c : ℕ) → planned rest c ≡ cond (is_at (nat_cmp b) c) None (planned plan c))
         → slice_get log.updates (q - log.start) ≡ Some u
-        → Steps ring.marks.coming ring now → (IsTrue ring.disk.honest → log_of now ≡ log_of ring)
+        → Crashes ring.extent.coming ring now → (IsTrue ring.disk.honest → log_of now ≡ log_of ring)
         → (IsTrue ring.disk.honest → home_of now b ≡ u.bytes) → (IsTrue ring.disk.honest → SameHomeBut b ring now)
-        → now ≡ record ring { disk = now.disk; marks = record ring.marks { homes = false } }
+        → now ≡ record ring { disk = now.disk; extent = record ring.extent { homes = false } }
         → Leaves (at ring phase) (at now (install_homes upto rest))
         × (IsTrue ring.disk.honest → KeepsBlocks (at ring phase) (at now (install_homes upto rest)))
     home_put rest u phase is rest_is found steps log_is home others is_now = (
       called phase (install_homes upto rest) is steps same log_is (record {
-        idle = ap (λ (r : Ring). r.marks.freed) is_now ∙ puts.idle ∙ sym same.start;
+        idle = ap (λ (r : Ring). r.extent.freed) is_now ∙ puts.idle ∙ sym same.start;
         position = puts.position;
         last = λ c p at_c. puts.last c p (left c p at_c);
         done = λ honest c home_c lt gone. done (subst IsTrue steps.keeps.honest honest) c home_c lt gone;
@@ -131,14 +142,7 @@ module _ (ring now : Ring) (log : LogState) (logging : Logging) where
     )
       where
         same : Same
-        same = record {
-          next = ap (λ (r : Ring). r.next) is_now;
-          start = ap (λ (r : Ring). r.marks.start) is_now;
-          end = ap (λ (r : Ring). r.marks.end) is_now;
-          coming = ap (λ (r : Ring). r.marks.coming) is_now;
-          stable = ap (λ (r : Ring). r.marks.stable) is_now;
-          faulted = subst IsTrue (sym (ap (λ (r : Ring). r.faulted) is_now));
-        }
+        same = same_by ring.extent.freed false ring.faulted is_now (λ was. was)
 
         elsewhere : (c : ℕ) → c ≢ b → planned rest c ≡ planned plan c
         elsewhere c other = rest_is c ∙ cond-false (is_at (nat_cmp b) c) None (planned plan c)
@@ -162,20 +166,13 @@ module _ (ring now : Ring) (log : LogState) (logging : Logging) where
             (cases_eq c b)
 
     -- one that failed
-    pub home_failed : (phase : Installing) → IsInStep (at ring phase)
-        → Steps ring.marks.coming ring now → (IsTrue ring.disk.honest → log_of now ≡ log_of ring)
+    pub home_failed : (phase : Installing) → IsWal (at ring phase)
+        → Crashes ring.extent.coming ring now → (IsTrue ring.disk.honest → log_of now ≡ log_of ring)
         → (IsTrue ring.disk.honest → SameHomeBut b ring now)
-        → now ≡ record ring { disk = now.disk; marks = record ring.marks { homes = false }; faulted = true }
+        → now ≡ record ring { disk = now.disk; extent = record ring.extent { homes = false }; faulted = true }
         → Leaves (at ring phase) (at now install_spent) × Fails (at ring phase) (at now install_spent)
     home_failed phase is steps log_is others is_now = (
-      called phase install_spent is steps (record {
-        next = ap (λ (r : Ring). r.next) is_now;
-        start = ap (λ (r : Ring). r.marks.start) is_now;
-        end = ap (λ (r : Ring). r.marks.end) is_now;
-        coming = ap (λ (r : Ring). r.marks.coming) is_now;
-        stable = ap (λ (r : Ring). r.marks.stable) is_now;
-        faulted = λ was. ap (λ (r : Ring). r.faulted) is_now;
-      }) log_is (ap (λ (r : Ring). r.faulted) is_now),
+      called phase install_spent is steps (same_by ring.extent.freed false true is_now (λ _. refl)) log_is (ap (λ (r : Ring). r.faulted) is_now),
       record {
         faulted = ap (λ (r : Ring). r.faulted) is_now;
         log = refl;
@@ -185,23 +182,16 @@ module _ (ring now : Ring) (log : LogState) (logging : Logging) where
     )
 
   -- the barrier after the home blocks
-  pub homes_synced : (upto : ℕ) (phase : Installing) → IsInStep (at ring phase) → PutsHomes ring log upto []
-      → Steps ring.marks.coming ring now → (IsTrue ring.disk.honest → log_of now ≡ log_of ring)
+  pub homes_synced : (upto : ℕ) (phase : Installing) → IsWal (at ring phase) → PutsHomes ring log upto []
+      → Crashes ring.extent.coming ring now → (IsTrue ring.disk.honest → log_of now ≡ log_of ring)
       → (IsTrue ring.disk.honest → SameHome ring now)
-      → now ≡ record ring { disk = now.disk; marks = record ring.marks { homes = true } }
+      → now ≡ record ring { disk = now.disk; extent = record ring.extent { homes = true } }
       → Leaves (at ring phase) (at now (install_start upto))
       × (IsTrue ring.disk.honest → KeepsBlocks (at ring phase) (at now (install_start upto)))
   homes_synced upto phase is puts steps log_is home is_now = (
-    called phase (install_start upto) is steps (record {
-      next = ap (λ (r : Ring). r.next) is_now;
-      start = ap (λ (r : Ring). r.marks.start) is_now;
-      end = ap (λ (r : Ring). r.marks.end) is_now;
-      coming = ap (λ (r : Ring). r.marks.coming) is_now;
-      stable = ap (λ (r : Ring). r.marks.stable) is_now;
-      faulted = subst IsTrue (sym (ap (λ (r : Ring). r.faulted) is_now));
-    }) log_is (
+    called phase (install_start upto) is steps (same_by ring.extent.freed true ring.faulted is_now (λ was. was)) log_is (
       record {
-        idle = ap (λ (r : Ring). r.marks.freed) is_now ∙ puts.idle ∙ sym (ap (λ (r : Ring). r.marks.start) is_now);
+        idle = ap (λ (r : Ring). r.extent.freed) is_now ∙ puts.idle ∙ sym (ap (λ (r : Ring). r.extent.start) is_now);
         position = puts.position;
         done = λ honest c home_c lt.
             let was : IsTrue ring.disk.honest = subst IsTrue steps.keeps.honest honest in
@@ -210,26 +200,19 @@ module _ (ring now : Ring) (log : LogState) (logging : Logging) where
             ∙ puts.done was c home_c (omega (arith, lt, steps.keeps.size)) refl
             ∙ sym at_home;
       },
-      ap (λ (r : Ring). r.marks.homes) is_now,
+      ap (λ (r : Ring). r.extent.homes) is_now,
     ),
     λ honest. keeps_homes (at ring phase) (at now (install_start upto)) refl (home honest),
   )
 
   -- a call of a cycle that changes no home block, and failed
-  pub installer_failed : (phase : Installing) → IsInStep (at ring phase)
-      → Steps ring.marks.coming ring now → (IsTrue ring.disk.honest → log_of now ≡ log_of ring)
+  pub installer_failed : (phase : Installing) → IsWal (at ring phase)
+      → Crashes ring.extent.coming ring now → (IsTrue ring.disk.honest → log_of now ≡ log_of ring)
       → (IsTrue ring.disk.honest → SameHome ring now) → (freed : ℕ)
-      → now ≡ record ring { disk = now.disk; marks = record ring.marks { freed = freed }; faulted = true }
+      → now ≡ record ring { disk = now.disk; extent = record ring.extent { freed = freed }; faulted = true }
       → Leaves (at ring phase) (at now install_spent) × Fails (at ring phase) (at now install_spent)
   installer_failed phase is steps log_is home freed is_now = (
-    called phase install_spent is steps (record {
-      next = ap (λ (r : Ring). r.next) is_now;
-      start = ap (λ (r : Ring). r.marks.start) is_now;
-      end = ap (λ (r : Ring). r.marks.end) is_now;
-      coming = ap (λ (r : Ring). r.marks.coming) is_now;
-      stable = ap (λ (r : Ring). r.marks.stable) is_now;
-      faulted = λ was. ap (λ (r : Ring). r.faulted) is_now;
-    }) log_is (ap (λ (r : Ring). r.faulted) is_now),
+    called phase install_spent is steps (same_by freed ring.extent.homes true is_now (λ _. refl)) log_is (ap (λ (r : Ring). r.faulted) is_now),
     record {
       faulted = ap (λ (r : Ring). r.faulted) is_now;
       log = refl;
@@ -238,29 +221,22 @@ module _ (ring now : Ring) (log : LogState) (logging : Logging) where
   )
 
   -- what the write of block 1 asks
-  pub is_installed : (upto : ℕ) → IsInStep (at ring (install_start upto)) → IsTrue ring.disk.honest → IsInstalled ring upto
+  pub is_installed : (upto : ℕ) → IsWal (at ring (install_start upto)) → IsTrue ring.disk.honest → IsInstalled ring upto
   is_installed upto is honest c home_c lt =
       ap (λ (us : List Update). updated us c (home_of ring c))
       (ring_updates ring log is.tied.start (is.log honest) upto (omega (arith, is.installing.0.position.below, is.tied.end_to_next)))
       ∙ is.installing.0.done honest c home_c lt
 
   -- the write of block 1
-  pub start_written : (upto : ℕ) → IsInStep (at ring (install_start upto))
-      → Steps ring.marks.coming ring now → (IsTrue ring.disk.honest → log_of now ≡ log_of ring)
+  pub start_written : (upto : ℕ) → IsWal (at ring (install_start upto))
+      → Crashes ring.extent.coming ring now → (IsTrue ring.disk.honest → log_of now ≡ log_of ring)
       → (IsTrue ring.disk.honest → SameHome ring now)
-      → now ≡ record ring { disk = now.disk; marks = record ring.marks { freed = upto } }
+      → now ≡ record ring { disk = now.disk; extent = record ring.extent { freed = upto } }
       → Leaves (at ring (install_start upto)) (at now (install_sync upto))
       × (IsTrue ring.disk.honest → KeepsBlocks (at ring (install_start upto)) (at now (install_sync upto)))
   start_written upto is steps log_is home is_now = (
-    called (install_start upto) (install_sync upto) is steps (record {
-      next = ap (λ (r : Ring). r.next) is_now;
-      start = ap (λ (r : Ring). r.marks.start) is_now;
-      end = ap (λ (r : Ring). r.marks.end) is_now;
-      coming = ap (λ (r : Ring). r.marks.coming) is_now;
-      stable = ap (λ (r : Ring). r.marks.stable) is_now;
-      faulted = subst IsTrue (sym (ap (λ (r : Ring). r.faulted) is_now));
-    }) log_is (record {
-      idle = ap (λ (r : Ring). r.marks.freed) is_now;
+    called (install_start upto) (install_sync upto) is steps (same_by upto ring.extent.homes ring.faulted is_now (λ was. was)) log_is (record {
+      idle = ap (λ (r : Ring). r.extent.freed) is_now;
       position = is.installing.0.position;
       done = λ honest c home_c lt.
           let was : IsTrue ring.disk.honest = subst IsTrue steps.keeps.honest honest in
@@ -274,9 +250,9 @@ module _ (ring now : Ring) (log : LogState) (logging : Logging) where
 
 -- the barrier after block 1: the positions are free
 module _ (ring now : Ring) (log : LogState) (logging : Logging) (upto : ℕ)
-    (is : IsInStep (record { ring = ring; log = log; logging = logging; installing = install_sync upto }))
-    (steps : Steps ring.marks.coming ring now) (home : IsTrue ring.disk.honest → SameHome ring now)
-    (is_now : now ≡ record ring { disk = now.disk; marks = record ring.marks { start = ring.marks.freed } }) where
+    (is : IsWal (record { ring = ring; log = log; logging = logging; installing = install_sync upto }))
+    (steps : Crashes ring.extent.coming ring now) (home : IsTrue ring.disk.honest → SameHome ring now)
+    (is_now : now ≡ record ring { disk = now.disk; extent = record ring.extent { start = ring.extent.freed } }) where
   abbrev pub old : WalState
   old = record { ring = ring; log = log; logging = logging; installing = install_sync upto }
 
@@ -286,19 +262,19 @@ module _ (ring now : Ring) (log : LogState) (logging : Logging) (upto : ℕ)
   position : IsInLog log upto
   position = is.installing.position
 
-  start : now.marks.start ≡ upto
-  start = ap (λ (r : Ring). r.marks.start) is_now ∙ is.installing.idle
+  start : now.extent.start ≡ upto
+  start = ap (λ (r : Ring). r.extent.start) is_now ∙ is.installing.idle
 
   next : now.next ≡ ring.next
   next = ap (λ (r : Ring). r.next) is_now
 
-  end : now.marks.end ≡ ring.marks.end
-  end = ap (λ (r : Ring). r.marks.end) is_now
+  end : now.extent.end ≡ ring.extent.end
+  end = ap (λ (r : Ring). r.extent.end) is_now
 
-  coming : now.marks.coming ≡ ring.marks.coming
-  coming = ap (λ (r : Ring). r.marks.coming) is_now
+  coming : now.extent.coming ≡ ring.extent.coming
+  coming = ap (λ (r : Ring). r.extent.coming) is_now
 
-  last : next_of (trimmed log upto) ≡ next_of log
+  last : next_position (trimmed log upto) ≡ next_position log
   last = omega (arith, length-drop (upto - log.start) log.updates, position.above, position.below, is.tied.end_to_next, is.tied.next_to_cut, is.tied.cut_to_last)
 
   tied : AreTied now (trimmed log upto)
@@ -324,10 +300,10 @@ module _ (ring now : Ring) (log : LogState) (logging : Logging) (upto : ℕ)
       is.tied.next_to_cut,
     );
     blocks = All-drop (λ (u : Update). (513 ≤ u.block) × (u.block < log.blocks)) (upto - log.start) log.updates is.tied.blocks;
-    coming = ⊎_elim (λ (e : ring.marks.coming ≡ log.logged). inl (coming ∙ e)) (λ e. inr (coming ∙ e.0, next ∙ e.1)) is.tied.coming;
+    coming = ⊎_elim (λ (e : ring.extent.coming ≡ log.logged). inl (coming ∙ e)) (λ e. inr (coming ∙ e.0, next ∙ e.1)) is.tied.coming;
   }
 
-  log_is : (IsTrue ring.disk.honest → log_of now ≡ drop (ring.marks.freed - ring.marks.start) (log_of ring)) → IsTrue ring.disk.honest
+  log_is : (IsTrue ring.disk.honest → log_of now ≡ drop (ring.extent.freed - ring.extent.start) (log_of ring)) → IsTrue ring.disk.honest
       → log_of now ≡ take (now.next - upto) (drop (upto - log.start) log.updates)
   log_is dropped honest =
       dropped honest
@@ -349,8 +325,8 @@ module _ (ring now : Ring) (log : LogState) (logging : Logging) (upto : ℕ)
       width : to - upto ≡ (to - log.start) - (upto - log.start)
       width = omega (arith, le, position.above)
 
-  pub start_synced : (IsTrue ring.disk.honest → log_of now ≡ drop (ring.marks.freed - ring.marks.start) (log_of ring))
-      → now.marks.freed ≡ ring.marks.freed
+  pub start_synced : (IsTrue ring.disk.honest → log_of now ≡ drop (ring.extent.freed - ring.extent.start) (log_of ring))
+      → now.extent.freed ≡ ring.extent.freed
       → Leaves old new × (IsTrue ring.disk.honest → KeepsBlocks old new)
   start_synced dropped freed = (
     record {
@@ -358,13 +334,13 @@ module _ (ring now : Ring) (log : LogState) (logging : Logging) (upto : ℕ)
         tied = tied;
         log = λ honest. log_is dropped (subst IsTrue steps.keeps.honest honest);
         images = images;
-        logging = logging_stays ring now log (trimmed log upto) coming end (ap (λ (r : Ring). r.marks.stable) is_now) next
+        logging = logging_stays ring now log (trimmed log upto) coming end (ap (λ (r : Ring). r.extent.stable) is_now) next
             (subst IsTrue (sym (ap (λ (r : Ring). r.faulted) is_now))) refl refl logging is.logging;
         installing = freed ∙ is.installing.idle ∙ sym start;
       };
       crash = record {
         keeps = steps.keeps;
-        moments = λ honest. moments_of old is.tied (is.log honest) now.disk.past ring.marks.coming is.tied.coming (steps.moments honest);
+        moments = λ honest. moments_of old is.tied (is.log honest) now.disk.past ring.extent.coming is.tied.coming (steps.moments honest);
         images = images;
       };
     },
@@ -375,26 +351,26 @@ module _ (ring now : Ring) (log : LogState) (logging : Logging) (upto : ℕ)
     },
   )
     where
-      images : IsTrue now.disk.honest → EveryImage now.disk.past (IsCrash new)
+      images : IsTrue now.disk.honest → EveryImage now.disk.past (MayStandFor new)
       images honest = images_of new tied (log_is dropped (subst IsTrue steps.keeps.honest honest)) (steps.images honest)
 
       all_now : IsTrue ring.disk.honest → SameBlocks (size_of old) (blocks_now new) (blocks_now old)
       all_now honest b home_b lt =
-          ap (λ (us : List Update). updated us b (home_of now b)) (sym (take_all (next_of log - upto) (drop (upto - log.start) log.updates) (omega (arith, last))))
-          ∙ later honest (next_of log) (omega (arith, position.below, is.tied.end_to_next, is.tied.next_to_cut, is.tied.cut_to_last)) b home_b lt
-          ∙ ap (λ (us : List Update). updated us b (home_of ring b)) (take_all (next_of log - log.start) log.updates (omega arith))
+          ap (λ (us : List Update). updated us b (home_of now b)) (sym (take_all (next_position log - upto) (drop (upto - log.start) log.updates) (omega (arith, last))))
+          ∙ later honest (next_position log) (omega (arith, position.below, is.tied.end_to_next, is.tied.next_to_cut, is.tied.cut_to_last)) b home_b lt
+          ∙ ap (λ (us : List Update). updated us b (home_of ring b)) (take_all (next_position log - log.start) log.updates (omega arith))
 
 -- the device call of a plan is that of its first block
 pub call_home : (log : LogState) (upto : ℕ) (plan rest : List (ℕ × ℕ)) (b q : ℕ) (u : Update) (disk now : DiskState) → plan ≡ (b, q) ∷ rest
-    → slice_get log.updates (q - log.start) ≡ Some u → Happens (write b u.bytes) disk now → Makes (install_call log (install_homes upto plan)) disk now
+    → slice_get log.updates (q - log.start) ≡ Some u → MakesCall (write b u.bytes) disk now → MakesDueCall (install_call log (install_homes upto plan)) disk now
 call_home log upto plan rest b q u disk now is found happened =
-    subst (λ (es : List (ℕ × ℕ)). Makes (install_call log (install_homes upto es)) disk now) (sym is)
-    (subst (λ (v : Update). Happens (write b v.bytes) disk now) (sym (get_or_from_slice_get log.updates (q - log.start) u (record { block = 0; bytes = [] }) found)) happened)
+    subst (λ (es : List (ℕ × ℕ)). MakesDueCall (install_call log (install_homes upto es)) disk now) (sym is)
+    (subst (λ (v : Update). MakesCall (write b v.bytes) disk now) (sym (get_or_from_slice_get log.updates (q - log.start) u (record { block = 0; bytes = [] }) found)) happened)
 
 -- a step of an installing that goes on
 pub installs_on : (ring now : Ring) (log : LogState) (logging : Logging) (before after : Installing) (left : ℕ) → now.next ≡ ring.next
     → install_steps_by before ≡ suc (suc left) → install_steps_by after ≡ suc left
-    → Makes (install_call log before) ring.disk now.disk → after ≡ after_call before
+    → MakesDueCall (install_call log before) ring.disk now.disk → after ≡ after_call before
     → (IsTrue ring.disk.honest → KeepsBlocks (record { ring = ring; log = log; logging = logging; installing = before })
     (record { ring = now; log = log; logging = logging; installing = after }))
     → Installs (record { ring = ring; log = log; logging = logging; installing = before })
@@ -417,7 +393,7 @@ installs_on ring now log logging before after left next was is call is_next bloc
 
 -- the step that frees positions
 pub installs_freed : (ring now : Ring) (log : LogState) (logging : Logging) (upto : ℕ) → now.next ≡ ring.next → IsInLog log upto
-    → Makes (install_call log (install_sync upto)) ring.disk now.disk
+    → MakesDueCall (install_call log (install_sync upto)) ring.disk now.disk
     → (IsTrue ring.disk.honest → KeepsBlocks (record { ring = ring; log = log; logging = logging; installing = install_sync upto })
     (record { ring = now; log = trimmed log upto; logging = logging; installing = install_none }))
     → Installs (record { ring = ring; log = log; logging = logging; installing = install_sync upto })
@@ -433,9 +409,9 @@ installs_freed ring now log logging upto next position call blocks = record {
 }
 
 -- what is logged is planned
-pub plan_made : (w : WalState) → IsInStep w → w.installing ≡ install_none → (plan : List (ℕ × ℕ))
+pub plan_made : (w : WalState) → IsWal w → w.installing ≡ install_none → (plan : List (ℕ × ℕ))
     → IsPlanOf (updates_to w.log w.log.logged) w.log.start plan
-    → IsInStep (record w { installing = install_homes w.log.logged plan })
+    → IsWal (record w { installing = install_homes w.log.logged plan })
 plan_made w is none_yet plan planned_is = record {
   tied = is.tied;
   log = is.log;

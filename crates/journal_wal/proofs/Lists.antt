@@ -1,19 +1,10 @@
 -- Beginnings of lists of updates.
-use Rattle.std.proofs.Common.{◌≡◌, ◌≤◌, ℕ, zero, suc, ◌||◌, Bool, true, List, [], ◌∷◌, take, drop, refl, sym, ap, ◌∙◌, arith}
-use Rattle.std.proofs.lemmas.List.{take-append-drop}
+use Rattle.std.proofs.Common.{◌≡◌, ◌≤◌, ℕ, true, List, take, drop, sym, ap, ◌∙◌}
+use Rattle.std.proofs.lemmas.Bool.{or_left}
+use Rattle.std.proofs.lemmas.List.{take-append-drop, take-take}
 use Rattle.journal_block.specs.declared.update.Update.{Update}
 use Rattle.journal_block.specs.Updates.{updates_block}
 use Rattle.journal_memlog.specs.Laws.{updates_block-append}
-
--- a beginning of a beginning
-pub take-take : {X : Type 0} (n m : ℕ) (xs : List X) → n ≤ m → take n (take m xs) ≡ take n xs
-take-take zero m xs le = refl
-take-take (suc n) zero xs le = absurd (omega (arith, le))
-take-take (suc n) (suc m) [] le = refl
-take-take {X = X} (suc n) (suc m) (x ∷ xs) le = ap (λ (ys : List X). x ∷ ys) (take-take n m xs (omega (arith, le)))
-
-or_left : (p q : Bool) → p ≡ true → (p || q) ≡ true
-or_left p q is = ap (λ (b : Bool). b || q) is
 
 -- all updates are of the blocks that the first of them are of
 pub updates_block-all : (n : ℕ) (us : List Update) (b : ℕ) → updates_block (take n us) b ≡ true → updates_block us b ≡ true

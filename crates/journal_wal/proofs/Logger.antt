@@ -1,40 +1,40 @@
 -- The steps of the logger's cycle.
-use Rattle.std.proofs.Common.{◌≡◌, ◌⊎◌, inl, inr, ⊎_elim, ◌<◌, ◌≤◌, ◌+◌, ◌-◌, ◌^◌, ℕ, zero, suc, false, true, List, [], ◌∷◌, ◌++◌, take, length, length-drop, Option, Some, None, IsTrue, refl, sym, ap, subst, ◌∙◌, arith}
+use Rattle.std.proofs.Common.{◌≡◌, ◌⊎◌, inl, inr, ⊎_elim, ◌<◌, ◌≤◌, ◌+◌, ◌-◌, ◌^◌, ℕ, Bool, zero, suc, true, List, [], ◌∷◌, ◌++◌, take, length, length-drop, Option, Some, IsTrue, refl, sym, ap, subst, ◌∙◌, arith}
 use Rattle.std.specs.List.{slice_get}
 use Rattle.std.proofs.Math.Seq.{take-suc}
 use Rattle.std.proofs.lemmas.List.{take_all}
 use Rattle.journal_block.specs.Block.{Bytes}
 use Rattle.journal_block.specs.Updates.{updated}
-use Rattle.journal_disk.specs.Disks.{Event, write, barrier}
+use Rattle.journal_disk.specs.Disks.{DiskEvent, write, barrier}
 use Rattle.journal_disk.specs.Laws.{leaves_none}
 use Rattle.journal_circ.specs.StandsFor.{StandsFor}
 use Rattle.std.proofs.lemmas.Option.{get_or_from_slice_get, slice_get_within}
 use Rattle.journal_block.specs.declared.update.Update.{Update}
 use Rattle.journal_disk.specs.Images.{EveryImage}
 use Rattle.journal_circ.specs.Log.{log_block, with_address, with_end}
-use Rattle.journal_circ.specs.Ring.{Ring, log_of, home_of, Steps, SameHome, Happens}
-use Rattle.journal_memlog.specs.Logs.{LogState, next_of, tail_of}
-use Rattle.journal_wal.specs.Wal.{WalState, Logging, log_blocks, log_end, log_sync, log_spent, Installing, Crashes, Fails, LogMoves, log_steps, log_steps_by, log_call, log_call_by, bytes_at, Makes, IsCrash, size_of, blocks_at, blocks_cut, blocks_logged, AreHomes, tail_length, free_positions}
-use Rattle.journal_wal.specs.States.{updates_to, AreTied, IsInStep, IsLogging, IsInstalling}
+use Rattle.journal_circ.specs.Ring.{Ring, log_of, home_of, Crashes as RingCrashes, SameHome, MakesCall}
+use Rattle.journal_memlog.specs.Logs.{LogState, next_position, tail_of}
+use Rattle.journal_wal.specs.Wal.{WalState, Logging, log_blocks, log_end, log_sync, log_spent, Installing, Crashes, Fails, LogMoves, log_steps, log_steps_by, log_call, log_call_by, bytes_at, MakesDueCall, MayStandFor, size_of, blocks_at, AreHomes, tail_length, free_positions}
+use Rattle.journal_wal.specs.States.{updates_to, AreTied, IsWal, IsLogging, IsInstalling}
 use Rattle.journal_wal.proofs.Crashes.{images_of, moments_of}
 use Rattle.journal_wal.proofs.Frames.{keeps_homes, KeepsInstalling, installing_stays, tied_by, keeps_installing}
 
 -- What a device call leaves of a log that is in step: one that is in step, and nothing else of its images
 pub record Leaves (old new : WalState) : Type 0 where
-  pub sound : IsInStep new
+  pub sound : IsWal new
   pub crash : Crashes old new
 
 -- no device call
-pub unchanged : (w : WalState) → IsInStep w → Crashes w w
+pub unchanged : (w : WalState) → IsWal w → Crashes w w
 unchanged w is = record {
   keeps = record { size = refl; honest = refl; failures = omega arith };
-  moments = λ honest. leaves_none w.ring.disk.past w.ring.disk.past (IsCrash w) refl (is.images honest);
+  moments = λ honest. leaves_none w.ring.disk.past w.ring.disk.past (MayStandFor w) refl (is.images honest);
   images = is.images;
 }
 
 -- a device call that leaves the memory
-pub stepped : (w : WalState) (ring : Ring) (logging : Logging) (installing : Installing) (coming : ℕ) → IsInStep w
-    → Steps coming w.ring ring
+pub stepped : (w : WalState) (ring : Ring) (logging : Logging) (installing : Installing) (coming : ℕ) → IsWal w
+    → RingCrashes coming w.ring ring
     → (coming ≡ w.log.logged) ⊎ ((coming ≡ w.log.cut) × (w.ring.next ≡ w.log.cut))
     → AreTied ring w.log
     → (IsTrue w.ring.disk.honest → log_of ring ≡ take (ring.next - w.log.start) w.log.updates)
@@ -56,7 +56,7 @@ stepped w ring logging installing coming is steps coming_is tied log logging_is 
 }
   where
     images : IsTrue ring.disk.honest
-        → EveryImage ring.disk.past (IsCrash (record { ring = ring; log = w.log; logging = logging; installing = installing }))
+        → EveryImage ring.disk.past (MayStandFor (record { ring = ring; log = w.log; logging = logging; installing = installing }))
     images honest = images_of (record { ring = ring; log = w.log; logging = logging; installing = installing }) tied
         (log (subst IsTrue steps.keeps.honest honest)) (steps.images honest)
 
@@ -92,47 +92,54 @@ module _ (ring now : Ring) (log : LogState) (installing : Installing) where
   pub call_end : ring.next ≡ log.cut → log_call (at ring log_end) ≡ Some (write 0 (with_end ring.header ring.next))
   call_end all = ap (λ (n : ℕ). Some (write 0 (with_end ring.header n))) (sym all)
 
-  pub call_none : log.logged ≡ log.cut → log_call (at ring log_blocks) ≡ None
-  call_none rest = λ i. log_call_by log_blocks (nothing i) (log.cut - ring.next) (write (log_block ring.next) (bytes_at log ring.next)) (with_end ring.header log.cut)
-    where
-      nothing : log.cut - log.logged ≡ 0
-      nothing = omega (arith, rest)
+  -- What a device call of the logger keeps of the numbers, where the next position and the coming end now are these
+  record Kept (n c : ℕ) : Type 0 where
+    next : now.next ≡ n
+    coming : now.extent.coming ≡ c
+    start : now.extent.start ≡ ring.extent.start
+    end : now.extent.end ≡ ring.extent.end
+    freed : now.extent.freed ≡ ring.extent.freed
+    homes : now.extent.homes ≡ ring.extent.homes
+    faulted : IsTrue ring.faulted → IsTrue now.faulted
+
+  kept : (h : Bytes) (n c s : ℕ) (f : Bool) → now ≡ record ring { disk = now.disk; header = h; extent = record ring.extent { coming = c; stable = s }; next = n; faulted = f }
+      → (IsTrue ring.faulted → IsTrue f) → Kept n c
+  kept h n c s f is_now stays = record {
+    next = ap (λ (r : Ring). r.next) is_now;
+    coming = ap (λ (r : Ring). r.extent.coming) is_now;
+    start = ap (λ (r : Ring). r.extent.start) is_now;
+    end = ap (λ (r : Ring). r.extent.end) is_now;
+    freed = ap (λ (r : Ring). r.extent.freed) is_now;
+    homes = ap (λ (r : Ring). r.extent.homes) is_now;
+    faulted = λ was. subst IsTrue (sym (ap (λ (r : Ring). r.faulted) is_now)) (stays was);
+  }
 
   -- a log block of the group
-  pub block_logged : (u : Update) → IsInStep (at ring log_blocks) → log.logged < log.cut → ring.next < log.cut
-      → slice_get log.updates (ring.next - log.start) ≡ Some u → Steps ring.marks.coming ring now
+  pub block_logged : (u : Update) → IsWal (at ring log_blocks) → log.logged < log.cut → ring.next < log.cut
+      → slice_get log.updates (ring.next - log.start) ≡ Some u → RingCrashes ring.extent.coming ring now
       → (IsTrue ring.disk.honest → log_of now ≡ log_of ring ++ u ∷ []) → (IsTrue ring.disk.honest → SameHome ring now)
       → now ≡ record ring { disk = now.disk; header = with_address ring.header ring.next u.block; next = ring.next + 1 }
-      → Happens (write (log_block ring.next) u.bytes) ring.disk now.disk
+      → MakesCall (write (log_block ring.next) u.bytes) ring.disk now.disk
       → Leaves (at ring log_blocks) (at now log_blocks) × LogMoves (log_steps (at ring log_blocks)) (at ring log_blocks) (at now log_blocks)
   block_logged u is group left found steps log_is home is_now happened = (
-    stepped (at ring log_blocks) now log_blocks installing ring.marks.coming is steps is.tied.coming tied same
-        (coming ∙ is.logging ∙ sym end)
+    stepped (at ring log_blocks) now log_blocks installing ring.extent.coming is steps is.tied.coming tied same
+        (k.coming ∙ is.logging ∙ sym k.end)
         (installing_stays ring now log log keeps installing is.installing),
     subst (λ (n : ℕ). LogMoves n (at ring log_blocks) (at now log_blocks)) (sym before) (record {
-      steps = omega (arith, before, after, next);
+      steps = omega (arith, before, after, k.next);
       log = refl;
       blocks = λ honest. keeps_homes (at ring log_blocks) (at now log_blocks) refl (home honest);
-      call = subst (λ (call : Option Event). Makes call ring.disk now.disk) (sym (call_block u group left found)) happened;
+      call = subst (λ (call : Option DiskEvent). MakesDueCall call ring.disk now.disk) (sym (call_block u group left found)) happened;
       installing = refl;
     }),
   )
     where
-      next : now.next ≡ ring.next + 1
-      next = ap (λ (r : Ring). r.next) is_now
-
-      start : now.marks.start ≡ ring.marks.start
-      start = ap (λ (r : Ring). r.marks.start) is_now
-
-      end : now.marks.end ≡ ring.marks.end
-      end = ap (λ (r : Ring). r.marks.end) is_now
-
-      coming : now.marks.coming ≡ ring.marks.coming
-      coming = ap (λ (r : Ring). r.marks.coming) is_now
+      k : Kept (ring.next + 1) ring.extent.coming
+      k = kept (with_address ring.header ring.next u.block) (ring.next + 1) ring.extent.coming ring.extent.stable ring.faulted is_now (λ was. was)
 
       tied : AreTied now log
-      tied = tied_by ring now log is.tied steps.keeps.size start end (omega (arith, next)) (omega (arith, next))
-          (inl (coming ∙ is.logging ∙ is.tied.end))
+      tied = tied_by ring now log is.tied steps.keeps.size k.start k.end (omega (arith, k.next)) (omega (arith, k.next))
+          (inl (k.coming ∙ is.logging ∙ is.tied.end))
 
       same : IsTrue ring.disk.honest → log_of now ≡ take (now.next - log.start) log.updates
       same honest =
@@ -142,11 +149,10 @@ module _ (ring now : Ring) (log : LogState) (installing : Installing) where
           ∙ (λ i. take (place i) log.updates)
         where
           place : suc (ring.next - log.start) ≡ now.next - log.start
-          place = omega (arith, next, is.tied.start_to_end, is.tied.end_to_next)
+          place = omega (arith, k.next, is.tied.start_to_end, is.tied.end_to_next)
 
       keeps : KeepsInstalling ring now log log
-      keeps = keeps_installing ring now log steps.keeps start (ap (λ (r : Ring). r.marks.freed) is_now)
-          (ap (λ (r : Ring). r.marks.homes) is_now) (subst IsTrue (sym (ap (λ (r : Ring). r.faulted) is_now))) home
+      keeps = keeps_installing ring now log steps.keeps k.start k.freed k.homes k.faulted home
 
       before : log_steps (at ring log_blocks) ≡ suc (suc ((log.cut - ring.next) + 1))
       before = steps_in_group (log.cut - log.logged) (log.cut - ring.next) (omega (arith, group)) ∙ omega arith
@@ -155,132 +161,104 @@ module _ (ring now : Ring) (log : LogState) (installing : Installing) where
       after = steps_in_group (log.cut - log.logged) (log.cut - now.next) (omega (arith, group))
 
   -- a device call of the logger that failed
-  failed : (phase : Logging) (coming : ℕ) → IsInStep (at ring phase) → Steps coming ring now
-      → (coming ≡ log.logged) ⊎ ((coming ≡ log.cut) × (ring.next ≡ log.cut)) → now.next ≡ ring.next
-      → now.marks.start ≡ ring.marks.start → now.marks.end ≡ ring.marks.end → now.marks.freed ≡ ring.marks.freed
-      → now.marks.homes ≡ ring.marks.homes → now.faulted ≡ true
-      → (now.marks.coming ≡ log.logged) ⊎ ((now.marks.coming ≡ log.cut) × (now.next ≡ log.cut))
+  failed : (phase : Logging) (coming : ℕ) → IsWal (at ring phase) → RingCrashes coming ring now
+      → (coming ≡ log.logged) ⊎ ((coming ≡ log.cut) × (ring.next ≡ log.cut)) → Kept ring.next coming → now.faulted ≡ true
+      → (now.extent.coming ≡ log.logged) ⊎ ((now.extent.coming ≡ log.cut) × (now.next ≡ log.cut))
       → (IsTrue ring.disk.honest → log_of now ≡ log_of ring) → (IsTrue ring.disk.honest → SameHome ring now)
       → Leaves (at ring phase) (at now log_spent) × Fails (at ring phase) (at now log_spent)
-  failed phase coming is steps coming_is next start end freed homes faulted coming_now log_is home = (
+  failed phase coming is steps coming_is k faulted coming_now log_is home = (
     stepped (at ring phase) now log_spent installing coming is steps coming_is
-        (tied_by ring now log is.tied steps.keeps.size start end (omega (arith, next)) (omega (arith, next, is.tied.next_to_cut)) coming_now)
-        (λ honest. log_is honest ∙ is.log honest ∙ (λ i. take (sym next i - log.start) log.updates))
+        (tied_by ring now log is.tied steps.keeps.size k.start k.end (omega (arith, k.next)) (omega (arith, k.next, is.tied.next_to_cut)) coming_now)
+        (λ honest. log_is honest ∙ is.log honest ∙ (λ i. take (sym k.next i - log.start) log.updates))
         faulted
-        (installing_stays ring now log log (keeps_installing ring now log steps.keeps start freed homes (λ was. faulted) home) installing is.installing),
+        (installing_stays ring now log log (keeps_installing ring now log steps.keeps k.start k.freed k.homes (λ was. faulted) home) installing is.installing),
     record { faulted = faulted; log = refl; blocks = λ honest. keeps_homes (at ring phase) (at now log_spent) refl (home honest) },
   )
 
   -- a call that changes no mark
-  pub call_failed : (phase : Logging) → IsInStep (at ring phase) → Steps ring.marks.coming ring now
+  pub call_failed : (phase : Logging) → IsWal (at ring phase) → RingCrashes ring.extent.coming ring now
       → (IsTrue ring.disk.honest → log_of now ≡ log_of ring) → (IsTrue ring.disk.honest → SameHome ring now)
       → now ≡ record ring { disk = now.disk; faulted = true }
       → Leaves (at ring phase) (at now log_spent) × Fails (at ring phase) (at now log_spent)
   call_failed phase is steps log_is home is_now =
-      failed phase ring.marks.coming is steps is.tied.coming (ap (λ (r : Ring). r.next) is_now)
-      (ap (λ (r : Ring). r.marks.start) is_now) (ap (λ (r : Ring). r.marks.end) is_now)
-      (ap (λ (r : Ring). r.marks.freed) is_now) (ap (λ (r : Ring). r.marks.homes) is_now)
-      (ap (λ (r : Ring). r.faulted) is_now)
-      (subst (λ (r : Ring). (r.marks.coming ≡ log.logged) ⊎ ((r.marks.coming ≡ log.cut) × (r.next ≡ log.cut))) (sym is_now) is.tied.coming)
+      failed phase ring.extent.coming is steps is.tied.coming (kept ring.header ring.next ring.extent.coming ring.extent.stable true is_now (λ _. refl)) (ap (λ (r : Ring). r.faulted) is_now)
+      (subst (λ (r : Ring). (r.extent.coming ≡ log.logged) ⊎ ((r.extent.coming ≡ log.cut) × (r.next ≡ log.cut))) (sym is_now) is.tied.coming)
       log_is home
 
   -- the write of block 0
-  pub end_failed : IsInStep (at ring log_end) → Steps ring.next ring now
+  pub end_failed : IsWal (at ring log_end) → RingCrashes ring.next ring now
       → (IsTrue ring.disk.honest → log_of now ≡ log_of ring) → (IsTrue ring.disk.honest → SameHome ring now)
-      → now ≡ record ring { disk = now.disk; header = with_end ring.header ring.next; marks = record ring.marks { coming = ring.next }; faulted = true }
+      → now ≡ record ring { disk = now.disk; header = with_end ring.header ring.next; extent = record ring.extent { coming = ring.next }; faulted = true }
       → Leaves (at ring log_end) (at now log_spent) × Fails (at ring log_end) (at now log_spent)
   end_failed is steps log_is home is_now =
-      failed log_end ring.next is steps (inr (is.logging.2, is.logging.2)) (ap (λ (r : Ring). r.next) is_now)
-      (ap (λ (r : Ring). r.marks.start) is_now) (ap (λ (r : Ring). r.marks.end) is_now)
-      (ap (λ (r : Ring). r.marks.freed) is_now) (ap (λ (r : Ring). r.marks.homes) is_now)
-      (ap (λ (r : Ring). r.faulted) is_now)
-      (inr (ap (λ (r : Ring). r.marks.coming) is_now ∙ is.logging.2, ap (λ (r : Ring). r.next) is_now ∙ is.logging.2))
+      failed log_end ring.next is steps (inr (is.logging.2, is.logging.2)) (kept (with_end ring.header ring.next) ring.next ring.next ring.extent.stable true is_now (λ _. refl)) (ap (λ (r : Ring). r.faulted) is_now)
+      (inr (ap (λ (r : Ring). r.extent.coming) is_now ∙ is.logging.2, ap (λ (r : Ring). r.next) is_now ∙ is.logging.2))
       log_is home
 
   -- the barrier after the log blocks
-  pub blocks_synced : IsInStep (at ring log_blocks) → log.logged < log.cut → ring.next ≡ log.cut
-      → Steps ring.marks.coming ring now
+  pub blocks_synced : IsWal (at ring log_blocks) → log.logged < log.cut → ring.next ≡ log.cut
+      → RingCrashes ring.extent.coming ring now
       → (IsTrue ring.disk.honest → log_of now ≡ log_of ring) → (IsTrue ring.disk.honest → SameHome ring now)
-      → now ≡ record ring { disk = now.disk; marks = record ring.marks { stable = ring.next } } → Happens barrier ring.disk now.disk
+      → now ≡ record ring { disk = now.disk; extent = record ring.extent { stable = ring.next } } → MakesCall barrier ring.disk now.disk
       → Leaves (at ring log_blocks) (at now log_end) × LogMoves (log_steps (at ring log_blocks)) (at ring log_blocks) (at now log_end)
   blocks_synced is group all steps log_is home is_now happened = (
-    stepped (at ring log_blocks) now log_end installing ring.marks.coming is steps is.tied.coming
-        (tied_by ring now log is.tied steps.keeps.size start end (omega (arith, next)) (omega (arith, next, all))
-        (inl (coming ∙ is.logging ∙ is.tied.end)))
-        (λ honest. log_is honest ∙ is.log honest ∙ (λ i. take (sym next i - log.start) log.updates))
-        (coming ∙ is.logging ∙ sym end, ap (λ (r : Ring). r.marks.stable) is_now ∙ sym next, next ∙ all, group)
+    stepped (at ring log_blocks) now log_end installing ring.extent.coming is steps is.tied.coming
+        (tied_by ring now log is.tied steps.keeps.size k.start k.end (omega (arith, k.next)) (omega (arith, k.next, all))
+        (inl (k.coming ∙ is.logging ∙ is.tied.end)))
+        (λ honest. log_is honest ∙ is.log honest ∙ (λ i. take (sym k.next i - log.start) log.updates))
+        (k.coming ∙ is.logging ∙ sym k.end, ap (λ (r : Ring). r.extent.stable) is_now ∙ sym k.next, k.next ∙ all, group)
         (installing_stays ring now log log keeps installing is.installing),
     subst (λ (n : ℕ). LogMoves n (at ring log_blocks) (at now log_end)) (sym before) (record {
       steps = omega (arith, before);
       log = refl;
       blocks = λ honest. keeps_homes (at ring log_blocks) (at now log_end) refl (home honest);
-      call = subst (λ (call : Option Event). Makes call ring.disk now.disk) (sym (call_barrier group all)) happened;
+      call = subst (λ (call : Option DiskEvent). MakesDueCall call ring.disk now.disk) (sym (call_barrier group all)) happened;
       installing = refl;
     }),
   )
     where
-      next : now.next ≡ ring.next
-      next = ap (λ (r : Ring). r.next) is_now
-
-      start : now.marks.start ≡ ring.marks.start
-      start = ap (λ (r : Ring). r.marks.start) is_now
-
-      end : now.marks.end ≡ ring.marks.end
-      end = ap (λ (r : Ring). r.marks.end) is_now
-
-      coming : now.marks.coming ≡ ring.marks.coming
-      coming = ap (λ (r : Ring). r.marks.coming) is_now
+      k : Kept ring.next ring.extent.coming
+      k = kept ring.header ring.next ring.extent.coming ring.next ring.faulted is_now (λ was. was)
 
       keeps : KeepsInstalling ring now log log
-      keeps = keeps_installing ring now log steps.keeps start (ap (λ (r : Ring). r.marks.freed) is_now)
-          (ap (λ (r : Ring). r.marks.homes) is_now) (subst IsTrue (sym (ap (λ (r : Ring). r.faulted) is_now))) home
+      keeps = keeps_installing ring now log steps.keeps k.start k.freed k.homes k.faulted home
 
       before : log_steps (at ring log_blocks) ≡ 3
       before = steps_in_group (log.cut - log.logged) (log.cut - ring.next) (omega (arith, group)) ∙ omega (arith, all)
 
   -- the write of block 0
-  pub end_written : IsInStep (at ring log_end) → Steps ring.next ring now
+  pub end_written : IsWal (at ring log_end) → RingCrashes ring.next ring now
       → (IsTrue ring.disk.honest → log_of now ≡ log_of ring) → (IsTrue ring.disk.honest → SameHome ring now)
-      → now ≡ record ring { disk = now.disk; header = with_end ring.header ring.next; marks = record ring.marks { coming = ring.next } }
-      → Happens (write 0 (with_end ring.header ring.next)) ring.disk now.disk
+      → now ≡ record ring { disk = now.disk; header = with_end ring.header ring.next; extent = record ring.extent { coming = ring.next } }
+      → MakesCall (write 0 (with_end ring.header ring.next)) ring.disk now.disk
       → Leaves (at ring log_end) (at now log_sync) × LogMoves (log_steps (at ring log_end)) (at ring log_end) (at now log_sync)
   end_written is steps log_is home is_now happened = (
     stepped (at ring log_end) now log_sync installing ring.next is steps (inr (is.logging.2, is.logging.2))
-        (tied_by ring now log is.tied steps.keeps.size start end (omega (arith, next)) (omega (arith, next, is.tied.next_to_cut))
-        (inr (coming ∙ is.logging.2, next ∙ is.logging.2)))
-        (λ honest. log_is honest ∙ is.log honest ∙ (λ i. take (sym next i - log.start) log.updates))
-        (coming ∙ is.logging.2, next ∙ is.logging.2, is.logging.3)
+        (tied_by ring now log is.tied steps.keeps.size k.start k.end (omega (arith, k.next)) (omega (arith, k.next, is.tied.next_to_cut))
+        (inr (k.coming ∙ is.logging.2, k.next ∙ is.logging.2)))
+        (λ honest. log_is honest ∙ is.log honest ∙ (λ i. take (sym k.next i - log.start) log.updates))
+        (k.coming ∙ is.logging.2, k.next ∙ is.logging.2, is.logging.3)
         (installing_stays ring now log log keeps installing is.installing),
     record {
       steps = refl;
       log = refl;
       blocks = λ honest. keeps_homes (at ring log_end) (at now log_sync) refl (home honest);
-      call = subst (λ (call : Option Event). Makes call ring.disk now.disk) (sym (call_end is.logging.2)) happened;
+      call = subst (λ (call : Option DiskEvent). MakesDueCall call ring.disk now.disk) (sym (call_end is.logging.2)) happened;
       installing = refl;
     },
   )
     where
-      next : now.next ≡ ring.next
-      next = ap (λ (r : Ring). r.next) is_now
-
-      start : now.marks.start ≡ ring.marks.start
-      start = ap (λ (r : Ring). r.marks.start) is_now
-
-      end : now.marks.end ≡ ring.marks.end
-      end = ap (λ (r : Ring). r.marks.end) is_now
-
-      coming : now.marks.coming ≡ ring.next
-      coming = ap (λ (r : Ring). r.marks.coming) is_now
+      k : Kept ring.next ring.next
+      k = kept (with_end ring.header ring.next) ring.next ring.next ring.extent.stable ring.faulted is_now (λ was. was)
 
       keeps : KeepsInstalling ring now log log
-      keeps = keeps_installing ring now log steps.keeps start (ap (λ (r : Ring). r.marks.freed) is_now)
-          (ap (λ (r : Ring). r.marks.homes) is_now) (subst IsTrue (sym (ap (λ (r : Ring). r.faulted) is_now))) home
+      keeps = keeps_installing ring now log steps.keeps k.start k.freed k.homes k.faulted home
 
   -- the barrier after block 0
-  pub group_ended : (later : LogState) → IsInStep (at ring log_sync) → Steps ring.marks.coming ring now
+  pub group_ended : (later : LogState) → IsWal (at ring log_sync) → RingCrashes ring.extent.coming ring now
       → (IsTrue ring.disk.honest → log_of now ≡ log_of ring) → (IsTrue ring.disk.honest → SameHome ring now)
-      → now ≡ record ring { disk = now.disk; marks = record ring.marks { end = ring.marks.coming } }
-      → later ≡ record log { logged = now.marks.end } → Happens barrier ring.disk now.disk
+      → now ≡ record ring { disk = now.disk; extent = record ring.extent { end = ring.extent.coming } }
+      → later ≡ record log { logged = now.extent.end } → MakesCall barrier ring.disk now.disk
       → Leaves (at ring log_sync) (record { ring = now; log = later; logging = log_blocks; installing = installing })
       × LogMoves (log_steps (at ring log_sync)) (at ring log_sync) (record { ring = now; log = later; logging = log_blocks; installing = installing })
   group_ended later is steps log_is home is_now later_is happened = (
@@ -289,12 +267,12 @@ module _ (ring now : Ring) (log : LogState) (installing : Installing) where
         tied = tied;
         log = λ honest. same (subst IsTrue steps.keeps.honest honest);
         images = images;
-        logging = ap (λ (r : Ring). r.marks.coming) is_now ∙ sym end;
+        logging = ap (λ (r : Ring). r.extent.coming) is_now ∙ sym end;
         installing = installing_stays ring now log later keeps installing is.installing;
       };
       crash = record {
         keeps = steps.keeps;
-        moments = λ honest. moments_of (at ring log_sync) is.tied (is.log honest) now.disk.past ring.marks.coming is.tied.coming (steps.moments honest);
+        moments = λ honest. moments_of (at ring log_sync) is.tied (is.log honest) now.disk.past ring.extent.coming is.tied.coming (steps.moments honest);
         images = images;
       };
     },
@@ -316,13 +294,13 @@ module _ (ring now : Ring) (log : LogState) (installing : Installing) where
       next : now.next ≡ ring.next
       next = ap (λ (r : Ring). r.next) is_now
 
-      start : now.marks.start ≡ ring.marks.start
-      start = ap (λ (r : Ring). r.marks.start) is_now
+      start : now.extent.start ≡ ring.extent.start
+      start = ap (λ (r : Ring). r.extent.start) is_now
 
-      end : now.marks.end ≡ ring.marks.coming
-      end = ap (λ (r : Ring). r.marks.end) is_now
+      end : now.extent.end ≡ ring.extent.coming
+      end = ap (λ (r : Ring). r.extent.end) is_now
 
-      end_is : now.marks.end ≡ log.cut
+      end_is : now.extent.end ≡ log.cut
       end_is = end ∙ is.logging.0
 
       logged_is : later.logged ≡ log.cut
@@ -339,19 +317,19 @@ module _ (ring now : Ring) (log : LogState) (installing : Installing) where
         start_to_end = omega (arith, is.tied.start_to_end, is.logging.2, logged_is, ap (λ (l : LogState). l.start) later_is);
         end_to_next = omega (arith, logged_is, next, is.logging.1);
         next_to_cut = omega (arith, next, is.logging.1, ap (λ (l : LogState). l.cut) later_is);
-        cut_to_last = subst (λ (l : LogState). l.cut ≤ next_of l) (sym later_is) is.tied.cut_to_last;
+        cut_to_last = subst (λ (l : LogState). l.cut ≤ next_position l) (sym later_is) is.tied.cut_to_last;
         fits = subst (λ (l : LogState). l.cut ≤ l.start + 511) (sym later_is) is.tied.fits;
-        small = subst (λ (l : LogState). next_of l < 2 ^ 62) (sym later_is) is.tied.small;
+        small = subst (λ (l : LogState). next_position l < 2 ^ 62) (sym later_is) is.tied.small;
         tail = subst (λ (l : LogState). length (tail_of l) ≤ 255) (sym later_is) is.tied.tail;
         blocks = subst (λ (l : LogState). AreHomes l.blocks l.updates) (sym later_is) is.tied.blocks;
-        coming = inl (ap (λ (r : Ring). r.marks.coming) is_now ∙ is.logging.0 ∙ sym logged_is);
+        coming = inl (ap (λ (r : Ring). r.extent.coming) is_now ∙ is.logging.0 ∙ sym logged_is);
       }
 
       same : IsTrue ring.disk.honest → log_of now ≡ take (now.next - later.start) later.updates
       same honest = log_is honest ∙ is.log honest
           ∙ (λ i. take (sym next i - (sym later_is i).start) (sym later_is i).updates)
 
-      images : IsTrue now.disk.honest → EveryImage now.disk.past (IsCrash new)
+      images : IsTrue now.disk.honest → EveryImage now.disk.past (MayStandFor new)
       images honest = images_of new tied (same (subst IsTrue steps.keeps.honest honest)) (steps.images honest)
 
       keeps : KeepsInstalling ring now log later
@@ -359,8 +337,8 @@ module _ (ring now : Ring) (log : LogState) (installing : Installing) where
         size = steps.keeps.size;
         honest = steps.keeps.honest;
         start = start;
-        freed = ap (λ (r : Ring). r.marks.freed) is_now;
-        homes = ap (λ (r : Ring). r.marks.homes) is_now;
+        freed = ap (λ (r : Ring). r.extent.freed) is_now;
+        homes = ap (λ (r : Ring). r.extent.homes) is_now;
         faulted = subst IsTrue (sym (ap (λ (r : Ring). r.faulted) is_now));
         home = home;
         first = ap (λ (l : LogState). l.start) later_is;
@@ -369,131 +347,74 @@ module _ (ring now : Ring) (log : LogState) (installing : Installing) where
       }
 
 -- a cut: no device call
-pub group_cut : (w : WalState) (later : LogState) → IsInStep w → w.logging ≡ log_blocks → w.log.logged ≡ w.log.cut
-    → later ≡ record w.log { cut = next_of w.log } → 0 < tail_length w → tail_length w ≤ free_positions w
-    → Leaves w (record w { log = later }) × LogMoves (log_steps w) w (record w { log = later })
-group_cut w later is phase rest later_is some fits = (
+cut_whole : (w : WalState) → IsWal w → w.logging ≡ log_blocks → w.log.logged ≡ w.log.cut → 0 < tail_length w → tail_length w ≤ free_positions w
+    → let new : WalState = record w { log = record w.log { cut = next_position w.log } } in Leaves w new × LogMoves (log_steps w) w new
+cut_whole w is phase rest some fits = (
   record {
     sound = record {
       tied = tied;
-      log = λ honest. is.log honest ∙ (λ i. take (w.ring.next - (sym later_is i).start) (sym later_is i).updates);
+      log = is.log;
       images = images;
-      logging = subst (λ (l : Logging). IsLogging w.ring later l) (sym phase) (subst (IsLogging w.ring w.log) phase is.logging);
-      installing = installing_stays w.ring w.ring w.log later keeps w.installing is.installing;
+      logging = subst (IsLogging w.ring new.log) (sym phase) at_blocks;
+      installing = installing_stays w.ring w.ring w.log new.log keeps w.installing is.installing;
     };
     crash = record {
       keeps = record { size = refl; honest = refl; failures = omega arith };
-      moments = λ honest. leaves_none w.ring.disk.past w.ring.disk.past (IsCrash w) refl (is.images honest);
+      moments = λ honest. leaves_none w.ring.disk.past w.ring.disk.past (MayStandFor w) refl (is.images honest);
       images = images;
     };
   },
   subst (λ (n : ℕ). LogMoves n w new) (sym before) (record {
     disk = refl;
     fits = (some, fits);
-    steps = (λ i. log_steps_by (phase i) (later.cut - later.logged) (later.cut - w.ring.next))
-        ∙ steps_in_group (later.cut - later.logged) (later.cut - w.ring.next) (omega (arith, cut_is, logged_is, tail, some, rest))
-        ∙ omega (arith, cut_is, tail, rest, is.tied.end_to_next, is.tied.next_to_cut, is.tied.start_to_end);
-    tail = length-drop (later.cut - later.start) later.updates ∙ omega (arith, cut_is, updates_is, first_is);
-    now = λ b home lt. λ i. updated (later_is i).updates b (home_of w.ring b);
-    cut = λ b home lt. λ i. updated (whole i) b (home_of w.ring b);
-    logged = λ b home lt. λ i. updated (updates_to (later_is i) (later_is i).logged) b (home_of w.ring b);
+    steps = (λ i. log_steps_by (phase i) (next_position w.log - w.log.logged) (next_position w.log - w.ring.next))
+        ∙ steps_in_group (next_position w.log - w.log.logged) (next_position w.log - w.ring.next) (omega (arith, tail, some, rest))
+        ∙ omega (arith, tail, rest, is.tied.end_to_next, is.tied.next_to_cut, is.tied.start_to_end);
+    tail = length-drop (next_position w.log - w.log.start) w.log.updates ∙ omega arith;
+    now = λ b home lt. refl;
+    cut = λ b home lt. ap (λ (us : List Update). updated us b (home_of w.ring b)) (take_all (next_position w.log - w.log.start) w.log.updates (omega arith));
+    logged = λ b home lt. refl;
     installing = refl;
   }),
 )
   where
     new : WalState
-    new = record w { log = later }
+    new = record w { log = record w.log { cut = next_position w.log } }
 
-    cut_is : later.cut ≡ next_of w.log
-    cut_is = ap (λ (l : LogState). l.cut) later_is
-
-    logged_is : later.logged ≡ w.log.logged
-    logged_is = ap (λ (l : LogState). l.logged) later_is
-
-    first_is : later.start ≡ w.log.start
-    first_is = ap (λ (l : LogState). l.start) later_is
-
-    updates_is : length later.updates ≡ length w.log.updates
-    updates_is = ap (λ (l : LogState). length l.updates) later_is
+    at_blocks : w.ring.extent.coming ≡ w.ring.extent.end
+    at_blocks = subst (IsLogging w.ring w.log) phase is.logging
 
     tail : tail_length w ≡ length w.log.updates - (w.log.cut - w.log.start)
     tail = length-drop (w.log.cut - w.log.start) w.log.updates
 
     before : log_steps w ≡ 0
-    before = (λ i. log_steps_by (phase i) (none i) (w.log.cut - w.ring.next))
-      where
-        none : w.log.cut - w.log.logged ≡ 0
-        none = omega (arith, rest)
+    before = let none : w.log.cut - w.log.logged ≡ 0 = omega (arith, rest) in (λ i. log_steps_by (phase i) (none i) (w.log.cut - w.ring.next))
 
-    whole : updates_to later later.cut ≡ w.log.updates
-    whole = take_all (later.cut - later.start) later.updates (omega (arith, cut_is, updates_is, first_is))
-        ∙ ap (λ (l : LogState). l.updates) later_is
-
-    tied : AreTied w.ring later
+    tied : AreTied w.ring new.log
     tied = record {
-      size = is.tied.size ∙ sym (ap (λ (l : LogState). l.blocks) later_is);
-      start = is.tied.start ∙ sym first_is;
-      end = is.tied.end ∙ sym logged_is;
-      start_to_end = omega (arith, is.tied.start_to_end, first_is, logged_is);
-      end_to_next = omega (arith, is.tied.end_to_next, logged_is);
-      next_to_cut = omega (arith, is.tied.next_to_cut, is.tied.cut_to_last, cut_is);
-      cut_to_last = omega (arith, cut_is, first_is, updates_is);
-      fits = omega (arith, cut_is, first_is, tail, fits, rest, is.tied.start_to_end, is.tied.fits);
-      small = omega (arith, is.tied.small, first_is, updates_is);
-      tail = omega (arith, length-drop (later.cut - later.start) later.updates, cut_is, updates_is, first_is);
-      blocks = subst (λ (l : LogState). AreHomes l.blocks l.updates) (sym (ap same_parts later_is)) is.tied.blocks;
-      coming = inl (subst (IsLogging w.ring w.log) phase is.logging ∙ is.tied.end ∙ sym logged_is);
-    }
-      where
-        same_parts : LogState → LogState
-        same_parts l = record l { cut = w.log.cut }
-
-    at_cut : (image : List Bytes) → IsCrash w image → IsCrash new image
-    at_cut image crash = ⊎_elim
-        (λ (old : StandsFor (size_of w) (blocks_logged w) image). inl (subst (λ (l : LogState). StandsFor (size_of w) (blocks_at (record w { log = l }) l.logged) image) (sym (ap same_parts later_is)) old))
-        (λ (cut : StandsFor (size_of w) (blocks_cut w) image). inl (subst (λ (l : LogState). StandsFor (size_of w) (blocks_at (record w { log = l }) l.logged) image) (sym (ap same_parts later_is))
-        (subst (λ (n : ℕ). StandsFor (size_of w) (blocks_at w n) image) (sym rest) cut)))
-        crash
-      where
-        same_parts : LogState → LogState
-        same_parts l = record l { cut = w.log.cut }
-
-    images : IsTrue w.ring.disk.honest → EveryImage w.ring.disk.past (IsCrash new)
-    images honest image one = at_cut image (is.images honest image one)
-
-    keeps : KeepsInstalling w.ring w.ring w.log later
-    keeps = record {
-      size = refl;
-      honest = refl;
-      start = refl;
-      freed = refl;
-      homes = refl;
-      faulted = λ was. was;
-      home = λ honest b home lt. refl;
-      first = first_is;
-      logged = omega (arith, logged_is);
-      updates = λ upto le. λ i. take (upto - (later_is i).start) (later_is i).updates;
+      size = is.tied.size;
+      start = is.tied.start;
+      end = is.tied.end;
+      start_to_end = is.tied.start_to_end;
+      end_to_next = is.tied.end_to_next;
+      next_to_cut = omega (arith, is.tied.next_to_cut, is.tied.cut_to_last);
+      cut_to_last = omega arith;
+      fits = omega (arith, tail, fits, rest, is.tied.start_to_end, is.tied.fits);
+      small = is.tied.small;
+      tail = omega (arith, length-drop (next_position w.log - w.log.start) w.log.updates);
+      blocks = is.tied.blocks;
+      coming = inl (at_blocks ∙ is.tied.end);
     }
 
--- while a group is in flight there are steps left
-pub steps_left : (w : WalState) → IsInStep w → w.ring.faulted ≡ false → w.log.logged < w.log.cut → 0 < log_steps w
-steps_left w is fine group = by_phase w.logging is.logging
-  where
-    by_phase : (phase : Logging) → IsLogging w.ring w.log phase → 0 < log_steps_by phase (w.log.cut - w.log.logged) (w.log.cut - w.ring.next)
-    by_phase log_blocks at_blocks = omega (arith, steps_in_group (w.log.cut - w.log.logged) (w.log.cut - w.ring.next) (omega (arith, group)))
-    by_phase log_end at_end = omega arith
-    by_phase log_sync at_sync = omega arith
-    by_phase log_spent faulted = let impossible : ⊥ = cc in absurd impossible
+    images : IsTrue w.ring.disk.honest → EveryImage w.ring.disk.past (MayStandFor new)
+    images honest image one = ⊎_elim (λ old. inl old)
+        (λ cut. inl (subst (λ (n : ℕ). StandsFor (size_of w) (blocks_at w n) image) (sym rest) cut)) (is.images honest image one)
 
--- and none where there is no group
-pub steps_none : (w : WalState) → IsInStep w → w.log.logged ≡ w.log.cut → log_steps w ≡ 0
-steps_none w is rest = by_phase w.logging is.logging
-  where
-    none : w.log.cut - w.log.logged ≡ 0
-    none = omega (arith, rest)
+    keeps : KeepsInstalling w.ring w.ring w.log new.log
+    keeps = record { size = refl; honest = refl; start = refl; freed = refl; homes = refl; faulted = λ was. was; home = λ honest b home lt. refl; first = refl; logged = omega arith; updates = λ upto le. refl }
 
-    by_phase : (phase : Logging) → IsLogging w.ring w.log phase → log_steps_by phase (w.log.cut - w.log.logged) (w.log.cut - w.ring.next) ≡ 0
-    by_phase log_blocks at_blocks = λ i. log_steps_by log_blocks (none i) (w.log.cut - w.ring.next)
-    by_phase log_end at_end = absurd (omega (arith, rest, at_end.3))
-    by_phase log_sync at_sync = absurd (omega (arith, rest, at_sync.2))
-    by_phase log_spent faulted = refl
+pub group_cut : (w : WalState) (later : LogState) → IsWal w → w.logging ≡ log_blocks → w.log.logged ≡ w.log.cut
+    → later ≡ record w.log { cut = next_position w.log } → 0 < tail_length w → tail_length w ≤ free_positions w
+    → Leaves w (record w { log = later }) × LogMoves (log_steps w) w (record w { log = later })
+group_cut w later is phase rest later_is some fits =
+    subst (λ (l : LogState). Leaves w (record w { log = l }) × LogMoves (log_steps w) w (record w { log = l })) (sym later_is) (cut_whole w is phase rest some fits)

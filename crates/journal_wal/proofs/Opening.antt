@@ -1,5 +1,5 @@
 -- A recovery, position by position.
-use Rattle.std.proofs.Common.{◌≡◌, ⊎_elim, inl, inr, ◌<◌, ◌≤◌, ◌+◌, ◌-◌, ◌^◌, ℕ, suc, false, List, [], ◌∷◌, ◌++◌, take, length-append, length-drop, Some, Result, Ok, Err, OnOk, IsTrue, refl, sym, ap, subst, ◌∙◌, arith}
+use Rattle.std.proofs.Common.{◌≡◌, inl, ◌<◌, ◌≤◌, ◌+◌, ◌-◌, ◌^◌, ℕ, suc, false, List, [], ◌∷◌, ◌++◌, take, length-append, length-drop, Some, Result, Ok, Err, OnOk, IsTrue, refl, sym, ap, subst, ◌∙◌, arith}
 use Rattle.std.specs.List.{slice_get}
 use Rattle.std.proofs.Math.Seq.{take-suc}
 use Rattle.std.proofs.lemmas.List.{take_all}
@@ -7,39 +7,37 @@ use Rattle.std.proofs.lemmas.List.Elements.{All-push}
 use Rattle.std.proofs.lemmas.Option.{get_or_from_slice_get, slice_get_within}
 use Rattle.journal_block.specs.declared.update.Update.{Update}
 use Rattle.journal_block.specs.Updates.{updated}
-use Rattle.journal_world.specs.declared.refusal.Refusal.{Refusal}
-use Rattle.journal_world.specs.declared.refusal.Refusal.TheVariants.{NoMemory, BadAddress, BadSize, TooLarge, Busy, DeviceFailed, BadLog, BadSuper, Stale, Stranger, Worn, Full, Closed, Fenced}
-use Rattle.journal_disk.specs.Disks.{Past, DiskState, Keeps, HasFailed, read_of}
-use Rattle.journal_disk.specs.Images.{reading, IsImage, EveryImage}
-use Rattle.journal_circ.specs.Log.{IsWellFormed, updates_from}
+use Rattle.journal_disk.specs.Disks.{Past, read_of}
+use Rattle.journal_disk.specs.Images.{IsImage, EveryImage}
+use Rattle.journal_circ.specs.Log.{updates_from}
 use Rattle.journal_circ.specs.StandsFor.{StandsFor}
-use Rattle.journal_circ.specs.Ring.{Ring, log_of, home_of, blocks_to, at_rest, IsReason}
+use Rattle.journal_circ.specs.Ring.{Ring, log_of, home_of, blocks_to, at_rest}
 use Rattle.journal_circ.specs.Laws.{log_length, stands_same}
-use Rattle.journal_memlog.specs.Logs.{LogState, next_of, with_logged}
-use Rattle.journal_wal.specs.Wal.{WalState, log_blocks, install_none, AreHomes, IsCrash, IsOpened, size_of, blocks_now, blocks_logged, log_steps_by}
-use Rattle.journal_wal.specs.States.{AreTied, IsInStep}
-use Rattle.journal_wal.specs.Recovery.{Recovers, IsRecovered}
+use Rattle.journal_memlog.specs.Logs.{LogState, next_position, with_logged}
+use Rattle.journal_wal.specs.Wal.{WalState, log_blocks, install_none, AreHomes, MayStandFor, IsAtRest, size_of, blocks_now, blocks_logged, log_steps_by}
+use Rattle.journal_wal.specs.States.{AreTied, IsWal}
+use Rattle.journal_wal.specs.Recovery.{OnlyReadsRing, IsRecovered}
 
 -- one position more
 pub recovered_on : (ring : Ring) (position : ℕ) (log later : LogState) (u : Update) → IsRecovered ring position log
-    → ring.marks.start ≤ position → (513 ≤ u.block) × (u.block < ring.disk.past.size)
-    → (IsTrue ring.disk.honest → slice_get (log_of ring) (position - ring.marks.start) ≡ Some u)
+    → ring.extent.start ≤ position → (513 ≤ u.block) × (u.block < ring.disk.past.size)
+    → (IsTrue ring.disk.honest → slice_get (log_of ring) (position - ring.extent.start) ≡ Some u)
     → later ≡ with_logged log u later.room → IsRecovered ring (position + 1) later
 recovered_on ring position log later u is from home found same = record {
   blocks = ap (λ (l : LogState). l.blocks) same ∙ is.blocks;
   start = ap (λ (l : LogState). l.start) same ∙ is.start;
   logged = ap (λ (l : LogState). l.logged) same ∙ (λ i. is.next i + 1);
   cut = ap (λ (l : LogState). l.cut) same ∙ (λ i. is.next i + 1);
-  next = ap (λ (l : LogState). next_of l) same ∙ omega (arith, length-append log.updates (u ∷ []), is.next);
+  next = ap (λ (l : LogState). next_position l) same ∙ omega (arith, length-append log.updates (u ∷ []), is.next);
   homes = subst (λ (l : LogState). AreHomes l.blocks l.updates) (sym same)
       (All-push (λ (v : Update). (513 ≤ v.block) × (v.block < log.blocks)) log.updates u is.homes (home.0, omega (arith, home.1, is.blocks)));
   updates = λ honest. ap (λ (l : LogState). l.updates) same
-      ∙ (λ i. is.updates honest i ++ sym (get_or_from_slice_get (log_of ring) (position - ring.marks.start) u u (found honest)) i ∷ [])
-      ∙ sym (take-suc (log_of ring) (position - ring.marks.start) u (slice_get_within (log_of ring) (position - ring.marks.start) u (found honest)))
+      ∙ (λ i. is.updates honest i ++ sym (get_or_from_slice_get (log_of ring) (position - ring.extent.start) u u (found honest)) i ∷ [])
+      ∙ sym (take-suc (log_of ring) (position - ring.extent.start) u (slice_get_within (log_of ring) (position - ring.extent.start) u (found honest)))
       ∙ (λ i. take (place i) (log_of ring));
 }
   where
-    place : suc (position - ring.marks.start) ≡ (position + 1) - ring.marks.start
+    place : suc (position - ring.extent.start) ≡ (position + 1) - ring.extent.start
     place = omega (arith, from)
 
 pub on_ok : {E : Type 0} (X Y : Type 0) (result : Result Unit E) → OnOk result X → (X → Y) → OnOk result Y
@@ -47,91 +45,30 @@ on_ok X Y (Ok unit) x f = f x
 on_ok X Y (Err error) x f = tt
 
 -- what is read of a disk does not change its log
-log_same : (old new : Ring) → Recovers old new → IsTrue old.disk.honest → log_of new ≡ log_of old
+log_same : (old new : Ring) → OnlyReadsRing old new → IsTrue old.disk.honest → log_of new ≡ log_of old
 log_same old new recovers honest =
     ap log_of recovers.same
-    ∙ (λ i. updates_from old.header (read_of (recovers.past honest i)) old.marks.start (old.next - old.marks.start))
-
-pub recovers_then : (a b c : Ring) → Recovers a b → Recovers b c → Recovers a c
-recovers_then a b c first second = record {
-  same = second.same ∙ (λ i. record (first.same i) { disk = c.disk; faulted = c.faulted });
-  keeps = record {
-    size = second.keeps.size ∙ first.keeps.size;
-    honest = second.keeps.honest ∙ first.keeps.honest;
-    failures = omega (arith, first.keeps.failures, second.keeps.failures);
-  };
-  past = λ honest. second.past (subst IsTrue (sym first.keeps.honest) honest) ∙ first.past honest;
-}
-
-pub recovers_none : (a : Ring) → Recovers a a
-recovers_none a = record { same = refl; keeps = record { size = refl; honest = refl; failures = omega arith }; past = λ honest. refl }
-
--- how far a recovery is does not depend on when the disk's log is looked at
-pub recovered_before : (a b : Ring) (position : ℕ) (log : LogState) → Recovers a b → IsRecovered b position log → IsRecovered a position log
-recovered_before a b position log recovers is = record {
-  blocks = is.blocks ∙ recovers.keeps.size;
-  start = is.start ∙ ap (λ (r : Ring). r.marks.start) recovers.same;
-  logged = is.logged;
-  cut = is.cut;
-  next = is.next;
-  homes = is.homes;
-  updates = λ honest. is.updates (subst IsTrue (sym recovers.keeps.honest) honest)
-      ∙ (λ i. take (position - (recovers.same i).marks.start) (log_same a b recovers honest i));
-}
-
-pub recovered_after : (a b : Ring) (position : ℕ) (log : LogState) → Recovers a b → IsRecovered a position log → IsRecovered b position log
-recovered_after a b position log recovers is = record {
-  blocks = is.blocks ∙ sym recovers.keeps.size;
-  start = is.start ∙ sym (ap (λ (r : Ring). r.marks.start) recovers.same);
-  logged = is.logged;
-  cut = is.cut;
-  next = is.next;
-  homes = is.homes;
-  updates = λ honest.
-      let was : IsTrue a.disk.honest = subst IsTrue recovers.keeps.honest honest in
-      is.updates was ∙ (λ i. take (position - (sym recovers.same i).marks.start) (sym (log_same a b recovers was) i));
-}
-
-failed_since : (a b c : DiskState) → Keeps a b → HasFailed b c → HasFailed a c
-failed_since a b c keeps failed = ⊎_elim (λ rose. inl (omega (arith, rose, keeps.failures))) (λ most. inr most) failed
-
--- a reason that came later
-pub reason_then : (a b c : DiskState) → Keeps a b → (IsTrue a.honest → b.past ≡ a.past) → (why : Refusal Unit) → IsReason b c why → IsReason a c why
-reason_then a b c keeps past NoMemory is = is
-reason_then a b c keeps past (DeviceFailed cause) is = failed_since a b c keeps is
-reason_then a b c keeps past BadLog is = λ honest well. is (subst IsTrue (sym keeps.honest) honest)
-    (subst (λ (p : Past). IsWellFormed (reading p)) (sym (past honest)) well)
-reason_then a b c keeps past BadAddress is = is
-reason_then a b c keeps past BadSize is = is
-reason_then a b c keeps past TooLarge is = is
-reason_then a b c keeps past Busy is = is
-reason_then a b c keeps past BadSuper is = is
-reason_then a b c keeps past (Stale cause) is = is
-reason_then a b c keeps past (Stranger cause) is = is
-reason_then a b c keeps past (Worn cause) is = is
-reason_then a b c keeps past (Full cause) is = is
-reason_then a b c keeps past (Closed cause) is = is
-reason_then a b c keeps past Fenced is = is
+    ∙ (λ i. updates_from old.header (read_of (recovers.past honest i)) old.extent.start (old.next - old.extent.start))
 
 -- A log that was recovered
-module _ (first ring : Ring) (log : LogState) (rest : first ≡ at_rest first.disk first.header first.marks.start)
-    (recovers : Recovers first ring) (is : IsRecovered first first.marks.end log) (fine : ring.faulted ≡ false)
-    (ordered : first.marks.start ≤ first.marks.end) (fits : first.marks.end ≤ first.marks.start + 511) (small : first.marks.end < 2 ^ 62)
-    (stands : IsTrue first.disk.honest → EveryImage first.disk.past (StandsFor first.disk.past.size (blocks_to first first.marks.end))) where
+module _ (first ring : Ring) (log : LogState) (rest : first ≡ at_rest first.disk first.header first.extent.start)
+    (recovers : OnlyReadsRing first ring) (is : IsRecovered first first.extent.end log) (fine : ring.faulted ≡ false)
+    (ordered : first.extent.start ≤ first.extent.end) (fits : first.extent.end ≤ first.extent.start + 511) (small : first.extent.end < 2 ^ 62)
+    (stands : IsTrue first.disk.honest → EveryImage first.disk.past (StandsFor first.disk.past.size (blocks_to first first.extent.end))) where
   abbrev pub opened : WalState
   opened = record { ring = ring; log = log; logging = log_blocks; installing = install_none }
 
-  start : ring.marks.start ≡ first.marks.start
-  start = ap (λ (r : Ring). r.marks.start) recovers.same
+  start : ring.extent.start ≡ first.extent.start
+  start = ap (λ (r : Ring). r.extent.start) recovers.same
 
-  end : ring.marks.end ≡ first.marks.end
-  end = ap (λ (r : Ring). r.marks.end) recovers.same
+  end : ring.extent.end ≡ first.extent.end
+  end = ap (λ (r : Ring). r.extent.end) recovers.same
 
-  coming : ring.marks.coming ≡ first.marks.end
-  coming = ap (λ (r : Ring). r.marks.coming) recovers.same ∙ ap (λ (r : Ring). r.marks.coming) rest ∙ sym (ap (λ (r : Ring). r.marks.end) rest)
+  coming : ring.extent.coming ≡ first.extent.end
+  coming = ap (λ (r : Ring). r.extent.coming) recovers.same ∙ ap (λ (r : Ring). r.extent.coming) rest ∙ sym (ap (λ (r : Ring). r.extent.end) rest)
 
-  next : ring.next ≡ first.marks.end
-  next = ap (λ (r : Ring). r.next) recovers.same ∙ ap (λ (r : Ring). r.next) rest ∙ sym (ap (λ (r : Ring). r.marks.end) rest)
+  next : ring.next ≡ first.extent.end
+  next = ap (λ (r : Ring). r.next) recovers.same ∙ ap (λ (r : Ring). r.next) rest ∙ sym (ap (λ (r : Ring). r.extent.end) rest)
 
   tied : AreTied ring log
   tied = record {
@@ -151,7 +88,7 @@ module _ (first ring : Ring) (log : LogState) (rest : first ≡ at_rest first.di
 
   whole : IsTrue first.disk.honest → log_of ring ≡ log.updates
   whole honest = log_same first ring recovers honest
-      ∙ sym (take_all (first.marks.end - first.marks.start) (log_of first) (omega (
+      ∙ sym (take_all (first.extent.end - first.extent.start) (log_of first) (omega (
         arith,
         log_length first,
         next,
@@ -166,24 +103,24 @@ module _ (first ring : Ring) (log : LogState) (rest : first ≡ at_rest first.di
   pub stands_now : IsTrue ring.disk.honest → EveryImage ring.disk.past (StandsFor (size_of opened) (blocks_now opened))
   stands_now honest image one =
       let was : IsTrue first.disk.honest = subst IsTrue recovers.keeps.honest honest in
-      stands_same first.disk.past.size (size_of opened) (blocks_to first first.marks.end) (blocks_now opened) image (sym recovers.keeps.size) (λ b home lt.
+      stands_same first.disk.past.size (size_of opened) (blocks_to first first.extent.end) (blocks_now opened) image (sym recovers.keeps.size) (λ b home lt.
       (λ i. updated (sym (is.updates was) i) b (read_of (sym (recovers.past was) i) b)))
       (stands was image (subst (λ (p : Past). IsImage p image) (recovers.past was) one))
 
-  images : IsTrue ring.disk.honest → EveryImage ring.disk.past (IsCrash opened)
+  images : IsTrue ring.disk.honest → EveryImage ring.disk.past (MayStandFor opened)
   images honest image one = inl (stands_same (size_of opened) (size_of opened) (blocks_now opened) (blocks_logged opened) image refl
       (λ b home lt. ap (λ (us : List Update). updated us b (home_of ring b))
       (sym (take_all (log.logged - log.start) log.updates (omega (arith, is.logged, is.next)))))
       (stands_now honest image one))
 
-  pub opened_sound : IsInStep opened × IsOpened opened
+  pub opened_sound : IsWal opened × IsAtRest opened
   opened_sound = (
     record {
       tied = tied;
       log = same;
       images = images;
       logging = coming ∙ sym end;
-      installing = ap (λ (r : Ring). r.marks.freed) recovers.same ∙ ap (λ (r : Ring). r.marks.freed) rest ∙ sym start;
+      installing = ap (λ (r : Ring). r.extent.freed) recovers.same ∙ ap (λ (r : Ring). r.extent.freed) rest ∙ sym start;
     },
     record {
       fine = fine;

@@ -3,18 +3,18 @@ use Rattle.std.proofs.Common.{◌≡◌, ◌⊎◌, inl, inr, Bool, false, IsTru
 use Rattle.journal_circ.specs.Ring.{Ring}
 use Rattle.journal_memlog.specs.Logs.{LogState}
 use Rattle.journal_wal.specs.Wal.{WalState, Logging, Installing}
-use Rattle.journal_wal.specs.States.{IsInStep}
+use Rattle.journal_wal.specs.States.{IsWal}
 
 abbrev pub of_parts : Ring → LogState → Logging → Installing → WalState
 of_parts ring log logging installing = record { ring = ring; log = log; logging = logging; installing = installing }
 
 pub in_logging : (ring : Ring) (log : LogState) (logging p : Logging) (installing : Installing) → logging ≡ p
-    → IsInStep (of_parts ring log logging installing) → IsInStep (of_parts ring log p installing)
-in_logging ring log logging p installing same = subst (λ (l : Logging). IsInStep (of_parts ring log l installing)) same
+    → IsWal (of_parts ring log logging installing) → IsWal (of_parts ring log p installing)
+in_logging ring log logging p installing same = subst (λ (l : Logging). IsWal (of_parts ring log l installing)) same
 
 pub in_installing : (ring : Ring) (log : LogState) (logging : Logging) (installing p : Installing) → installing ≡ p
-    → IsInStep (of_parts ring log logging installing) → IsInStep (of_parts ring log logging p)
-in_installing ring log logging installing p same = subst (λ (i : Installing). IsInStep (of_parts ring log logging i)) same
+    → IsWal (of_parts ring log logging installing) → IsWal (of_parts ring log logging p)
+in_installing ring log logging installing p same = subst (λ (i : Installing). IsWal (of_parts ring log logging i)) same
 
 -- what holds from one phase of the logger to another
 pub logged_from : (P : WalState → WalState → Type 0) (old : WalState) (ring now : Ring) (log later : LogState) (before p after q : Logging) (installing : Installing)

@@ -1,6 +1,6 @@
 -- The first step of an installing: its plan, and its first home block.
-use Rattle.std.proofs.Common.{◌≡◌, inr, ◌<◌, ◌+◌, ℕ, zero, suc, IsTrue, refl, sym, ap, subst, ◌∙◌, arith}
-use Rattle.journal_wal.specs.Wal.{WalState, IsAhead, Makes, Tries, TriesAhead, install_call, after_call, log_steps, Installing, Crashes, Fails, KeepsBlocks, Plans, Installs, InstallMoves, BeginsInstall, InstallsOn, install_steps, distinct_blocks, logged_updates}
+use Rattle.std.proofs.Common.{◌≡◌, ◌<◌, ◌+◌, ℕ, zero, suc, IsTrue, refl, sym, ap, subst, ◌∙◌, arith}
+use Rattle.journal_wal.specs.Wal.{WalState, IsAhead, MakesDueCall, install_call, after_call, log_steps, Installing, Crashes, KeepsBlocks, Plans, Installs, InstallMoves, BeginsInstall, InstallsOn, install_steps, distinct_blocks, logged_updates}
 
 -- a plan is no part of what a crash may leave, and none of the blocks
 keeps_planned : (old new : WalState) (installing : Installing) → KeepsBlocks (record old { installing = installing }) new → KeepsBlocks old new
@@ -16,20 +16,14 @@ crashes_from old new installing crash = record {
 pub crashes_planned : (old mid new : WalState) → mid ≡ record old { installing = mid.installing } → Crashes mid new → Crashes old new
 crashes_planned old mid new same crash = crashes_from old new mid.installing (subst (λ (w : WalState). Crashes w new) same crash)
 
-fails_from : (old new : WalState) (installing : Installing) → Fails (record old { installing = installing }) new → Fails old new
-fails_from old new installing fails = record { faulted = fails.faulted; log = fails.log; blocks = λ honest. keeps_planned old new installing (fails.blocks honest) }
-
-pub fails_planned : (old mid new : WalState) → mid ≡ record old { installing = mid.installing } → Fails mid new → Fails old new
-fails_planned old mid new same fails = fails_from old new mid.installing (subst (λ (w : WalState). Fails w new) same fails)
-
 -- what was planned is ahead, and the step made its call
 installs_from : (old mid new : WalState) → mid ≡ record old { installing = mid.installing } → IsAhead old mid.installing → 0 < install_steps mid
     → Installs mid new → InstallMoves (install_steps old) old new → Installs old new
 installs_from old mid new same ahead some installs moves = record {
   ahead = mid.installing;
   is_ahead = ahead;
-  call = subst (λ (w : WalState). Makes (install_call w.log mid.installing) w.ring.disk new.ring.disk) same
-      (subst (λ (i : Installing). Makes (install_call mid.log i) mid.ring.disk new.ring.disk) goes_on installs.call);
+  call = subst (λ (w : WalState). MakesDueCall (install_call w.log mid.installing) w.ring.disk new.ring.disk) same
+      (subst (λ (i : Installing). MakesDueCall (install_call mid.log i) mid.ring.disk new.ring.disk) goes_on installs.call);
   next = installs.next ∙ ap after_call goes_on;
   blocks = λ honest. keeps_planned old new mid.installing (subst (λ (w : WalState). IsTrue w.ring.disk.honest → KeepsBlocks w new) same installs.blocks honest);
   logging = installs.logging ∙ ap log_steps same;
@@ -57,10 +51,3 @@ installs_planned old mid new plans installs = by_steps (install_steps old) refl
         (subst (λ (m : ℕ). InstallMoves m old new) (sym none_yet)
         (began old mid new (distinct_blocks (logged_updates old) + 1) plans.same installs many begun.0 begun.1))
     by_steps (suc n) some = subst (λ (w : WalState). Installs w new) (plans.stays (omega (arith, some))) installs
-
--- what is tried of a plan is tried of what is ahead
-pub tries_planned : (old mid new : WalState) → Plans old mid → Tries (install_call mid.log mid.installing) mid.ring.disk new.ring.disk → TriesAhead old new
-tries_planned old mid new plans tries = inr (
-  mid.installing,
-  (plans.ahead, subst (λ (w : WalState). Tries (install_call w.log mid.installing) w.ring.disk new.ring.disk) plans.same tries),
-)

@@ -8,7 +8,7 @@ use Rattle.std.specs.Ordering.{nat_cmp}
 use Rattle.std.specs.Cmp.{unsigned_ties}
 use Rattle.std.proofs.Math.ListN.{get_or-append}
 use Rattle.std.proofs.Math.Seq.{get_or-append_seam}
-use Rattle.std.proofs.lemmas.Bool.{cond-true, cond-false, cases_eq, eq-eqb, ne_eqb}
+use Rattle.std.proofs.lemmas.Bool.{or_left, or_right, cond-true, cond-false, cases_eq, eq-eqb, ne_eqb}
 use Rattle.std.proofs.lemmas.Option.{get_or_from_slice_get, slice_get-get_or}
 use Rattle.journal_block.specs.declared.update.Update.{Update}
 use Rattle.journal_block.specs.Updates.{updated, updates_block}
@@ -18,13 +18,6 @@ use Rattle.journal_wal.specs.Wal.{planned, distinct_blocks, IsLast, IsPlanOf}
 
 none : Update
 none = record { block = 0; bytes = [] }
-
-or_right : (p q : Bool) → q ≡ true → (p || q) ≡ true
-or_right false q is = is
-or_right true q is = refl
-
-or_left : (p q : Bool) → p ≡ true → (p || q) ≡ true
-or_left p q is = ap (λ (b : Bool). b || q) is
 
 -- the update that is added last is the last of its block
 pub is_last-added : (us : List Update) (u : Update) (start : ℕ) → IsLast (us ++ u ∷ []) start u.block (start + length us)

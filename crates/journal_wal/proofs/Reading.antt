@@ -10,8 +10,8 @@ use Rattle.journal_disk.specs.Images.{IsImage}
 use Rattle.journal_disk.specs.Laws.{leaves_none}
 use Rattle.journal_circ.specs.StandsFor.{StandsFor}
 use Rattle.journal_circ.specs.Ring.{Ring}
-use Rattle.journal_wal.specs.Wal.{WalState, Crashes, IsCrash, blocks_now}
-use Rattle.journal_wal.specs.States.{IsInStep, updates_to}
+use Rattle.journal_wal.specs.Wal.{WalState, Crashes, MayStandFor, blocks_now}
+use Rattle.journal_wal.specs.States.{IsWal, updates_to}
 
 pub read_home : {E : Type 0} (w : WalState) (b : ℕ) (bytes : Bytes) (result : Result Unit E) → updates_block w.log.updates b ≡ false
     → OnOk result (bytes ≡ home_of w.ring b) → OnOk result (bytes ≡ blocks_now w b)
@@ -19,11 +19,11 @@ read_home w b bytes (Ok unit) unnamed is = is ∙ sym (updated-unnamed w.log.upd
 read_home w b bytes (Err error) unnamed is = tt
 
 -- a read leaves what a crash may leave
-pub read_crashes : (w : WalState) (now : Ring) → IsInStep w → Keeps w.ring.disk now.disk
+pub read_crashes : (w : WalState) (now : Ring) → IsWal w → Keeps w.ring.disk now.disk
     → (IsTrue w.ring.disk.honest → now.disk.past ≡ w.ring.disk.past) → Crashes w (record w { ring = now })
 read_crashes w now is keeps past = record {
   keeps = keeps;
-  moments = λ honest. leaves_none w.ring.disk.past now.disk.past (IsCrash w) (past honest) (is.images honest);
+  moments = λ honest. leaves_none w.ring.disk.past now.disk.past (MayStandFor w) (past honest) (is.images honest);
   images = λ honest. let was : IsTrue w.ring.disk.honest = subst IsTrue keeps.honest honest in
       subst Every (sym (past was)) (is.images was);
 }

@@ -4,12 +4,14 @@ use Rattle.journal_block.specs.declared.update.Update.{Update}
 use Rattle.journal_block.specs.Updates.{with_updates}
 use Rattle.journal_disk.specs.Images.{EveryImage}
 use Rattle.journal_circ.specs.Ring.{Ring, log_of, home_of}
-use Rattle.journal_memlog.specs.Logs.{LogState, next_of, tail_of}
+use Rattle.journal_memlog.specs.Logs.{LogState, next_position, tail_of}
 use Rattle.journal_wal.specs.declared.disk_log.Logger.{Logger}
 use Rattle.journal_wal.specs.declared.disk_log.Logger.TheVariants.{Blocks, Synced, EndPut, Spent as LoggerSpent}
 use Rattle.journal_wal.specs.declared.disk_log.Installer.{Installer}
 use Rattle.journal_wal.specs.declared.disk_log.Installer.TheVariants.{Resting, Homes, Synced as HomesSynced, StartPut, Spent as InstallerSpent}
-use Rattle.journal_wal.specs.Wal.{planned, IsLast, Logging, log_blocks, log_end, log_sync, log_spent, Installing, install_none, install_homes, install_start, install_sync, install_spent, WalState, IsCrash, AreHomes}
+use Rattle.journal_wal.specs.Wal.{planned, IsLast, Logging, log_blocks, log_end, log_sync, log_spent, Installing, install_none, install_homes, install_start, install_sync, install_spent, WalState, MayStandFor, AreHomes}
+use Rattle.journal_circ.specs.declared.layout.TheConstants.{FIRST_HOME, LOG_POSITIONS}
+use Rattle.journal_wal.specs.declared.append.TheConstants.{MAX_TAIL}
 
 -- what the logger's state says, and the installer's
 abbrev pub logging_of : Logger → Logging
@@ -40,52 +42,52 @@ IsHomeOf ring log upto b = with_updates (home_of ring) (updates_to log upto) b �
 
 -- What holds while home blocks are put: those that are not left are at home
 pub record PutsHomes (ring : Ring) (log : LogState) (upto : ℕ) (plan : List (ℕ × ℕ)) : Type 0 where
-  pub idle : ring.marks.freed ≡ ring.marks.start
+  pub idle : ring.extent.freed ≡ ring.extent.start
   pub position : IsInLog log upto
   pub last : (b q : ℕ) → planned plan b ≡ Some q → IsLast (updates_to log upto) log.start b q
-  pub done : IsTrue ring.disk.honest → (b : ℕ) → 513 ≤ b → b < ring.disk.past.size → planned plan b ≡ None → IsHomeOf ring log upto b
+  pub done : IsTrue ring.disk.honest → (b : ℕ) → FIRST_HOME ≤ b → b < ring.disk.past.size → planned plan b ≡ None → IsHomeOf ring log upto b
 
 -- What holds once all are at home, where block 1 has this start or may have it
 pub record HasHomes (ring : Ring) (log : LogState) (upto freed : ℕ) : Type 0 where
-  pub idle : ring.marks.freed ≡ freed
+  pub idle : ring.extent.freed ≡ freed
   pub position : IsInLog log upto
-  pub done : IsTrue ring.disk.honest → (b : ℕ) → 513 ≤ b → b < ring.disk.past.size → IsHomeOf ring log upto b
+  pub done : IsTrue ring.disk.honest → (b : ℕ) → FIRST_HOME ≤ b → b < ring.disk.past.size → IsHomeOf ring log upto b
 
 -- What the installer's cycle keeps
 abbrev pub IsInstalling : Ring → LogState → Installing → Type 0
-IsInstalling ring log install_none = ring.marks.freed ≡ ring.marks.start
+IsInstalling ring log install_none = ring.extent.freed ≡ ring.extent.start
 IsInstalling ring log (install_homes upto plan) = PutsHomes ring log upto plan
-IsInstalling ring log (install_start upto) = HasHomes ring log upto ring.marks.start × IsTrue ring.marks.homes
+IsInstalling ring log (install_start upto) = HasHomes ring log upto ring.extent.start × IsTrue ring.extent.homes
 IsInstalling ring log (install_sync upto) = HasHomes ring log upto upto
 IsInstalling ring log install_spent = IsTrue ring.faulted
 
 -- What the logger's cycle keeps
 abbrev pub IsLogging : Ring → LogState → Logging → Type 0
-IsLogging ring log log_blocks = ring.marks.coming ≡ ring.marks.end
-IsLogging ring log log_end = (ring.marks.coming ≡ ring.marks.end) × (ring.marks.stable ≡ ring.next) × (ring.next ≡ log.cut) × (log.logged < log.cut)
-IsLogging ring log log_sync = (ring.marks.coming ≡ log.cut) × (ring.next ≡ log.cut) × (log.logged < log.cut)
+IsLogging ring log log_blocks = ring.extent.coming ≡ ring.extent.end
+IsLogging ring log log_end = (ring.extent.coming ≡ ring.extent.end) × (ring.extent.stable ≡ ring.next) × (ring.next ≡ log.cut) × (log.logged < log.cut)
+IsLogging ring log log_sync = (ring.extent.coming ≡ log.cut) × (ring.next ≡ log.cut) × (log.logged < log.cut)
 IsLogging ring log log_spent = IsTrue ring.faulted
 
 -- The numbers of the log on the disk and of the log in memory go together
 pub record AreTied (ring : Ring) (log : LogState) : Type 0 where
   pub size : ring.disk.past.size ≡ log.blocks
-  pub start : ring.marks.start ≡ log.start
-  pub end : ring.marks.end ≡ log.logged
+  pub start : ring.extent.start ≡ log.start
+  pub end : ring.extent.end ≡ log.logged
   pub start_to_end : log.start ≤ log.logged
   pub end_to_next : log.logged ≤ ring.next
   pub next_to_cut : ring.next ≤ log.cut
-  pub cut_to_last : log.cut ≤ next_of log
-  pub fits : log.cut ≤ log.start + 511
-  pub small : next_of log < 2 ^ 62
-  pub tail : length (tail_of log) ≤ 255
+  pub cut_to_last : log.cut ≤ next_position log
+  pub fits : log.cut ≤ log.start + LOG_POSITIONS
+  pub small : next_position log < 2 ^ 62
+  pub tail : length (tail_of log) ≤ MAX_TAIL
   pub blocks : AreHomes log.blocks log.updates
   -- block 0 has the last end or that of the last cut, the latter only once the whole group was put
-  pub coming : (ring.marks.coming ≡ log.logged) ⊎ ((ring.marks.coming ≡ log.cut) × (ring.next ≡ log.cut))
+  pub coming : (ring.extent.coming ≡ log.logged) ⊎ ((ring.extent.coming ≡ log.cut) × (ring.next ≡ log.cut))
 
-pub record IsInStep (w : WalState) : Type 0 where
+pub record IsWal (w : WalState) : Type 0 where
   pub tied : AreTied w.ring w.log
   -- what was put is what memory has
   pub log : IsTrue w.ring.disk.honest → log_of w.ring ≡ take (w.ring.next - w.log.start) w.log.updates
-  pub images : IsTrue w.ring.disk.honest → EveryImage w.ring.disk.past (IsCrash w)
+  pub images : IsTrue w.ring.disk.honest → EveryImage w.ring.disk.past (MayStandFor w)
   pub logging : IsLogging w.ring w.log w.logging
   pub installing : IsInstalling w.ring w.log w.installing

@@ -12,13 +12,15 @@ use Rattle.journal_world.specs.declared.step.Step.TheVariants.{Idle, Moved}
 use Rattle.journal_block.specs.declared.update.Update.{Update}
 use Rattle.journal_block.specs.Block.{Bytes}
 use Rattle.journal_block.specs.Updates.{Content, updated, with_updates, updates_block}
-use Rattle.journal_disk.specs.Disks.{Event, write, barrier, DiskState, Keeps, HasFailed}
+use Rattle.journal_disk.specs.Disks.{DiskEvent, write, barrier, DiskState, Keeps, HasFailed}
 use Rattle.journal_disk.specs.Images.{EveryImage}
 use Rattle.journal_disk.specs.Moments.{LeavesOnly}
 use Rattle.journal_circ.specs.StandsFor.{StandsFor}
-use Rattle.journal_circ.specs.Log.{log_block, with_end, start_block, start_of, end_of}
-use Rattle.journal_circ.specs.Ring.{Ring, home_of, Happens, MayHappen}
+use Rattle.journal_circ.specs.Log.{log_block, with_end, start_block, start_in, end_in}
+use Rattle.journal_circ.specs.Ring.{Ring, home_of, MakesCall, TriesCall}
 use Rattle.journal_memlog.specs.Logs.{LogState, tail_of, absorbed, appended, trimmed, CanTake}
+use Rattle.journal_circ.specs.declared.layout.TheConstants.{FIRST_HOME, LOG_POSITIONS}
+use Rattle.journal_wal.specs.declared.append.TheConstants.{MAX_TAIL, MAX_UPDATES}
 
 -- What the logger does next
 pub data Logging : Type 0 where
@@ -74,11 +76,11 @@ blocks_logged w = blocks_at w w.log.logged
 
 -- On a disk of n blocks these hold the same objects: from block 513 on they are equal
 abbrev pub SameBlocks : ℕ → Content → Content → Type 0
-SameBlocks n f g = (b : ℕ) → 513 ≤ b → b < n → f b ≡ g b
+SameBlocks n f g = (b : ℕ) → FIRST_HOME ≤ b → b < n → f b ≡ g b
 
 -- The image stands for the blocks of the last group whose cycle ended, or for those of the last cut
-abbrev pub IsCrash : WalState → List Bytes → Type 0
-IsCrash w image = StandsFor (size_of w) (blocks_logged w) image ⊎ StandsFor (size_of w) (blocks_cut w) image
+abbrev pub MayStandFor : WalState → List Bytes → Type 0
+MayStandFor w image = StandsFor (size_of w) (blocks_logged w) image ⊎ StandsFor (size_of w) (blocks_cut w) image
 
 -- Blocks now, at the last cut, and at that of the last group whose cycle ended, are as before
 pub record KeepsBlocks (old new : WalState) : Type 0 where
@@ -92,7 +94,7 @@ tail_length w = length (tail_of w.log)
 
 -- how many positions of the log on the disk are free
 abbrev pub free_positions : WalState → ℕ
-free_positions w = 511 - (w.log.logged - w.log.start)
+free_positions w = LOG_POSITIONS - (w.log.logged - w.log.start)
 
 -- How many steps the group in flight still takes: one a log block, a barrier, block 0, a barrier
 abbrev pub log_steps_by : Logging → ℕ → ℕ → ℕ
@@ -121,7 +123,7 @@ abbrev pub bytes_at : LogState → ℕ → Bytes
 bytes_at log q = (slice_index_or log.updates (q - log.start) (record { block = 0; bytes = [] })).bytes
 
 -- The logger's next device call, where a group is in flight: each of its log blocks, a barrier, block 0 with the end, a barrier
-abbrev pub log_call_by : Logging → ℕ → ℕ → Event → Bytes → Option Event
+abbrev pub log_call_by : Logging → ℕ → ℕ → DiskEvent → Bytes → Option DiskEvent
 log_call_by log_blocks zero left put header = None
 log_call_by log_blocks (suc group) zero put header = Some barrier
 log_call_by log_blocks (suc group) (suc left) put header = Some put
@@ -129,12 +131,12 @@ log_call_by log_end group left put header = Some (write 0 header)
 log_call_by log_sync group left put header = Some barrier
 log_call_by log_spent group left put header = None
 
-abbrev pub log_call : WalState → Option Event
+abbrev pub log_call : WalState → Option DiskEvent
 log_call w = log_call_by w.logging (w.log.cut - w.log.logged) (w.log.cut - w.ring.next)
     (write (log_block w.ring.next) (bytes_at w.log w.ring.next)) (with_end w.ring.header w.log.cut)
 
 -- The installer's next device call, where it has begun: each home block of its plan, a barrier, block 1 with the start, a barrier
-abbrev pub install_call : LogState → Installing → Option Event
+abbrev pub install_call : LogState → Installing → Option DiskEvent
 install_call log install_none = None
 install_call log (install_homes upto []) = Some barrier
 install_call log (install_homes upto (home ∷ plan)) = Some (write home.0 (bytes_at log home.1))
@@ -152,25 +154,25 @@ after_call (install_sync upto) = install_none
 after_call install_spent = install_spent
 
 -- The device call was made where one was due, and nothing else happened to the disk
-abbrev pub Makes : Option Event → DiskState → DiskState → Type 0
-Makes None old new = IsTrue old.honest → new.past ≡ old.past
-Makes (Some event) old new = Happens event old new
+abbrev pub MakesDueCall : Option DiskEvent → DiskState → DiskState → Type 0
+MakesDueCall None old new = IsTrue old.honest → new.past ≡ old.past
+MakesDueCall (Some event) old new = MakesCall event old new
 
 -- It was tried, and may have happened
-abbrev pub Tries : Option Event → DiskState → DiskState → Type 0
-Tries None old new = IsTrue old.honest → new.past ≡ old.past
-Tries (Some event) old new = MayHappen event old new
+abbrev pub TriesDueCall : Option DiskEvent → DiskState → DiskState → Type 0
+TriesDueCall None old new = IsTrue old.honest → new.past ≡ old.past
+TriesDueCall (Some event) old new = TriesCall event old new
 
 -- each of the updates is of a block that holds objects
 abbrev pub AreHomes : ℕ → List Update → Type 0
-AreHomes n updates = All (λ u. (513 ≤ u.block) × (u.block < n)) updates
+AreHomes n updates = All (λ u. (FIRST_HOME ≤ u.block) × (u.block < n)) updates
 
 -- The updates can be appended without memory and without a refusal
 pub record HasRoom (w : WalState) (updates : List Update) : Type 0 where
   pub faulted : w.ring.faulted ≡ false
-  pub few : length updates ≤ 128
+  pub few : length updates ≤ MAX_UPDATES
   pub room : CanTake w.log updates
-  pub tail : length (absorbed (tail_of w.log) updates) ≤ 255
+  pub tail : length (absorbed (tail_of w.log) updates) ≤ MAX_TAIL
 
 -- the log with other room in memory
 abbrev pub with_room : WalState → ℕ → WalState
@@ -187,11 +189,11 @@ pub record Appends (old : WalState) (updates : List Update) (new : WalState) : T
 -- its end one that a crash may leave now
 pub record Crashes (old new : WalState) : Type 0 where
   pub keeps : Keeps old.ring.disk new.ring.disk
-  pub moments : IsTrue old.ring.disk.honest → LeavesOnly old.ring.disk.past new.ring.disk.past (IsCrash old)
-  pub images : IsTrue new.ring.disk.honest → EveryImage new.ring.disk.past (IsCrash new)
+  pub moments : IsTrue old.ring.disk.honest → LeavesOnly old.ring.disk.past new.ring.disk.past (MayStandFor old)
+  pub images : IsTrue new.ring.disk.honest → EveryImage new.ring.disk.past (MayStandFor new)
 
 -- The disk was read, with or without a fault: all else is as before, and it is faulted only where it was or the device failed
-pub record Reads (old new : WalState) : Type 0 where
+pub record OnlyReads (old new : WalState) : Type 0 where
   pub same : new ≡ record old { ring = record old.ring { disk = new.ring.disk; faulted = new.ring.faulted } }
   pub keeps : Keeps old.ring.disk new.ring.disk
   pub past : IsTrue old.ring.disk.honest → new.ring.disk.past ≡ old.ring.disk.past
@@ -221,7 +223,7 @@ pub record LogsOn (old new : WalState) : Type 0 where
   pub steps : log_steps new + 1 ≡ log_steps old
   pub log : new.log ≡ old.log
   pub blocks : IsTrue old.ring.disk.honest → KeepsBlocks old new
-  pub call : Makes (log_call old) old.ring.disk new.ring.disk
+  pub call : MakesDueCall (log_call old) old.ring.disk new.ring.disk
   pub installing : new.installing ≡ old.installing
 
 -- The cycle of the group in flight ended
@@ -231,7 +233,7 @@ pub record EndsGroup (old new : WalState) : Type 0 where
   pub now : IsTrue old.ring.disk.honest → SameBlocks (size_of old) (blocks_now new) (blocks_now old)
   pub cut : IsTrue old.ring.disk.honest → SameBlocks (size_of old) (blocks_cut new) (blocks_cut old)
   pub logged : IsTrue old.ring.disk.honest → SameBlocks (size_of old) (blocks_logged new) (blocks_cut old)
-  pub call : Makes (log_call old) old.ring.disk new.ring.disk
+  pub call : MakesDueCall (log_call old) old.ring.disk new.ring.disk
   pub installing : new.installing ≡ old.installing
 
 -- What a step of the logger that moves does, where so many steps are left of the group in flight
@@ -317,7 +319,7 @@ pub record IsInstallIdle (w : WalState) : Type 0 where
 pub record Installs (old new : WalState) : Type 0 where
   pub ahead : Installing
   pub is_ahead : IsAhead old ahead
-  pub call : Makes (install_call old.log ahead) old.ring.disk new.ring.disk
+  pub call : MakesDueCall (install_call old.log ahead) old.ring.disk new.ring.disk
   pub next : new.installing ≡ after_call ahead
   pub blocks : IsTrue old.ring.disk.honest → KeepsBlocks old new
   pub logging : log_steps new ≡ log_steps old
@@ -326,7 +328,7 @@ pub record Installs (old new : WalState) : Type 0 where
 -- A step of the installer that was refused made no device call, or tried the one that it had ahead
 abbrev pub TriesAhead : WalState → WalState → Type 0
 TriesAhead old new =
-    (new ≡ old) ⊎ ((ahead : Installing) × (IsAhead old ahead × Tries (install_call old.log ahead) old.ring.disk new.ring.disk))
+    (new ≡ old) ⊎ ((ahead : Installing) × (IsAhead old ahead × TriesDueCall (install_call old.log ahead) old.ring.disk new.ring.disk))
 
 -- The blocks to be installed are planned, where nothing is being installed
 pub record Plans (old new : WalState) : Type 0 where
@@ -337,11 +339,11 @@ pub record Plans (old new : WalState) : Type 0 where
   pub stays : 0 < install_steps old → new ≡ old
 
 -- why a step of the installer is refused, and what is left
-abbrev pub IsInstallFault : WalState → WalState → Refusal Unit → Type 0
-IsInstallFault old new NoMemory =
+abbrev pub IsInstallRefusal : WalState → WalState → Refusal Unit → Type 0
+IsInstallRefusal old new NoMemory =
     (install_steps old ≡ 0) × (new ≡ old) × (old.ring.faulted ≡ false) × (old.log.start < old.log.logged)
-IsInstallFault old new (DeviceFailed cause) = (IsTrue old.ring.faulted ⊎ HasFailed old.ring.disk new.ring.disk) × Fails old new
-IsInstallFault old new other = ⊥
+IsInstallRefusal old new (DeviceFailed cause) = (IsTrue old.ring.faulted ⊎ HasFailed old.ring.disk new.ring.disk) × Fails old new
+IsInstallRefusal old new other = ⊥
 
 -- what a step of the installer answers, and does
 abbrev pub InstallAnswers : WalState → Step → WalState → Type 0
@@ -349,12 +351,12 @@ InstallAnswers old Idle new = IsInstallIdle old × (new ≡ old)
 InstallAnswers old Moved new = Installs old new
 
 -- The log begins and ends where an image of the disk tells
-pub record IsWithin (image : List Bytes) (w : WalState) : Type 0 where
-  pub start : w.log.start ≡ start_of image
-  pub end : w.log.logged ≡ end_of image
+pub record HasBoundsIn (image : List Bytes) (w : WalState) : Type 0 where
+  pub start : w.log.start ≡ start_in image
+  pub end : w.log.logged ≡ end_in image
 
 -- Nothing is in flight, and the tail is empty
-pub record IsOpened (w : WalState) : Type 0 where
+pub record IsAtRest (w : WalState) : Type 0 where
   pub fine : w.ring.faulted ≡ false
   pub logging : log_steps w ≡ 0
   pub installing : install_steps w ≡ 0

@@ -3,7 +3,7 @@ ghost use Rattle.std.specs.Prelude.{ℕ, ◌≡◌, ◌≤◌, ◌<◌, OnOk, On
 ghost use Rattle.journal_memlog.specs.Logs.{HasDistinctBlocks, fresh_count, tail_of};
 ghost use Rattle.journal_wal.specs.Wal.{Crashes, AreHomes, HasRoom, Appends, with_room, size_of};
 ghost use Rattle.journal_block.specs.Updates.{updates_block};
-ghost use Rattle.journal_wal.specs.Rooms.{HasPlaces, HasRoomFor, IsShortage, IsRefusal};
+ghost use Rattle.journal_wal.specs.Rooms.{HasPlaces, HasRoomFor, IsRoomRefusal, IsAppendRefusal};
 
 use crate::wal::Wal;
 use journal_block::Update;
@@ -29,7 +29,7 @@ impl<D: BlockDisk> Wal<D> {
         requires homes { AreHomes (size_of self.old) updates.items }
         requires distinct { HasDistinctBlocks updates.items }
         ensures ok { OnOk result (Appends self.old updates.items self.new) }
-        ensures refusal { IfErr result (IsRefusal self.old updates.items) }
+        ensures refusal { IfErr result (IsAppendRefusal self.old updates.items) }
         ensures err { OnErr result (self.new ≡ with_room self.old self.new.log.room) }
         ensures crash { Crashes self.old self.new }
     {
@@ -50,7 +50,7 @@ impl<D: BlockDisk> Wal<D> {
     pub fn check_room(&self, blocks: usize, fresh: usize) -> Result<(), Refusal<()>>
         requires { fresh ≤ blocks }
         ensures ok { OnOk result (HasPlaces self.now blocks fresh) }
-        ensures refusal { IfErr result (IsShortage self.now blocks fresh) }
+        ensures refusal { IfErr result (IsRoomRefusal self.now blocks fresh) }
     {
         if self.on_disk.circ.is_faulted() {
             return Err(Refusal::DeviceFailed(()));
@@ -75,7 +75,7 @@ impl<D: BlockDisk> Wal<D> {
         requires homes { AreHomes (size_of self.old) updates.now }
         requires distinct { HasDistinctBlocks updates.now }
         ensures room { OnOk result (HasRoom self.new updates.now) }
-        ensures refusal { IfErr result (IsRefusal self.old updates.now) }
+        ensures refusal { IfErr result (IsAppendRefusal self.old updates.now) }
         ensures same { self.new ≡ with_room self.old self.new.log.room }
         ensures enough { fresh_count (tail_of self.old.log) updates.now ≤ self.old.log.room → self.new ≡ self.old }
         ensures crash { Crashes self.old self.new }

@@ -1,6 +1,6 @@
 // The part of the log that lies on the disk, and how far its two cycles are.
 use crate::plan::Plan;
-use journal_circ::{Circ, EndPut, HomesPut, HomesSynced, SlotsPut, SlotsSynced, StartPut};
+use journal_circ::{Circ, EndPut, HomesPut, HomesSynced, LogBlocksPut, LogBlocksSynced, StartPut};
 use journal_disk::BlockDisk;
 
 /// The circular log with the states of its two cycles, which stand side by side.
@@ -15,9 +15,9 @@ pub(crate) struct DiskLog<D: BlockDisk> {
 #[derive(Drop)]
 pub(crate) enum Logger {
     /// Its log blocks are put, one a step; where no group is in flight there are none.
-    Blocks(SlotsPut),
+    Blocks(LogBlocksPut),
     /// All its log blocks are stable.
-    Synced(SlotsSynced),
+    Synced(LogBlocksSynced),
     /// Block 0 was written with its end.
     EndPut(EndPut),
     /// A device call failed.

@@ -2,7 +2,7 @@
 ghost use Rattle.std.specs.Prelude.{ℕ, ◌≡◌, ◌≤◌, ◌<◌, ◌↔◌, false, IsTrue, IsErr, OnOk, OnErr, IfOk, IfErr};
 ghost use Rattle.journal_circ.specs.Ring.{IsFault};
 ghost use Rattle.journal_memlog.specs.Logs.{trimmed};
-ghost use Rattle.journal_wal.specs.Wal.{Crashes, Fails, InstallAnswers, Installs, install_steps, install_call, IsInstallIdle, IsInstallFault, Plans, Tries, TriesAhead};
+ghost use Rattle.journal_wal.specs.Wal.{Crashes, Fails, InstallAnswers, Installs, install_steps, install_call, IsInstallIdle, IsInstallRefusal, Plans, TriesDueCall, TriesAhead};
 
 use crate::disk_log::Installer;
 use crate::plan::Plan;
@@ -22,7 +22,7 @@ impl<D: BlockDisk> Wal<D> {
     /// Answers J6 `DeviceFailed` where the device failed in this call or before, and J1 `NoMemory` where memory
     /// for the list of addresses is refused, at the first of these steps; the log is then as it was.
     pub fn install_step(&mut self) -> Result<Step, Refusal<()>>
-        ensures cause { IfErr result (IsInstallFault self.old self.new) }
+        ensures refusal { IfErr result (IsInstallRefusal self.old self.new) }
         ensures faulted { IsTrue self.old.ring.faulted → IsErr result × (self.new ≡ self.old) }
         ensures fine { OnOk result ((self.old.ring.faulted ≡ false) × (self.new.ring.faulted ≡ false)) }
         ensures ok { IfOk result (λ step. InstallAnswers self.old step self.new) }
@@ -79,12 +79,12 @@ impl<D: BlockDisk> Wal<D> {
     fn install_on(&mut self) -> Result<(), Refusal<()>>
         requires fine { self.old.ring.faulted ≡ false }
         requires some { 0 < install_steps self.old }
-        ensures cause { IfErr result (IsFault self.old.ring.faulted self.old.ring.disk self.new.ring.disk) }
+        ensures refusal { IfErr result (IsFault self.old.ring.faulted self.old.ring.disk self.new.ring.disk) }
         ensures fine { OnOk result (self.new.ring.faulted ≡ false) }
         ensures ok { OnOk result (Installs self.old self.new) }
         ensures err { OnErr result (Fails self.old self.new) }
         ensures tries { OnErr result
-            (Tries (install_call self.old.log self.old.installing) self.old.ring.disk self.new.ring.disk) }
+            (TriesDueCall (install_call self.old.log self.old.installing) self.old.ring.disk self.new.ring.disk) }
         ensures crash { Crashes self.old self.new }
     {
         let circ = &mut self.on_disk.circ;

@@ -1,7 +1,7 @@
 // The logger's cycle: a group becomes durable, whole.
 ghost use Rattle.std.specs.Prelude.{ℕ, ◌≡◌, ◌≤◌, ◌<◌, true, false, IsTrue, IsErr, OnOk, OnErr, IfOk, IfErr};
 ghost use Rattle.journal_circ.specs.Ring.{IsFault};
-ghost use Rattle.journal_wal.specs.Wal.{Crashes, Fails, LogAnswers, Tries, log_blocks, log_call};
+ghost use Rattle.journal_wal.specs.Wal.{Crashes, Fails, LogAnswers, TriesDueCall, log_blocks, log_call};
 
 use crate::disk_log::Logger;
 use crate::wal::Wal;
@@ -17,12 +17,12 @@ impl<D: BlockDisk> Wal<D> {
     ///
     /// Answers J6 `DeviceFailed`, and nothing else, where the device failed in this call or before.
     pub fn log_step(&mut self) -> Result<Step, Refusal<()>>
-        ensures cause { IfErr result (IsFault self.old.ring.faulted self.old.ring.disk self.new.ring.disk) }
+        ensures refusal { IfErr result (IsFault self.old.ring.faulted self.old.ring.disk self.new.ring.disk) }
         ensures faulted { IsTrue self.old.ring.faulted → IsErr result × (self.new ≡ self.old) }
         ensures fine { OnOk result ((self.old.ring.faulted ≡ false) × (self.new.ring.faulted ≡ false)) }
         ensures ok { IfOk result (λ step. LogAnswers self.old step self.new) }
         ensures err { OnErr result (Fails self.old self.new) }
-        ensures tries { OnErr result (Tries (log_call self.old) self.old.ring.disk self.new.ring.disk) }
+        ensures tries { OnErr result (TriesDueCall (log_call self.old) self.old.ring.disk self.new.ring.disk) }
         ensures crash { Crashes self.old self.new }
     {
         if self.on_disk.circ.is_faulted() {
@@ -30,7 +30,7 @@ impl<D: BlockDisk> Wal<D> {
         }
         let bounds = self.memory.bounds();
         let circ = &mut self.on_disk.circ;
-        self.on_disk.logger = match mem::replace(&mut self.on_disk.logger, Logger::Spent) {
+        let next = match mem::replace(&mut self.on_disk.logger, Logger::Spent) {
             Logger::Blocks(state) if circ.next() < bounds.cut => {
                 let update = self.memory.at(circ.next());
                 Logger::Blocks(circ.put_slot(state, update.block, &update.bytes)?)
@@ -50,6 +50,7 @@ impl<D: BlockDisk> Wal<D> {
             }
             Logger::Spent => return Err(Refusal::DeviceFailed(())),
         };
+        self.on_disk.logger = next;
         Ok(Step::Moved)
     }
 

@@ -5,9 +5,10 @@ ghost use Rattle.journal_disk.specs.Disks.{Keeps, IsSettled};
 ghost use Rattle.journal_disk.specs.Images.{EveryImage, reading};
 ghost use Rattle.journal_circ.specs.Log.{IsWellFormed};
 ghost use Rattle.journal_circ.specs.StandsFor.{StandsFor};
-ghost use Rattle.journal_circ.specs.Ring.{IsReason, log_of};
-ghost use Rattle.journal_wal.specs.Wal.{IsOpened, IsWithin, AreHomes, size_of, blocks_now};
-ghost use Rattle.journal_wal.specs.Recovery.{Recovers, IsRecovered};
+ghost use Rattle.journal_circ.specs.Ring.{IsOpenRefusal, log_of};
+ghost use Rattle.journal_wal.specs.Wal.{IsAtRest, HasBoundsIn, AreHomes, size_of, blocks_now};
+ghost use Rattle.journal_wal.specs.Recovery.{OnlyReadsRing, IsRecovered};
+ghost use Rattle.journal_circ.specs.declared.layout.TheConstants.{LOG_POSITIONS};
 
 use crate::disk_log::{DiskLog, Installer, Logger};
 use crate::wal::Wal;
@@ -29,7 +30,7 @@ impl<D: BlockDisk> Wal<D> {
         requires in_range { MIN_BLOCKS ≤ (D.state disk).past.size }
         requires settled { IsTrue (D.state disk).honest → IsSettled (D.state disk).past }
         ensures refusal { IfErr result (λ refused.
-            IsReason (D.state disk) (D.state refused.disk) refused.refusal) }
+            IsOpenRefusal (D.state disk) (D.state refused.disk) refused.refusal) }
         ensures keeps { MatchResult result
             (λ wal. Keeps (D.state disk) wal.ring.disk)
             (λ refused. Keeps (D.state disk) (D.state refused.disk)) }
@@ -37,9 +38,9 @@ impl<D: BlockDisk> Wal<D> {
             (λ wal. wal.ring.disk.past ≡ (D.state disk).past)
             (λ refused. (D.state refused.disk).past ≡ (D.state disk).past) }
         ensures well_formed { IsTrue (D.state disk).honest → IfOk result (λ _. IsWellFormed (reading (D.state disk).past)) }
-        ensures opened { IfOk result IsOpened }
+        ensures opened { IfOk result IsAtRest }
         // The bounds are those that the disk tells.
-        ensures bounds { IsTrue (D.state disk).honest → IfOk result (IsWithin (reading (D.state disk).past)) }
+        ensures bounds { IsTrue (D.state disk).honest → IfOk result (HasBoundsIn (reading (D.state disk).past)) }
         ensures images { IsTrue (D.state disk).honest → IfOk result (λ wal.
             EveryImage wal.ring.disk.past (StandsFor (size_of wal) (blocks_now wal))) }
     {
@@ -69,14 +70,14 @@ impl<D: BlockDisk> Wal<D> {
 // The updates that the log on the disk has, in memory.
 fn recover<D: BlockDisk>(alloc: Global, circ: &mut Circ<D>) -> Result<MemLog, Refusal<()>>
     requires fine { circ.old.faulted ≡ false }
-    requires rest { circ.old.next ≡ circ.old.marks.end }
-    ensures disk { Recovers circ.old circ.new }
-    ensures refusal { IfErr result (IsReason circ.old.disk circ.new.disk) }
-    ensures memory { IfOk result (IsRecovered circ.old circ.old.marks.end) }
+    requires rest { circ.old.next ≡ circ.old.extent.end }
+    ensures disk { OnlyReadsRing circ.old circ.new }
+    ensures refusal { IfErr result (IsOpenRefusal circ.old.disk circ.new.disk) }
+    ensures memory { IfOk result (IsRecovered circ.old circ.old.extent.end) }
     ensures fine { IfOk result (λ _. circ.new.faulted ≡ false) }
-    ensures ordered { circ.old.marks.start ≤ circ.old.marks.end }
-    ensures fits { circ.old.marks.end ≤ circ.old.marks.start + 511 }
-    ensures small { circ.old.marks.end < 2 ^ 62 }
+    ensures ordered { circ.old.extent.start ≤ circ.old.extent.end }
+    ensures fits { circ.old.extent.end ≤ circ.old.extent.start + LOG_POSITIONS }
+    ensures small { circ.old.extent.end < 2 ^ 62 }
 {
     let (start, end) = (circ.start(), circ.end());
     let mut memory = MemLog::new(alloc, circ.size(), start)?;
@@ -94,12 +95,12 @@ fn recover_update<D: BlockDisk>(
     position: u64,
 ) -> Result<(), Refusal<()>>
     requires fine { circ.old.faulted ≡ false }
-    requires from_start { circ.old.marks.start ≤ position }
+    requires from_start { circ.old.extent.start ≤ position }
     requires put { position < circ.old.next }
     requires small { position + 1 < 2 ^ 62 }
     requires recovered { IsRecovered circ.old position memory.old }
-    ensures disk { Recovers circ.old circ.new }
-    ensures refusal { IfErr result (IsReason circ.old.disk circ.new.disk) }
+    ensures disk { OnlyReadsRing circ.old circ.new }
+    ensures refusal { IfErr result (IsOpenRefusal circ.old.disk circ.new.disk) }
     ensures fine { OnOk result (circ.new.faulted ≡ false) }
     ensures memory { OnOk result (IsRecovered circ.old (position + 1) memory.new) }
 {

@@ -2,7 +2,7 @@
 ghost use Rattle.std.specs.Prelude.{ℕ, ◌≡◌, ◌≤◌, ◌-◌, ◌∷◌, [], None, Some, cond, length, IfOk, IfSome, IfNone};
 ghost use Rattle.std.specs.BTreeMap.{is_at};
 ghost use Rattle.std.specs.Ordering.{nat_cmp};
-ghost use Rattle.journal_memlog.specs.Logs.{next_of};
+ghost use Rattle.journal_memlog.specs.Logs.{next_position};
 ghost use Rattle.journal_wal.specs.Wal.{planned, distinct_blocks, IsPlanOf};
 ghost use Rattle.journal_wal.specs.States.{updates_to};
 
@@ -21,7 +21,7 @@ impl Plan {
     /// All blocks that the positions before `upto` update.
     pub(crate) fn up_to(alloc: Global, memory: &MemLog, upto: u64) -> Result<Plan, AllocError>
         requires from_start { memory.now.start ≤ upto }
-        requires to_next { upto ≤ next_of memory.now }
+        requires to_next { upto ≤ next_position memory.now }
         ensures plan { IfOk result (λ plan. IsPlanOf (updates_to memory.now upto) memory.now.start plan.homes.entries) }
         ensures number { IfOk result (λ plan. length plan.homes.entries ≡ distinct_blocks (updates_to memory.now upto)) }
         ensures upto { IfOk result (λ plan. plan.upto ≡ upto) }

@@ -2,7 +2,8 @@
 ghost use Rattle.std.specs.Prelude.{ℕ, ◌≡◌, ◌≤◌, ◌<◌, ◌↔◌, ◌⊎◌, true, false, is_some, IsTrue, OnOk, OnErr, IsErr, IfErr, IfSome};
 ghost use Rattle.journal_block.specs.Updates.{updates_block};
 ghost use Rattle.journal_circ.specs.Ring.{IsFault};
-ghost use Rattle.journal_wal.specs.Wal.{Reads, Crashes, size_of, tail_length, blocks_now, log_steps};
+ghost use Rattle.journal_wal.specs.Wal.{OnlyReads, Crashes, size_of, tail_length, blocks_now, log_steps};
+ghost use Rattle.journal_wal.specs.declared.append.TheConstants.{MAX_TAIL};
 
 use crate::disk_log::DiskLog;
 use journal_block::Block;
@@ -26,7 +27,7 @@ pub struct Wal<D: BlockDisk> {
 
 impl<D: BlockDisk> Model for Wal<D> {
     ghost use Rattle.journal_wal.specs.Wal.{WalState};
-    ghost use Rattle.journal_wal.specs.States.{logging_of, installing_of, IsInStep};
+    ghost use Rattle.journal_wal.specs.States.{logging_of, installing_of, IsWal};
 
     ghost Value = { WalState };
 
@@ -37,7 +38,7 @@ impl<D: BlockDisk> Model for Wal<D> {
       installing = installing_of w.on_disk.installer;
     } };
 
-    ghost invariant = { λ w. IsInStep (record {
+    ghost invariant = { λ w. IsWal (record {
       ring = w.on_disk.circ;
       log = w.memory;
       logging = logging_of w.on_disk.logger;
@@ -81,7 +82,7 @@ impl<D: BlockDisk> Wal<D> {
     /// How many blocks stand in the tail, at most 255.
     pub fn tail_len(&self) -> u64
         ensures length { result ≡ tail_length self.now }
-        ensures few { result ≤ 255 }
+        ensures few { result ≤ MAX_TAIL }
     {
         self.memory.tail_len()
     }
@@ -100,9 +101,9 @@ impl<D: BlockDisk> Wal<D> {
     /// log and what lies on the disk are as they were, whatever it answers.
     pub fn read(&mut self, block: u64, into: &mut Block) -> Result<(), Refusal<()>>
         requires { block < size_of self.old }
-        ensures cause { IfErr result (IsFault self.old.ring.faulted self.old.ring.disk self.new.ring.disk) }
+        ensures refusal { IfErr result (IsFault self.old.ring.faulted self.old.ring.disk self.new.ring.disk) }
         ensures faulted { IsTrue self.old.ring.faulted → IsErr result × (self.new ≡ self.old) }
-        ensures reads { Reads self.old self.new }
+        ensures reads { OnlyReads self.old self.new }
         ensures ok { OnOk result ((self.old.ring.faulted ≡ false) × (self.new.ring.faulted ≡ false)) }
         ensures err { OnErr result (self.new.ring.faulted ≡ true) }
         ensures value { IsTrue self.old.ring.disk.honest → OnOk result (into.new ≡ blocks_now self.old block) }

@@ -64,19 +64,3 @@ latest-commit history t some =
     ap (λ m. after m (commits (history ++ commit t ∷ []))) (opened-append history (commit t ∷ []) some)
     ∙ ap (λ (ts : List Transaction). after (opened history) ts) (commits-commit history t)
     ∙ after-append (opened history) (commits history) (t ∷ [])
-
--- a legal transaction with its number may follow
-pub IsLegal-commit : (rule : Map → Type 0) (history : List Entry) (t : Transaction)
-    → IsLegal rule history → history ≢ [] → IsLegalAt (latest history) t → t.number ≡ length (commits_of t.session history)
-    → IsLegal rule (history ++ commit t ∷ [])
-IsLegal-commit rule history t legal some legal_at number =
-    let blocks = after-blocks (opened history) (commits history) in
-    record {
-      follows = Each-snoc Follows history (commit t) legal.follows (
-        some,
-        subst (λ n. IsTrue (are_objects n t.reads)) blocks legal_at.reads,
-        subst (λ n. IsTrue (are_objects n t.writes)) blocks legal_at.writes,
-        number,
-      );
-      agrees = Each-snoc (IsTrueTo rule) history (commit t) legal.agrees legal_at.agrees;
-    }

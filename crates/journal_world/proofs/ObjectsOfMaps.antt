@@ -10,7 +10,7 @@ use Rattle.journal_world.specs.declared.address.Kind.{Kind}
 use Rattle.journal_world.specs.declared.address.Kind.TheVariants.{Bit, Inode, Block}
 use Rattle.journal_world.specs.Addresses.{kind_of, is_valid, starts_object, bytes_of, limit_of, is_value_of, zeros_of, is_same}
 use Rattle.journal_world.specs.Maps.{Pair, Map, Transaction, value_among, zeros_at, value_at, is_value_at, is_object, are_objects, apply}
-use Rattle.journal_world.specs.Histories.{Entry, map_of, commits, opened, after, latest, IsLegal}
+use Rattle.journal_world.specs.Histories.{Entry, opened_map, commits, opened, after, latest, IsLegal}
 use Rattle.journal_world.specs.Histories.Entry.{opening, commit, stable}
 use Rattle.journal_world.proofs.Lookups.{same_addr}
 
@@ -54,27 +54,3 @@ found_fits blocks (p ∷ ps) a valid objects = by_test (is_same a p.0) refl (fou
 -- what a map of objects gives a valid address is an object
 pub value_at-object : (m : Map) (a : Addr) → IsTrue (is_valid m.blocks a) → IsTrue (are_objects m.blocks m.pairs) → IsTrue (is_object m.blocks (a, value_at m a))
 value_at-object m a valid objects = and_from (is_valid m.blocks a) (is_value_at (kind_of m.blocks a.block) (value_at m a)) valid (found_fits m.blocks m.pairs a valid objects)
-
-after_objects : (blocks : ℕ) (history : List Entry) (m : Map)
-    → ((k : ℕ) (t : Transaction) → slice_get history k ≡ Some (commit t) → IsTrue (are_objects blocks t.writes))
-    → IsTrue (are_objects blocks m.pairs) → IsTrue (are_objects blocks (after m (commits history)).pairs)
-after_objects blocks [] m each objects = objects
-after_objects blocks (opening o trusted ∷ es) m each objects = after_objects blocks es m (λ k t is. each (suc k) t is) objects
-after_objects blocks (commit t ∷ es) m each objects =
-    after_objects blocks es (apply t m) (λ k u is. each (suc k) u is)
-    (list_all-append (is_object blocks) t.writes m.pairs ∙ and_from (are_objects blocks t.writes) (are_objects blocks m.pairs) (each 0 t refl) objects)
-after_objects blocks (stable n ∷ es) m each objects = after_objects blocks es m (λ k t is. each (suc k) t is) objects
-
-opened_objects : (rule : Map → Type 0) (e : Entry) (es : List Entry) → IsLegal rule (e ∷ es) → IsTrue (are_objects (map_of e).blocks (map_of e).pairs)
-opened_objects rule (opening m trusted) es legal = (legal.agrees 0 (opening m trusted) refl).0
-opened_objects rule (commit t) es legal = absurd ((legal.follows 0 (commit t) refl).0 refl)
-opened_objects rule (stable n) es legal = absurd ((legal.follows 0 (stable n) refl).0 refl)
-
--- the last map of a legal history has objects alone
-pub latest_objects : (rule : Map → Type 0) (history : List Entry) → IsLegal rule history → IsTrue (are_objects (opened history).blocks (latest history).pairs)
-latest_objects rule [] legal = refl
-latest_objects rule (e ∷ es) legal = after_objects (map_of e).blocks (e ∷ es) (map_of e) written (opened_objects rule e es legal)
-  where
-    written : (k : ℕ) (t : Transaction) → slice_get (e ∷ es) k ≡ Some (commit t) → IsTrue (are_objects (map_of e).blocks t.writes)
-    written zero t is = absurd ((legal.follows 0 (commit t) is).0 refl)
-    written (suc k) t is = (legal.follows (suc k) (commit t) is).2

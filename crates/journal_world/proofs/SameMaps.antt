@@ -10,23 +10,10 @@ use Rattle.journal_world.specs.Maps.{Pair, Map, value_among, zeros_at, value_at,
 pub SameMap-refl : (m : Map) → SameMap m m
 SameMap-refl m = record { blocks = refl; values = λ a valid. refl }
 
-pub SameMap-sym : (m n : Map) → SameMap m n → SameMap n m
-SameMap-sym m n same = record {
-  blocks = sym same.blocks;
-  values = λ a valid. sym (same.values a (subst (λ blocks. IsTrue (is_valid blocks a)) (sym same.blocks) valid));
-}
-
 pub SameMap-trans : (l m n : Map) → SameMap l m → SameMap m n → SameMap l n
 SameMap-trans l m n first second = record {
   blocks = first.blocks ∙ second.blocks;
   values = λ a valid. first.values a valid ∙ second.values a (subst (λ blocks. IsTrue (is_valid blocks a)) first.blocks valid);
-}
-
--- pairs that give the same values make the same map
-pub SameMap-pairs : (blocks : ℕ) (ps qs : List Pair) → SamePairs ps qs → SameMap (record { blocks = blocks; pairs = ps }) (record { blocks = blocks; pairs = qs })
-SameMap-pairs blocks ps qs same = record {
-  blocks = refl;
-  values = λ a valid. ap (λ o. unwrap_or o (zeros_at (kind_of blocks a.block))) (same a);
 }
 
 unwrap_or-cond : {A : Type 0} (b : Bool) (x z : A) (o : Option A) → unwrap_or (cond b (Some x) o) z ≡ cond b x (unwrap_or o z)
@@ -46,17 +33,3 @@ overwritten-same m n (w ∷ ws) same = record {
       ∙ ap (cond (is_same a w.0) w.1) ((overwritten-same m n ws same).values a valid)
       ∙ sym (value_at-overwritten n w ws a);
 }
-
--- the last pair may be written first
-pub overwritten-last : (m : Map) (ws : List Pair) (w : Pair) → overwritten m (ws ++ w ∷ []) ≡ overwritten (overwritten m (w ∷ [])) ws
-overwritten-last m ws w = ap (λ ps. record { blocks = m.blocks; pairs = ps }) (append_assoc ws (w ∷ []) m.pairs)
-
--- what agrees with a map agrees with the same map
-pub Agrees-same : (m n : Map) (reads : List Pair) → SameMap m n → IsTrue (are_objects m.blocks reads) → Agrees m reads → Agrees n reads
-Agrees-same m n [] same objects agrees = All-nil (λ (p : Pair). value_at n p.0 ≡ p.1)
-Agrees-same m n (r ∷ rs) same objects agrees =
-    let parts = and_parts (is_object m.blocks r) (are_objects m.blocks rs) objects in
-    let valid = (and_parts (is_valid m.blocks r.0) (is_value_at (kind_of m.blocks r.0.block) r.1) parts.0).0 in
-    All-cons (λ (p : Pair). value_at n p.0 ≡ p.1) r rs
-    (sym (same.values r.0 valid) ∙ All-head (λ (p : Pair). value_at m p.0 ≡ p.1) r rs agrees)
-    (Agrees-same m n rs same parts.1 (All-tail (λ (p : Pair). value_at m p.0 ≡ p.1) r rs agrees))

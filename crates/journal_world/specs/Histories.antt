@@ -38,14 +38,14 @@ floor (e ∷ es) = max (mark_of e) (floor es)
 abbrev pub no_map : Map
 no_map = record { blocks = 0; pairs = [] }
 
-abbrev pub map_of : Entry → Map
-map_of (opening m trusted) = m
-map_of _ = no_map
+abbrev pub opened_map : Entry → Map
+opened_map (opening m trusted) = m
+opened_map _ = no_map
 
 -- the map that was opened
 abbrev pub opened : List Entry → Map
 opened [] = no_map
-opened (e ∷ es) = map_of e
+opened (e ∷ es) = opened_map e
 
 abbrev pub trusts : Entry → Bool
 trusts (opening m trusted) = trusted

@@ -1,6 +1,6 @@
 // Which objects a disk of so many blocks has.
-ghost use Rattle.std.specs.Prelude.{◌≡◌, ◌≤◌, ◌↔◌, IsSome, IfSome};
-ghost use Rattle.journal_world.specs.Addresses.{kind_of, is_valid};
+ghost use Rattle.std.specs.Prelude.{◌≡◌, ◌≤◌, ◌<◌, ◌%◌, ◌↔◌, IsTrue, IsSome, IfSome};
+ghost use Rattle.journal_world.specs.Addresses.{kind_of, is_valid, bits_of};
 ghost use Rattle.journal_world.specs.declared.layout.TheConstants.{MIN_BLOCKS, MAX_BLOCKS};
 
 use crate::{Addr, Kind};
@@ -56,13 +56,21 @@ impl Layout {
         }
     }
 
+    /// The kind of the object that the address names, or `None` where it names none.
+    pub fn kind_at(&self, addr: Addr) -> Option<Kind>
+        ensures valid { IsSome result ↔ IsTrue (is_valid self.now.blocks addr) }
+        ensures kind { IfSome result (λ kind. kind_of self.now.blocks addr.block ≡ Some kind) }
+        ensures inside { IfSome result (λ kind. addr.off < BLOCK_BITS) }
+        ensures multiple { IfSome result (λ kind. addr.off % bits_of kind ≡ 0) }
+    {
+        let kind = self.kind(addr.block)?;
+        (addr.off < BLOCK_BITS && addr.off % kind.bits() == 0).then_some(kind)
+    }
+
     /// Whether the address names an object.
     pub fn is_valid(&self, addr: Addr) -> bool
         ensures { result ≡ is_valid self.now.blocks addr }
     {
-        match self.kind(addr.block) {
-            Some(kind) => addr.off < BLOCK_BITS && addr.off % kind.bits() == 0,
-            None => false,
-        }
+        self.kind_at(addr).is_some()
     }
 }

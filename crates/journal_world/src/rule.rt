@@ -2,7 +2,7 @@
 ghost use Rattle.std.specs.Prelude.{◌≡◌, ◌↔◌, Bool, IsTrue, IfOk, IfErr};
 ghost use Rattle.journal_world.specs.Addresses.{is_valid};
 ghost use Rattle.journal_world.specs.Maps.{Map, SameMap, value_at, is_object};
-ghost use Rattle.journal_world.specs.Refusals.{IsOfReading};
+ghost use Rattle.journal_world.specs.Refusals.{IsReadingRefusal};
 
 use crate::{Addr, Layout, Refusal, Value};
 
@@ -33,7 +33,7 @@ pub trait ObjectReader {
         requires valid { IsTrue (is_valid (map self.old).blocks addr) }
         ensures value { IsTrue (trusted self.old) → IfOk result (λ value. value ≡ value_at (map self.old) addr) }
         ensures object { IfOk result (λ value. IsTrue (is_object (map self.old).blocks (addr, value))) }
-        ensures refused { IfErr result (IsOfReading (failed self.new)) }
+        ensures refusal { IfErr result (IsReadingRefusal (failed self.new)) }
         ensures stays_failed { IsTrue (failed self.old) → IsTrue (failed self.new) }
         ensures same_map { map self.new ≡ map self.old }
         ensures same_trust { trusted self.new ≡ trusted self.old };
@@ -49,7 +49,7 @@ pub trait MapRule {
     /// Refused for want of memory (J1), and where the device has failed then (J6). It stays failed.
     fn admit<O: ObjectReader>(&self, reader: &mut O) -> Result<bool, Refusal<O::Cause>>
         ensures admitted { IsTrue (O.trusted reader.old) → IfOk result (λ admitted. IsTrue admitted ↔ statement (O.map reader.old)) }
-        ensures refused { IfErr result (IsOfReading (O.failed reader.new)) }
+        ensures refusal { IfErr result (IsReadingRefusal (O.failed reader.new)) }
         ensures stays_failed { IsTrue (O.failed reader.old) → IsTrue (O.failed reader.new) }
         ensures same_map { O.map reader.new ≡ O.map reader.old }
         ensures same_trust { O.trusted reader.new ≡ O.trusted reader.old };

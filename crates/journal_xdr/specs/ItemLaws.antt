@@ -1,7 +1,7 @@
 -- What is read was spelled so, and what is spelled so is read: once for each way to put items together.
 use Rattle.std.proofs.Common.{◌≡◌, ℕ, Bool, true, false, cond, List, ◌++◌, Option, Some, None, refl, sym, ap, subst, ◌∙◌, append_assoc}
 use Rattle.std.specs.Prelude.{IsSomeAnd}
-use Rattle.journal_xdr.specs.Items.{Item, ◌>>=◌, pair, coded, made, such_that, tagged, only, never, variant, Spelled, IsGrammar, Reads, Finds, HasOneSpelling}
+use Rattle.journal_xdr.specs.Items.{Item, ◌>>=◌, pair, coded, mapped_item, such_that, tagged, only, never, variant, Spelled, IsGrammar, ReadsItem, FindsItem, HasOneSpelling}
 
 pub bind_some : {A B : Type 0} (o : Option A) (f : A → Option B) (y : B) → (o >>= f) ≡ Some y → (x : A) × (o ≡ Some x) × (f x ≡ Some y)
 bind_some (Some x) f y e = (x, refl, e)
@@ -43,12 +43,12 @@ coded_laws {A} {B} a meaning code la back = record {
   again = λ v rest h. rw (la.again (code v) rest h.0, h.1) refl;
 }
 
-pub made_laws : {A B : Type 0} (a : Item A) (make : A → B) (parts : B → A) → IsGrammar a → ((x : A) → parts (make x) ≡ x) → ((v : B) → make (parts v) ≡ v) → IsGrammar (made a make parts)
+pub made_laws : {A B : Type 0} (a : Item A) (make : A → B) (parts : B → A) → IsGrammar a → ((x : A) → parts (make x) ≡ x) → ((v : B) → make (parts v) ≡ v) → IsGrammar (mapped_item a make parts)
 made_laws {A} {B} a make parts la there back = record {
   takes = λ bytes x e.
       let p = bind_some (a.reading bytes) (λ p. Some (make p.0, p.1)) x e in
       let s = la.takes bytes p.0 p.1 in
-      subst (λ (y : B × List ℕ). Spelled (made a make parts) bytes y.0 y.1) (some_is (make p.0.0, p.0.1) x p.2)
+      subst (λ (y : B × List ℕ). Spelled (mapped_item a make parts) bytes y.0 y.1) (some_is (make p.0.0, p.0.1) x p.2)
       (record { has = subst a.Has (sym (there p.0.0)) s.has; parts = s.parts ∙ ap (λ v. a.spelling v ++ p.0.1) (sym (there p.0.0)) });
   again = λ v rest h. rw (la.again (parts v) rest h) (ap (λ w. some (w, rest)) (back v));
 }
@@ -120,6 +120,6 @@ one_spelling item laws v w x y hv hw e =
 pub none_is_spelled : {T : Type 0} (item : Item T) → IsGrammar item → (bytes : List ℕ) → item.reading bytes ≡ None → (v : T) (rest : List ℕ) → ¬ (Spelled item bytes v rest)
 none_is_spelled item laws bytes e v rest s = absurd (cc (laws.again v rest s.has, ap item.reading s.parts, e))
 
-pub finds : {T X : Type 0} (item : Item T) → IsGrammar item → (view : X → T) (old new : List ℕ) (result : Option X) → Reads item view old new result → Finds item view old new result
+pub finds : {T X : Type 0} (item : Item T) → IsGrammar item → (view : X → T) (old new : List ℕ) (result : Option X) → ReadsItem item view old new result → FindsItem item view old new result
 finds item laws view old new None e = none_is_spelled item laws old e
 finds item laws view old new (Some x) e = laws.takes old (view x, new) e

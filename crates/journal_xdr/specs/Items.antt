@@ -32,8 +32,8 @@ coded a meaning code = record {
 }
 
 -- the same, where each value of the other item stands for one
-abbrev pub made : {A B : Type 0} → Item A → (A → B) → (B → A) → Item B
-made a make parts = record {
+abbrev pub mapped_item : {A B : Type 0} → Item A → (A → B) → (B → A) → Item B
+mapped_item a make parts = record {
   Has = λ v. a.Has (parts v);
   spelling = λ v. a.spelling (parts v);
   reading = λ bytes. a.reading bytes >>= λ x. Some (make x.0, x.1);
@@ -76,9 +76,9 @@ variant a make part = record {
 }
 
 -- What a reader answers, seen by view, is what the bytes read as: new is what is behind the value
-abbrev pub Reads : {T X : Type 0} → Item T → (X → T) → List ℕ → List ℕ → Option X → Type 0
-Reads item view old new None = item.reading old ≡ None
-Reads item view old new (Some x) = item.reading old ≡ Some (view x, new)
+abbrev pub ReadsItem : {T X : Type 0} → Item T → (X → T) → List ℕ → List ℕ → Option X → Type 0
+ReadsItem item view old new None = item.reading old ≡ None
+ReadsItem item view old new (Some x) = item.reading old ≡ Some (view x, new)
 
 -- The value's spelling is at the front of the bytes, and rest is behind it
 pub record Spelled {T : Type 0} (item : Item T) (bytes : List ℕ) (value : T) (rest : List ℕ) : Type 0 where
@@ -95,15 +95,15 @@ abbrev pub HasOneSpelling : {T : Type 0} → Item T → Type 0
 HasOneSpelling {T} item = (v w : T) (x y : List ℕ) → item.Has v → item.Has w → item.spelling v ++ x ≡ item.spelling w ++ y → (v ≡ w) × (x ≡ y)
 
 -- What a reader answers, in the words of the grammar: a value spelled at the front, or that none is
-abbrev pub Finds : {T X : Type 0} → Item T → (X → T) → List ℕ → List ℕ → Option X → Type 0
-Finds {T} item view old new None = (v : T) (more : List ℕ) → ¬ (Spelled item old v more)
-Finds {T} item view old new (Some x) = Spelled item old (view x) new
+abbrev pub FindsItem : {T X : Type 0} → Item T → (X → T) → List ℕ → List ℕ → Option X → Type 0
+FindsItem {T} item view old new None = (v : T) (more : List ℕ) → ¬ (Spelled item old v more)
+FindsItem {T} item view old new (Some x) = Spelled item old (view x) new
 
 -- new is old with the spelling of the value at its end
 abbrev pub Writes : {T : Type 0} → Item T → T → List ℕ → List ℕ → Type 0
 Writes item value old new = new ≡ old ++ item.spelling value
 
 -- The same in the words of the grammar: the value is one of the item's
-pub record Adds {T : Type 0} (item : Item T) (value : T) (old new : List ℕ) : Type 0 where
+pub record AddsItem {T : Type 0} (item : Item T) (value : T) (old new : List ℕ) : Type 0 where
   pub has : item.Has value
   pub parts : new ≡ old ++ item.spelling value

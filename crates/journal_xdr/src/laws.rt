@@ -1,6 +1,6 @@
 // What holds of every item.
 ghost use Rattle.std.specs.Prelude.{ℕ, ◌≡◌, Bool, Option, Some};
-ghost use Rattle.journal_xdr.specs.Items.{Item, IsGrammar, HasOneSpelling, pair, made, coded, such_that, tagged, variant};
+ghost use Rattle.journal_xdr.specs.Items.{Item, IsGrammar, HasOneSpelling, pair, mapped_item, coded, such_that, tagged, variant};
 ghost use Rattle.journal_xdr.specs.Basic.{word, hyper, boolean, fixed, opaque, string, optional};
 
 /// A type whose values an item spells. It is for laws alone, which hold of any such type.
@@ -37,7 +37,7 @@ pub fn combinations_are_spellings<A: HasItem, B: HasItem + HasArms<A>>()
     // A type made of another: values that stand for one another, and values that stand for some.
     ensures made { (make : A → B) (parts : B → A) → IsGrammar A.item
         → ((x : A) → parts (make x) ≡ x) → ((v : B) → make (parts v) ≡ v)
-        → IsGrammar (made A.item make parts) }
+        → IsGrammar (mapped_item A.item make parts) }
     ensures coded { (meaning : A → Option B) (code : B → A) → IsGrammar A.item
         → ((x : A) (v : B) → A.item.Has x → meaning x ≡ Some v → code v ≡ x)
         → IsGrammar (coded A.item meaning code) }

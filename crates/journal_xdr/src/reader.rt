@@ -2,7 +2,7 @@
 ghost use Rattle.std.specs.Prelude.{◌≡◌, ◌<◌, ◌^◌, List, ℕ, [], length, IsTrue, ◌↔◌, ◌==◌};
 ghost use Rattle.std.specs.Int.{w32, w64};
 ghost use Rattle.std.specs.List.{list_all};
-ghost use Rattle.journal_xdr.specs.Items.{Reads, Finds};
+ghost use Rattle.journal_xdr.specs.Items.{ReadsItem, FindsItem};
 ghost use Rattle.journal_xdr.specs.Basic.{word, hyper, boolean, enumeration, raw, fixed, opaque, string, spelled_number};
 
 use crate::enumeration::Enumeration;
@@ -52,8 +52,8 @@ impl<'a> Reader<'a> {
     /// Reads an unsigned integer (RFC 4506, section 4.2).
     #[tactic(auto, unfolding(crate::specs::Basic::word))]
     pub fn word(&mut self) -> Option<u32>
-        ensures reading { Reads word (λ number. number) self.old self.new result }
-        ensures grammar { Finds word (λ number. number) self.old self.new result }
+        ensures reading { ReadsItem word (λ number. number) self.old self.new result }
+        ensures grammar { FindsItem word (λ number. number) self.old self.new result }
     {
         Some(word_of(self.raw(4)?))
     }
@@ -61,8 +61,8 @@ impl<'a> Reader<'a> {
     /// Reads an unsigned hyper integer (RFC 4506, section 4.5).
     #[tactic(auto, unfolding(crate::specs::Basic::hyper))]
     pub fn hyper(&mut self) -> Option<u64>
-        ensures reading { Reads hyper (λ number. number) self.old self.new result }
-        ensures grammar { Finds hyper (λ number. number) self.old self.new result }
+        ensures reading { ReadsItem hyper (λ number. number) self.old self.new result }
+        ensures grammar { FindsItem hyper (λ number. number) self.old self.new result }
     {
         Some(hyper_of(self.raw(8)?))
     }
@@ -70,16 +70,16 @@ impl<'a> Reader<'a> {
     /// Reads a boolean (RFC 4506, section 4.4). Numbers other than 0 and 1 are refused.
     #[tactic(auto, unfolding(crate::specs::Basic::boolean))]
     pub fn boolean(&mut self) -> Option<bool>
-        ensures reading { Reads boolean (λ truth. truth) self.old self.new result }
-        ensures grammar { Finds boolean (λ truth. truth) self.old self.new result }
+        ensures reading { ReadsItem boolean (λ truth. truth) self.old self.new result }
+        ensures grammar { FindsItem boolean (λ truth. truth) self.old self.new result }
     {
         self.enumeration()
     }
 
     /// Reads a value of an enumeration (RFC 4506, section 4.3). Numbers that are not listed are refused.
     pub fn enumeration<E: Enumeration>(&mut self) -> Option<E>
-        ensures reading { Reads (enumeration E.meaning E.code) (λ value. value) self.old self.new result }
-        ensures grammar { Finds (enumeration E.meaning E.code) (λ value. value) self.old self.new result }
+        ensures reading { ReadsItem (enumeration E.meaning E.code) (λ value. value) self.old self.new result }
+        ensures grammar { FindsItem (enumeration E.meaning E.code) (λ value. value) self.old self.new result }
     {
         E::from_number(self.word()?)
     }
@@ -87,8 +87,8 @@ impl<'a> Reader<'a> {
     /// Reads fixed-length opaque data (RFC 4506, section 4.9). Padding other than zeros is refused.
     #[tactic(auto, unfolding(crate::specs::Basic::fixed))]
     pub fn fixed(&mut self, length: usize) -> Option<&'a [u8]>
-        ensures reading { Reads (fixed length) (λ bytes. bytes.now) self.old self.new result }
-        ensures grammar { Finds (fixed length) (λ bytes. bytes.now) self.old self.new result }
+        ensures reading { ReadsItem (fixed length) (λ bytes. bytes.now) self.old self.new result }
+        ensures grammar { FindsItem (fixed length) (λ bytes. bytes.now) self.old self.new result }
     {
         let bytes = self.raw(length)?;
         let zeros = self.raw(padding(length))?;
@@ -99,8 +99,8 @@ impl<'a> Reader<'a> {
     /// padding other than zeros.
     #[tactic(auto, unfolding(crate::specs::Basic::opaque))]
     pub fn opaque(&mut self, limit: u32) -> Option<&'a [u8]>
-        ensures reading { Reads (opaque limit) (λ bytes. bytes.now) self.old self.new result }
-        ensures grammar { Finds (opaque limit) (λ bytes. bytes.now) self.old self.new result }
+        ensures reading { ReadsItem (opaque limit) (λ bytes. bytes.now) self.old self.new result }
+        ensures grammar { FindsItem (opaque limit) (λ bytes. bytes.now) self.old self.new result }
     {
         let length = self.word()?;
         if length > limit {
@@ -112,15 +112,15 @@ impl<'a> Reader<'a> {
     /// Reads a string (RFC 4506, section 4.11), as `opaque` does. Any bytes are taken.
     #[tactic(auto, unfolding(crate::specs::Basic::string))]
     pub fn string(&mut self, limit: u32) -> Option<&'a [u8]>
-        ensures reading { Reads (string limit) (λ bytes. bytes.now) self.old self.new result }
-        ensures grammar { Finds (string limit) (λ bytes. bytes.now) self.old self.new result }
+        ensures reading { ReadsItem (string limit) (λ bytes. bytes.now) self.old self.new result }
+        ensures grammar { FindsItem (string limit) (λ bytes. bytes.now) self.old self.new result }
     {
         self.opaque(limit)
     }
 
     // Takes so many bytes.
     fn raw(&mut self, length: usize) -> Option<&'a [u8]>
-        ensures { Reads (raw length) (λ bytes. bytes.now) self.old self.new result }
+        ensures { ReadsItem (raw length) (λ bytes. bytes.now) self.old self.new result }
     {
         let (bytes, rest) = self.rest.split_at_checked(length)?;
         self.rest = rest;

@@ -1,6 +1,6 @@
 // Writing items behind some bytes.
 ghost use Rattle.std.specs.Prelude.{◌≡◌, ◌<◌, ◌≤◌, ◌^◌, List, ℕ, [], ◌++◌, length, drop, IfOk, OnOk, OnErr};
-ghost use Rattle.journal_xdr.specs.Items.{Writes, Adds};
+ghost use Rattle.journal_xdr.specs.Items.{Writes, AddsItem};
 ghost use Rattle.journal_xdr.specs.Basic.{word, hyper, boolean, enumeration, fixed, opaque, string};
 
 use crate::enumeration::Enumeration;
@@ -54,7 +54,7 @@ impl Writer {
     #[tactic(auto, unfolding(crate::specs::Basic::word))]
     pub fn word(&mut self, number: u32) -> Result<(), AllocError>
         ensures ok { OnOk result (Writes word number self.old self.new) }
-        ensures grammar { OnOk result (Adds word number self.old self.new) }
+        ensures grammar { OnOk result (AddsItem word number self.old self.new) }
         ensures err { OnErr result (self.new ≡ self.old) }
     {
         let mut bytes = [0; 4];
@@ -66,7 +66,7 @@ impl Writer {
     #[tactic(auto, unfolding(crate::specs::Basic::hyper))]
     pub fn hyper(&mut self, number: u64) -> Result<(), AllocError>
         ensures ok { OnOk result (Writes hyper number self.old self.new) }
-        ensures grammar { OnOk result (Adds hyper number self.old self.new) }
+        ensures grammar { OnOk result (AddsItem hyper number self.old self.new) }
         ensures err { OnErr result (self.new ≡ self.old) }
     {
         let mut bytes = [0; 8];
@@ -78,7 +78,7 @@ impl Writer {
     #[tactic(auto, unfolding(crate::specs::Basic::boolean))]
     pub fn boolean(&mut self, truth: bool) -> Result<(), AllocError>
         ensures ok { OnOk result (Writes boolean truth self.old self.new) }
-        ensures grammar { OnOk result (Adds boolean truth self.old self.new) }
+        ensures grammar { OnOk result (AddsItem boolean truth self.old self.new) }
         ensures err { OnErr result (self.new ≡ self.old) }
     {
         self.enumeration(truth)
@@ -87,7 +87,7 @@ impl Writer {
     /// Writes a value of an enumeration (RFC 4506, section 4.3).
     pub fn enumeration<E: Enumeration>(&mut self, value: E) -> Result<(), AllocError>
         ensures ok { OnOk result (Writes (enumeration E.meaning E.code) value self.old self.new) }
-        ensures grammar { OnOk result (Adds (enumeration E.meaning E.code) value self.old self.new) }
+        ensures grammar { OnOk result (AddsItem (enumeration E.meaning E.code) value self.old self.new) }
         ensures err { OnErr result (self.new ≡ self.old) }
     {
         self.word(value.number())
@@ -97,7 +97,7 @@ impl Writer {
     #[tactic(auto, unfolding(crate::specs::Basic::fixed))]
     pub fn fixed(&mut self, bytes: &[u8]) -> Result<(), AllocError>
         ensures ok { OnOk result (Writes (fixed (length bytes.now)) bytes.now self.old self.new) }
-        ensures grammar { OnOk result (Adds (fixed (length bytes.now)) bytes.now self.old self.new) }
+        ensures grammar { OnOk result (AddsItem (fixed (length bytes.now)) bytes.now self.old self.new) }
         ensures err { OnErr result (self.new ≡ self.old) }
     {
         let written = self.bytes.len();
@@ -117,7 +117,7 @@ impl Writer {
         requires { length bytes.now < 2 ^ 32 }
         ensures ok { OnOk result ((limit : ℕ) → Writes (opaque limit) bytes.now self.old self.new) }
         ensures grammar { OnOk result ((limit : ℕ) → length bytes.now ≤ limit
-            → Adds (opaque limit) bytes.now self.old self.new) }
+            → AddsItem (opaque limit) bytes.now self.old self.new) }
         ensures err { OnErr result (self.new ≡ self.old) }
     {
         let written = self.bytes.len();
@@ -135,7 +135,7 @@ impl Writer {
         requires { length bytes.now < 2 ^ 32 }
         ensures ok { OnOk result ((limit : ℕ) → Writes (string limit) bytes.now self.old self.new) }
         ensures grammar { OnOk result ((limit : ℕ) → length bytes.now ≤ limit
-            → Adds (string limit) bytes.now self.old self.new) }
+            → AddsItem (string limit) bytes.now self.old self.new) }
         ensures err { OnErr result (self.new ≡ self.old) }
     {
         self.opaque(bytes)

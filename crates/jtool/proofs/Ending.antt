@@ -4,11 +4,11 @@ use Rattle.std.specs.Prelude.{◌==◌}
 use Rattle.std.proofs.lemmas.Fmt.{decimal_injective}
 use Rattle.jtool.specs.declared.ask.Fault.{Fault}
 use Rattle.jtool.specs.declared.ask.Fault.TheVariants as faults
-use Rattle.jtool.specs.Programs.{Asks, IsSize, CannotBegin, status_of}
+use Rattle.jtool.specs.Programs.{AsksScript, IsSize, CannotBegin, status_of}
 use Rattle.jtool.specs.Transcripts.{IsTranscript, Runs}
 
 -- words that ask for a script begin one
-pub can_begin : (words : List (List ℕ)) (fault : Fault) → CannotBegin words fault → (n : ℕ) → Asks words n → IsSize n → ⊥
+pub can_begin : (words : List (List ℕ)) (fault : Fault) → CannotBegin words fault → (n : ℕ) → AsksScript words n → IsSize n → ⊥
 can_begin words faults.Usage none n asks size = none n asks
 can_begin words faults.BadSize (m, other, outside) n asks size =
     let same : m ≡ n = decimal_injective m n (omega (arith, other.0)) (omega (arith, asks.0)) (ap (λ l. get_or l 1 []) (sym other.1 ∙ asks.1)) in

@@ -13,7 +13,7 @@ use Rattle.std.proofs.lemmas.List.Quantifiers.{position-Some}
 use Rattle.std.proofs.lemmas.List.Sums.{fails_before_first}
 use Rattle.jtool.specs.declared.line.Piece.{Piece}
 use Rattle.jtool.specs.declared.line.Piece.TheVariants as pieces
-use Rattle.jtool.specs.Lines.{LinesState, first_line, kept, TakesLine, Advances, NoBreak, TakesBytes, TakesPiece, Shows}
+use Rattle.jtool.specs.Lines.{LinesState, first_line, kept, TakesLine, Advances, NoBreak, TakesBytes, TakesPiece, ShowsPiece}
 
 -- ---- what is shown of the input
 
@@ -26,7 +26,7 @@ other x h = grind (arith, nat_tests)
 unbroken : (xs : List ℕ) → ((k d : ℕ) → k < length xs → is_break (get_or xs k d) ≡ false) → NoBreak xs
 unbroken xs h = recursion_from_All (λ b. b ≢ 10) xs (λ k d lt is. let none = h k d lt in grind (arith, nat_tests))
 
-pub shows_whole : (xs : List ℕ) (n : ℕ) → position is_break xs ≡ Some n → Shows xs n pieces.Whole
+pub shows_whole : (xs : List ℕ) (n : ℕ) → position is_break xs ≡ Some n → ShowsPiece xs n pieces.Whole
 shows_whole xs n is =
     let (low, here, before) = position-Some is_break xs n 0 is in
     let newline : get_or xs n 0 ≡ 10 = grind (arith, nat_tests) in (
@@ -36,7 +36,7 @@ shows_whole xs n is =
           ap is_break (get_or-take n xs k d below) ∙ (position-Some is_break xs n d is).2 k below),
     )
 
-pub shows_part : (xs : List ℕ) → position is_break xs ≡ None → 0 < length xs → Shows xs (length xs) pieces.Part
+pub shows_part : (xs : List ℕ) → position is_break xs ≡ None → 0 < length xs → ShowsPiece xs (length xs) pieces.Part
 shows_part xs is some = (some, refl, unbroken xs (λ k d lt. fails_before_first is_break xs k d (omega (arith, lt, late (nat_lt (position_or_len is_break xs) (length xs)) refl is))))
   where
     late : (t : Bool) → nat_lt (position_or_len is_break xs) (length xs) ≡ t → cond t (Some (position_or_len is_break xs)) None ≡ None → length xs ≤ position_or_len is_break xs
@@ -191,7 +191,7 @@ consumed known later size size' n shown rest same sized left = rw (same, sized, 
     by_test false (Some ys) = ap (λ l. l ++ ys) (sym (take-append-drop n shown)) ∙ append_assoc (take n shown) (drop n shown) ys
 
 pub takes_piece : (piece : Piece) (before mid after : Option (List ℕ)) (shown line now : List ℕ) (n room : ℕ) → Keeps before mid → (shown ≡ [] → IsAtEnd before)
-    → Consumes mid after (take (n + 1) shown) → Shows shown n piece → length line ≤ 20001 → room ≡ 20001 - length line
+    → Consumes mid after (take (n + 1) shown) → ShowsPiece shown n piece → length line ≤ 20001 → room ≡ 20001 - length line
     → now ≡ line ++ take (min room (length (take n shown))) (take n shown)
     → TakesPiece (record { left = before; line = line }) (record { left = after; line = now }) piece
 unfolding kept
@@ -206,7 +206,7 @@ takes_piece piece before mid after shown line now n room keeps end consumes show
     none : n ≡ 0 → shown ≡ [] → take n shown ≡ []
     none e h = ap (λ k. take k shown) e
 
-    by_piece : (p : Piece) → Shows shown n p → TakesPiece (record { left = before; line = line }) (record { left = after; line = now }) p
+    by_piece : (p : Piece) → ShowsPiece shown n p → TakesPiece (record { left = before; line = line }) (record { left = after; line = now }) p
     by_piece pieces.Part (some, whole, none_in) =
         let here : take n shown ≡ shown = take_all n shown (omega (arith, whole)) in
         let beyond : take (n + 1) shown ≡ shown = take_all (n + 1) shown (omega (arith, whole)) in

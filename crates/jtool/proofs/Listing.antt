@@ -24,9 +24,6 @@ pub record AreNumbers (ps : List (List ℕ)) (numbers : List ℕ) : Type 0 where
   pub are_numbers : AllByRecursion IsNumber numbers
   pub are_texts : ps ≡ map decimal numbers
 
-pub no_numbers : AreNumbers [] []
-no_numbers = record { are_numbers = tt; are_texts = refl }
-
 are_numbers_push : (ns : List ℕ) (n : ℕ) → AllByRecursion IsNumber ns → IsNumber n → AllByRecursion IsNumber (ns ++ n ∷ [])
 are_numbers_push [] n h is = (is, tt)
 are_numbers_push (x ∷ ns) n h is = (h.0, are_numbers_push ns n h.1 is)

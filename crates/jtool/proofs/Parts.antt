@@ -11,7 +11,7 @@ use Rattle.std.proofs.lemmas.List.Concat.{flat_map-append}
 use Rattle.std.proofs.lemmas.List.Elements.{All-from_recursion}
 use Rattle.std.proofs.lemmas.List.Splits.{slice_split_at, slice_split_none, length-slice_split, join_with_byte-slice_split}
 use Rattle.std.proofs.lemmas.Str.Parse.{numerals_by_value, tells_digits, digit_from_value}
-use Rattle.jtool.specs.Values.{digit, hex, Term, listed, repeated, IsTerm, term_text, term_bytes, Spells, AddsTerm, NoTermFits}
+use Rattle.jtool.specs.Values.{digit, hex, Term, listed, repeated, IsTerm, term_text, term_bytes, SpellsValue, AddsTerm, NoTermFits}
 use Rattle.jtool.proofs.Digits.{digit-ge}
 use Rattle.jtool.proofs.Terms.{same_from_term_text}
 
@@ -28,9 +28,6 @@ pub record AreTerms (ps : List (List ℕ)) (value : List ℕ) : Type 0 where
   pub are_terms : AllByRecursion IsTerm terms
   pub are_texts : ps ≡ map term_text terms
   pub is_value : value ≡ flat_map term_bytes terms
-
-pub no_terms : AreTerms [] []
-no_terms = record { terms = []; are_terms = tt; are_texts = refl; is_value = refl }
 
 are_terms_push : (ts : List Term) (t : Term) → AllByRecursion IsTerm ts → IsTerm t → AllByRecursion IsTerm (ts ++ t ∷ [])
 are_terms_push [] t h is = (is, tt)
@@ -114,12 +111,12 @@ parts-join (t ∷ u ∷ ts) l h =
     slice_split_at is_plus (term_text t) 43 _ (All-from_recursion (λ b. is_plus b ≡ false) _ (unplussed t h.0)) refl
     ∙ ap (λ l. term_text t ∷ l) (parts-join (u ∷ ts) (omega arith) h.1)
 
-pub AreTerms-from_spells : (text value : List ℕ) → Spells text value → AreTerms (parts text) value
+pub AreTerms-from_spells : (text value : List ℕ) → SpellsValue text value → AreTerms (parts text) value
 AreTerms-from_spells text value s =
     record { terms = s.terms; are_terms = s.are_terms; are_texts = ap parts s.is_text ∙ parts-join s.terms s.some s.are_terms; is_value = s.is_value }
 
 -- all parts were taken, and their bytes fit
-pub Spells-from_terms : (text value : List ℕ) (n size : ℕ) → n ≡ length (parts text) → AreTerms (take n (parts text)) value → size ≤ 4096 → size ≡ length value → Spells text value
+pub Spells-from_terms : (text value : List ℕ) (n size : ℕ) → n ≡ length (parts text) → AreTerms (take n (parts text)) value → size ≤ 4096 → size ≡ length value → SpellsValue text value
 Spells-from_terms text value n size all taken fits len =
     let h = rw (take_all n (parts text) (omega arith)) at taken in
     record {
@@ -132,5 +129,5 @@ Spells-from_terms text value n size all taken fits len =
     }
 
 -- no text spells two values
-pub same_from_Spells : (text v w : List ℕ) → Spells text v → Spells text w → v ≡ w
+pub same_from_Spells : (text v w : List ℕ) → SpellsValue text v → SpellsValue text w → v ≡ w
 same_from_Spells text v w a b = same_from_AreTerms (parts text) v w (AreTerms-from_spells text v a) (AreTerms-from_spells text w b)

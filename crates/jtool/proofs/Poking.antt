@@ -3,7 +3,7 @@ use Rattle.std.proofs.Common.{◌≡◌, ◌<◌, ⊎_elim, ℕ, List, [], refl,
 use Rattle.journal_block.specs.Block.{Bytes, with_bytes}
 use Rattle.journal_disk.specs.Disks.{Past, write, barrier, block_at, newest, pending_of, stable_of, read_of, past_after, past_from, IsSettled, MayHaveHappened}
 use Rattle.journal_disk.specs.Images.{IsImage}
-use Rattle.journal_disk.specs.MemDisks.{MemState, begun, chosen, image_of}
+use Rattle.journal_disk.specs.MemDisks.{MemState, disk_from, chosen, image_of}
 use Rattle.journal_disk.specs.Laws.{read_written, read_other, settled_reads, settled_after_barrier}
 use Rattle.std.proofs.Math.ListN.{drop_of_length-le}
 use Rattle.std.proofs.lemmas.List.FromFn.{get_or-map-range_with_len}
@@ -26,13 +26,13 @@ poked_image old block at bytes first lt image = record {
 }
 
 -- what a crash leaves begins anew
-begun_first : (m : MemState) (n : ℕ) (first : List Bytes) → m ≡ begun n first → m.past ≡ past_from n m.past.first
+begun_first : (m : MemState) (n : ℕ) (first : List Bytes) → m ≡ disk_from n first → m.past ≡ past_from n m.past.first
 begun_first m n first is = subst (λ (k : MemState). k.past ≡ past_from n k.past.first) (sym is) refl
 
 -- the same of a disk as a call leaves it
 pub poked : (old mid : Past) (new : MemState) (block at : ℕ) (bytes : Bytes) (image : List Bytes) → block < old.size
     → mid ≡ past_after barrier (past_after (write block (with_bytes (read_of old block) at bytes)) old)
-    → IsImage mid new.past.first → new ≡ begun mid.size image → IsPoked block at bytes old new.past
+    → IsImage mid new.past.first → new ≡ disk_from mid.size image → IsPoked block at bytes old new.past
 poked old mid new block at bytes image lt is left anew =
     subst (λ (p : Past). IsPoked block at bytes old p)
     (sym (begun_first new mid.size image anew ∙ ap (λ (p : Past). past_from p.size new.past.first) is))
@@ -47,7 +47,7 @@ stable_image p b lt = get_or-map-range_with_len (chosen p []) 0 p.size b b [] lt
 
 -- a disk on which nothing was pending, and at most a write was made since, reads as before after such a crash
 pub reads_kept : (old mid : Past) (new : MemState) (block : ℕ) (bytes : Bytes) → IsSettled old
-    → MayHaveHappened (write block bytes) old mid → new ≡ begun mid.size (image_of mid []) → ReadsAsBefore old new.past
+    → MayHaveHappened (write block bytes) old mid → new ≡ disk_from mid.size (image_of mid []) → ReadsAsBefore old new.past
 reads_kept old mid new block bytes settled happened anew = record {
   size = ap (λ (m : MemState). m.past.size) anew ∙ size;
   reads = λ b lt. ap (λ (m : MemState). read_of m.past b) anew

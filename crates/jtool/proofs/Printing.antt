@@ -5,7 +5,7 @@ use Rattle.std.specs.List.{flat_map, join_with_byte, AllByRecursion}
 use Rattle.std.proofs.lemmas.Bool.Decides.{nat_tests}
 use Rattle.std.proofs.lemmas.List.Sums.{take_while-cons}
 use Rattle.jtool.specs.declared.value.Run.{Run}
-use Rattle.jtool.specs.Values.{hex, starred, Term, listed, repeated, IsTerm, term_text, term_bytes, Spells, with_front, runs, run_text, text_of}
+use Rattle.jtool.specs.Values.{hex, starred, Term, listed, repeated, IsTerm, term_text, term_bytes, SpellsValue, with_front, runs, run_text, text_of}
 
 abbrev run : ℕ → ℕ → Run
 run b n = record { byte = b; count = n }
@@ -156,7 +156,7 @@ all_written limit (r ∷ rs) h small =
     }
 
 -- what is printed of a value is a text of it
-pub Spells-text_of : (value : List ℕ) → AllByRecursion (λ b. b < 256) value → 0 < length value → length value ≤ 4096 → Spells (text_of value) value
+pub Spells-text_of : (value : List ℕ) → AllByRecursion (λ b. b < 256) value → 0 < length value → length value ≤ 4096 → SpellsValue (text_of value) value
 Spells-text_of [] bytes some fits = absurd (omega arith)
 Spells-text_of (b ∷ value) bytes some fits =
     let all = all_written _ (runs (b ∷ value)) (runs-IsRun (b ∷ value) bytes) fits in

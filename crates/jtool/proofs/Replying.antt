@@ -20,23 +20,23 @@ use Rattle.jtool.proofs.Talking.{talks_none, talks_more, leaves_join, leaves_ope
 use Rattle.jtool.specs.Downs.{ObeysDown, AnswersDown}
 use Rattle.jtool.specs.Answers.{Refuses}
 use Rattle.jtool.specs.Commands.{LineSays}
-use Rattle.jtool.specs.Transcripts.{Streams, IsAnswered, IsOpening, IsOpened, Talks, Asks, AsksOpening, Prints, Leaves, LeavesBy, Opens}
+use Rattle.jtool.specs.Transcripts.{Streams, IsAnswerTo, IsOpening, IsOpened, Talks, TakesOneLine, AsksOpening, Prints, ComesTo, ComesToBy, Opens}
 use Rattle.journal_core.specs.Causes.{Told}
-use Rattle.jtool.specs.Clients.{ClientState, IsRefusal, IsRefused, Gives, Replies, Answers, GoesOn}
+use Rattle.jtool.specs.Clients.{ClientState, IsRefusal, IsRefused, GivesAnswer, Replies, AnswersLine, GoesOn}
 
 -- ---- replies of a journal
 
 -- what a call gave or was refused goes on
 pub replies_plain : (blocks : ℕ) (old : ClientState) (command : Command) (r : Result Answer (Refusal Told)) (flow : ControlFlow Crash Answer)
-    → ((answer : Answer) → Gives blocks command answer ⊎ IsRefused (IsRefusal command) answer → Replies blocks old command (Continue answer) old)
-    → IfOk r (Gives blocks command) → IfErr r (IsRefusal command) → GoesOn r flow → Replies blocks old command flow old
+    → ((answer : Answer) → GivesAnswer blocks command answer ⊎ IsRefused (IsRefusal command) answer → Replies blocks old command (Continue answer) old)
+    → IfOk r (GivesAnswer blocks command) → IfErr r (IsRefusal command) → GoesOn r flow → Replies blocks old command flow old
 replies_plain blocks old command (Ok answer) flow replies gives refused goes =
     subst (λ (f : ControlFlow Crash Answer). Replies blocks old command f old) (sym goes) (replies answer (inl gives))
 replies_plain blocks old command (Err why) flow replies gives refused goes =
     subst (λ (f : ControlFlow Crash Answer). Replies blocks old command f old) (sym goes.2) (replies goes.0 (inr (why, refused, goes.1)))
 
 -- a crash that opens the disk is one that the line names
-reply_opens : (blocks : ℕ) (old new : ClientState) (line : List ℕ) (crash : Crash) → Answers blocks old line (Break crash) new → crash.opens ≡ true → IsOpening line
+reply_opens : (blocks : ℕ) (old new : ClientState) (line : List ℕ) (crash : Crash) → AnswersLine blocks old line (Break crash) new → crash.opens ≡ true → IsOpening line
 reply_opens blocks old new line crash (inl (commands.Down choice, says, replies)) opens = cc
 reply_opens blocks old new line crash (inl (commands.Crash choice, says, replies)) opens = inr (choice, says)
 reply_opens blocks old new line crash (inl (command, says, replies)) opens = absurd replies
@@ -46,8 +46,8 @@ reply_opens blocks old new line crash (inr (none, told, same)) opens = cc told
 
 -- it was opened, and lines were answered
 pub opens_up : (opening : Opening) (a b c : Streams) (next : Next) → (opening ≡ openings.First → b ≡ a) → (opening ≡ openings.Asked → Prints answers.Opened a b)
-    → Leaves next b c → Opens opening a c next
-opens_up openings.First a b c next first asked leaves = subst (λ (s : Streams). Leaves next s c) (first refl) leaves
+    → ComesTo next b c → Opens opening a c next
+opens_up openings.First a b c next first asked leaves = subst (λ (s : Streams). ComesTo next s c) (first refl) leaves
 opens_up openings.Asked a b c next first asked leaves = λ opens.
     (b, record { answer = answers.Opened; answered = inr (inr (inr (opens, tt))); prints = asked refl }, leaves)
 
@@ -64,31 +64,31 @@ opens_refused openings.Asked a b disk before after why answer is refusal refuses
 
 -- ---- from a reply to the streams, where the console's room was used in between
 
-asks_at : (b c mid : Streams) → Asks b c → mid ≡ c → Asks b mid
-asks_at b c mid asks same = subst (λ (s : Streams). Asks b s) (sym same) asks
+asks_at : (b c mid : Streams) → TakesOneLine b c → mid ≡ c → TakesOneLine b mid
+asks_at b c mid asks same = subst (λ (s : Streams). TakesOneLine b s) (sym same) asks
 
 -- the line was answered
-pub goes_on : (a b c mid d : Streams) (blocks : ℕ) (old new : ClientState) (line : List ℕ) (reply : ControlFlow Crash Answer) (answer : Answer) → Talks a b → Asks b c → mid ≡ c → line ≡ mid.line
-    → Answers blocks old line reply new → reply ≡ Continue answer → Prints answer mid d → Talks a d
+pub goes_on : (a b c mid d : Streams) (blocks : ℕ) (old new : ClientState) (line : List ℕ) (reply : ControlFlow Crash Answer) (answer : Answer) → Talks a b → TakesOneLine b c → mid ≡ c → line ≡ mid.line
+    → AnswersLine blocks old line reply new → reply ≡ Continue answer → Prints answer mid d → Talks a d
 goes_on a b c mid d blocks old new line reply answer talks asks same is answers goes prints =
-    let replied = subst (λ (f : ControlFlow Crash Answer). Answers blocks old line f new) goes answers in
+    let replied = subst (λ (f : ControlFlow Crash Answer). AnswersLine blocks old line f new) goes answers in
     talks_more a b mid d talks (asks_at b c mid asks same)
-    (record { answer = answer; answered = subst (λ l. IsAnswered l answer) is (inl (blocks, old, new, replied)); prints = prints })
+    (record { answer = answer; answered = subst (λ l. IsAnswerTo l answer) is (inl (blocks, old, new, replied)); prints = prints })
 
 -- the line ends the journal, and the opening answers it
-pub ends_to_open : (a b c mid : Streams) (blocks : ℕ) (old new : ClientState) (line : List ℕ) (reply : ControlFlow Crash Answer) (crash : Crash) → Talks a b → Asks b c → mid ≡ c → line ≡ mid.line
-    → Answers blocks old line reply new → reply ≡ Break crash → crash.opens ≡ true → LeavesBy crash.opens a mid
+pub ends_to_open : (a b c mid : Streams) (blocks : ℕ) (old new : ClientState) (line : List ℕ) (reply : ControlFlow Crash Answer) (crash : Crash) → Talks a b → TakesOneLine b c → mid ≡ c → line ≡ mid.line
+    → AnswersLine blocks old line reply new → reply ≡ Break crash → crash.opens ≡ true → ComesToBy crash.opens a mid
 ends_to_open a b c mid blocks old new line reply crash talks asks same is replied ends opens =
-    let asked = reply_opens blocks old new line crash (subst (λ (f : ControlFlow Crash Answer). Answers blocks old line f new) ends replied) opens in
-    subst (λ t. LeavesBy t a mid) (sym opens) (b, talks, asks_at b c mid asks same, subst IsOpening is asked)
+    let asked = reply_opens blocks old new line crash (subst (λ (f : ControlFlow Crash Answer). AnswersLine blocks old line f new) ends replied) opens in
+    subst (λ t. ComesToBy t a mid) (sym opens) (b, talks, asks_at b c mid asks same, subst IsOpening is asked)
 
 -- the line ends the journal, and was answered
-pub ends_to_down : (a b c mid d : Streams) (blocks : ℕ) (old new : ClientState) (line : List ℕ) (reply : ControlFlow Crash Answer) (crash : Crash) → Talks a b → Asks b c → mid ≡ c → line ≡ mid.line
-    → Answers blocks old line reply new → reply ≡ Break crash → crash.opens ≡ false → Prints answers.Done mid d → LeavesBy crash.opens a d
+pub ends_to_down : (a b c mid d : Streams) (blocks : ℕ) (old new : ClientState) (line : List ℕ) (reply : ControlFlow Crash Answer) (crash : Crash) → Talks a b → TakesOneLine b c → mid ≡ c → line ≡ mid.line
+    → AnswersLine blocks old line reply new → reply ≡ Break crash → crash.opens ≡ false → Prints answers.Done mid d → ComesToBy crash.opens a d
 ends_to_down a b c mid d blocks old new line reply crash talks asks same is replied ends opens prints =
-    let broken = subst (λ (f : ControlFlow Crash Answer). Answers blocks old line f new) ends replied in
-    subst (λ t. LeavesBy t a d) (sym opens) (talks_more a b mid d talks (asks_at b c mid asks same)
-    (record { answer = answers.Done; answered = subst (λ l. IsAnswered l answers.Done) is (inr (inl (crash, (blocks, old, new, broken), opens, refl))); prints = prints }))
+    let broken = subst (λ (f : ControlFlow Crash Answer). AnswersLine blocks old line f new) ends replied in
+    subst (λ t. ComesToBy t a d) (sym opens) (talks_more a b mid d talks (asks_at b c mid asks same)
+    (record { answer = answers.Done; answered = subst (λ l. IsAnswerTo l answers.Done) is (inr (inl (crash, (blocks, old, new, broken), opens, refl))); prints = prints }))
 
 -- ---- a disk that is down
 
@@ -97,17 +97,17 @@ down_opens old new commands.Open line says obeys = inl says
 down_opens old new command line says obeys = cc obeys.0
 
 -- the line was answered
-pub down_goes_on : (a b c mid d : Streams) (old new : Past) (line : List ℕ) (told : Option Answer) (answer : Answer) → Talks a b → Asks b c → mid ≡ c → line ≡ mid.line
+pub down_goes_on : (a b c mid d : Streams) (old new : Past) (line : List ℕ) (told : Option Answer) (answer : Answer) → Talks a b → TakesOneLine b c → mid ≡ c → line ≡ mid.line
     → AnswersDown old line told new → told ≡ Some answer → Prints answer mid d → Talks a d
 down_goes_on a b c mid d old new line told answer talks asks same is answers goes prints =
     talks_more a b mid d talks (asks_at b c mid asks same) (record {
       answer = answer;
-      answered = subst (λ l. IsAnswered l answer) is (inr (inr (inl (old, new, subst (λ (t : Option Answer). AnswersDown old line t new) goes answers))));
+      answered = subst (λ l. IsAnswerTo l answer) is (inr (inr (inl (old, new, subst (λ (t : Option Answer). AnswersDown old line t new) goes answers))));
       prints = prints;
     })
 
 -- the line opens the disk
-pub down_asks : (a b c mid : Streams) (old new : Past) (line : List ℕ) (told : Option Answer) → Talks a b → Asks b c → mid ≡ c → line ≡ mid.line
+pub down_asks : (a b c mid : Streams) (old new : Past) (line : List ℕ) (told : Option Answer) → Talks a b → TakesOneLine b c → mid ≡ c → line ≡ mid.line
     → AnswersDown old line told new → told ≡ None → AsksOpening a mid
 down_asks a b c mid old new line told talks asks same is answers opens =
     (b, talks, asks_at b c mid asks same, subst IsOpening is (asked (subst (λ (t : Option Answer). AnswersDown old line t new) opens answers)))
@@ -119,17 +119,17 @@ down_asks a b c mid old new line told talks asks same is answers opens =
 -- ---- from line to line
 
 pub opens_up_ok : {E : Type 0} (r : Result Next E) (opening : Opening) (a b c : Streams) → (opening ≡ openings.First → b ≡ a) → (opening ≡ openings.Asked → Prints answers.Opened a b)
-    → IfOk r (λ next. Leaves next b c) → IfOk r (Opens opening a c)
+    → IfOk r (λ next. ComesTo next b c) → IfOk r (Opens opening a c)
 opens_up_ok (Ok next) opening a b c first asked leaves = opens_up opening a b c next first asked leaves
 opens_up_ok (Err why) opening a b c first asked leaves = tt
 
 -- a line asked for the opening, and lines were answered from there on
-pub leaves_open : (a b c : Streams) (old next : Next) (disk : MemState) → old ≡ nexts.Open disk → Leaves old a b → Opens openings.Asked b c next → Leaves next a c
+pub leaves_open : (a b c : Streams) (old next : Next) (disk : MemState) → old ≡ nexts.Open disk → ComesTo old a b → Opens openings.Asked b c next → ComesTo next a c
 leaves_open a b c old next disk is before opens =
-    let asks = (subst (λ (n : Next). Leaves n a b) is before).1 in
+    let asks = (subst (λ (n : Next). ComesTo n a b) is before).1 in
     let more = opens asks.3 in
     leaves_opened next a b more.0 c asks more.1 more.2
 
 -- lines were answered while the disk was down
-pub leaves_down : (a b c : Streams) (old next : Next) (disk : MemState) → old ≡ nexts.Down disk → Leaves old a b → Leaves next b c → Leaves next a c
-leaves_down a b c old next disk is before more = leaves_join next a b c (subst (λ (n : Next). Leaves n a b) is before).1 more
+pub leaves_down : (a b c : Streams) (old next : Next) (disk : MemState) → old ≡ nexts.Down disk → ComesTo old a b → ComesTo next b c → ComesTo next a c
+leaves_down a b c old next disk is before more = leaves_join next a b c (subst (λ (n : Next). ComesTo n a b) is before).1 more

@@ -9,7 +9,7 @@ use Rattle.std.proofs.lemmas.List.Concat.{flat_map-append}
 use Rattle.jtool.specs.declared.script.Next.{Next}
 use Rattle.jtool.specs.declared.script.Next.TheVariants as nexts
 use Rattle.jtool.specs.Lines.{TakesLine}
-use Rattle.jtool.specs.Transcripts.{Streams, Turn, IsTurn, printed, is_bad, some_bad, Consists, Talks, Asks, Reads, Answers, IsTranscript, TalksToTheEnd, AsksOpening, Leaves}
+use Rattle.jtool.specs.Transcripts.{Streams, Turn, IsTurn, printed, is_bad, some_bad, Consists, Talks, TakesOneLine, TakesLineOrEnd, AnswersLastLine, IsTranscript, TalksToTheEnd, AsksOpening, ComesTo}
 
 -- ---- lists of turns
 
@@ -73,7 +73,7 @@ one_line None t left p = tt
 one_line (Some xs) t left p = (drop_through 10 xs, p.left, (p.some, p.line, refl))
 
 -- a line was read, and then its answer printed
-pub talks_line : (a b c : Streams) → Asks a b → Answers b c → Talks a c
+pub talks_line : (a b c : Streams) → TakesOneLine a b → AnswersLastLine b c → Talks a c
 talks_line a b c asks answers =
     let turn : Turn = record { line = b.line; answer = answers.answer } in
     record {
@@ -86,13 +86,13 @@ talks_line a b c asks answers =
     }
 
 -- it was read and answered behind others
-pub talks_more : (a b c d : Streams) → Talks a b → Asks b c → Answers c d → Talks a d
+pub talks_more : (a b c d : Streams) → Talks a b → TakesOneLine b c → AnswersLastLine c d → Talks a d
 talks_more a b c d talks asks answers = talks_join a b d talks (talks_line b c d asks answers)
 
 -- ---- the end
 
 -- nothing was left to read
-pub talks_end : (a b c : Streams) → Talks a b → Reads b c false → TalksToTheEnd a c
+pub talks_end : (a b c : Streams) → Talks a b → TakesLineOrEnd b c false → TalksToTheEnd a c
 talks_end a b c talks (none, quiet, same) = (talks_join a b c talks idle, by_case a.left b.left talks.read none)
   where
     idle_read : (known : Option (List ℕ)) → IfSome known (λ xs. (xs ≡ []) × (c.left ≡ Some [])) → IfSome known (λ xs. (ys : List ℕ) × (c.left ≡ Some ys) × (ys ≡ xs))
@@ -126,27 +126,12 @@ end_join a b c p (q, end) = (talks_join a b c p q, by_case a.left b.left p.read 
 opening_join : (a b c : Streams) → Talks a b → AsksOpening b c → AsksOpening a c
 opening_join a b c p (mid, talks, asks, opens) = (mid, talks_join a b mid p talks, asks, opens)
 
-pub leaves_join : (next : Next) (a b c : Streams) → Talks a b → Leaves next b c → Leaves next a c
+pub leaves_join : (next : Next) (a b c : Streams) → Talks a b → ComesTo next b c → ComesTo next a c
 leaves_join (nexts.Open disk) a b c p q = (q.0, opening_join a b c p q.1)
 leaves_join (nexts.Down disk) a b c p q = (q.0, talks_join a b c p q.1)
 leaves_join nexts.End a b c p q = end_join a b c p q
 
 -- the line that opened the disk was answered
-pub leaves_opened : (next : Next) (a b c d : Streams) → AsksOpening a b → Answers b c → Leaves next c d → Leaves next a d
+pub leaves_opened : (next : Next) (a b c d : Streams) → AsksOpening a b → AnswersLastLine b c → ComesTo next c d → ComesTo next a d
 leaves_opened next a b c d (mid, talks, asks, opens) answers leaves =
     leaves_join next a c d (talks_more a mid b c talks asks answers) leaves
-
--- all lines were answered
-pub transcript_from_end : (a b : Streams) (left : Option (List ℕ)) (bad : Bool) → TalksToTheEnd a b → a.left ≡ left → a.bad ≡ false → b.bad ≡ bad → IsTranscript left a.held b.held bad
-transcript_from_end a b left bad (talks, end) first good after = record {
-  turns = talks.turns;
-  answered = talks.answered;
-  read = subst (λ (o : Option (List ℕ)). IfSome o (λ xs. Consists xs talks.turns [])) first (by_case a.left talks.read end);
-  printed = talks.printed;
-  bad_lines = sym after ∙ talks.bad ∙ ap (λ t. t || some_bad talks.turns) good;
-}
-  where
-    by_case : (known : Option (List ℕ)) → IfSome known (λ xs. (ys : List ℕ) × (b.left ≡ Some ys) × Consists xs talks.turns ys) → IfSome known (λ _. b.left ≡ Some [])
-        → IfSome known (λ xs. Consists xs talks.turns [])
-    by_case None p q = tt
-    by_case (Some xs) (ys, is, all) q = subst (λ l. Consists xs talks.turns l) (cc) all

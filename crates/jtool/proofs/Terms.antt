@@ -55,26 +55,9 @@ pub record HasRead (text rest old new : List ℕ) : Type 0 where
   pub is_text : text ≡ flat_map hex bytes ++ rest
   pub is_value : new ≡ old ++ bytes
 
-pub none_read : (text old : List ℕ) → HasRead text text old old
-none_read text old = record { bytes = []; small = tt; is_text = refl; is_value = sym (append-nil old) }
-
-small_push : (bs : List ℕ) (b : ℕ) → AllByRecursion IsByte bs → b < 256 → AllByRecursion IsByte (bs ++ b ∷ [])
-small_push [] b h small = (small, tt)
-small_push (x ∷ bs) b h small = (h.0, small_push bs b h.1 small)
-
 small_behind : (bs : List ℕ) (b : ℕ) (ds : List ℕ) → AllByRecursion IsByte (bs ++ b ∷ ds) → b < 256
 small_behind [] b ds h = h.0
 small_behind (x ∷ bs) b ds h = small_behind bs b ds h.1
-
-pub one_more_read : (text old new newer : List ℕ) (high low byte : ℕ) (rest : List ℕ) → HasRead text (high ∷ low ∷ rest) old new → high ∷ low ∷ [] ≡ hex byte → byte < 256 → newer ≡ new ++ byte ∷ [] → HasRead text rest old newer
-one_more_read text old new newer high low byte rest r digits small is =
-    let next : high ∷ low ∷ rest ≡ hex byte ++ rest = ap (λ l. l ++ rest) digits in
-    record {
-      bytes = r.bytes ++ byte ∷ [];
-      small = small_push r.bytes byte r.small small;
-      is_text = r.is_text ∙ ap (λ l. flat_map hex r.bytes ++ l) next ∙ rw (flat_map-append, append_assoc);
-      is_value = is ∙ ap (λ l. l ++ byte ∷ []) r.is_value ∙ append_assoc old r.bytes (byte ∷ []);
-    }
 
 pub no_bytes_fit : (text rest old new : List ℕ) → get_or text 2 0 ≢ 42 → HasRead text rest old new → (length rest ≡ 0 → length text ≡ 0)
     → ((byte : ℕ) → byte < 256 → get_or rest 0 0 ∷ get_or rest 1 0 ∷ [] ≡ hex byte → 2 ≤ length rest → length new + 1 ≤ 4096 → ⊥)

@@ -4,7 +4,7 @@ use Rattle.std.specs.Prelude.{◌==◌, if◌then◌else◌, IfNone, IfSome}
 use Rattle.jtool.specs.declared.command.Command.{Command}
 use Rattle.jtool.specs.declared.command.verb.Verb.{Verb}
 use Rattle.jtool.specs.declared.command.verb.Verb.TheVariants as verbs
-use Rattle.jtool.specs.Commands.{words, verb_text, Follows, Says, LineSays, IsInside}
+use Rattle.jtool.specs.Commands.{line_words, verb_text, FollowsVerb, Says, LineSays, IsInside}
 
 -- ---- a verb is known by its first two letters
 
@@ -59,47 +59,25 @@ pub says_none-no_verb : (ws more : List (List ℕ)) (w : List ℕ) → ws ≡ w 
 says_none-no_verb ws more w is none command (verb, behind, says, follows) = none verb (ap first_word (sym is ∙ says))
 
 -- nor where the others may not follow it
-says_none-behind : (ws more : List (List ℕ)) (w : List ℕ) (verb : Verb) → ws ≡ w ∷ more → w ≡ verb_text verb → ((command : Command) → Follows verb more command → ⊥) → (command : Command) → Says ws command → ⊥
+says_none-behind : (ws more : List (List ℕ)) (w : List ℕ) (verb : Verb) → ws ≡ w ∷ more → w ≡ verb_text verb → ((command : Command) → FollowsVerb verb more command → ⊥) → (command : Command) → Says ws command → ⊥
 says_none-behind ws more w verb is word none command (other, behind, says, follows) =
     let same : other ≡ verb = verb_text_injective other verb (ap first_word (sym says ∙ is) ∙ word) in
     let rest : behind ≡ more = ap (drop 1) (sym says ∙ is) in
-    none command (subst (λ v. Follows v more command) same (subst (λ l. Follows other l command) rest follows))
+    none command (subst (λ v. FollowsVerb v more command) same (subst (λ l. FollowsVerb other l command) rest follows))
 
 -- so where no command was read behind a verb, the words say none
-pub says_none-read : (result : Option Command) (ws more : List (List ℕ)) (w : List ℕ) (verb : Verb) → ws ≡ w ∷ more → w ≡ verb_text verb → IfNone result ((command : Command) → Follows verb more command → ⊥) → IfNone result ((command : Command) → Says ws command → ⊥)
+pub says_none-read : (result : Option Command) (ws more : List (List ℕ)) (w : List ℕ) (verb : Verb) → ws ≡ w ∷ more → w ≡ verb_text verb → IfNone result ((command : Command) → FollowsVerb verb more command → ⊥) → IfNone result ((command : Command) → Says ws command → ⊥)
 says_none-read None ws more w verb is word none = says_none-behind ws more w verb is word none
 says_none-read (Some c) ws more w verb is word none = tt
 
 -- and where one was read, they say it
-pub says-read : (result : Option Command) (ws more : List (List ℕ)) (w : List ℕ) (verb : Verb) → ws ≡ w ∷ more → w ≡ verb_text verb → IfSome result (Follows verb more) → IfSome result (Says ws)
+pub says-read : (result : Option Command) (ws more : List (List ℕ)) (w : List ℕ) (verb : Verb) → ws ≡ w ∷ more → w ≡ verb_text verb → IfSome result (FollowsVerb verb more) → IfSome result (Says ws)
 says-read None ws more w verb is word found = tt
 says-read (Some c) ws more w verb is word found = (verb, more, is ∙ ap (λ t. t ∷ more) word, found)
 
 -- ---- the bytes that a command names
 
-follows_inside : (verb : Verb) (ws : List (List ℕ)) (c : Command) → Follows verb ws c → IsInside c
-follows_inside verbs.Put ws c (a, text, value, short, spells, is) = subst IsInside (sym is) tt
-follows_inside verbs.Get ws c (a, short, is) = subst IsInside (sym is) tt
-follows_inside verbs.Commit ws c (none, is) = subst IsInside (sym is) tt
-follows_inside verbs.Abort ws c (none, is) = subst IsInside (sym is) tt
-follows_inside verbs.Wait ws c (none, is) = subst IsInside (sym is) tt
-follows_inside verbs.Log ws c (most, says, is) = subst IsInside (sym is) tt
-follows_inside verbs.Install ws c (most, says, is) = subst IsInside (sym is) tt
-follows_inside verbs.Stat ws c (none, is) = subst IsInside (sym is) tt
-follows_inside verbs.Pend ws c (none, is) = subst IsInside (sym is) tt
-follows_inside verbs.Disk ws c (block, at, len, small, inside, says, is) = subst IsInside (sym is) inside.1
-follows_inside verbs.Fail ws c (call, some, small, says, is) = subst IsInside (sym is) tt
-follows_inside verbs.Down ws c (choice, says, is) = subst IsInside (sym is) tt
-follows_inside verbs.Open ws c (none, is) = subst IsInside (sym is) tt
-follows_inside verbs.Crash ws c (choice, says, is) = subst IsInside (sym is) tt
-follows_inside verbs.Poke ws c (block, at, text, value, small, inside, spells, says, is) = subst IsInside (sym is) inside.1
-
--- a command that words say names bytes inside a block
-pub says_inside : (result : Option Command) (ws : List (List ℕ)) → IfSome result (Says ws) → IfSome result IsInside
-says_inside None ws says = tt
-says_inside (Some c) ws (verb, behind, is, follows) = follows_inside verb behind c follows
-
 -- where the words say no command, the line says none
-pub none_said : (result : Option Command) (line : List ℕ) → IfNone result ((command : Command) → Says (words line) command → ⊥) → IfNone result ((command : Command) → LineSays line command → ⊥)
+pub none_said : (result : Option Command) (line : List ℕ) → IfNone result ((command : Command) → Says (line_words line) command → ⊥) → IfNone result ((command : Command) → LineSays line command → ⊥)
 none_said None line none = λ command says. none command says.1
 none_said (Some c) line none = tt

@@ -3,28 +3,11 @@ use Rattle.std.specs.Prelude.{ℕ, ◌≡◌, List, [], ◌∷◌, ◌++◌, cod
 use Rattle.std.specs.List.{flat_map}
 use Rattle.std.specs.Fmt.{decimal}
 use Rattle.journal_world.specs.declared.refusal.Refusal.{Refusal}
-use Rattle.journal_world.specs.declared.refusal.Refusal.TheVariants as refusals
+use Rattle.journal_world.specs.Refusals.{refusal_name}
 use Rattle.journal_core.specs.declared.state.Stat.{Stat}
 use Rattle.jtool.specs.declared.answer.Answer.{Answer}
 use Rattle.jtool.specs.declared.answer.Answer.TheVariants as answers
 use Rattle.jtool.specs.Values.{text_of}
-
--- a refusal's number and name
-abbrev pub refusal_text : {C : Type 0} → Refusal C → List ℕ
-refusal_text refusals.NoMemory = codes "J1 NoMemory"
-refusal_text refusals.BadAddress = codes "J2 BadAddress"
-refusal_text refusals.BadSize = codes "J3 BadSize"
-refusal_text refusals.TooLarge = codes "J4 TooLarge"
-refusal_text refusals.Busy = codes "J5 Busy"
-refusal_text (refusals.DeviceFailed cause) = codes "J6 DeviceFailed"
-refusal_text refusals.BadLog = codes "J7 BadLog"
-refusal_text refusals.BadSuper = codes "J8 BadSuper"
-refusal_text (refusals.Stale cause) = codes "J9 Stale"
-refusal_text (refusals.Stranger cause) = codes "J10 Stranger"
-refusal_text (refusals.Worn cause) = codes "J11 Worn"
-refusal_text (refusals.Full cause) = codes "J12 Full"
-refusal_text (refusals.Closed cause) = codes "J13 Closed"
-refusal_text refusals.Fenced = codes "J14 Fenced"
 
 -- the numbers of a mount, as printed
 abbrev pub stat_text : Stat → List ℕ
@@ -54,7 +37,7 @@ answer_line (answers.Pending pending) = codes "pending" ++ pending_text pending.
 answer_line answers.Opened = codes "opened" ++ 10 ∷ []
 answer_line answers.Up = codes "up" ++ 10 ∷ []
 answer_line answers.Down = codes "down" ++ 10 ∷ []
-answer_line (answers.Refused why) = codes "refused " ++ refusal_text why ++ 10 ∷ []
+answer_line (answers.Refused why) = codes "refused " ++ refusal_name why ++ 10 ∷ []
 answer_line answers.BadLine = codes "bad line" ++ 10 ∷ []
 answer_line answers.Nothing = []
 
@@ -65,5 +48,5 @@ to_no_command (byte ∷ bytes) = answers.BadLine
 
 -- that it was refused, is answered
 abbrev pub Refuses : {C : Type 0} → Refusal C → Answer → Type 0
-Refuses why (answers.Refused told) = refusal_text told ≡ refusal_text why
+Refuses why (answers.Refused told) = refusal_name told ≡ refusal_name why
 Refuses why answer = ⊥

@@ -9,7 +9,7 @@ use Rattle.journal_world.specs.Addresses.{Value}
 use Rattle.journal_history.specs.Tokens.{SessionState, CommitPlace, OnlyExtends}
 use Rattle.journal_core.specs.Causes.{Told}
 use Rattle.journal_twophase.specs.Journals.{IsLogRefusal, IsInstallRefusal}
-use Rattle.journal_twophase.specs.Transactions.{TxnState, core_of, begun, holding, Reads, Overwrites, IsReadRefusal, IsOverwriteRefusal}
+use Rattle.journal_twophase.specs.Transactions.{TxnState, core_of, begun, holding, ReadsValue, Overwrites, IsReadRefusal, IsOverwriteRefusal}
 use Rattle.journal_twophase.specs.Commits.{IsCommitted, IsTryRefusal}
 use Rattle.jtool.specs.declared.command.Command.{Command}
 use Rattle.jtool.specs.declared.command.Command.TheVariants as commands
@@ -48,7 +48,7 @@ pub record Gets (old : ClientState) (a : Addr) (v : Value) (new : ClientState) :
   pub finds : Finds old found new.session
   pub left : TxnState
   pub is_open : new.txn ≡ Some left
-  pub reads : Reads (holding found a) a v left
+  pub reads : ReadsValue (holding found a) a v left
 
 -- The transaction is open, as it was
 pub record KeepsOpen (old : ClientState) (why : TxnState → Type 0) (new : ClientState) : Type 0 where
@@ -58,7 +58,7 @@ pub record KeepsOpen (old : ClientState) (why : TxnState → Type 0) (new : Clie
   pub refused : why found
 
 -- The transaction was committed, and the answer is the receipt's count
-pub record Commits (t : TxnState) (old : ClientState) (n : ℕ) (new : ClientState) : Type 0 where
+pub record CommitsAndEnds (t : TxnState) (old : ClientState) (n : ℕ) (new : ClientState) : Type 0 where
   pub receipt : CommitPlace
   pub blocks : ℕ
   pub committed : IsCommitted (λ m. Unit {0}) blocks t.began (core_of t) old.session new.session receipt
@@ -66,17 +66,17 @@ pub record Commits (t : TxnState) (old : ClientState) (n : ℕ) (new : ClientSta
   pub ended : new.txn ≡ None
 
 -- It was refused, and is ended
-pub record RefusesCommit (t : TxnState) (old : ClientState) (why : Refusal Told) (new : ClientState) : Type 0 where
+pub record RefusesAndEnds (t : TxnState) (old : ClientState) (why : Refusal Told) (new : ClientState) : Type 0 where
   pub refused : IsTryRefusal (core_of t) old.session why
   pub session : OnlyExtends old.session new.session
   pub ended : new.txn ≡ None
 
 -- what a commit answers, and does to the open transaction
 abbrev pub CommitsOpen : ClientState → Result Answer (Refusal Told) → ClientState → Type 0
-CommitsOpen old (Ok (answers.Committed n)) new = MatchOption old.txn ⊥ (λ t. Commits t old n new)
+CommitsOpen old (Ok (answers.Committed n)) new = MatchOption old.txn ⊥ (λ t. CommitsAndEnds t old n new)
 CommitsOpen old (Ok answers.NoTransaction) new = (old.txn ≡ None) × (new ≡ old)
 CommitsOpen old (Ok answer) new = ⊥
-CommitsOpen old (Err why) new = MatchOption old.txn ⊥ (λ t. RefusesCommit t old why new)
+CommitsOpen old (Err why) new = MatchOption old.txn ⊥ (λ t. RefusesAndEnds t old why new)
 
 -- so many steps, at most, where a number stands there
 abbrev pub most_of : Option ℕ → ℕ
@@ -104,19 +104,19 @@ abbrev pub IsRefused : (Refusal Told → Type 0) → Answer → Type 0
 IsRefused may_come answer = (why : Refusal Told) × may_come why × Refuses why answer
 
 -- what a command gives that is done and looks at no transaction, of a journal over so many blocks
-abbrev pub Gives : ℕ → Command → Answer → Type 0
-Gives blocks commands.Wait (answers.Stable n) = Unit {0}
-Gives blocks (commands.Log most) (answers.Logged n) = n ≤ most_of most
-Gives blocks (commands.Install most) (answers.Installed n) = n ≤ most_of most
-Gives blocks commands.Stat (answers.Stat stat) = Unit {0}
-Gives blocks commands.Pend (answers.Pending pending) = Unit {0}
-Gives blocks (commands.Disk block at len) (answers.Value v) = (block < blocks) × (length v ≡ len)
-Gives blocks (commands.Disk block at len) answers.BadLine = block < blocks → ⊥
-Gives blocks (commands.Fail call) answers.Done = Unit {0}
-Gives blocks commands.Open answers.Up = Unit {0}
-Gives blocks (commands.Poke block at v) answers.Up = block < blocks
-Gives blocks (commands.Poke block at v) answers.BadLine = block < blocks → ⊥
-Gives blocks command answer = ⊥
+abbrev pub GivesAnswer : ℕ → Command → Answer → Type 0
+GivesAnswer blocks commands.Wait (answers.Stable n) = Unit {0}
+GivesAnswer blocks (commands.Log most) (answers.Logged n) = n ≤ most_of most
+GivesAnswer blocks (commands.Install most) (answers.Installed n) = n ≤ most_of most
+GivesAnswer blocks commands.Stat (answers.Stat stat) = Unit {0}
+GivesAnswer blocks commands.Pend (answers.Pending pending) = Unit {0}
+GivesAnswer blocks (commands.Disk block at len) (answers.Value v) = (block < blocks) × (length v ≡ len)
+GivesAnswer blocks (commands.Disk block at len) answers.BadLine = block < blocks → ⊥
+GivesAnswer blocks (commands.Fail call) answers.Done = Unit {0}
+GivesAnswer blocks commands.Open answers.Up = Unit {0}
+GivesAnswer blocks (commands.Poke block at v) answers.Up = block < blocks
+GivesAnswer blocks (commands.Poke block at v) answers.BadLine = block < blocks → ⊥
+GivesAnswer blocks command answer = ⊥
 
 -- What a command is answered, and leaves, of a journal over so many blocks. `put` and `get` begin a transaction where none is
 -- open, also where they are refused
@@ -125,12 +125,12 @@ Obeys blocks old (commands.Put a v) answers.Done new = Puts old a v.now new
 Obeys blocks old (commands.Put a v) answer new = KeepsOpen old (λ t. IsRefused (IsOverwriteRefusal blocks t a v.now) answer) new
 Obeys blocks old (commands.Get a) (answers.Value v) new = Gets old a v new
 Obeys blocks old (commands.Get a) answer new = KeepsOpen old (λ t. IsRefused (IsReadRefusal blocks t a) answer) new
-Obeys blocks old commands.Commit (answers.Committed n) new = MatchOption old.txn ⊥ (λ t. Commits t old n new)
+Obeys blocks old commands.Commit (answers.Committed n) new = MatchOption old.txn ⊥ (λ t. CommitsAndEnds t old n new)
 Obeys blocks old commands.Commit answers.NoTransaction new = (old.txn ≡ None) × (new ≡ old)
-Obeys blocks old commands.Commit answer new = MatchOption old.txn ⊥ (λ t. IsRefused (λ why. RefusesCommit t old why new) answer)
+Obeys blocks old commands.Commit answer new = MatchOption old.txn ⊥ (λ t. IsRefused (λ why. RefusesAndEnds t old why new) answer)
 Obeys blocks old commands.Abort answers.Done new = IsSome old.txn × (new ≡ record old { txn = None })
 Obeys blocks old commands.Abort answer new = (answer ≡ answers.NoTransaction) × (old.txn ≡ None) × (new ≡ old)
-Obeys blocks old command answer new = (Gives blocks command answer ⊎ IsRefused (IsRefusal command) answer) × (new ≡ old)
+Obeys blocks old command answer new = (GivesAnswer blocks command answer ⊎ IsRefused (IsRefusal command) answer) × (new ≡ old)
 
 -- The numbers choose the image: 0 for each block, the last write of each, or what the line lists
 abbrev pub IsChosen : Choice → List ℕ → Type 0
@@ -146,8 +146,8 @@ Replies blocks old (commands.Crash choice) (Break crash) new = IsChosen choice c
 Replies blocks old command (Break crash) new = ⊥
 
 -- The line says a command, which is replied to so; or it says none, which changes nothing
-abbrev pub Answers : ℕ → ClientState → List ℕ → ControlFlow Crash Answer → ClientState → Type 0
-Answers blocks old line reply new =
+abbrev pub AnswersLine : ℕ → ClientState → List ℕ → ControlFlow Crash Answer → ClientState → Type 0
+AnswersLine blocks old line reply new =
     ((command : Command) × LineSays line command × Replies blocks old command reply new)
     ⊎ (((command : Command) → LineSays line command → ⊥) × (reply ≡ Continue (to_no_command line)) × (new ≡ old))
 

@@ -10,16 +10,16 @@ use Rattle.jtool.specs.declared.command.Command.TheVariants as commands
 use Rattle.jtool.specs.declared.command.verb.Verb.{Verb}
 use Rattle.jtool.specs.declared.command.verb.Verb.TheVariants as verbs
 use denote.Ref.{Bor}
-use Rattle.jtool.specs.Values.{Spells}
+use Rattle.jtool.specs.Values.{SpellsValue}
 
 -- the words of a line: what stands between its spaces
-abbrev pub words : List ℕ → List (List ℕ)
-words line = slice_split (λ b. b == 32) line
+abbrev pub line_words : List ℕ → List (List ℕ)
+line_words line = slice_split (λ b. b == 32) line
 
 -- the words that are left, of a line of which this is left
 abbrev pub words_left : Option (List ℕ) → List (List ℕ)
 words_left None = []
-words_left (Some rest) = words rest
+words_left (Some rest) = line_words rest
 
 -- how a verb is written
 abbrev pub verb_text : Verb → List ℕ
@@ -78,30 +78,30 @@ abbrev pub IsChoice : List (List ℕ) → Choice → Type 0
 IsChoice ws choice = (text : List ℕ) × Chooses text choice × (ws ≡ text ∷ [])
 
 -- the words may stand behind the verb, and say the command with it
-abbrev pub Follows : Verb → List (List ℕ) → Command → Type 0
-Follows verbs.Put ws c = (a : Addr) × (text : List ℕ) × (value : Bor (List ℕ)) × AddrThen ws a (text ∷ []) × Spells text value.now × (c ≡ commands.Put a value)
-Follows verbs.Get ws c = (a : Addr) × AddrThen ws a [] × (c ≡ commands.Get a)
-Follows verbs.Commit ws c = (ws ≡ []) × (c ≡ commands.Commit)
-Follows verbs.Abort ws c = (ws ≡ []) × (c ≡ commands.Abort)
-Follows verbs.Wait ws c = (ws ≡ []) × (c ≡ commands.Wait)
-Follows verbs.Log ws c = (most : Option ℕ) × AtMost ws most × (c ≡ commands.Log most)
-Follows verbs.Install ws c = (most : Option ℕ) × AtMost ws most × (c ≡ commands.Install most)
-Follows verbs.Stat ws c = (ws ≡ []) × (c ≡ commands.Stat)
-Follows verbs.Pend ws c = (ws ≡ []) × (c ≡ commands.Pend)
-Follows verbs.Disk ws c = (block : ℕ) × (at : ℕ) × (len : ℕ) × IsNumber block × InBlock at len × (ws ≡ decimal block ∷ decimal at ∷ decimal len ∷ []) × (c ≡ commands.Disk block at len)
-Follows verbs.Fail ws c = (call : ℕ) × (1 ≤ call) × IsNumber call × (ws ≡ decimal call ∷ []) × (c ≡ commands.Fail call)
-Follows verbs.Down ws c = (choice : Choice) × IsChoice ws choice × (c ≡ commands.Down choice)
-Follows verbs.Open ws c = (ws ≡ []) × (c ≡ commands.Open)
-Follows verbs.Crash ws c = (choice : Choice) × IsChoice ws choice × (c ≡ commands.Crash choice)
-Follows verbs.Poke ws c = (block : ℕ) × (at : ℕ) × (text : List ℕ) × (value : Bor (List ℕ)) × IsNumber block × InBlock at (length value.now) × Spells text value.now × (ws ≡ decimal block ∷ decimal at ∷ text ∷ []) × (c ≡ commands.Poke block at value)
+abbrev pub FollowsVerb : Verb → List (List ℕ) → Command → Type 0
+FollowsVerb verbs.Put ws c = (a : Addr) × (text : List ℕ) × (value : Bor (List ℕ)) × AddrThen ws a (text ∷ []) × SpellsValue text value.now × (c ≡ commands.Put a value)
+FollowsVerb verbs.Get ws c = (a : Addr) × AddrThen ws a [] × (c ≡ commands.Get a)
+FollowsVerb verbs.Commit ws c = (ws ≡ []) × (c ≡ commands.Commit)
+FollowsVerb verbs.Abort ws c = (ws ≡ []) × (c ≡ commands.Abort)
+FollowsVerb verbs.Wait ws c = (ws ≡ []) × (c ≡ commands.Wait)
+FollowsVerb verbs.Log ws c = (most : Option ℕ) × AtMost ws most × (c ≡ commands.Log most)
+FollowsVerb verbs.Install ws c = (most : Option ℕ) × AtMost ws most × (c ≡ commands.Install most)
+FollowsVerb verbs.Stat ws c = (ws ≡ []) × (c ≡ commands.Stat)
+FollowsVerb verbs.Pend ws c = (ws ≡ []) × (c ≡ commands.Pend)
+FollowsVerb verbs.Disk ws c = (block : ℕ) × (at : ℕ) × (len : ℕ) × IsNumber block × InBlock at len × (ws ≡ decimal block ∷ decimal at ∷ decimal len ∷ []) × (c ≡ commands.Disk block at len)
+FollowsVerb verbs.Fail ws c = (call : ℕ) × (1 ≤ call) × IsNumber call × (ws ≡ decimal call ∷ []) × (c ≡ commands.Fail call)
+FollowsVerb verbs.Down ws c = (choice : Choice) × IsChoice ws choice × (c ≡ commands.Down choice)
+FollowsVerb verbs.Open ws c = (ws ≡ []) × (c ≡ commands.Open)
+FollowsVerb verbs.Crash ws c = (choice : Choice) × IsChoice ws choice × (c ≡ commands.Crash choice)
+FollowsVerb verbs.Poke ws c = (block : ℕ) × (at : ℕ) × (text : List ℕ) × (value : Bor (List ℕ)) × IsNumber block × InBlock at (length value.now) × SpellsValue text value.now × (ws ≡ decimal block ∷ decimal at ∷ text ∷ []) × (c ≡ commands.Poke block at value)
 
 -- the words say the command
 abbrev pub Says : List (List ℕ) → Command → Type 0
-Says ws c = (verb : Verb) × (behind : List (List ℕ)) × (ws ≡ verb_text verb ∷ behind) × Follows verb behind c
+Says ws c = (verb : Verb) × (behind : List (List ℕ)) × (ws ≡ verb_text verb ∷ behind) × FollowsVerb verb behind c
 
 -- the line says the command, by its words: one of more than 20000 bytes says none
 abbrev pub LineSays : List ℕ → Command → Type 0
-LineSays line c = (length line ≤ 20000) × Says (words line) c
+LineSays line c = (length line ≤ 20000) × Says (line_words line) c
 
 -- the bytes that the command names lie in a block
 abbrev pub IsInside : Command → Type 0

@@ -22,11 +22,11 @@ pub record ReadsAsBefore (old new : Past) : Type 0 where
   pub reads : (b : ℕ) → b < old.size → read_of new b ≡ read_of old b
 
 -- bytes of a block are shown
-abbrev pub Shows : Past → ℕ → ℕ → ℕ → Answer → Type 0
-Shows p block at len (answers.Value v) = (block < p.size) × (v ≡ slice_range (read_of p block) at (at + len)) × (length v ≡ len)
-Shows p block at len (answers.Refused why) = (block < p.size) × (why ≡ NoMemory)
-Shows p block at len answers.BadLine = block < p.size → ⊥
-Shows p block at len _ = ⊥
+abbrev pub ShowsBytes : Past → ℕ → ℕ → ℕ → Answer → Type 0
+ShowsBytes p block at len (answers.Value v) = (block < p.size) × (v ≡ slice_range (read_of p block) at (at + len)) × (length v ≡ len)
+ShowsBytes p block at len (answers.Refused why) = (block < p.size) × (why ≡ NoMemory)
+ShowsBytes p block at len answers.BadLine = block < p.size → ⊥
+ShowsBytes p block at len _ = ⊥
 
 -- bytes of a block are overwritten
 abbrev pub Pokes : Past → ℕ → ℕ → Bytes → Answer → Past → Type 0
@@ -35,9 +35,9 @@ Pokes old block at bytes (answers.Refused why) new = (block < old.size) × ((why
 Pokes old block at bytes answers.BadLine new = (block < old.size → ⊥) × (new ≡ old)
 Pokes old block at bytes _ new = ⊥
 
--- What a command is answered, and leaves: `open` has no answer here, and is told to whoever mounts disks
+-- What a command is answered, and leaves. `open` has no answer here: the loop that mounts disks gives it
 abbrev pub ObeysDown : Past → Command → Option Answer → Past → Type 0
-ObeysDown old (commands.Disk block at len) (Some answer) new = Shows old block at len answer × (new ≡ old)
+ObeysDown old (commands.Disk block at len) (Some answer) new = ShowsBytes old block at len answer × (new ≡ old)
 ObeysDown old (commands.Poke block at v) (Some answer) new = Pokes old block at v.now answer new
 ObeysDown old commands.Open answer new = (answer ≡ None) × (new ≡ old)
 ObeysDown old _ answer new = (answer ≡ Some answers.Down) × (new ≡ old)

@@ -42,10 +42,10 @@ pub record TakesBytes (bytes all : List ℕ) (old new : LinesState) : Type 0 whe
   pub left : Consumes old.left new.left all
 
 -- what is shown of an input begins with so many bytes of the line, and goes on so
-abbrev pub Shows : List ℕ → ℕ → Piece → Type 0
-Shows shown n pieces.Part = (0 < n) × (n ≡ length shown) × NoBreak shown
-Shows shown n pieces.Whole = (take (n + 1) shown ≡ take n shown ++ 10 ∷ []) × NoBreak (take n shown)
-Shows shown n pieces.End = (n ≡ 0) × (shown ≡ [])
+abbrev pub ShowsPiece : List ℕ → ℕ → Piece → Type 0
+ShowsPiece shown n pieces.Part = (0 < n) × (n ≡ length shown) × NoBreak shown
+ShowsPiece shown n pieces.Whole = (take (n + 1) shown ≡ take n shown ++ 10 ∷ []) × NoBreak (take n shown)
+ShowsPiece shown n pieces.End = (n ≡ 0) × (shown ≡ [])
 
 -- A piece of the line was taken: at least one byte where it goes on, and its newline where that was met; or the input ended
 abbrev pub TakesPiece : LinesState → LinesState → Piece → Type 0

@@ -19,7 +19,7 @@ use Rattle.jtool.specs.declared.script.Next.TheVariants as nexts
 use Rattle.jtool.specs.declared.up.Opening.{Opening}
 use Rattle.jtool.specs.declared.up.Opening.TheVariants as openings
 use Rattle.jtool.specs.Answers.{answer_line}
-use Rattle.jtool.specs.Clients.{ClientState, IsRefused, Answers as AnswersUp}
+use Rattle.jtool.specs.Clients.{ClientState, IsRefused, AnswersLine as AnswersUp}
 use Rattle.jtool.specs.Downs.{AnswersDown}
 use Rattle.jtool.specs.Commands.{LineSays}
 use Rattle.jtool.specs.Lines.{first_line, kept, TakesLine}
@@ -55,8 +55,8 @@ IsOpened answers.Opened = Unit {0}
 IsOpened answer = (old : DiskState) × (new : DiskState) × IsRefused (IsOpenRefusal (λ _. Unit {0}) old new) answer
 
 -- The line is answered so: by a journal; by a crash that opens no disk; by a disk that is down; or by what comes of an opening
-abbrev pub IsAnswered : List ℕ → Answer → Type 0
-IsAnswered line answer =
+abbrev pub IsAnswerTo : List ℕ → Answer → Type 0
+IsAnswerTo line answer =
     RepliesUp line (Continue answer)
     ⊎ (((crash : Crash) × RepliesUp line (Break crash) × (crash.opens ≡ false) × (answer ≡ answers.Done))
     ⊎ (((old : Past) × (new : Past) × AnswersDown old line (Some answer) new)
@@ -68,7 +68,7 @@ pub record Turn : Type 0 where
   pub answer : Answer
 
 abbrev pub IsTurn : Turn → Type 0
-IsTurn t = IsAnswered t.line t.answer
+IsTurn t = IsAnswerTo t.line t.answer
 
 abbrev pub printed : Turn → List ℕ
 printed t = answer_line t.answer
@@ -97,15 +97,15 @@ pub record Talks (old new : Streams) : Type 0 where
   pub bad : new.bad ≡ (old.bad || some_bad turns)
 
 -- A line was read, and nothing printed
-pub record Asks (old new : Streams) : Type 0 where
+pub record TakesOneLine (old new : Streams) : Type 0 where
   pub read : IfSome old.left (λ xs. TakesLine xs new.line new.left)
   pub quiet : Keeps old.held new.held
   pub bad : new.bad ≡ old.bad
 
 -- A line was read, or there was none any more, and nothing printed
-abbrev pub Reads : Streams → Streams → Bool → Type 0
-Reads old new true = Asks old new
-Reads old new false = IfSome old.left (λ xs. (xs ≡ []) × (new.left ≡ Some [])) × Keeps old.held new.held × (new.bad ≡ old.bad)
+abbrev pub TakesLineOrEnd : Streams → Streams → Bool → Type 0
+TakesLineOrEnd old new true = TakesOneLine old new
+TakesLineOrEnd old new false = IfSome old.left (λ xs. (xs ≡ []) × (new.left ≡ Some [])) × Keeps old.held new.held × (new.bad ≡ old.bad)
 
 -- The answer was printed, and nothing read
 pub record Prints (answer : Answer) (old new : Streams) : Type 0 where
@@ -115,9 +115,9 @@ pub record Prints (answer : Answer) (old new : Streams) : Type 0 where
   pub bad : new.bad ≡ (old.bad || is_bad answer)
 
 -- The line that was read last was answered
-pub record Answers (old new : Streams) : Type 0 where
+pub record AnswersLastLine (old new : Streams) : Type 0 where
   pub answer : Answer
-  pub answered : IsAnswered old.line answer
+  pub answered : IsAnswerTo old.line answer
   pub prints : Prints answer old new
 
 -- The output gained the answers of all lines of the input, in order, of which some were bad or none
@@ -141,24 +141,24 @@ TalksToTheEnd old new = Talks old new × IfSome old.left (λ _. new.left ≡ Som
 
 -- All lines that were read were answered, but the last, which opens the disk
 abbrev pub AsksOpening : Streams → Streams → Type 0
-AsksOpening old new = (mid : Streams) × Talks old mid × Asks mid new × IsOpening new.line
+AsksOpening old new = (mid : Streams) × Talks old mid × TakesOneLine mid new × IsOpening new.line
 
 -- what comes next, and what was read and printed before
-abbrev pub Leaves : Next → Streams → Streams → Type 0
-Leaves (nexts.Open disk) old new = IsSettled disk.past × AsksOpening old new
-Leaves (nexts.Down disk) old new = IsSettled disk.past × Talks old new
-Leaves nexts.End old new = TalksToTheEnd old new
+abbrev pub ComesTo : Next → Streams → Streams → Type 0
+ComesTo (nexts.Open disk) old new = IsSettled disk.past × AsksOpening old new
+ComesTo (nexts.Down disk) old new = IsSettled disk.past × Talks old new
+ComesTo nexts.End old new = TalksToTheEnd old new
 
 -- the same, as the line tells it that ended the journal
-abbrev pub LeavesBy : Bool → Streams → Streams → Type 0
-LeavesBy true old new = AsksOpening old new
-LeavesBy false old new = Talks old new
+abbrev pub ComesToBy : Bool → Streams → Streams → Type 0
+ComesToBy true old new = AsksOpening old new
+ComesToBy false old new = Talks old new
 
-abbrev pub LeavesCrash : Option Crash → Streams → Streams → Type 0
-LeavesCrash (Some crash) old new = LeavesBy crash.opens old new
-LeavesCrash None old new = TalksToTheEnd old new
+abbrev pub ComesToCrash : Option Crash → Streams → Streams → Type 0
+ComesToCrash (Some crash) old new = ComesToBy crash.opens old new
+ComesToCrash None old new = TalksToTheEnd old new
 
 -- the same from an opening on: the line that asked for it, where one did, is answered first
 abbrev pub Opens : Opening → Streams → Streams → Next → Type 0
-Opens openings.First old new next = Leaves next old new
-Opens openings.Asked old new next = IsOpening old.line → (mid : Streams) × Answers old mid × Leaves next mid new
+Opens openings.First old new next = ComesTo next old new
+Opens openings.Asked old new next = IsOpening old.line → (mid : Streams) × AnswersLastLine old mid × ComesTo next mid new

@@ -5,7 +5,6 @@ ghost use Rattle.std.specs.Io.KnownBytes.{Appends};
 ghost use Rattle.jtool.specs.Answers.{answer_line, to_no_command, Refuses, stat_text, pair_text, pending_text};
 ghost use Rattle.jtool.specs.Values.{text_of};
 
-use crate::refusal::{name_of, plain};
 use crate::value;
 use journal_core::Stat;
 use journal_world::{Refusal, Value};
@@ -62,7 +61,7 @@ impl Answer {
     pub fn refused<C: Drop>(why: Refusal<C>) -> Answer
         ensures { Refuses why result }
     {
-        Answer::Refused(plain(why))
+        Answer::Refused(why.with_cause(()))
     }
 
     /// Prints the answer's line.
@@ -82,7 +81,7 @@ impl Answer {
             Answer::Opened => writeln!(output, "opened"),
             Answer::Up => writeln!(output, "up"),
             Answer::Down => writeln!(output, "down"),
-            Answer::Refused(why) => writeln!(output, "refused {}", name_of(why)),
+            Answer::Refused(why) => writeln!(output, "refused {}", why.name()),
             Answer::BadLine => writeln!(output, "bad line"),
             Answer::Nothing => Ok(()),
         }

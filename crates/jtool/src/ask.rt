@@ -1,9 +1,8 @@
 // What the program's words ask for, and how the program ends.
 ghost use Rattle.std.specs.Prelude.{◌≡◌, ◌≤◌, ℕ, map, string_bytes, IfOk, IfErr, IfSome, IfNone};
-ghost use Rattle.jtool.specs.Programs.{Asks, IsSize, CannotBegin, blocks_of, status_of};
+ghost use Rattle.jtool.specs.Programs.{AsksScript, IsSize, CannotBegin, asked_blocks, status_of};
 
 use crate::number;
-use crate::refusal::{name_of, plain};
 use journal_world::{Layout, Refusal};
 use std::alloc::AllocError;
 use std::io;
@@ -21,7 +20,7 @@ pub enum Ask {
 impl Ask {
     /// What the words ask for.
     pub fn read(words: &[String]) -> Result<Ask, Fault>
-        ensures ok { IfOk result (λ ask. Asks (map string_bytes words.now) (blocks_of ask) × IsSize (blocks_of ask)) }
+        ensures ok { IfOk result (λ ask. AsksScript (map string_bytes words.now) (asked_blocks ask) × IsSize (asked_blocks ask)) }
         ensures err { IfErr result (CannotBegin (map string_bytes words.now)) }
     {
         let blocks = u64::from(blocks_asked(words).ok_or(Fault::Usage)?);
@@ -34,8 +33,8 @@ impl Ask {
 
 // How many blocks the words ask for, where they ask for a script.
 fn blocks_asked(words: &[String]) -> Option<u32>
-    ensures some { IfSome result (Asks (map string_bytes words.now)) }
-    ensures none { IfNone result ((n : ℕ) → Asks (map string_bytes words.now) n → ⊥) }
+    ensures some { IfSome result (AsksScript (map string_bytes words.now)) }
+    ensures none { IfNone result ((n : ℕ) → AsksScript (map string_bytes words.now) n → ⊥) }
 {
     match words {
         [what, blocks] if what.as_str() == "script" => number::read(blocks.as_bytes()),
@@ -85,7 +84,7 @@ impl Fault {
             Fault::Usage => writeln!(faults, "{USAGE}"),
             Fault::BadSize => writeln!(faults, "bad size"),
             Fault::BadLine => Ok(()),
-            Fault::Stopped(Stop::Refused(why)) => writeln!(faults, "refused {}", name_of(why)),
+            Fault::Stopped(Stop::Refused(why)) => writeln!(faults, "refused {}", why.name()),
             Fault::Stopped(Stop::CannotRead) => writeln!(faults, "cannot read standard input"),
             Fault::Stopped(Stop::CannotWrite) => writeln!(faults, "cannot write standard output"),
         }
@@ -95,7 +94,7 @@ impl Fault {
 impl Stop {
     /// It was refused.
     pub fn refused<C: Drop>(why: Refusal<C>) -> Stop {
-        Stop::Refused(plain(why))
+        Stop::Refused(why.with_cause(()))
     }
 }
 

@@ -4,7 +4,7 @@ ghost use Rattle.journal_world.specs.Addresses.{Value};
 ghost use Rattle.journal_twophase.specs.Journals.{IsSessionRefusal};
 ghost use Rattle.journal_twophase.specs.Transactions.{IsOverwriteRefusal, IsReadRefusal};
 ghost use Rattle.jtool.specs.Commands.{IsInside};
-ghost use Rattle.jtool.specs.Clients.{most_of, Finds, Puts, Gets, KeepsOpen, CommitsOpen, IsChosen, IsStepRefusal, Gives, Obeys, Replies, Answers, GoesOn, Ends};
+ghost use Rattle.jtool.specs.Clients.{most_of, Finds, Puts, Gets, KeepsOpen, CommitsOpen, IsChosen, IsStepRefusal, GivesAnswer, Obeys, Replies, AnswersLine, GoesOn, Ends};
 
 use crate::answer::Answer;
 use crate::blocks::bytes_of;
@@ -66,7 +66,7 @@ impl<'j, 'b, J: Naming> Client<'j, 'b, J> {
     ) -> Result<Client<'j, 'b, J>, Why<'b, J, AnyMap>>
         requires blocks { blocks ≡ J.blocks }
         ensures nothing { IfOk result (λ client. client.txn ≡ None) }
-        ensures refused { IfErr result IsSessionRefusal }
+        ensures refusal { IfErr result IsSessionRefusal }
     {
         Ok(Client {
             alloc,
@@ -84,7 +84,7 @@ impl<'j, 'b, J: Naming> Client<'j, 'b, J> {
         line: &[u8],
         room: &mut Room,
     ) -> ControlFlow<Crash, Answer>
-        ensures { Answers J.blocks self.old line.now result self.new }
+        ensures { AnswersLine J.blocks self.old line.now result self.new }
     {
         match Command::read(line, room) {
             Some(command) => self.obey(rt, command),
@@ -135,7 +135,7 @@ impl<'j, 'b, J: Naming> Client<'j, 'b, J> {
 
     fn put<W: Wait>(&mut self, rt: &W, addr: Addr, value: &[u8]) -> Answered<'b, J>
         ensures done { IfOk result (λ answer. (answer ≡ Answer.Done) × Puts self.old addr value.now self.new) }
-        ensures refused { IfErr result (λ why. KeepsOpen self.old (λ t. IsOverwriteRefusal J.blocks t addr value.now why) self.new) }
+        ensures refusal { IfErr result (λ why. KeepsOpen self.old (λ t. IsOverwriteRefusal J.blocks t addr value.now why) self.new) }
     {
         let mut txn = self.take_or_begin();
         let done = txn.overwrite(rt, addr, value);
@@ -146,7 +146,7 @@ impl<'j, 'b, J: Naming> Client<'j, 'b, J> {
 
     fn get<W: Wait>(&mut self, rt: &W, addr: Addr) -> Answered<'b, J>
         ensures value { IfOk result (λ answer. (value : Value) × (answer ≡ Answer.Value value) × Gets self.old addr value self.new) }
-        ensures refused { IfErr result (λ why. KeepsOpen self.old (λ t. IsReadRefusal J.blocks t addr why) self.new) }
+        ensures refusal { IfErr result (λ why. KeepsOpen self.old (λ t. IsReadRefusal J.blocks t addr why) self.new) }
     {
         let mut txn = self.take_or_begin();
         let value = txn.read(rt, addr);
@@ -175,40 +175,40 @@ impl<'j, 'b, J: Naming> Client<'j, 'b, J> {
     }
 
     fn wait<W: Wait>(&self, rt: &W) -> Answered<'b, J>
-        ensures answered { IfOk result (Gives J.blocks Command.Wait) }
-        ensures refused { IfErr result (IsStepRefusal Actor.Waiter) }
+        ensures answered { IfOk result (GivesAnswer J.blocks Command.Wait) }
+        ensures refusal { IfErr result (IsStepRefusal Actor.Waiter) }
     {
         drive(rt, self.journal, Actor::Waiter, u64::MAX)?;
         Ok(Answer::Stable(self.journal.stat(rt).floor))
     }
 
     fn log<W: Wait>(&self, rt: &W, most: Option<u32>) -> Answered<'b, J>
-        ensures answered { IfOk result (Gives J.blocks (Command.Log most)) }
-        ensures refused { IfErr result (IsStepRefusal Actor.Logger) }
+        ensures answered { IfOk result (GivesAnswer J.blocks (Command.Log most)) }
+        ensures refusal { IfErr result (IsStepRefusal Actor.Logger) }
     {
         let moved = drive(rt, self.journal, Actor::Logger, steps_of(most))?;
         Ok(Answer::Logged(moved))
     }
 
     fn install<W: Wait>(&self, rt: &W, most: Option<u32>) -> Answered<'b, J>
-        ensures answered { IfOk result (Gives J.blocks (Command.Install most)) }
-        ensures refused { IfErr result (IsStepRefusal Actor.Installer) }
+        ensures answered { IfOk result (GivesAnswer J.blocks (Command.Install most)) }
+        ensures refusal { IfErr result (IsStepRefusal Actor.Installer) }
     {
         let moved = drive(rt, self.journal, Actor::Installer, steps_of(most))?;
         Ok(Answer::Installed(moved))
     }
 
     fn pend<W: Wait>(&self, rt: &W) -> Answered<'b, J>
-        ensures answered { IfOk result (Gives J.blocks Command.Pend) }
-        ensures refused { IsOkUnless result Refusal.NoMemory }
+        ensures answered { IfOk result (GivesAnswer J.blocks Command.Pend) }
+        ensures refusal { IsOkUnless result Refusal.NoMemory }
     {
         Ok(Answer::Pending(self.journal.pending(rt)?))
     }
 
     fn disk<W: Wait>(&self, rt: &W, block: u32, at: u32, len: u32) -> Answered<'b, J>
         requires { at + len ≤ 4096 }
-        ensures answered { IfOk result (Gives J.blocks (Command.Disk block at len)) }
-        ensures refused { IsOkUnless result Refusal.NoMemory }
+        ensures answered { IfOk result (GivesAnswer J.blocks (Command.Disk block at len)) }
+        ensures refusal { IsOkUnless result Refusal.NoMemory }
     {
         if u64::from(block) >= self.blocks {
             return Ok(Answer::BadLine);
@@ -226,7 +226,7 @@ impl<'j, 'b, J: Naming> Client<'j, 'b, J> {
     }
 
     fn stat<W: Wait>(&self, rt: &W) -> Answer
-        ensures { Gives J.blocks Command.Stat result }
+        ensures { GivesAnswer J.blocks Command.Stat result }
     {
         Answer::Stat(self.journal.stat(rt))
     }
@@ -251,7 +251,7 @@ impl<'j, 'b, J: Naming> Client<'j, 'b, J> {
     ) -> Result<Crash, Why<'b, J, AnyMap>>
         ensures chosen { IfOk result (λ crash. IsChosen choice.entry crash.numbers.items) }
         ensures opens { IfOk result (λ crash. crash.opens ≡ opens) }
-        ensures refused { IsOkUnless result Refusal.NoMemory }
+        ensures refusal { IsOkUnless result Refusal.NoMemory }
     {
         let numbers = match choice {
             Choice::Stable => Vec::new(self.alloc),

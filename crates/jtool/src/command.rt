@@ -3,7 +3,7 @@ ghost use Rattle.std.specs.Prelude.{◌≡◌, ◌≢◌, ℕ, ◌+◌, ◌&&◌
 ghost use Rattle.journal_world.specs.declared.address.Addr.{Addr as Address};
 ghost use Rattle.jtool.specs.declared.command.Choice.{Choice as Chosen};
 ghost use Rattle.jtool.specs.declared.command.Command.{Command as Asked};
-ghost use Rattle.jtool.specs.Commands.{words as words_of, AddrThen, AtMost, IsChoice, Follows, Says, LineSays, IsInside};
+ghost use Rattle.jtool.specs.Commands.{line_words as words_of, AddrThen, AtMost, IsChoice, FollowsVerb, Says, LineSays, IsInside};
 
 mod verb;
 mod words;
@@ -113,8 +113,8 @@ fn read_words<'a>(line: &[u8], room: &'a mut Room) -> Option<Command<'a>>
 
 // The command that the words behind a verb say.
 fn read_behind<'a>(verb: Verb, words: &mut Words<'_>, room: &'a mut Room) -> Option<Command<'a>>
-    ensures found { IfSome result (Follows verb words.old) }
-    ensures none { IfNone result ((command : Asked) → Follows verb words.old command → ⊥) }
+    ensures found { IfSome result (FollowsVerb verb words.old) }
+    ensures none { IfNone result ((command : Asked) → FollowsVerb verb words.old command → ⊥) }
 {
     match verb {
         Verb::Put => read_put(words, room),
@@ -154,8 +154,8 @@ fn alone<'a>(command: Command<'a>, words: &Words<'_>) -> Option<Command<'a>>
 
 // What stands behind `put`.
 fn read_put<'a>(words: &mut Words<'_>, room: &'a mut Room) -> Option<Command<'a>>
-    ensures found { IfSome result (Follows Verb.Put words.old) }
-    ensures none { IfNone result ((command : Asked) → Follows Verb.Put words.old command → ⊥) }
+    ensures found { IfSome result (FollowsVerb Verb.Put words.old) }
+    ensures none { IfNone result ((command : Asked) → FollowsVerb Verb.Put words.old command → ⊥) }
 {
     let addr = read_addr(words)?;
     let value = room.value.read(words.word()?)?;
@@ -164,8 +164,8 @@ fn read_put<'a>(words: &mut Words<'_>, room: &'a mut Room) -> Option<Command<'a>
 
 // What stands behind `get`.
 fn read_get<'a>(words: &mut Words<'_>) -> Option<Command<'a>>
-    ensures found { IfSome result (Follows Verb.Get words.old) }
-    ensures none { IfNone result ((command : Asked) → Follows Verb.Get words.old command → ⊥) }
+    ensures found { IfSome result (FollowsVerb Verb.Get words.old) }
+    ensures none { IfNone result ((command : Asked) → FollowsVerb Verb.Get words.old command → ⊥) }
 {
     let addr = read_addr(words)?;
     alone(Command::Get { addr }, words)
@@ -173,8 +173,8 @@ fn read_get<'a>(words: &mut Words<'_>) -> Option<Command<'a>>
 
 // What stands behind `disk`.
 fn read_disk<'a>(words: &mut Words<'_>) -> Option<Command<'a>>
-    ensures found { IfSome result (Follows Verb.Disk words.old) }
-    ensures none { IfNone result ((command : Asked) → Follows Verb.Disk words.old command → ⊥) }
+    ensures found { IfSome result (FollowsVerb Verb.Disk words.old) }
+    ensures none { IfNone result ((command : Asked) → FollowsVerb Verb.Disk words.old command → ⊥) }
 {
     let block = words.number()?;
     let at = words.number()?;
@@ -187,8 +187,8 @@ fn read_disk<'a>(words: &mut Words<'_>) -> Option<Command<'a>>
 
 // What stands behind `fail`.
 fn read_fail<'a>(words: &mut Words<'_>) -> Option<Command<'a>>
-    ensures found { IfSome result (Follows Verb.Fail words.old) }
-    ensures none { IfNone result ((command : Asked) → Follows Verb.Fail words.old command → ⊥) }
+    ensures found { IfSome result (FollowsVerb Verb.Fail words.old) }
+    ensures none { IfNone result ((command : Asked) → FollowsVerb Verb.Fail words.old command → ⊥) }
 {
     let call = words.number()?;
     if call == 0 {
@@ -199,8 +199,8 @@ fn read_fail<'a>(words: &mut Words<'_>) -> Option<Command<'a>>
 
 // What stands behind `poke`.
 fn read_poke<'a>(words: &mut Words<'_>, room: &'a mut Room) -> Option<Command<'a>>
-    ensures found { IfSome result (Follows Verb.Poke words.old) }
-    ensures none { IfNone result ((command : Asked) → Follows Verb.Poke words.old command → ⊥) }
+    ensures found { IfSome result (FollowsVerb Verb.Poke words.old) }
+    ensures none { IfNone result ((command : Asked) → FollowsVerb Verb.Poke words.old command → ⊥) }
 {
     let block = words.number()?;
     let at = words.number()?;

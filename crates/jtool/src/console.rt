@@ -1,6 +1,6 @@
 // The input of a script, and what is printed.
 ghost use Rattle.std.specs.Prelude.{◌≡◌, false, OnOk, IfOk};
-ghost use Rattle.jtool.specs.Transcripts.{streams, Reads, Prints};
+ghost use Rattle.jtool.specs.Transcripts.{streams, TakesLineOrEnd, Prints};
 
 use crate::answer::Answer;
 use crate::ask::Stop;
@@ -48,10 +48,10 @@ impl<I: Read + Drop> Console<I> {
         })
     }
 
-    /// Reads the next line. `false` at the end of the input. What was printed is written out first, where
-    /// the line is not at hand, since whoever writes it may wait for that.
+    /// Reads the next line. `false` at the end of the input. Where the line is not at hand, what was printed is
+    /// written out first, since the writer of the input may wait for that answer.
     pub fn advance<O: Write>(&mut self, output: &mut O) -> Result<bool, Stop>
-        ensures { IfOk result (Reads (streams self.old (O.contents output.old)) (streams self.new (O.contents output.new))) }
+        ensures { IfOk result (TakesLineOrEnd (streams self.old (O.contents output.old)) (streams self.new (O.contents output.new))) }
     {
         if !self.lines.is_at_hand() {
             output.flush().map_err(|_| Stop::CannotWrite)?;

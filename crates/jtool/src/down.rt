@@ -2,8 +2,8 @@
 ghost use Rattle.std.specs.Prelude.{◌≡◌, ◌≤◌, ◌+◌, ◌<◌, IfOk, IsOkUnless, slice_range, length};
 ghost use Rattle.journal_disk.specs.Disks.{IsSettled, read_of};
 ghost use Rattle.jtool.specs.Commands.{IsInside};
-ghost use Rattle.jtool.specs.Downs.{AnswersDown, ObeysDown, Pokes, Shows};
-ghost use Rattle.jtool.specs.Transcripts.{streams, Leaves};
+ghost use Rattle.jtool.specs.Downs.{AnswersDown, ObeysDown, Pokes, ShowsBytes};
+ghost use Rattle.jtool.specs.Transcripts.{streams, ComesTo};
 
 use crate::answer::Answer;
 use crate::ask::Stop;
@@ -26,7 +26,7 @@ pub fn run<I: Read + Drop, O: Write>(
     output: &mut O,
 ) -> Result<Next, Stop>
     requires settled { IsSettled disk.past }
-    ensures { IfOk result (λ next. Leaves next (streams console.old (O.contents output.old)) (streams console.new (O.contents output.new))) }
+    ensures { IfOk result (λ next. ComesTo next (streams console.old (O.contents output.old)) (streams console.new (O.contents output.new))) }
 {
     let mut disk = disk;
     for _ in 0..u64::MAX {
@@ -97,7 +97,7 @@ fn poke(alloc: Global, disk: MemDisk, block: u64, at: usize, value: &[u8]) -> (M
 // Shows bytes of a block, as a read of the disk gives them. It is no device call.
 fn show(alloc: Global, disk: &MemDisk, block: u32, at: u32, len: u32) -> Answer
     requires inside { at + len ≤ 4096 }
-    ensures { Shows disk.now.past block at len result }
+    ensures { ShowsBytes disk.now.past block at len result }
 {
     if u64::from(block) >= disk.size() {
         return Answer::BadLine;

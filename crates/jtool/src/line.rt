@@ -2,7 +2,7 @@
 ghost use Rattle.std.specs.Prelude.{◌≡◌, ◌==◌, [], position, IfOk, OnOk};
 ghost use Rattle.std.specs.Io.Buffered.{reader_remaining, reader_buffer};
 ghost use Rattle.std.specs.Io.KnownBytes.{Keeps, IsAtEnd};
-ghost use Rattle.jtool.specs.Lines.{Advances, Shows, TakesPiece};
+ghost use Rattle.jtool.specs.Lines.{Advances, ShowsPiece, TakesPiece};
 
 use std::alloc::{AllocError, Global};
 use std::io;
@@ -117,7 +117,7 @@ fn fill<I: Read>(input: &mut BufReader<I>) -> io::Result<()>
 
 // How many bytes of the line stand in front, and how it goes on.
 fn first_piece(shown: &[u8]) -> (usize, Piece)
-    ensures { Shows shown.now result.0 result.1 }
+    ensures { ShowsPiece shown.now result.0 result.1 }
 {
     match first_break(shown) {
         Some(end) => (end, Piece::Whole),

@@ -3,7 +3,7 @@
 #![tactic(auto)]
 
 ghost use Rattle.std.specs.Prelude.{◌≡◌, ◌≢◌, ◌≤◌, ◌==◌, ℕ, map, string_bytes, IsErrAnd};
-ghost use Rattle.jtool.specs.Programs.{Asks, IsSize, status_of};
+ghost use Rattle.jtool.specs.Programs.{AsksScript, IsSize, status_of};
 ghost use Rattle.jtool.specs.Transcripts.{IsTranscript, Runs};
 
 mod answer;
@@ -16,7 +16,6 @@ mod console;
 mod down;
 mod line;
 mod number;
-mod refusal;
 mod room;
 mod script;
 mod steps;
@@ -47,12 +46,12 @@ pub fn run<W: Wait, I: Read, O: Write, E: Write>(
     faults: &mut E,
 ) -> u8
     // Words that ask for no script that there can be.
-    ensures words { ((n : ℕ) → Asks (map string_bytes words.now) n → IsSize n → ⊥) → result ≡ 2 }
+    ensures words { ((n : ℕ) → AsksScript (map string_bytes words.now) n → IsSize n → ⊥) → result ≡ 2 }
     ensures status { result ≤ 2 }
 
     // Words that ask for one: at status 0 or 2 the output gained the answers of all lines of the input, of which
     // some is a bad line exactly at 2.
-    ensures script { (n : ℕ) → Asks (map string_bytes words.now) n → IsSize n → result ≢ 1
+    ensures script { (n : ℕ) → AsksScript (map string_bytes words.now) n → IsSize n → result ≢ 1
         → IsTranscript (I.remaining input.old) (O.contents output.old) (O.contents output.new) (result == 2) }
 {
     match obey(rt, alloc, words, input, output) {
@@ -69,9 +68,9 @@ fn obey<W: Wait, I: Read, O: Write>(
     input: &mut I,
     output: &mut O,
 ) -> Result<(), Fault>
-    ensures words { ((n : ℕ) → Asks (map string_bytes words.now) n → IsSize n → ⊥)
+    ensures words { ((n : ℕ) → AsksScript (map string_bytes words.now) n → IsSize n → ⊥)
         → IsErrAnd result (λ fault. status_of fault ≡ 2) }
-    ensures script { (n : ℕ) → Asks (map string_bytes words.now) n → IsSize n
+    ensures script { (n : ℕ) → AsksScript (map string_bytes words.now) n → IsSize n
         → Runs (I.remaining input.old) (O.contents output.old) (O.contents output.new) result }
 {
     match Ask::read(words)? {

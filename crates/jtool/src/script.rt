@@ -3,7 +3,7 @@ ghost use Rattle.std.specs.Prelude.{◌≡◌, IfOk, OnOk};
 ghost use Rattle.journal_disk.specs.Disks.{IsSettled, read_of};
 ghost use Rattle.journal_inode.specs.Nodes.{no_time};
 ghost use Rattle.journal_inode.specs.Formats.{IsFormatted};
-ghost use Rattle.jtool.specs.Transcripts.{streams, Leaves, Runs};
+ghost use Rattle.jtool.specs.Transcripts.{streams, ComesTo, Runs};
 ghost use Rattle.jtool.specs.Programs.{IsSize};
 
 use crate::ask::{Fault, Stop};
@@ -73,7 +73,7 @@ fn answer_all<W: Wait, I: Read + Drop, O: Write>(
     output: &mut O,
 ) -> Result<(), Stop>
     requires settled { IsSettled disk.past }
-    ensures { OnOk result (Leaves Next.End (streams console.old (O.contents output.old)) (streams console.new (O.contents output.new))) }
+    ensures { OnOk result (ComesTo Next.End (streams console.old (O.contents output.old)) (streams console.new (O.contents output.new))) }
 {
     let mut next = up::run(rt, alloc, disk, Opening::First, console, output)?;
     for _ in 0..u64::MAX {

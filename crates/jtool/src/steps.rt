@@ -25,7 +25,7 @@ pub fn drive<'b, J: Naming, W: Wait>(
     most: u64,
 ) -> Result<u64, Why<'b, J, AnyMap>>
     ensures moved { IfOk result (λ moved. moved ≤ most) }
-    ensures refused { IfErr result (IsStepRefusal actor) }
+    ensures refusal { IfErr result (IsStepRefusal actor) }
 {
     for moved in 0..most {
         if let Step::Idle = step(rt, journal, actor)? {

@@ -1,7 +1,7 @@
 // A disk that is up: its journal, from the opening until it is down.
 ghost use Rattle.std.specs.Prelude.{◌≡◌, IfOk, IfSome, OnOk};
 ghost use Rattle.journal_disk.specs.Disks.{IsSettled};
-ghost use Rattle.jtool.specs.Transcripts.{streams, Opens, Leaves, LeavesCrash, IsOpening, Prints};
+ghost use Rattle.jtool.specs.Transcripts.{streams, Opens, ComesTo, ComesToCrash, IsOpening, Prints};
 
 use crate::answer::Answer;
 use crate::ask::Stop;
@@ -100,7 +100,7 @@ fn serve<'b, J: Naming, W: Wait, I: Read + Drop, O: Write>(
     output: &mut O,
 ) -> Result<Next, Stop>
     requires blocks { blocks ≡ J.blocks }
-    ensures { IfOk result (λ next. Leaves next (streams console.old (O.contents output.old)) (streams console.new (O.contents output.new))) }
+    ensures { IfOk result (λ next. ComesTo next (streams console.old (O.contents output.old)) (streams console.new (O.contents output.new))) }
 {
     let (crash, session) = answer_lines(rt, alloc, blocks, &journal, console, output)?;
     let mut session = session;
@@ -131,7 +131,7 @@ fn answer_lines<'b, J: Naming, W: Wait, I: Read + Drop, O: Write>(
     output: &mut O,
 ) -> Result<(Option<Crash>, Session<'b, J, AnyMap>), Stop>
     requires blocks { blocks ≡ J.blocks }
-    ensures { IfOk result (λ ended. LeavesCrash ended.0 (streams console.old (O.contents output.old)) (streams console.new (O.contents output.new))) }
+    ensures { IfOk result (λ ended. ComesToCrash ended.0 (streams console.old (O.contents output.old)) (streams console.new (O.contents output.new))) }
 {
     let mut client = match Client::new(rt, alloc, blocks, journal) {
         Ok(client) => client,
@@ -149,7 +149,7 @@ fn answer_each<'j, 'b, J: Naming, W: Wait, I: Read + Drop, O: Write>(
     console: &mut Console<I>,
     output: &mut O,
 ) -> Result<Option<Crash>, Stop>
-    ensures { IfOk result (λ crash. LeavesCrash crash (streams console.old (O.contents output.old)) (streams console.new (O.contents output.new))) }
+    ensures { IfOk result (λ crash. ComesToCrash crash (streams console.old (O.contents output.old)) (streams console.new (O.contents output.new))) }
 {
     for _ in 0..u64::MAX {
         if !console.advance(output)? {

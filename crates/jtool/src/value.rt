@@ -2,7 +2,7 @@
 ghost use Rattle.std.specs.Prelude.{◌≡◌, ◌≢◌, ℕ, ◌+◌, ◌<◌, ◌≤◌, false, List, [], ◌∷◌, length, IsTrue, IfSome, IfNone, MatchOption, OnOk, vec_len, vec_capacity, slice_index, nat_eq, take_while};
 ghost use Rattle.std.specs.Fmt.{decimal};
 ghost use Rattle.std.specs.Io.KnownBytes.{Appends};
-ghost use Rattle.jtool.specs.Values.{Spells, AddsTerm, NoTermFits, digit, hex, runs, run_text, text_of};
+ghost use Rattle.jtool.specs.Values.{SpellsValue, AddsTerm, NoTermFits, digit, hex, runs, run_text, text_of};
 
 use crate::number;
 use std::alloc::{AllocError, Global};
@@ -30,9 +30,9 @@ impl ValueRoom {
 
     /// The value that the text spells, or `None` where it spells none. It takes no memory.
     pub fn read(&mut self, text: &[u8]) -> Option<&[u8]>
-        ensures found { IfSome result (λ value. Spells text.now value.now) }
-        ensures only { IfSome result (λ value. (other : List ℕ) → Spells text.now other → other ≡ value.now) }
-        ensures none { IfNone result ((value : List ℕ) → Spells text.now value → ⊥) }
+        ensures found { IfSome result (λ value. SpellsValue text.now value.now) }
+        ensures only { IfSome result (λ value. (other : List ℕ) → SpellsValue text.now other → other ≡ value.now) }
+        ensures none { IfNone result ((value : List ℕ) → SpellsValue text.now value → ⊥) }
     {
         self.bytes.clear();
         if !self.push_terms(text) {
@@ -44,8 +44,8 @@ impl ValueRoom {
     // Adds the bytes of the text's terms. `false` says that the text is no terms, or too many.
     fn push_terms(&mut self, text: &[u8]) -> bool
         requires { self.old.bytes.items ≡ [] }
-        ensures found { IsTrue result → Spells text.now self.new.bytes.items }
-        ensures none { result ≡ false → (value : List ℕ) → Spells text.now value → ⊥ }
+        ensures found { IsTrue result → SpellsValue text.now self.new.bytes.items }
+        ensures none { result ≡ false → (value : List ℕ) → SpellsValue text.now value → ⊥ }
     {
         for term in text.split(|byte| *byte == b'+') {
             if !self.push_term(term) {
@@ -124,7 +124,7 @@ fn value_of(letter: u8) -> Option<u8>
     }
 }
 
-// How often a byte stands: 1 to 4096 times.
+// The count behind a `*`: 1 to 4096.
 fn count_of(text: &[u8]) -> Option<usize>
     ensures { MatchOption result
         ((count : ℕ) → 1 ≤ count → count ≤ 4096 → text.now ≢ decimal count)
@@ -149,7 +149,7 @@ pub fn print<W: Write>(output: &mut W, value: &[u8]) -> io::Result<()>
     ensures printed { OnOk result
         (Appends (W.contents output.old) (W.contents output.new) (text_of value.now)) }
     ensures spells { OnOk result (0 < length value.now → length value.now ≤ 4096
-        → Spells (text_of value.now) value.now) }
+        → SpellsValue (text_of value.now) value.now) }
 {
     let mut rest = value;
     while let Some((run, more)) = split_run(rest) {

@@ -2,7 +2,8 @@
 ghost use Rattle.std.specs.Prelude.{ℕ, ◌≡◌, ◌⊎◌, ◌<◌, ◌≤◌, ◌-◌, true, false, drop, IsTrue, OnOk, OnErr, IfErr, IsErr, MatchResult};
 ghost use Rattle.journal_disk.specs.Disks.{write, barrier};
 ghost use Rattle.journal_circ.specs.Log.{start_block};
-ghost use Rattle.journal_circ.specs.Ring.{log_of, home_of, Steps, SameHome, SameHomeBut, SameBlocks, IsFault, IsLogged, IsInstalled, Happens, MayHappen};
+ghost use Rattle.journal_circ.specs.Ring.{log_of, home_of, Crashes, SameHome, SameHomeBut, SameBlocksTo, IsFault, IsLogged, IsInstalled, MakesCall, TriesCall};
+ghost use Rattle.journal_circ.specs.declared.layout.TheConstants.{FIRST_HOME};
 
 use crate::Circ;
 use crate::layout::START_BLOCK;
@@ -46,30 +47,30 @@ impl<D: BlockDisk> Circ<D> {
         block: u64,
         from: &Block,
     ) -> Result<HomesPut, Refusal<()>>
-        requires idle { self.old.marks.freed ≡ self.old.marks.start }
-        requires home { 513 ≤ block }
+        requires idle { self.old.extent.freed ≡ self.old.extent.start }
+        requires home { FIRST_HOME ≤ block }
         requires on_disk { block < self.old.disk.past.size }
         requires logged { IsTrue self.old.disk.honest → IsLogged self.old block }
-        ensures cause { IfErr result (IsFault self.old.faulted self.old.disk self.new.disk) }
+        ensures refusal { IfErr result (IsFault self.old.faulted self.old.disk self.new.disk) }
         ensures faulted { IsTrue self.old.faulted → IsErr result × (self.new ≡ self.old) }
-        ensures step { Steps self.old.marks.coming self.old self.new }
-        ensures done { OnOk result (Happens (write block from.now) self.old.disk self.new.disk) }
-        ensures call { MayHappen (write block from.now) self.old.disk self.new.disk }
+        ensures crash { Crashes self.old.extent.coming self.old self.new }
+        ensures makes { OnOk result (MakesCall (write block from.now) self.old.disk self.new.disk) }
+        ensures tries { TriesCall (write block from.now) self.old.disk self.new.disk }
         ensures log { IsTrue self.old.disk.honest → log_of self.new ≡ log_of self.old }
         ensures home { IsTrue self.old.disk.honest → OnOk result (home_of self.new block ≡ from.now) }
         ensures others { IsTrue self.old.disk.honest → SameHomeBut block self.old self.new }
         ensures ok { OnOk result (self.new ≡ record self.old {
           disk = self.new.disk;
-          marks = record self.old.marks { homes = false };
+          extent = record self.old.extent { homes = false };
         }) }
         ensures err { OnErr result (IsTrue self.old.faulted ⊎ (self.new ≡ record self.old {
           disk = self.new.disk;
-          marks = record self.old.marks { homes = false };
+          extent = record self.old.extent { homes = false };
           faulted = true;
         })) }
     {
         self.device.check()?;
-        self.marks.homes = false;
+        self.extent.homes = false;
         self.device.write(block, from)?;
         Ok(state)
     }
@@ -78,22 +79,22 @@ impl<D: BlockDisk> Circ<D> {
     ///
     /// Answers J6, and nothing else, where the device failed in this call or before.
     pub fn sync_homes(&mut self, _state: HomesPut) -> Result<HomesSynced, Refusal<()>>
-        ensures cause { IfErr result (IsFault self.old.faulted self.old.disk self.new.disk) }
+        ensures refusal { IfErr result (IsFault self.old.faulted self.old.disk self.new.disk) }
         ensures faulted { IsTrue self.old.faulted → IsErr result × (self.new ≡ self.old) }
-        ensures step { Steps self.old.marks.coming self.old self.new }
-        ensures done { OnOk result (Happens barrier self.old.disk self.new.disk) }
-        ensures call { MayHappen barrier self.old.disk self.new.disk }
+        ensures crash { Crashes self.old.extent.coming self.old self.new }
+        ensures makes { OnOk result (MakesCall barrier self.old.disk self.new.disk) }
+        ensures tries { TriesCall barrier self.old.disk self.new.disk }
         ensures log { IsTrue self.old.disk.honest → log_of self.new ≡ log_of self.old }
         ensures home { IsTrue self.old.disk.honest → SameHome self.old self.new }
         ensures ok { OnOk result (self.new ≡ record self.old {
           disk = self.new.disk;
-          marks = record self.old.marks { homes = true };
+          extent = record self.old.extent { homes = true };
         }) }
         ensures err { OnErr result (self.new ≡ record self.old { disk = self.new.disk; faulted = true }) }
     {
         // The home blocks must be stable before block 1 frees their positions.
         self.device.barrier()?;
-        self.marks.homes = true;
+        self.extent.homes = true;
         Ok(HomesSynced(()))
     }
 
@@ -102,31 +103,31 @@ impl<D: BlockDisk> Circ<D> {
     /// Answers J6, and nothing else, where the device failed in this call or before. After a device call that
     /// failed the log may begin at the old or at the new start.
     pub fn put_start(&mut self, _state: HomesSynced, upto: u64) -> Result<StartPut, Refusal<()>>
-        requires synced { IsTrue self.old.marks.homes }
-        requires idle { self.old.marks.freed ≡ self.old.marks.start }
-        requires above { self.old.marks.start ≤ upto }
-        requires below { upto ≤ self.old.marks.end }
+        requires synced { IsTrue self.old.extent.homes }
+        requires idle { self.old.extent.freed ≡ self.old.extent.start }
+        requires above { self.old.extent.start ≤ upto }
+        requires below { upto ≤ self.old.extent.end }
         requires installed { IsTrue self.old.disk.honest → IsInstalled self.old upto }
-        ensures cause { IfErr result (IsFault self.old.faulted self.old.disk self.new.disk) }
+        ensures refusal { IfErr result (IsFault self.old.faulted self.old.disk self.new.disk) }
         ensures faulted { IsTrue self.old.faulted → IsErr result × (self.new ≡ self.old) }
-        ensures step { Steps self.old.marks.coming self.old self.new }
-        ensures done { OnOk result (Happens (write 1 (start_block upto)) self.old.disk self.new.disk) }
-        ensures call { MayHappen (write 1 (start_block upto)) self.old.disk self.new.disk }
+        ensures crash { Crashes self.old.extent.coming self.old self.new }
+        ensures makes { OnOk result (MakesCall (write 1 (start_block upto)) self.old.disk self.new.disk) }
+        ensures tries { TriesCall (write 1 (start_block upto)) self.old.disk self.new.disk }
         ensures log { IsTrue self.old.disk.honest → log_of self.new ≡ log_of self.old }
         ensures home { IsTrue self.old.disk.honest → SameHome self.old self.new }
         ensures ok { OnOk result (self.new ≡ record self.old {
           disk = self.new.disk;
-          marks = record self.old.marks { freed = upto };
+          extent = record self.old.extent { freed = upto };
         }) }
         ensures err { OnErr result (IsTrue self.old.faulted ⊎ (self.new ≡ record self.old {
           disk = self.new.disk;
-          marks = record self.old.marks { freed = upto };
+          extent = record self.old.extent { freed = upto };
           faulted = true;
         })) }
     {
         self.device.check()?;
         self.start_block.put(upto);
-        self.marks.freed = upto;
+        self.extent.freed = upto;
         self.device.write(START_BLOCK, self.start_block.block())?;
         Ok(StartPut(()))
     }
@@ -136,25 +137,25 @@ impl<D: BlockDisk> Circ<D> {
     ///
     /// Answers J6, and nothing else, where the device failed in this call or before.
     pub fn sync_start(&mut self, _state: StartPut) -> Result<Freed, Refusal<()>>
-        ensures cause { IfErr result (IsFault self.old.faulted self.old.disk self.new.disk) }
+        ensures refusal { IfErr result (IsFault self.old.faulted self.old.disk self.new.disk) }
         ensures faulted { IsTrue self.old.faulted → IsErr result × (self.new ≡ self.old) }
-        ensures step { Steps self.old.marks.coming self.old self.new }
-        ensures done { OnOk result (Happens barrier self.old.disk self.new.disk) }
-        ensures call { MayHappen barrier self.old.disk self.new.disk }
+        ensures crash { Crashes self.old.extent.coming self.old self.new }
+        ensures makes { OnOk result (MakesCall barrier self.old.disk self.new.disk) }
+        ensures tries { TriesCall barrier self.old.disk self.new.disk }
         ensures log { IsTrue self.old.disk.honest → MatchResult result
-            (λ _. log_of self.new ≡ drop (self.old.marks.freed - self.old.marks.start) (log_of self.old))
+            (λ _. log_of self.new ≡ drop (self.old.extent.freed - self.old.extent.start) (log_of self.old))
             (λ _. log_of self.new ≡ log_of self.old) }
         ensures home { IsTrue self.old.disk.honest → SameHome self.old self.new }
-        ensures blocks { IsTrue self.old.disk.honest → SameBlocks self.old self.new }
+        ensures blocks { IsTrue self.old.disk.honest → SameBlocksTo self.old self.new }
         ensures ok { OnOk result (self.new ≡ record self.old {
           disk = self.new.disk;
-          marks = record self.old.marks { start = self.old.marks.freed };
+          extent = record self.old.extent { start = self.old.extent.freed };
         }) }
         ensures err { OnErr result (self.new ≡ record self.old { disk = self.new.disk; faulted = true }) }
     {
         // The start must be stable before a freed position is written again.
         self.device.barrier()?;
-        self.marks.start = self.marks.freed;
+        self.extent.start = self.extent.freed;
         Ok(Freed(()))
     }
 }

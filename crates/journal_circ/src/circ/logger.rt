@@ -2,7 +2,8 @@
 ghost use Rattle.std.specs.Prelude.{ℕ, ◌≡◌, ◌⊎◌, ◌<◌, ◌≤◌, ◌+◌, ◌^◌, [], ◌∷◌, ◌++◌, true, IsTrue, OnOk, OnErr, IfErr, IsErr, MatchResult};
 ghost use Rattle.journal_disk.specs.Disks.{write, barrier};
 ghost use Rattle.journal_circ.specs.Log.{log_block, with_address, with_end};
-ghost use Rattle.journal_circ.specs.Ring.{log_of, Steps, SameHome, IsFault, Happens, MayHappen};
+ghost use Rattle.journal_circ.specs.Ring.{log_of, Crashes, SameHome, IsFault, MakesCall, TriesCall};
+ghost use Rattle.journal_circ.specs.declared.layout.TheConstants.{FIRST_HOME, LOG_POSITIONS};
 
 use crate::Circ;
 use crate::layout::{BOUND_AT, HEADER, address_at, log_block};
@@ -12,11 +13,11 @@ use journal_world::Refusal;
 
 /// Updates of a group were put, or none.
 #[derive(Drop)]
-pub struct SlotsPut(pub(super) ());
+pub struct LogBlocksPut(pub(super) ());
 
 /// The log blocks of all updates that were put are on the disk.
 #[derive(Drop)]
-pub struct SlotsSynced(());
+pub struct LogBlocksSynced(());
 
 /// Block 0 was put with the end of the group.
 #[derive(Drop)]
@@ -29,20 +30,20 @@ impl<D: BlockDisk> Circ<D> {
     /// Answers J6, and nothing else, where the device failed in this call or before.
     pub fn put_slot(
         &mut self,
-        state: SlotsPut,
+        state: LogBlocksPut,
         address: u64,
         from: &Block,
-    ) -> Result<SlotsPut, Refusal<()>>
-        requires room { self.old.next < self.old.marks.start + 511 }
+    ) -> Result<LogBlocksPut, Refusal<()>>
+        requires room { self.old.next < self.old.extent.start + LOG_POSITIONS }
         requires small { self.old.next + 1 < 2 ^ 62 }
-        requires home { 513 ≤ address }
+        requires home { FIRST_HOME ≤ address }
         requires on_disk { address < self.old.disk.past.size }
-        ensures cause { IfErr result (IsFault self.old.faulted self.old.disk self.new.disk) }
+        ensures refusal { IfErr result (IsFault self.old.faulted self.old.disk self.new.disk) }
         ensures faulted { IsTrue self.old.faulted → IsErr result × (self.new ≡ self.old) }
-        ensures step { Steps self.old.marks.coming self.old self.new }
-        ensures done { OnOk result
-            (Happens (write (log_block self.old.next) from.now) self.old.disk self.new.disk) }
-        ensures call { MayHappen (write (log_block self.old.next) from.now) self.old.disk self.new.disk }
+        ensures crash { Crashes self.old.extent.coming self.old self.new }
+        ensures makes { OnOk result
+            (MakesCall (write (log_block self.old.next) from.now) self.old.disk self.new.disk) }
+        ensures tries { TriesCall (write (log_block self.old.next) from.now) self.old.disk self.new.disk }
         ensures log { IsTrue self.old.disk.honest → MatchResult result
             (λ _. log_of self.new ≡ log_of self.old ++ record { block = address; bytes = from.now } ∷ [])
             (λ _. log_of self.new ≡ log_of self.old) }
@@ -63,56 +64,56 @@ impl<D: BlockDisk> Circ<D> {
     /// Makes the log blocks stable of all updates that were put.
     ///
     /// Answers J6, and nothing else, where the device failed in this call or before.
-    pub fn sync_slots(&mut self, _state: SlotsPut) -> Result<SlotsSynced, Refusal<()>>
-        ensures cause { IfErr result (IsFault self.old.faulted self.old.disk self.new.disk) }
+    pub fn sync_slots(&mut self, _state: LogBlocksPut) -> Result<LogBlocksSynced, Refusal<()>>
+        ensures refusal { IfErr result (IsFault self.old.faulted self.old.disk self.new.disk) }
         ensures faulted { IsTrue self.old.faulted → IsErr result × (self.new ≡ self.old) }
-        ensures step { Steps self.old.marks.coming self.old self.new }
-        ensures done { OnOk result (Happens barrier self.old.disk self.new.disk) }
-        ensures call { MayHappen barrier self.old.disk self.new.disk }
+        ensures crash { Crashes self.old.extent.coming self.old self.new }
+        ensures makes { OnOk result (MakesCall barrier self.old.disk self.new.disk) }
+        ensures tries { TriesCall barrier self.old.disk self.new.disk }
         ensures log { IsTrue self.old.disk.honest → log_of self.new ≡ log_of self.old }
         ensures home { IsTrue self.old.disk.honest → SameHome self.old self.new }
         ensures ok { OnOk result (self.new ≡ record self.old {
           disk = self.new.disk;
-          marks = record self.old.marks { stable = self.old.next };
+          extent = record self.old.extent { stable = self.old.next };
         }) }
         ensures err { OnErr result (self.new ≡ record self.old { disk = self.new.disk; faulted = true }) }
     {
         // The log blocks must be stable before block 0 names them.
         self.device.barrier()?;
-        self.marks.stable = self.next;
-        Ok(SlotsSynced(()))
+        self.extent.stable = self.next;
+        Ok(LogBlocksSynced(()))
     }
 
     /// Puts the end of the log behind the group. From here on an image may stand for the blocks with it.
     ///
     /// Answers J6, and nothing else, where the device failed in this call or before. After a device call that
     /// failed an image may stand for the blocks with the group or without it.
-    pub fn put_end(&mut self, _state: SlotsSynced) -> Result<EndPut, Refusal<()>>
-        requires synced { self.old.marks.stable ≡ self.old.next }
-        requires one { self.old.marks.coming ≡ self.old.marks.end }
-        ensures cause { IfErr result (IsFault self.old.faulted self.old.disk self.new.disk) }
+    pub fn put_end(&mut self, _state: LogBlocksSynced) -> Result<EndPut, Refusal<()>>
+        requires synced { self.old.extent.stable ≡ self.old.next }
+        requires one { self.old.extent.coming ≡ self.old.extent.end }
+        ensures refusal { IfErr result (IsFault self.old.faulted self.old.disk self.new.disk) }
         ensures faulted { IsTrue self.old.faulted → IsErr result × (self.new ≡ self.old) }
-        ensures step { Steps self.old.next self.old self.new }
-        ensures done { OnOk result
-            (Happens (write 0 (with_end self.old.header self.old.next)) self.old.disk self.new.disk) }
-        ensures call { MayHappen (write 0 (with_end self.old.header self.old.next)) self.old.disk self.new.disk }
+        ensures crash { Crashes self.old.next self.old self.new }
+        ensures makes { OnOk result
+            (MakesCall (write 0 (with_end self.old.header self.old.next)) self.old.disk self.new.disk) }
+        ensures tries { TriesCall (write 0 (with_end self.old.header self.old.next)) self.old.disk self.new.disk }
         ensures log { IsTrue self.old.disk.honest → log_of self.new ≡ log_of self.old }
         ensures home { IsTrue self.old.disk.honest → SameHome self.old self.new }
         ensures ok { OnOk result (self.new ≡ record self.old {
           disk = self.new.disk;
           header = with_end self.old.header self.old.next;
-          marks = record self.old.marks { coming = self.old.next };
+          extent = record self.old.extent { coming = self.old.next };
         }) }
         ensures err { OnErr result (IsTrue self.old.faulted ⊎ (self.new ≡ record self.old {
           disk = self.new.disk;
           header = with_end self.old.header self.old.next;
-          marks = record self.old.marks { coming = self.old.next };
+          extent = record self.old.extent { coming = self.old.next };
           faulted = true;
         })) }
     {
         self.device.check()?;
         self.header.put_u64(BOUND_AT, self.next);
-        self.marks.coming = self.next;
+        self.extent.coming = self.next;
         self.device.write(HEADER, &self.header)?;
         Ok(EndPut(()))
     }
@@ -120,23 +121,23 @@ impl<D: BlockDisk> Circ<D> {
     /// Makes the end stable: from here on each image stands for the blocks with the group.
     ///
     /// Answers J6, and nothing else, where the device failed in this call or before.
-    pub fn sync_end(&mut self, _state: EndPut) -> Result<SlotsPut, Refusal<()>>
-        ensures cause { IfErr result (IsFault self.old.faulted self.old.disk self.new.disk) }
+    pub fn sync_end(&mut self, _state: EndPut) -> Result<LogBlocksPut, Refusal<()>>
+        ensures refusal { IfErr result (IsFault self.old.faulted self.old.disk self.new.disk) }
         ensures faulted { IsTrue self.old.faulted → IsErr result × (self.new ≡ self.old) }
-        ensures step { Steps self.old.marks.coming self.old self.new }
-        ensures done { OnOk result (Happens barrier self.old.disk self.new.disk) }
-        ensures call { MayHappen barrier self.old.disk self.new.disk }
+        ensures crash { Crashes self.old.extent.coming self.old self.new }
+        ensures makes { OnOk result (MakesCall barrier self.old.disk self.new.disk) }
+        ensures tries { TriesCall barrier self.old.disk self.new.disk }
         ensures log { IsTrue self.old.disk.honest → log_of self.new ≡ log_of self.old }
         ensures home { IsTrue self.old.disk.honest → SameHome self.old self.new }
         ensures ok { OnOk result (self.new ≡ record self.old {
           disk = self.new.disk;
-          marks = record self.old.marks { end = self.old.marks.coming };
+          extent = record self.old.extent { end = self.old.extent.coming };
         }) }
         ensures err { OnErr result (self.new ≡ record self.old { disk = self.new.disk; faulted = true }) }
     {
         // The end must be stable before the group counts as logged.
         self.device.barrier()?;
-        self.marks.end = self.marks.coming;
-        Ok(SlotsPut(()))
+        self.extent.end = self.extent.coming;
+        Ok(LogBlocksPut(()))
     }
 }

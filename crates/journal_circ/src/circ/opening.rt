@@ -4,17 +4,18 @@ ghost use Rattle.journal_world.specs.declared.layout.TheConstants.{MIN_BLOCKS};
 ghost use Rattle.journal_block.specs.Block.{u64_at};
 ghost use Rattle.journal_disk.specs.Disks.{Keeps, IsSettled, read_of};
 ghost use Rattle.journal_disk.specs.Images.{EveryImage, reading};
-ghost use Rattle.journal_circ.specs.Log.{address, start_of, end_of, IsLog, IsWellFormed};
+ghost use Rattle.journal_circ.specs.Log.{address, start_in, end_in, DescribesLog, IsWellFormed};
 ghost use Rattle.journal_circ.specs.StandsFor.{StandsFor};
-ghost use Rattle.journal_circ.specs.Ring.{blocks_to, IsReason, at_rest};
+ghost use Rattle.journal_circ.specs.Ring.{blocks_to, IsOpenRefusal, at_rest};
+ghost use Rattle.journal_circ.specs.declared.layout.TheConstants.{FIRST_HOME};
 
 use crate::Circ;
 use crate::circ::installer::HomesPut;
-use crate::circ::logger::SlotsPut;
+use crate::circ::logger::LogBlocksPut;
 use crate::circ::start_block::StartBlock;
+use crate::extent::Extent;
 use crate::fail_stop::FailStop;
 use crate::layout::{BOUND_AT, FIRST_HOME, HEADER, LOG_POSITIONS, START_BLOCK, address_at};
-use crate::marks::Marks;
 use journal_block::Block;
 use journal_disk::BlockDisk;
 use journal_world::{Refusal, Refused};
@@ -24,7 +25,7 @@ use std::alloc::Global;
 #[derive(Drop)]
 pub struct Opened<D: BlockDisk> {
     pub circ: Circ<D>,
-    pub logger: SlotsPut,
+    pub logger: LogBlocksPut,
     pub installer: HomesPut,
 }
 
@@ -47,7 +48,7 @@ impl<D: BlockDisk> Circ<D> {
         requires in_range { MIN_BLOCKS ≤ (D.state disk).past.size }
         requires settled { IsTrue (D.state disk).honest → IsSettled (D.state disk).past }
         ensures refusal { IfErr result (λ refused.
-            IsReason (D.state disk) (D.state refused.disk) refused.refusal) }
+            IsOpenRefusal (D.state disk) (D.state refused.disk) refused.refusal) }
         ensures keeps { MatchResult result
             (λ opened. Keeps (D.state disk) opened.circ.disk)
             (λ refused. Keeps (D.state disk) (D.state refused.disk)) }
@@ -55,13 +56,13 @@ impl<D: BlockDisk> Circ<D> {
             (λ opened. opened.circ.disk.past ≡ (D.state disk).past)
             (λ refused. (D.state refused.disk).past ≡ (D.state disk).past) }
         ensures well_formed { IsTrue (D.state disk).honest → IfOk result (λ _. IsWellFormed (reading (D.state disk).past)) }
-        ensures ok { IfOk result (λ opened. opened.circ ≡ at_rest opened.circ.disk opened.circ.header opened.circ.marks.start) }
+        ensures ok { IfOk result (λ opened. opened.circ ≡ at_rest opened.circ.disk opened.circ.header opened.circ.extent.start) }
         ensures header { IsTrue (D.state disk).honest → IfOk result (λ opened. opened.circ.header ≡ read_of (D.state disk).past 0) }
         // The bounds are those that the disk tells.
-        ensures start { IsTrue (D.state disk).honest → IfOk result (λ opened. opened.circ.marks.start ≡ start_of (reading (D.state disk).past)) }
-        ensures end { IsTrue (D.state disk).honest → IfOk result (λ opened. opened.circ.marks.end ≡ end_of (reading (D.state disk).past)) }
+        ensures start { IsTrue (D.state disk).honest → IfOk result (λ opened. opened.circ.extent.start ≡ start_in (reading (D.state disk).past)) }
+        ensures end { IsTrue (D.state disk).honest → IfOk result (λ opened. opened.circ.extent.end ≡ end_in (reading (D.state disk).past)) }
         ensures images { IsTrue (D.state disk).honest → IfOk result (λ opened.
-            EveryImage opened.circ.disk.past (StandsFor opened.circ.disk.past.size (blocks_to opened.circ opened.circ.marks.end))) }
+            EveryImage opened.circ.disk.past (StandsFor opened.circ.disk.past.size (blocks_to opened.circ opened.circ.extent.end))) }
     {
         let mut device = FailStop {
             disk,
@@ -75,16 +76,16 @@ impl<D: BlockDisk> Circ<D> {
                     start_block,
                 },
             ) => {
-                let marks = Marks::at_rest(start, header.get_u64(BOUND_AT));
+                let extent = Extent::at_rest(start, header.get_u64(BOUND_AT));
                 Ok(Opened {
                     circ: Circ {
                         device,
                         header,
                         start_block,
-                        marks,
-                        next: marks.end,
+                        extent,
+                        next: extent.end,
                     },
-                    logger: SlotsPut(()),
+                    logger: LogBlocksPut(()),
                     installer: HomesPut(()),
                 })
             }
@@ -103,12 +104,12 @@ fn read_headers<D: BlockDisk>(
 ) -> Result<Headers, Refusal<()>>
     requires in_range { MIN_BLOCKS ≤ (D.state device.old.disk).past.size }
     requires sound { device.old.faulted ≡ false }
-    ensures refusal { IfErr result (IsReason (D.state device.old.disk) (D.state device.new.disk)) }
+    ensures refusal { IfErr result (IsOpenRefusal (D.state device.old.disk) (D.state device.new.disk)) }
     ensures keeps { Keeps (D.state device.old.disk) (D.state device.new.disk) }
     ensures same { IsTrue (D.state device.old.disk).honest →
         (D.state device.new.disk).past ≡ (D.state device.old.disk).past }
     ensures sound { IfOk result (λ _. device.new.faulted ≡ false) }
-    ensures log { IfOk result (λ headers. IsLog headers.header headers.start (D.state device.old.disk).past.size) }
+    ensures log { IfOk result (λ headers. DescribesLog headers.header headers.start (D.state device.old.disk).past.size) }
     ensures header { IsTrue (D.state device.old.disk).honest →
         IfOk result (λ headers. headers.header ≡ read_of (D.state device.old.disk).past 0) }
     ensures start { IsTrue (D.state device.old.disk).honest →
@@ -131,7 +132,7 @@ fn read_headers<D: BlockDisk>(
 
 // Whether block 0 describes a log that begins at the position.
 fn is_log(header: &Block, start: u64, blocks: u64) -> bool
-    ensures { IsTrue result ↔ IsLog header.now start blocks }
+    ensures { IsTrue result ↔ DescribesLog header.now start blocks }
 {
     let end = header.get_u64(BOUND_AT);
     if start > end || end >= 1 << 62 {
@@ -147,7 +148,7 @@ fn is_log(header: &Block, start: u64, blocks: u64) -> bool
 fn are_homes(header: &Block, start: u64, end: u64, blocks: u64) -> bool
     requires { start ≤ end }
     ensures { IsTrue result ↔ ((q : ℕ) → start ≤ q → q < end
-        → (513 ≤ address header.now q) × (address header.now q < blocks)) }
+        → (FIRST_HOME ≤ address header.now q) × (address header.now q < blocks)) }
 {
     for position in start..end {
         let home = header.get_u64(address_at(position));

@@ -1,7 +1,7 @@
 // The words of a line, read one after another.
 ghost use Rattle.std.specs.Prelude.{◌≡◌, ◌≢◌, ◌==◌, ◌∷◌, [], List, ℕ, position, IfSome, IfNone, MatchOption};
 ghost use Rattle.std.specs.Fmt.{decimal};
-ghost use Rattle.jtool.specs.Commands.{words as words_of, IsNumber};
+ghost use Rattle.jtool.specs.Commands.{line_words as words_of, IsNumber};
 
 use crate::number;
 use std::marker::Model;

@@ -4,7 +4,7 @@ use Rattle.std.proofs.lemmas.Result.{on_ok_weaker}
 use Rattle.journal_world.specs.declared.layout.TheConstants.{FIRST_DATA}
 use Rattle.journal_inode.specs.declared.node.Time.{Time}
 use Rattle.journal_inode.specs.declared.node.Node.TheVariants.{Root}
-use Rattle.journal_inode.specs.Nodes.{bytes_of}
+use Rattle.journal_inode.specs.Nodes.{inode_bytes}
 use Rattle.journal_inode.specs.Sound.{superblock_of}
 use Rattle.journal_inode.proofs.Formatted.{formatted}
 use Rattle.journal_inode.proofs.making.write_all.Goals as goal
@@ -19,7 +19,7 @@ returns-clause-blocks g c = λ honest.
     (record {
       superblock_is = c.in_ok-superblock.ensures.bytes ∙ ap superblock_of c.size-blocks.ensures;
       bits = λ k low. c.in_ok-bitmap.ensures.bits k low ∙ ap (λ (n : ℕ). nat_le (n - FIRST_DATA) k) c.size-blocks.ensures;
-      root = c.in_ok-inodes.ensures.root ∙ ap (λ (t : Time). bytes_of (Root t)) c.at.ensures;
+      root = c.in_ok-inodes.ensures.root ∙ ap (λ (t : Time). inode_bytes (Root t)) c.at.ensures;
       others = c.in_ok-inodes.ensures.others;
     })
     (c.in_ok-write.ensures.written honest) (c.in_ok-write-2.ensures.written honest_1) (c.in_ok-write-3.ensures.written honest_2) synced)

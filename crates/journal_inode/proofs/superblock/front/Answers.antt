@@ -1,14 +1,14 @@
 use Rattle.std.proofs.Common.{ℕ, ◌≡◌, List, [], ◌∷◌, replicate, refl, ap, ◌∙◌, w64}
 use Rattle.std.specs.Int.{to_le_bytes}
 use Rattle.journal_inode.specs.Nodes.{with_piece}
-use Rattle.journal_inode.specs.Sound.{front_of}
+use Rattle.journal_inode.specs.Sound.{superblock_head}
 use Rattle.journal_inode.proofs.superblock.front.Goals as goal
 
 abbrev name : List ℕ
 name = 0x47 ∷ 0x4a ∷ 0x4e ∷ 0x4c ∷ 0x44 ∷ 0x53 ∷ 0x4b ∷ 0x31 ∷ []
 
-pieces : (blocks : ℕ) → with_piece (with_piece (with_piece (replicate 24 0) 0 name) 8 (to_le_bytes w64 1)) 16 (to_le_bytes w64 blocks) ≡ front_of blocks
-unfolding front_of
+pieces : (blocks : ℕ) → with_piece (with_piece (with_piece (replicate 24 0) 0 name) 8 (to_le_bytes w64 1)) 16 (to_le_bytes w64 blocks) ≡ superblock_head blocks
+unfolding superblock_head
 pieces blocks = refl
 
 step : (at : ℕ) {a b p q : List ℕ} → a ≡ b → p ≡ q → with_piece a at p ≡ with_piece b at q

@@ -1,5 +1,5 @@
 use Rattle.std.proofs.Common.{◌≡◌, ◌∷◌}
-use Rattle.jtool.specs.Commands.{words as words_of}
+use Rattle.jtool.specs.Commands.{line_words as words_of}
 use Rattle.jtool.proofs.Verbs.{says_none-no_verb, says_none-read, says-read}
 use Rattle.jtool.proofs.command.read_words.Goals as goal
 

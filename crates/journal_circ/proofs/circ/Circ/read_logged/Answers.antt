@@ -10,10 +10,10 @@ use Rattle.journal_circ.proofs.circ.Circ.read_logged.Goals as goal
 pub returns-clause-update : goal.returns-clause-update
 returns-clause-update g c =
     let s = c.self.inside in
-    let old : Ring = ring (g.D.BlockDisk.state s.device.disk) s.header s.marks s.next s.device.faulted in
-    let from : s.marks.start ≤ c.args.position = subst (λ (r : Ring). r.marks.start ≤ c.args.position) (sym c.self.view_is) c.requires.from_start in
+    let old : Ring = ring (g.D.BlockDisk.state s.device.disk) s.header s.extent s.next s.device.faulted in
+    let from : s.extent.start ≤ c.args.position = subst (λ (r : Ring). r.extent.start ≤ c.args.position) (sym c.self.view_is) c.requires.from_start in
     let below : c.args.position < s.next = subst (λ (r : Ring). c.args.position < r.next) (sym c.self.view_is) c.requires.put in
-    subst (λ (r : Ring). IsTrue r.disk.honest → slice_get (log_of r) (c.args.position - r.marks.start) ≡ Some (record { block = c.get_u64.result; bytes = c.read.new.into })) c.self.view_is
+    subst (λ (r : Ring). IsTrue r.disk.honest → slice_get (log_of r) (c.args.position - r.extent.start) ≡ Some (record { block = c.get_u64.result; bytes = c.read.new.into })) c.self.view_is
     (λ honest. update_at_position old c.args.position c.get_u64.result c.read.new.into from below
     (c.get_u64.ensures ∙ ap (u64_at s.header) c.address_at.ensures)
     (c.in_ok-read.ensures.value honest ∙ ap (read_of (g.D.BlockDisk.state s.device.disk).past) c.log_block.ensures))

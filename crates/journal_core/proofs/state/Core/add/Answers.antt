@@ -2,10 +2,10 @@ use Rattle.std.proofs.Common.{ℕ, max, ◌<◌, ◌+◌, ◌^◌, IsTrue, List,
 use Rattle.journal_world.specs.Maps.{Agrees}
 use Rattle.journal_world.specs.Histories.{Entry, is_trusted, latest}
 use Rattle.journal_objlog.specs.Writes.{IsPrepared}
-use Rattle.journal_history.specs.Tokens.{next_of}
+use Rattle.journal_history.specs.Tokens.{next_transaction}
 use Rattle.journal_core.specs.Transactions.{TransactionState}
 use Rattle.journal_core.specs.SlotCounts.{CountsWrites}
-use Rattle.journal_core.specs.Cores.{CoreState, IsKept}
+use Rattle.journal_core.specs.Cores.{CoreState, IsCore}
 use Rattle.journal_core.proofs.Keeping.{crashes_seen}
 use Rattle.journal_core.proofs.Stepping.{crashes_step}
 use Rattle.journal_core.proofs.Committing.{ruled_then, few_commits, kept_added}
@@ -23,7 +23,7 @@ commit-requires-clause-rule g c =
 
 pub returns-in-Err-clause-crash : goal.returns-in-Err-clause-crash
 returns-in-Err-clause-crash g c = crashes_seen g.J.Naming.blocks _ _ _ c.self.invariant.0 c.self.view_is
-    (subst (λ (h : List Entry). IsKept g.J.Naming.blocks (record { objects = c.self.inside.objects; history = h; cut = c.self.inside.cut; logged = c.self.inside.logged; next = c.self.inside.next; closed = c.self.inside.closed }))
+    (subst (λ (h : List Entry). IsCore g.J.Naming.blocks (record { objects = c.self.inside.objects; history = h; cut = c.self.inside.cut; logged = c.self.inside.logged; next = c.self.inside.next; closed = c.self.inside.closed }))
     (sym c.in-Err.ensures.unchanged.0) c.self.invariant.0) refl
 
 pub count_one-requires-clause-small : goal.count_one-requires-clause-small
@@ -33,7 +33,7 @@ count_one-requires-clause-small g c =
 
 pub invariant_of-self-2 : goal.invariant_of-self-2
 invariant_of-self-2 g c =
-    let t = next_of c.args.session.now c.args.transaction.now.reads c.args.transaction.now.writes in (
+    let t = next_transaction c.args.session.now c.args.transaction.now.reads c.args.transaction.now.writes in (
       kept_added g.J.Naming.blocks (record { objects = c.self.inside.objects; history = c.self.inside.writer; cut = c.self.inside.cut; logged = c.self.inside.logged; next = c.self.inside.next; closed = c.self.inside.closed }) c.self.invariant.0 c.len-len.ensures.begun
           t c.args.prepared c.apply.new.self c.commit.new.self c.max-self-inside.result c.in-Ok.ensures.committed.added (c.max-self-inside.ensures ∙ ap (λ (n : ℕ). max c.self.inside.next (n + 1)) c.number-number.ensures)
           (subst (λ (s : CoreState). IsPrepared s.objects c.args.prepared c.args.transaction.now.writes) (sym c.self.view_is) c.requires.prepared)

@@ -7,7 +7,7 @@ use Rattle.journal_core.proofs.state.Core.install_step.Goals as goal
 pub invariant_of-self : goal.invariant_of-self
 invariant_of-self g c = (
   kept_on g.J.Naming.blocks _ c.self.invariant.0 c.install_step.new.self c.install_step.ensures.crash c.install_step.ensures.maps
-      (rests_install c.self.inside.objects c.install_step.new.self c.install_step.result c.install_step.ensures.ok c.install_step.ensures.cause c.install_step.ensures.faulted),
+      (rests_install c.self.inside.objects c.install_step.new.self c.install_step.result c.install_step.ensures.ok c.install_step.ensures.refusal c.install_step.ensures.faulted),
   c.self.invariant.1,
 )
 

@@ -3,7 +3,7 @@ use Rattle.std.proofs.lemmas.Bool.{false≢true}
 use Rattle.journal_world.specs.declared.step.Step.{Step}
 use Rattle.journal_wal.specs.Wal.{LogAnswers as WalLogs}
 use Rattle.journal_objlog.specs.ObjectLogs.{LogsMaps}
-use Rattle.journal_core.specs.Cores.{CoreState, Crashes, IsKept, is_faulted}
+use Rattle.journal_core.specs.Cores.{CoreState, Crashes, IsCore, is_faulted}
 use Rattle.journal_core.proofs.Stepping.{of_err, of_ok, kept_fault, stays_in_flight, has_landed, has_cut, has_rested, no_steps, crashes_step}
 use Rattle.journal_core.proofs.state.Core.log_step.Goals.{then-not-is_logging, else-not-is_logging, else-tail_len-eq0-via-then-tail_len-eq0+else-floor-commits, else-tail_len-eq0-via-else-tail_len-eq0}
 use Rattle.journal_core.proofs.Events.{answers_log}
@@ -85,7 +85,7 @@ returns-then-is_logging-clause-crash g c =
 
 pub invariant_of-self-in-Moved : goal.invariant_of-self-in-Moved
 invariant_of-self-in-Moved g c = (
-  subst (λ (n : ℕ). IsKept g.J.Naming.blocks (record { objects = c.log_step-2.new.self; history = c.self.inside.writer; cut = n; logged = c.self.inside.logged; next = c.self.inside.next; closed = c.self.inside.closed }))
+  subst (λ (n : ℕ). IsCore g.J.Naming.blocks (record { objects = c.log_step-2.new.self; history = c.self.inside.writer; cut = n; logged = c.self.inside.logged; next = c.self.inside.next; closed = c.self.inside.closed }))
       (sym c.count-self-inside.ensures)
       (has_cut g.J.Naming.blocks _ c.self.invariant.0 c.log_step-2.new.self c.log_step-2.ensures.crash c.in_ok-raise-2.field-0 c.in-Moved.is
       (no_steps c.self.inside.objects c.if-is_logging.ensures.rest)

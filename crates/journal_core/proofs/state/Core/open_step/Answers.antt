@@ -1,7 +1,7 @@
 use Rattle.std.proofs.Common.{ℕ, ◌≤◌, true, sym, subst, ◌∙◌}
 use Rattle.journal_world.specs.declared.layout.TheConstants.{MIN_BLOCKS, MAX_BLOCKS}
 use Rattle.journal_disk.specs.Disks.{DiskState}
-use Rattle.journal_core.specs.Openings.{IsInRange, IsOpenRefusal, IsHandedBack}
+use Rattle.journal_core.specs.Openings.{IsInRange, IsOpenRefusal, OnlyReadsDisk}
 use Rattle.journal_core.specs.Tallies.{Pairs}
 use Rattle.journal_core.specs.SlotCounts.{KeepsCounts}
 use Rattle.journal_core.proofs.Opening.{kept_begun, begins, handed_back, refuses_begin, on_ok}
@@ -39,6 +39,6 @@ returns-in-Err-begin-clause-refusal g c =
 
 pub returns-in-Err-begin-clause-left : goal.returns-in-Err-begin-clause-left
 returns-in-Err-begin-clause-left g c =
-    subst (IsHandedBack (g.D.BlockDisk.state c.args.disk)) (sym c.into_disk.ensures)
+    subst (OnlyReadsDisk (g.D.BlockDisk.state c.args.disk)) (sym c.into_disk.ensures)
     (handed_back (g.D.BlockDisk.state c.args.disk) c.in-Ok-open.objects c.admitted_by-objects.result.0 c.in-Ok-open.ensures.keeps c.in-Ok-open.ensures.same c.in-Ok-open.ensures.opened c.in-Ok-open.ensures.images
     c.admitted_by-objects.ensures.reads)

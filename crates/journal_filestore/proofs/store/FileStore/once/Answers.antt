@@ -1,5 +1,5 @@
 use Rattle.std.proofs.Common.{subst}
-use Rattle.journal_filestore.specs.Done.{IsDone, IsFault, IsEndOf}
+use Rattle.journal_filestore.specs.Done.{IsDone, IsOperationFault, IsEndOf}
 use Rattle.journal_filestore.proofs.Ending.{IsDone-ended, IsFault-ended, IsDone-later, IsFault-later}
 use Rattle.journal_filestore.proofs.store.FileStore.once.Goals as goal
 
@@ -13,7 +13,7 @@ returns-in-Ok-ended g c =
 
 pub returns : goal.returns
 returns g c =
-    subst (λ w. IsFault w (g.O.Operation.case c.args.operation.now) c.args.session.now c.end-ended.new.session c.in-Err-ended.fault) c.waits.ensures
+    subst (λ w. IsOperationFault w (g.O.Operation.case c.args.operation.now) c.args.session.now c.end-ended.new.session c.in-Err-ended.fault) c.waits.ensures
     (IsFault-later _ _ _ _ c.begin-txn.ensures.session _ _
     (IsFault-ended g.J.Naming.blocks _ c.attempt.new.txn c.in-Ok.answer c.waits.result c.is_awaited-waits.result _ _ _ c.in-Ok.ensures.does c.is_awaited-waits.ensures.waits
     (subst (IsEndOf g.J.Naming.blocks c.attempt.new.txn c.is_awaited-waits.result c.begin-txn.new.session c.end-ended.new.session) c.in-Err-ended.is c.end-ended.ensures)))

@@ -2,7 +2,7 @@ use Rattle.std.proofs.Common.{◌≡◌, ◌∷◌, ◌++◌, [], sym, ◌∙◌
 use Rattle.journal_world.specs.Maps.{Transaction}
 use Rattle.journal_world.specs.Histories.Entry.{commit}
 use Rattle.journal_world.proofs.SessionCommits.{length-commits_of-le}
-use Rattle.journal_history.specs.Tokens.{SessionState, next_of, Commits}
+use Rattle.journal_history.specs.Tokens.{SessionState, next_transaction, Commits}
 use Rattle.journal_history.proofs.Growth.{may_commit}
 use Rattle.journal_history.proofs.Committing.{session_after, commits_next}
 use Rattle.journal_history.proofs.session.Session.commit.Goals as goal
@@ -30,7 +30,7 @@ invariant_of-self g c =
     let writes = g.T.Recorded.writes c.args.transaction.now in
     let after = c.in_ok-front.front in
     let as_many = rw (← c.self.view_is) at c.requires.own in
-    let added : after ≡ whole ++ commit (next_of before reads writes) ∷ [] =
+    let added : after ≡ whole ++ commit (next_transaction before reads writes) ∷ [] =
     subst (λ n. after ≡ whole ++ commit (record { session = before.number; number = n; reads = reads; writes = writes }) ∷ []) c.self.invariant.counted c.in_ok-front.ensures.added in
     rw (c.again.ensures, c.again-2.ensures, added)
     (session_after before whole reads writes c.self.invariant.own c.in_ok-front.ensures.later as_many g.J.Naming.blocks c.self.inside.commits c.self.invariant.counted c.requires.begun c.requires.on_disk)
@@ -43,8 +43,8 @@ returns-clause-committed g c =
     let writes = g.T.Recorded.writes c.args.transaction.now in
     let after = c.in_ok-front.front in
     let as_many = rw (← c.self.view_is) at c.requires.own in
-    let added : after ≡ whole ++ commit (next_of before reads writes) ∷ [] =
+    let added : after ≡ whole ++ commit (next_transaction before reads writes) ∷ [] =
     subst (λ n. after ≡ whole ++ commit (record { session = before.number; number = n; reads = reads; writes = writes }) ∷ []) c.self.invariant.counted c.in_ok-front.ensures.added in
     rw (c.again.ensures, c.again-2.ensures)
-    (subst (λ (s : SessionState). Commits (next_of s reads writes) s (record { number = before.number; mine = after; seen = after }) whole after) c.self.view_is
+    (subst (λ (s : SessionState). Commits (next_transaction s reads writes) s (record { number = before.number; mine = after; seen = after }) whole after) c.self.view_is
     (commits_next before whole reads writes c.self.invariant.own c.in_ok-front.ensures.later as_many after added))

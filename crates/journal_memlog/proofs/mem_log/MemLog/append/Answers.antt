@@ -4,7 +4,7 @@ use Rattle.std.specs.Vec.Iter.{into_iter_items, into_iter_len}
 use Rattle.std.specs.declared.vec.IntoIter.{IntoIter}
 use Rattle.journal_block.specs.declared.update.Update.{Update}
 use Rattle.journal_block.specs.Updates.{updated}
-use Rattle.journal_memlog.specs.Logs.{LogState, next_of, CanTake, appended}
+use Rattle.journal_memlog.specs.Logs.{LogState, next_position, CanTake, appended}
 use Rattle.journal_memlog.specs.Laws.{updated-appended, next_of-taken_le}
 use Rattle.journal_memlog.proofs.Absorbing.{can_take_one, can_take_rest, appended_more, appended_none}
 use Rattle.journal_memlog.proofs.mem_log.MemLog.append.Goals as goal
@@ -47,6 +47,6 @@ returns-clause-room c =
     omega (
       arith,
       next_of-taken_le c.args.self.now c.args.updates.items c.requires,
-      ap next_of
+      ap next_position
           (whole c.loop-update.self c.args.self.now c.loop-update.update-iterator c.args.updates.items c.in-None.ensures.steps.0 c.loop-update.invariant.2),
     )

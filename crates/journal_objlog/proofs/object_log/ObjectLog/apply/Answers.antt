@@ -2,7 +2,7 @@ use Rattle.std.proofs.Common.{List, IsTrue, sym, subst}
 use Rattle.journal_world.specs.Maps.{SameMap, overwritten}
 use Rattle.journal_block.specs.declared.update.Update.{Update}
 use Rattle.journal_wal.specs.Wal.{WalState}
-use Rattle.journal_objlog.specs.ObjectLogs.{map_now, map_cut, map_logged, MayCrash}
+use Rattle.journal_objlog.specs.ObjectLogs.{map_now, map_cut, map_logged, Crashes}
 use Rattle.journal_objlog.specs.Writes.{IsPrepared}
 use Rattle.journal_objlog.proofs.Openings.{may_crash}
 use Rattle.journal_objlog.proofs.StepsOfMaps.{applied, applied_cut, applied_logged}
@@ -29,5 +29,5 @@ returns-clause-logged g c =
 
 pub returns-clause-crash : goal.returns-clause-crash
 returns-clause-crash g c =
-    subst (λ (w : WalState). MayCrash w c.append_reserved.new.self) c.self.view_is
+    subst (λ (w : WalState). Crashes w c.append_reserved.new.self) c.self.view_is
     (may_crash c.self.inside.layout.blocks c.self.inside.wal c.append_reserved.new.self c.self.invariant c.append_reserved.ensures.crash)

@@ -1,6 +1,6 @@
 use Rattle.std.proofs.Common.{IsTrue, OnErr, IfOk, subst, sym}
 use Rattle.journal_wal.specs.Wal.{WalState}
-use Rattle.journal_objlog.specs.ObjectLogs.{KeepsMaps, LogsMaps, MayCrash}
+use Rattle.journal_objlog.specs.ObjectLogs.{KeepsMaps, LogsMaps, Crashes}
 use Rattle.journal_objlog.proofs.Openings.{may_crash}
 use Rattle.journal_objlog.proofs.StepsOfMaps.{logs_maps, fails_maps}
 use Rattle.journal_objlog.proofs.object_log.ObjectLog.log_step.Goals as goal
@@ -19,5 +19,5 @@ returns-clause-err_maps g c = λ honest.
 
 pub returns-clause-crash : goal.returns-clause-crash
 returns-clause-crash g c =
-    subst (λ (w : WalState). MayCrash w c.log_step.new.self) c.self.view_is
+    subst (λ (w : WalState). Crashes w c.log_step.new.self) c.self.view_is
     (may_crash c.self.inside.layout.blocks c.self.inside.wal c.log_step.new.self c.self.invariant c.log_step.ensures.crash)

@@ -1,7 +1,7 @@
 use Rattle.std.proofs.Common.{◌≡◌, ℕ, IsTrue, sym, ap, subst, ◌∙◌}
 use Rattle.journal_world.specs.Maps.{value_at, is_object}
 use Rattle.journal_wal.specs.Wal.{WalState, size_of, blocks_now}
-use Rattle.journal_objlog.specs.ObjectLogs.{map_now, KeepsMaps, MayCrash}
+use Rattle.journal_objlog.specs.ObjectLogs.{map_now, KeepsMaps, Crashes}
 use Rattle.journal_objlog.specs.MapLaws.{map_of-blocks}
 use Rattle.journal_objlog.proofs.Openings.{may_crash, maps_read, OnlyReads-from}
 use Rattle.journal_objlog.proofs.Refusing.{still}
@@ -37,7 +37,7 @@ returns-in_err-read-clause-maps g c = λ honest.
 
 pub returns-in_err-read-clause-crash : goal.returns-in_err-read-clause-crash
 returns-in_err-read-clause-crash g c =
-    subst (λ (w : WalState). MayCrash w c.read.new.self) c.self.view_is
+    subst (λ (w : WalState). Crashes w c.read.new.self) c.self.view_is
     (may_crash c.self.inside.layout.blocks c.self.inside.wal c.read.new.self c.self.invariant c.read.ensures.crash)
 
 pub returns-clause-value : goal.returns-clause-value
@@ -61,5 +61,5 @@ returns-clause-maps g c = λ honest.
 
 pub returns-clause-crash : goal.returns-clause-crash
 returns-clause-crash g c =
-    subst (λ (w : WalState). MayCrash w c.read.new.self) c.self.view_is
+    subst (λ (w : WalState). Crashes w c.read.new.self) c.self.view_is
     (may_crash c.self.inside.layout.blocks c.self.inside.wal c.read.new.self c.self.invariant c.read.ensures.crash)

@@ -1,6 +1,6 @@
 use Rattle.std.proofs.Common.{length, refl, ap, sym, subst, ◌++◌, ◌∙◌, arith}
 use Rattle.journal_rpc.specs.Stream.{Stream}
-use Rattle.journal_rpc.specs.Cuts.{Spells}
+use Rattle.journal_rpc.specs.Cuts.{SpellsStream}
 use Rattle.journal_rpc.proofs.Parting.{all_parts}
 use Rattle.journal_rpc.proofs.Streams.{on_the_err, on_the_ok}
 use Rattle.journal_rpc.proofs.records.Records.feed.Goals as goal
@@ -19,4 +19,4 @@ returns-then-is_err-clause-spelled c = λ other. absurd (other refl)
 pub returns-clause-spelled : goal.returns-clause-spelled
 returns-clause-spelled c =
     let is = on_the_ok c.take_in.result (sym c.is_err.ensures.value ∙ c.if-is_err.false) c.take_in.ensures.ok in
-    λ _ bytes h. subst (λ (s : Stream). Spells (bytes ++ c.args.piece.now) s) (sym is) (all_parts bytes c.args.self.now c.args.piece.now (λ i. omega (arith, c.type_inv.piece i)) h)
+    λ _ bytes h. subst (λ (s : Stream). SpellsStream (bytes ++ c.args.piece.now) s) (sym is) (all_parts bytes c.args.self.now c.args.piece.now (λ i. omega (arith, c.type_inv.piece i)) h)

@@ -1,7 +1,7 @@
 use Rattle.std.proofs.Common.{◌++◌, List, ℕ, take, ap, sym, subst, ◌∙◌, refl}
 use Rattle.std.proofs.lemmas.List.{take-append-drop, nil_from_length}
 use Rattle.std.proofs.lemmas.Bool.{eqb-true}
-use Rattle.journal_rpc.specs.Stream.{Stream, after, Extends}
+use Rattle.journal_rpc.specs.Stream.{Stream, after, ExtendsStream}
 use Rattle.journal_rpc.proofs.Streams.{after_none, after-append, Extends-refl, Extends-trans, Extends-after, on_err}
 use Rattle.journal_rpc.proofs.records.Records.take_in.Goals as goal
 
@@ -22,7 +22,7 @@ loop-rest-preserved c =
           ∙ ap (λ (r : List ℕ). after c.loop-rest.self (take n c.loop-rest.rest.now ++ r)) c.split_at.ensures.back
           ∙ ap (after c.loop-rest.self) (take-append-drop n c.loop-rest.rest.now)
           ∙ c.loop-rest.invariant.told;
-      grown = Extends-trans _ _ _ c.loop-rest.invariant.grown (subst (λ (s : Stream). Extends c.loop-rest.self s) (sym is) (Extends-after c.loop-rest.self (take n c.loop-rest.rest.now)));
+      grown = Extends-trans _ _ _ c.loop-rest.invariant.grown (subst (λ (s : Stream). ExtendsStream c.loop-rest.self s) (sym is) (Extends-after c.loop-rest.self (take n c.loop-rest.rest.now)));
     }
 
 pub returns-clause-ok : goal.returns-clause-ok

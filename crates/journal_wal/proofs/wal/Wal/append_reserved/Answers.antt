@@ -1,7 +1,7 @@
 use Rattle.std.proofs.Common.{sym, subst}
 use Rattle.journal_memlog.specs.Logs.{LogState}
 use Rattle.journal_wal.specs.Wal.{WalState, HasRoom, AreHomes, Appends, Crashes, size_of}
-use Rattle.journal_wal.specs.States.{logging_of, installing_of, IsInStep}
+use Rattle.journal_wal.specs.States.{logging_of, installing_of, IsWal}
 use Rattle.journal_wal.proofs.Phases.{of_parts}
 use Rattle.journal_wal.proofs.Appending.{updates_appended}
 use Rattle.journal_wal.proofs.wal.Wal.append_reserved.Goals as goal
@@ -11,7 +11,7 @@ invariant_of-self g c =
     let appended = updates_appended (of_parts c.self.inside.on_disk.circ c.self.inside.memory (logging_of c.self.inside.on_disk.logger) (installing_of c.self.inside.on_disk.installer)) c.args.updates.items c.self.invariant
     (subst (λ (w : WalState). HasRoom w c.args.updates.items) (sym c.self.view_is) c.requires.room)
     (subst (λ (w : WalState). AreHomes (size_of w) c.args.updates.items) (sym c.self.view_is) c.requires.homes) in
-    subst (λ (l : LogState). IsInStep (of_parts c.self.inside.on_disk.circ l (logging_of c.self.inside.on_disk.logger) (installing_of c.self.inside.on_disk.installer))) (sym c.append.ensures.log) appended.0.sound
+    subst (λ (l : LogState). IsWal (of_parts c.self.inside.on_disk.circ l (logging_of c.self.inside.on_disk.logger) (installing_of c.self.inside.on_disk.installer))) (sym c.append.ensures.log) appended.0.sound
 
 pub returns-clause-appends : goal.returns-clause-appends
 returns-clause-appends g c =

@@ -3,7 +3,7 @@ use Rattle.std.proofs.lemmas.Result.{err_from_is_err_and}
 use Rattle.journal_world.specs.declared.refusal.Refusal.{Refusal}
 use Rattle.journal_memlog.specs.Logs.{tail_of, fresh_count}
 use Rattle.journal_wal.specs.Wal.{WalState, Crashes, AreHomes, size_of}
-use Rattle.journal_wal.specs.Rooms.{IsRefusal}
+use Rattle.journal_wal.specs.Rooms.{IsAppendRefusal}
 use Rattle.journal_wal.specs.States.{logging_of, installing_of}
 use Rattle.journal_wal.proofs.Phases.{of_parts}
 use Rattle.journal_wal.proofs.Appending.{has_room_of, refuses_shortage, refuses_memory}
@@ -28,7 +28,7 @@ returns-clause-enough g c few =
 pub returns-in_err-check_room-clause-refusal : goal.returns-in_err-check_room-clause-refusal
 returns-in_err-check_room-clause-refusal g c =
     let err = err_from_is_err_and c.from_residual.result c.from_residual.ensures.1 in rw err.1
-    (subst (λ (r : Refusal Unit). IsRefusal c.args.self.now c.args.updates.now r) (sym err.2)
+    (subst (λ (r : Refusal Unit). IsAppendRefusal c.args.self.now c.args.updates.now r) (sym err.2)
     (refuses_shortage c.args.self.now c.args.updates.now c.count_fresh-fresh.result
     (subst (λ (w : WalState). c.count_fresh-fresh.result ≡ fresh_count (tail_of w.log) c.args.updates.now) c.self.view_is c.count_fresh-fresh.ensures.number)
     c.in_err-check_room.field-0.0 c.in_err-check_room.ensures.refusal))

@@ -2,14 +2,14 @@ use Rattle.std.proofs.Common.{◌≡◌, ◌≤◌, sym, ap, subst}
 use Rattle.journal_memlog.specs.Logs.{LogState}
 use Rattle.journal_wal.specs.Wal.{WalState, Crashes}
 use Rattle.journal_wal.specs.Rooms.{HasPlaces}
-use Rattle.journal_wal.specs.States.{logging_of, installing_of, IsInStep}
+use Rattle.journal_wal.specs.States.{logging_of, installing_of, IsWal}
 use Rattle.journal_wal.proofs.Phases.{of_parts}
 use Rattle.journal_wal.proofs.Appending.{room_made, has_room_for, crashes_room}
 use Rattle.journal_wal.proofs.wal.Wal.reserve_places.Goals as goal
 
 pub invariant_of-self : goal.invariant_of-self
 invariant_of-self g c =
-    subst (λ (l : LogState). IsInStep (of_parts c.self.inside.on_disk.circ l (logging_of c.self.inside.on_disk.logger) (installing_of c.self.inside.on_disk.installer))) (sym c.reserve.ensures.same)
+    subst (λ (l : LogState). IsWal (of_parts c.self.inside.on_disk.circ l (logging_of c.self.inside.on_disk.logger) (installing_of c.self.inside.on_disk.installer))) (sym c.reserve.ensures.same)
     (room_made (of_parts c.self.inside.on_disk.circ c.self.inside.memory (logging_of c.self.inside.on_disk.logger) (installing_of c.self.inside.on_disk.installer)) c.reserve.new.self.room c.self.invariant)
 
 pub returns-clause-room : goal.returns-clause-room

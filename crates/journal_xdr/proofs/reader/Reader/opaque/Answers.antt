@@ -1,5 +1,5 @@
 use Rattle.std.proofs.Common.{rules, ◌≡◌, None}
-use Rattle.journal_xdr.specs.Items.{Reads}
+use Rattle.journal_xdr.specs.Items.{ReadsItem}
 use Rattle.journal_xdr.specs.Basic.{opaque}
 use Rattle.journal_xdr.specs.BasicLaws.{opaque_laws}
 use Rattle.journal_xdr.specs.ItemLaws.{finds, none_is_spelled}
@@ -14,5 +14,5 @@ returns-then-length-limit-clause-grammar c =
 pub returns-clause-grammar : goal.returns-clause-grammar
 unfolding opaque
 returns-clause-grammar c =
-    let read : Reads (opaque c.args.limit) (λ bytes. bytes.now) c.args.self.now c.fixed.new.self c.fixed.result = search rules in
+    let read : ReadsItem (opaque c.args.limit) (λ bytes. bytes.now) c.args.self.now c.fixed.new.self c.fixed.result = search rules in
     finds (opaque c.args.limit) (opaque_laws c.args.limit) (λ bytes. bytes.now) _ _ _ read

@@ -1,6 +1,6 @@
 use Rattle.std.proofs.Common.{◌∙◌, ◌+◌, ◌-◌, ◌++◌, ap, subst, arith, length, take, min}
 use Rattle.std.specs.Io.Buffered.{reader_remaining, reader_capacity, reader_buffer}
-use Rattle.jtool.specs.Lines.{LinesState, Shows, TakesPiece}
+use Rattle.jtool.specs.Lines.{LinesState, ShowsPiece, TakesPiece}
 use Rattle.jtool.proofs.LineEnds.{consumed, takes_piece}
 use Rattle.jtool.proofs.line.Lines.take_piece.Goals as goal
 
@@ -17,5 +17,5 @@ returns g c =
     (ap g.I.Read.remaining c.consume.ensures.inner) c.consume.ensures.capacity c.consume.ensures.buffer in
     subst (λ (s : LinesState). TakesPiece s (record { left = left now; line = c.extend_from_slice.new.self.items }) c.first_piece-len.result.1) c.self.view_is
     (takes_piece c.first_piece-len.result.1 (left c.self.inside.input) (left input) (left now) shown line c.extend_from_slice.new.self.items n (20001 - c.len.result)
-    c.fill.ensures.left (c.in_ok-fill.ensures.end) consumes (subst (λ l. Shows l n c.first_piece-len.result.1) is c.first_piece-len.ensures) (omega arith) (omega arith)
+    c.fill.ensures.left (c.in_ok-fill.ensures.end) consumes (subst (λ l. ShowsPiece l n c.first_piece-len.result.1) is c.first_piece-len.ensures) (omega arith) (omega arith)
     (c.in_ok-extend_from_slice.ensures.items ∙ ap (λ l. line ++ take c.min.result (take n l)) is ∙ ap (λ k. line ++ take k (take n shown)) (c.min.ensures ∙ ap (λ l. min (20001 - c.len.result) (length (take n l))) is)))

@@ -1,0 +1,76 @@
+-- What waits and is answered OK is marked, with all that was seen before.
+use Rattle.std.proofs.Common.{◌≡◌, ℕ, suc, zero, ◌+◌, ◌≤◌, Bool, true, false, IsTrue, List, [], ◌∷◌, ◌++◌, length, take, Option, Some, None, Result, Ok, Err, OnOk, refl, sym, ap, subst, ◌∙◌, arith}
+use Rattle.std.specs.Prelude.{slice_get}
+use Rattle.std.specs.Result.{is_ok}
+use Rattle.journal_world.specs.Maps.{Transaction}
+use Rattle.journal_world.specs.Histories.{Entry, count, floor}
+use Rattle.journal_world.specs.Histories.Entry.{opening, commit, stable}
+use Rattle.journal_history.specs.Tokens.{SessionState}
+use Rattle.journal_core.specs.Causes.{Told}
+use Rattle.journal_inode.specs.declared.node.Time.{Time}
+use Rattle.journal_filestore.specs.declared.fault.Fault.{Fault}
+use Rattle.journal_filestore.specs.declared.fault.Fault.TheVariants.{Refused, Unsure}
+use Rattle.journal_filestore.specs.declared.status.Status.{Status}
+use Rattle.journal_filestore.specs.Files.{Files}
+use Rattle.journal_filestore.specs.Done.{IsDone, IsAnswered}
+use Rattle.journal_nfs3.specs.declared.results.NfsError.{NfsError}
+use Rattle.journal_nfs3.specs.Arguments.{Operation, Null, GetAttributes, SetAttributes, Lookup, Read, Write, Create, Remove, Commit}
+use Rattle.journal_nfs3.specs.Handles.{FileHandle, handle_in}
+use Rattle.journal_nfs3.specs.Results.{Results}
+use Rattle.journal_nfs3.specs.Profile.{outcome_of, change_of, unchanged_of, no_change, write_of, create_of, commit_of}
+use Rattle.journal_nfs3.specs.Served.{told, waits, TellsOutcome, Performs, Serves, has_to_wait, is_accepted}
+
+has_commit : (history : List Entry) (p : ℕ) (t : Transaction) → slice_get history p ≡ Some (commit t) → 1 ≤ count (take (suc p) history)
+has_commit [] p t e = absurd cc
+has_commit (commit u ∷ history) p t e = omega arith
+has_commit (opening m trusted ∷ history) zero t e = absurd cc
+has_commit (stable n ∷ history) zero t e = absurd cc
+has_commit (opening m trusted ∷ history) (suc p) t e = has_commit history p t e
+has_commit (stable n ∷ history) (suc p) t e = has_commit history p t e
+
+-- a commit behind some entries is one more than theirs
+one_more : (seen more : List Entry) (p : ℕ) (t : Transaction) → slice_get (seen ++ more) p ≡ Some (commit t) → length seen ≤ p → count seen + 1 ≤ count (take (suc p) (seen ++ more))
+one_more [] more p t e le = has_commit more p t e
+one_more (x ∷ seen) more zero t e le = absurd (omega (arith, le))
+one_more (commit u ∷ seen) more (suc p) t e le = omega (arith, one_more seen more p t e (omega (arith, le)))
+one_more (opening m trusted ∷ seen) more (suc p) t e le = one_more seen more p t e (omega (arith, le))
+one_more (stable n ∷ seen) more (suc p) t e le = one_more seen more p t e (omega (arith, le))
+
+done_marked : {A : Type 0} (w : Bool) (case : Files → Result A Status → Files → Type 0) (old new : SessionState) (v : A) → IsTrue w → IsDone w case old new (Ok v) → count old.seen + 1 ≤ floor new.seen
+done_marked w case old new v wt d =
+    let m = d.made in
+    let is : old.seen ++ m.extends.0 ≡ new.seen = m.extends.1 in
+    let more = one_more old.seen m.extends.0 d.place m.made (ap (λ (h : List Entry). slice_get h d.place) is ∙ m.stands) m.later in
+    let there : count old.seen + 1 ≤ count (take (suc d.place) new.seen) = subst (λ (h : List Entry). count old.seen + 1 ≤ count (take (suc d.place) h)) is more in
+    let next : suc d.place ≡ d.place + 1 = omega arith in
+    let at : count old.seen + 1 ≤ count (take (d.place + 1) new.seen) = subst (λ (n : ℕ). count old.seen + 1 ≤ count (take n new.seen)) next there in
+    omega (arith, at, d.stable wt)
+
+answer_marked : {A : Type 0} (w : Bool) (case : Files → Result A Status → Files → Type 0) (old new : SessionState) (answer : Result (Result A Status) (Fault Told)) → IsTrue w → IsAnswered w case old new answer → IsTrue (is_ok (told answer)) → count old.seen + 1 ≤ floor new.seen
+answer_marked w case old new (Ok (Ok v)) wt d ok = done_marked w case old new v wt d
+answer_marked w case old new (Ok (Err why)) wt d ok = absurd (cc ok)
+answer_marked w case old new (Err (Refused why)) wt d ok = absurd (cc ok)
+answer_marked w case old new (Err (Unsure why)) wt d ok = absurd (cc ok)
+
+tells_marked : {A : Type 0} (handle : Option FileHandle) (w : Bool) (case : FileHandle → Files → Result A Status → Files → Type 0) (old new : SessionState) (outcome : Result A NfsError) → IsTrue w → TellsOutcome handle w case old new outcome → IsTrue (is_ok outcome) → count old.seen + 1 ≤ floor new.seen
+tells_marked None w case old new outcome wt h ok = absurd (cc (subst (λ (o : Result _ NfsError). IsTrue (is_ok o)) h.0 ok))
+tells_marked (Some handle) w case old new outcome wt h ok = answer_marked w (case handle) old new h.0 wt h.1 (subst (λ (o : Result _ NfsError). IsTrue (is_ok o)) h.2 ok)
+
+performs_marked : {A : Type 0} (handle : Option FileHandle) (w : Bool) (case : FileHandle → Files → Result A Status → Files → Type 0) (as_results : Result A NfsError → Results) (old new : SessionState) (r : Results) → ((o : Result A NfsError) → is_accepted (as_results o) ≡ is_ok o) → IsTrue w → IsTrue (is_accepted r) → Performs handle w case as_results old r new → count old.seen + 1 ≤ floor new.seen
+performs_marked handle w case as_results old new r same wt accepted h =
+    tells_marked handle w case old new h.0 wt h.1 (subst IsTrue (ap is_accepted h.2 ∙ same h.0) accepted)
+
+same_ok : {A B C : Type 0} (view : A → B) (nothing : C) (o : Result A NfsError) → is_ok (outcome_of view nothing o) ≡ is_ok o
+same_ok view nothing (Ok v) = refl
+same_ok view nothing (Err why) = refl
+
+pub serves_marked : (verifier : List ℕ) (now : Time) (operation : Operation) (old new : SessionState) (r : Results) → IsTrue (has_to_wait operation) → IsTrue (is_accepted r) → Serves verifier now operation old r new → count old.seen + 1 ≤ floor new.seen
+serves_marked verifier now Null old new r wt ok h = absurd (cc wt)
+serves_marked verifier now (GetAttributes k) old new r wt ok h = absurd (cc wt)
+serves_marked verifier now (Lookup e) old new r wt ok h = absurd (cc wt)
+serves_marked verifier now (Read k offset n) old new r wt ok h = absurd (cc wt)
+serves_marked verifier now (SetAttributes k a guard) old new r wt ok h = performs_marked _ true _ _ old new r (same_ok change_of no_change) wt ok h
+serves_marked verifier now (Write k offset n how bytes) old new r wt ok h = performs_marked _ (waits how) _ _ old new r (same_ok (write_of n how verifier) no_change) wt ok h
+serves_marked verifier now (Create e how) old new r wt ok h = performs_marked _ true _ _ old new r (same_ok create_of no_change) wt ok h
+serves_marked verifier now (Remove e) old new r wt ok h = performs_marked _ true _ _ old new r (same_ok unchanged_of no_change) wt ok h
+serves_marked verifier now (Commit k offset n) old new r wt ok h = performs_marked _ true _ _ old new r (same_ok (commit_of verifier) no_change) wt ok h

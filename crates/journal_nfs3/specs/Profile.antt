@@ -1,0 +1,88 @@
+-- What the results say of the files.
+use Rattle.std.specs.Prelude.{ℕ, ◌==◌, if◌then◌else◌, List, length, Some, None, Result, Ok, Err}
+use Rattle.journal_filestore.specs.declared.reply.Attributes.{Attributes}
+use Rattle.journal_filestore.specs.declared.reply.Changed.{Changed}
+use Rattle.journal_filestore.specs.declared.reply.Found.{Found}
+use Rattle.journal_filestore.specs.Operations.{PortionState}
+use Rattle.journal_nfs3.specs.declared.arguments.StableHow.{StableHow}
+use Rattle.journal_nfs3.specs.declared.arguments.StableHow.TheVariants.{Unstable, DataSync, FileSync}
+use Rattle.journal_nfs3.specs.declared.results.NfsError.{NfsError}
+use Rattle.journal_nfs3.specs.declared.results.Results as code_results
+use Rattle.journal_nfs3.specs.declared.results.Results.TheVariants as code_result
+use Rattle.journal_nfs3.specs.Handles.{FileHandle}
+use Rattle.journal_nfs3.specs.Results.{Fattr, Before, Change, LookupResults, ReadResults, WriteResults, CreateResults, CommitResults, Results, Null, GetAttributes, SetAttributes, Lookup, Read, Write, Create, Remove, Commit}
+
+-- The attributes of the root, whose number is 1, or of a file
+abbrev pub fattr_of : Attributes → Fattr
+fattr_of a = record {
+  kind = if a.number == 1 then 2 else 1;
+  mode = if a.number == 1 then 493 else 420;
+  links = if a.number == 1 then 2 else 1;
+  uid = 0;
+  gid = 0;
+  size = a.size;
+  used = if a.number == 1 then 0 else 4096;
+  device = (0, 0);
+  fsid = 1;
+  fileid = a.number;
+  atime = a.mtime;
+  mtime = a.mtime;
+  ctime = a.mtime;
+}
+
+-- what stood before a change
+abbrev pub before_of : Attributes → Before
+before_of a = record { size = a.size; mtime = a.mtime; ctime = a.mtime }
+
+abbrev pub change_of : Changed → Change
+change_of c = record { before = Some (before_of c.before); after = Some (fattr_of c.after) }
+
+-- nothing changed
+abbrev pub unchanged_of : Attributes → Change
+unchanged_of a = change_of (record { before = a; after = a })
+
+-- of a change nothing is told
+abbrev pub no_change : Change
+no_change = record { before = None; after = None }
+
+-- the handle of a file that was found or made
+abbrev pub found_handle : Found → FileHandle
+found_handle f = record { number = f.file.number; generation = f.generation }
+
+abbrev pub lookup_of : Found → LookupResults
+lookup_of f = record { object = found_handle f; attributes = Some (fattr_of f.file); directory = Some (fattr_of f.root) }
+
+abbrev pub read_results_of : PortionState → ReadResults
+read_results_of p = record { attributes = Some (fattr_of p.file); count = length p.bytes; is_end = p.is_end; bytes = p.bytes }
+
+-- what waited is as stable as can be
+abbrev pub stability_told : StableHow → StableHow
+stability_told Unstable = Unstable
+stability_told DataSync = FileSync
+stability_told FileSync = FileSync
+
+abbrev pub write_of : ℕ → StableHow → List ℕ → Changed → WriteResults
+write_of count how verifier c = record { change = change_of c; count = count; committed = stability_told how; verifier = verifier }
+
+-- a new file does not change the root
+abbrev pub create_of : Found → CreateResults
+create_of f = record { object = Some (found_handle f); attributes = Some (fattr_of f.file); directory = unchanged_of f.root }
+
+abbrev pub commit_of : List ℕ → Attributes → CommitResults
+commit_of verifier a = record { change = unchanged_of a; verifier = verifier }
+
+-- results, or an error, behind which nothing is told
+abbrev pub outcome_of : {A B C : Type 0} → (A → B) → C → Result A NfsError → Result B (NfsError × C)
+outcome_of told nothing (Ok v) = Ok (told v)
+outcome_of told nothing (Err why) = Err (why, nothing)
+
+abbrev pub results_of : code_results.Results → Results
+results_of code_result.Null = Null
+results_of (code_result.GetAttributes r) = GetAttributes (outcome_of fattr_of tt r)
+results_of (code_result.SetAttributes r) = SetAttributes (outcome_of change_of no_change r)
+results_of (code_result.Lookup r) = Lookup (outcome_of lookup_of None r)
+results_of (code_result.Read r) = Read (outcome_of read_results_of None r)
+results_of (code_result.Write r count how verifier) = Write (outcome_of (write_of count how verifier.0) no_change r)
+results_of (code_result.Create r) = Create (outcome_of create_of no_change r)
+results_of (code_result.Remove r) = Remove (outcome_of unchanged_of no_change r)
+results_of (code_result.Commit r verifier) = Commit (outcome_of (commit_of verifier.0) no_change r)

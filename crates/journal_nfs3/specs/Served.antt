@@ -1,0 +1,133 @@
+-- What an operation does, and what it answers.
+use Rattle.std.specs.Prelude.{ℕ, ◌≡◌, Bool, true, false, List, Option, Some, None, Result, Ok, Err}
+use Rattle.std.specs.Result.{is_ok}
+use Rattle.journal_world.specs.declared.refusal.Refusal.{Refusal}
+use Rattle.journal_world.specs.declared.refusal.Refusal.TheVariants.{Busy, DeviceFailed}
+use Rattle.journal_history.specs.Tokens.{SessionState}
+use Rattle.journal_core.specs.Causes.{Told}
+use Rattle.journal_inode.specs.declared.node.Time.{Time}
+use Rattle.journal_filestore.specs.declared.fault.Fault.{Fault}
+use Rattle.journal_filestore.specs.declared.fault.Fault.TheVariants.{Refused, Unsure}
+use Rattle.journal_filestore.specs.declared.settings.Settings.{Settings}
+use Rattle.journal_filestore.specs.declared.settings.How as file_how
+use Rattle.journal_filestore.specs.declared.settings.How.TheVariants as file_ways
+use Rattle.journal_filestore.specs.declared.status.Status.{Status}
+use Rattle.journal_filestore.specs.declared.status.Status.TheVariants as status
+use Rattle.journal_filestore.specs.Files.{Files}
+use Rattle.journal_filestore.specs.Operations.{Op, Call as call, Reply as reply}
+use Rattle.journal_filestore.specs.Done.{IsAnswered}
+use Rattle.journal_nfs3.specs.declared.arguments.NewAttributes.{NewAttributes}
+use Rattle.journal_nfs3.specs.declared.arguments.StableHow.{StableHow}
+use Rattle.journal_nfs3.specs.declared.arguments.StableHow.TheVariants.{Unstable, DataSync, FileSync}
+use Rattle.journal_nfs3.specs.declared.results.NfsError.{NfsError}
+use Rattle.journal_nfs3.specs.declared.results.NfsError.TheVariants.{NoEntry, Io, Exists, NotDirectory, Invalid, TooBig, NoSpace, Stale, BadHandle, NotSync, NotSupported, ServerFault, Jukebox}
+use Rattle.journal_nfs3.specs.Arguments.{How, Unchecked, Guarded, Exclusive, Operation, Operation as operation}
+use Rattle.journal_nfs3.specs.Handles.{FileHandle, handle_in}
+use Rattle.journal_nfs3.specs.Results.{Results, Null, GetAttributes, SetAttributes, Lookup, Read, Write, Create, Remove, Commit}
+use Rattle.journal_nfs3.specs.Profile.{fattr_of, change_of, unchanged_of, no_change, lookup_of, read_results_of, write_of, create_of, commit_of, outcome_of}
+
+-- ---- what the file store is asked
+
+-- mode, owner, group and time of access are not kept
+abbrev pub settings_of : NewAttributes → Settings
+settings_of a = record { size = a.size; mtime = a.mtime }
+
+abbrev pub ways_of : How → file_how.How
+ways_of (Unchecked a) = file_ways.Unchecked (settings_of a)
+ways_of (Guarded a) = file_ways.Guarded (settings_of a)
+ways_of (Exclusive v) = file_ways.Exclusive
+
+-- what is written waits until it is stable, unless it is asked not to
+abbrev pub waits : StableHow → Bool
+waits Unstable = false
+waits DataSync = true
+waits FileSync = true
+
+-- ---- statuses
+
+abbrev pub error_of : Status → NfsError
+error_of status.NoEntry = NoEntry
+error_of status.Exists = Exists
+error_of status.NotDirectory = NotDirectory
+error_of status.Invalid = Invalid
+error_of status.TooBig = TooBig
+error_of status.NoSpace = NoSpace
+error_of status.Stale = Stale
+error_of status.NotSync = NotSync
+error_of status.NotSupported = NotSupported
+
+-- what the journal refuses: a slot was held once more after the last attempt, the device failed, or anything else
+abbrev pub refusal_error : {C : Type 0} → Refusal C → NfsError
+refusal_error Busy = Jukebox
+refusal_error (DeviceFailed cause) = Io
+refusal_error other = ServerFault
+
+-- an answer of the file store, or that it has none, as it is told
+abbrev pub told : {A C : Type 0} → Result (Result A Status) (Fault C) → Result A NfsError
+told (Ok (Ok value)) = Ok value
+told (Ok (Err why)) = Err (error_of why)
+told (Err (Refused why)) = Err (refusal_error why)
+told (Err (Unsure why)) = Err (refusal_error why)
+
+-- ---- operations
+
+-- What is told of an operation on what the handle names: that it is none, or what the file store answers by this case
+abbrev pub TellsOutcome : {A : Type 0} → Option FileHandle → Bool → (FileHandle → Files → Result A Status → Files → Type 0) → SessionState → SessionState → Result A NfsError → Type 0
+TellsOutcome None waits case old new outcome = (outcome ≡ Err BadHandle) × (new ≡ old)
+TellsOutcome {A} (Some handle) waits case old new outcome =
+    (answer : Result (Result A Status) (Fault Told)) × IsAnswered waits (case handle) old new answer × (outcome ≡ told answer)
+
+-- the same, with the results that are made of it
+abbrev pub Performs : {A : Type 0} → Option FileHandle → Bool → (FileHandle → Files → Result A Status → Files → Type 0) → (Result A NfsError → Results) → SessionState → Results → SessionState → Type 0
+Performs {A} handle waits case as_results old results new = (outcome : Result A NfsError) × TellsOutcome handle waits case old new outcome × (results ≡ as_results outcome)
+
+-- What an operation does at a moment, from what its session had seen to what it then has seen, and its results
+abbrev pub Serves : List ℕ → Time → Operation → SessionState → Results → SessionState → Type 0
+Serves verifier now operation.Null old results new = (results ≡ Null) × (new ≡ old)
+Serves verifier now (operation.GetAttributes h) old results new =
+    Performs (handle_in h) false (λ k F r F2. (t : Time) → Op (call.getattr k.number k.generation) t F (reply.got r) F2)
+    (λ r. GetAttributes (outcome_of fattr_of tt r)) old results new
+Serves verifier now (operation.SetAttributes h a guard) old results new =
+    Performs (handle_in h) true (λ k F r F2. Op (call.setattr k.number k.generation (settings_of a) guard) now F (reply.set r) F2)
+    (λ r. SetAttributes (outcome_of change_of no_change r)) old results new
+Serves verifier now (operation.Lookup e) old results new =
+    Performs (handle_in e.directory) false (λ k F r F2. (t : Time) → Op (call.lookup k.number k.generation e.called) t F (reply.found r) F2)
+    (λ r. Lookup (outcome_of lookup_of None r)) old results new
+Serves verifier now (operation.Read h offset count) old results new =
+    Performs (handle_in h) false (λ k F r F2. (t : Time) → Op (call.read k.number k.generation offset count) t F (reply.bytes_read r) F2)
+    (λ r. Read (outcome_of read_results_of None r)) old results new
+Serves verifier now (operation.Write h offset count how bytes) old results new =
+    Performs (handle_in h) (waits how) (λ k F r F2. Op (call.write k.number k.generation offset count bytes) now F (reply.wrote r) F2)
+    (λ r. Write (outcome_of (write_of count how verifier) no_change r)) old results new
+Serves verifier now (operation.Create e how) old results new =
+    Performs (handle_in e.directory) true (λ k F r F2. Op (call.create k.number k.generation e.called (ways_of how)) now F (reply.made r) F2)
+    (λ r. Create (outcome_of create_of no_change r)) old results new
+Serves verifier now (operation.Remove e) old results new =
+    Performs (handle_in e.directory) true (λ k F r F2. (t : Time) → Op (call.remove k.number k.generation e.called) t F (reply.removed r) F2)
+    (λ r. Remove (outcome_of unchanged_of no_change r)) old results new
+Serves verifier now (operation.Commit h offset count) old results new =
+    Performs (handle_in h) true (λ k F r F2. (t : Time) → Op (call.commit k.number k.generation) t F (reply.committed r) F2)
+    (λ r. Commit (outcome_of (commit_of verifier) no_change r)) old results new
+
+-- ---- what is stable once it is answered
+
+-- the operation waits until it is stable, where it is answered OK
+abbrev pub has_to_wait : Operation → Bool
+has_to_wait (operation.SetAttributes h a guard) = true
+has_to_wait (operation.Write h offset count how bytes) = waits how
+has_to_wait (operation.Create e how) = true
+has_to_wait (operation.Remove e) = true
+has_to_wait (operation.Commit h offset count) = true
+has_to_wait other = false
+
+-- its results are not a refusal's
+abbrev pub is_accepted : Results → Bool
+is_accepted Null = true
+is_accepted (GetAttributes r) = is_ok r
+is_accepted (SetAttributes r) = is_ok r
+is_accepted (Lookup r) = is_ok r
+is_accepted (Read r) = is_ok r
+is_accepted (Write r) = is_ok r
+is_accepted (Create r) = is_ok r
+is_accepted (Remove r) = is_ok r
+is_accepted (Commit r) = is_ok r

@@ -1,0 +1,132 @@
+// What callers ask.
+ghost use Rattle.std.specs.Prelude.{◌≡◌};
+ghost use Rattle.journal_nfs3.specs.Profile.{stability_told};
+
+use journal_filestore::NewTime;
+use journal_inode::Time;
+use journal_xdr::Enumeration;
+
+// The attributes that are to be set (RFC 1813, section 2.5, sattr3). `None` leaves one as it is.
+#[derive(Clone, Copy, Debug)]
+pub(crate) struct NewAttributes {
+    pub(crate) mode: Option<u32>,
+    pub(crate) uid: Option<u32>,
+    pub(crate) gid: Option<u32>,
+    pub(crate) size: Option<u64>,
+    pub(crate) atime: NewTime,
+    pub(crate) mtime: NewTime,
+}
+
+// A directory's handle and a name in it (RFC 1813, section 2.5, diropargs3).
+#[derive(Clone, Copy, Debug)]
+pub(crate) struct DirectoryEntry<'a> {
+    pub(crate) directory: &'a [u8],
+    pub(crate) name: &'a [u8],
+}
+
+// How stable what is written has to be before the reply (RFC 1813, section 3.3.7, stable_how).
+#[derive(Clone, Copy, Debug, PartialEq, Eq)]
+pub(crate) enum StableHow {
+    Unstable,
+    DataSync,
+    FileSync,
+}
+
+impl StableHow {
+    // How stable what was written is, once it is answered: what waits is stable with all its attributes.
+    pub(crate) fn committed(self) -> StableHow
+        ensures { result ≡ stability_told self }
+    {
+        match self {
+            StableHow::Unstable => StableHow::Unstable,
+            StableHow::DataSync | StableHow::FileSync => StableHow::FileSync,
+        }
+    }
+}
+
+impl Enumeration for StableHow {
+    ghost use Rattle.journal_nfs3.specs.Arguments.{stable_how_of, stable_how_number, stable_how_is, stable_how_back};
+
+    ghost meaning = { stable_how_of };
+
+    ghost code = { stable_how_number };
+
+    ghost is_listed = { stable_how_is };
+
+    ghost has_one_number = { stable_how_back };
+
+    fn from_number(number: u32) -> Option<StableHow> {
+        match number {
+            0 => Some(StableHow::Unstable),
+            1 => Some(StableHow::DataSync),
+            2 => Some(StableHow::FileSync),
+            _ => None,
+        }
+    }
+
+    fn number(self) -> u32 {
+        match self {
+            StableHow::Unstable => 0,
+            StableHow::DataSync => 1,
+            StableHow::FileSync => 2,
+        }
+    }
+}
+
+// How a file is to be made (RFC 1813, section 3.3.8, createhow3).
+#[derive(Clone, Copy, Debug)]
+pub(crate) enum CreateHow<'a> {
+    Unchecked(NewAttributes),
+    Guarded(NewAttributes),
+    // With a verifier of 8 bytes.
+    Exclusive(&'a [u8]),
+}
+
+// What SETATTR is asked (RFC 1813, section 3.3.2).
+#[derive(Clone, Copy, Debug)]
+pub(crate) struct SetArguments<'a> {
+    pub(crate) handle: &'a [u8],
+    pub(crate) attributes: NewAttributes,
+    // The time of the last change that the caller knows.
+    pub(crate) guard: Option<Time>,
+}
+
+// A part of a file, which READ and COMMIT are asked for (RFC 1813, sections 3.3.6 and 3.3.21).
+#[derive(Clone, Copy, Debug)]
+pub(crate) struct FileRange<'a> {
+    pub(crate) handle: &'a [u8],
+    pub(crate) offset: u64,
+    pub(crate) count: u32,
+}
+
+// What WRITE is asked (RFC 1813, section 3.3.7).
+#[derive(Clone, Copy, Debug)]
+pub(crate) struct WriteArguments<'a> {
+    pub(crate) handle: &'a [u8],
+    pub(crate) offset: u64,
+    pub(crate) count: u32,
+    pub(crate) how: StableHow,
+    pub(crate) bytes: &'a [u8],
+}
+
+// What CREATE is asked (RFC 1813, section 3.3.8).
+#[derive(Clone, Copy, Debug)]
+pub(crate) struct CreateArguments<'a> {
+    pub(crate) entry: DirectoryEntry<'a>,
+    pub(crate) how: CreateHow<'a>,
+}
+
+// A procedure with its arguments (RFC 1813, section 3.3). Handles are as the caller sent them, of at most 64
+// bytes.
+#[derive(Clone, Copy, Debug)]
+pub(crate) enum Operation<'a> {
+    Null,
+    GetAttributes(&'a [u8]),
+    SetAttributes(SetArguments<'a>),
+    Lookup(DirectoryEntry<'a>),
+    Read(FileRange<'a>),
+    Write(WriteArguments<'a>),
+    Create(CreateArguments<'a>),
+    Remove(DirectoryEntry<'a>),
+    Commit(FileRange<'a>),
+}

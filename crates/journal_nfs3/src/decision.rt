@@ -1,0 +1,55 @@
+// What a call asks of the program.
+ghost use Rattle.std.specs.Prelude.{◌≡◌};
+ghost use Rattle.journal_rpc.specs.CallViews.{asked_of};
+ghost use Rattle.journal_nfs3.specs.Procedures.{procedure_of};
+ghost use Rattle.journal_nfs3.specs.Arguments.{arguments};
+ghost use Rattle.journal_nfs3.specs.Whole.{whole};
+ghost use Rattle.journal_nfs3.specs.Calls.{called, asks, decided, found};
+
+use crate::arguments::Operation;
+use crate::procedure::Procedure;
+use crate::reading::read_arguments;
+use journal_rpc::{Call, CallRefused};
+use journal_xdr::{Enumeration, Reader};
+
+/// The number of the program NFS (RFC 1813, section 2.1).
+pub const PROGRAM: u32 = 100_003;
+
+/// The version of it that is served.
+pub const VERSION: u32 = 3;
+
+// The operation that a call asks, or why it is refused. The first of these that holds is answered: it is in another
+// version of RPC, it asks another program, another version of this one or a procedure that is not served, or its
+// arguments cannot be read.
+pub(crate) fn decide<'a>(call: &Call<'a>) -> Result<Operation<'a>, CallRefused>
+    ensures { decided result ≡ asks (asked_of call.now.asked) }
+{
+    let request = call.request(PROGRAM, VERSION)?;
+    decide_procedure(request.procedure, request.arguments)
+}
+
+#[tactic(auto, unfolding(crate::specs::Calls::called))]
+fn decide_procedure(number: u32, arguments: &[u8]) -> Result<Operation<'_>, CallRefused>
+    ensures { decided result ≡ called (procedure_of number) arguments.now }
+{
+    let Some(procedure) = Procedure::from_number(number) else {
+        return Err(CallRefused::ProcedureUnavailable);
+    };
+    match read_whole(procedure, arguments) {
+        Some(operation) => Ok(operation),
+        None => Err(CallRefused::GarbageArguments),
+    }
+}
+
+// Reads arguments, behind which nothing is to stand.
+fn read_whole(procedure: Procedure, bytes: &[u8]) -> Option<Operation<'_>>
+    ensures { found result ≡ whole (arguments procedure) bytes.now }
+{
+    let mut reader = Reader::new(bytes);
+    let operation = read_arguments(procedure, &mut reader)?;
+    if reader.is_at_end() {
+        Some(operation)
+    } else {
+        None
+    }
+}

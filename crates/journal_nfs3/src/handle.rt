@@ -1,0 +1,36 @@
+// Handles: what a caller names a file by.
+ghost use Rattle.std.specs.Prelude.{◌≡◌};
+ghost use Rattle.journal_xdr.specs.Items.{ReadsItem};
+ghost use Rattle.journal_nfs3.specs.Handles.{used_handle, handle_of, handle_in, named};
+
+use journal_filestore::Handle;
+use journal_xdr::Reader;
+
+// What every handle begins with: `JNL1`.
+pub(crate) const HANDLE_MARK: u32 = 0x4a4e_4c31;
+
+// The handle that the bytes are, or `None` where they are none: they are not 12, they begin with another mark, or
+// the inode is 0 or above 511.
+pub(crate) fn read_handle(bytes: &[u8]) -> Option<Handle>
+    ensures { named result ≡ handle_in bytes.now }
+{
+    let mut reader = Reader::new(bytes);
+    let handle = read_parts(&mut reader)?;
+    if reader.is_at_end() {
+        Some(handle)
+    } else {
+        None
+    }
+}
+
+#[tactic(auto, unfolding(crate::specs::Handles::file_handle))]
+fn read_parts(reader: &mut Reader<'_>) -> Option<Handle>
+    ensures { ReadsItem used_handle handle_of reader.old reader.new result }
+{
+    if reader.word()? != HANDLE_MARK {
+        return None;
+    }
+    let number = reader.word()?;
+    let generation = reader.word()?;
+    Handle::new(number, generation)
+}

@@ -1,0 +1,365 @@
+// Writing the results of the procedures.
+ghost use Rattle.std.specs.Prelude.{◌≡◌, ◌++◌, OnOk, Some, None};
+ghost use Rattle.journal_xdr.specs.Items.{Writes};
+ghost use Rattle.journal_nfs3.specs.Arguments.{time};
+ghost use Rattle.journal_nfs3.specs.Results.{given_handle, fattr, post_op_attributes, before, change, lookup_results, read_results, write_results, create_results, commit_results, status, outcome, nothing};
+ghost use Rattle.journal_nfs3.specs.Profile.{fattr_of, before_of, change_of, unchanged_of, no_change, lookup_of, read_results_of, write_of, create_of, commit_of, outcome_of};
+
+use crate::arguments::StableHow;
+use crate::handle::HANDLE_MARK;
+use crate::results::{NfsError, Verifier};
+use journal_filestore::{Attributes, Changed, Found, Portion};
+use journal_inode::Time;
+use journal_xdr::Writer;
+use std::alloc::AllocError;
+
+// The status of a procedure that is not refused (RFC 1813, section 2.6, NFS3_OK).
+const OK: u32 = 0;
+
+// The bytes of a handle.
+const HANDLE_LENGTH: u32 = 12;
+
+// The number of the root directory's inode.
+const ROOT: u32 = 1;
+
+// The only file system.
+const FILE_SYSTEM: u64 = 1;
+
+// What differs between files and the root, beside size and time: the type (RFC 1813, section 2.5, ftype3), the
+// mode, the number of links and the bytes that are used.
+#[derive(Clone, Copy)]
+struct Shape {
+    kind: u32,
+    mode: u32,
+    links: u32,
+    used: u64,
+}
+
+const FILE_SHAPE: Shape = Shape {
+    kind: 1,
+    mode: 0o644,
+    links: 1,
+    used: 4096,
+};
+
+const ROOT_SHAPE: Shape = Shape {
+    kind: 2,
+    mode: 0o755,
+    links: 2,
+    used: 0,
+};
+
+#[tactic(auto, unfolding(crate::specs::Arguments::time))]
+fn write_time(writer: &mut Writer, value: Time) -> Result<(), AllocError>
+    ensures { OnOk result (Writes time value writer.old writer.new) }
+{
+    writer.word(value.secs)?;
+    writer.word(value.nanos)
+}
+
+// Writes the attributes of a file or of the root (RFC 1813, section 2.5, fattr3).
+#[tactic(auto, unfolding(crate::specs::Results::fattr))]
+fn write_attributes(writer: &mut Writer, attributes: &Attributes) -> Result<(), AllocError>
+    ensures { OnOk result (Writes fattr (fattr_of attributes.now) writer.old writer.new) }
+{
+    let shape = if attributes.number == ROOT {
+        ROOT_SHAPE
+    } else {
+        FILE_SHAPE
+    };
+    writer.word(shape.kind)?;
+    writer.word(shape.mode)?;
+    writer.word(shape.links)?;
+    // The owner and the group.
+    writer.word(0)?;
+    writer.word(0)?;
+    writer.hyper(attributes.size)?;
+    writer.hyper(shape.used)?;
+    // No device.
+    writer.word(0)?;
+    writer.word(0)?;
+    writer.hyper(FILE_SYSTEM)?;
+    writer.hyper(u64::from(attributes.number))?;
+    write_time(writer, attributes.mtime)?;
+    write_time(writer, attributes.mtime)?;
+    write_time(writer, attributes.mtime)
+}
+
+// Writes attributes that are told (RFC 1813, section 2.5, post_op_attr).
+fn write_after(writer: &mut Writer, attributes: &Attributes) -> Result<(), AllocError>
+    ensures { OnOk result (Writes post_op_attributes (Some (fattr_of attributes.now)) writer.old writer.new) }
+{
+    writer.boolean(true)?;
+    write_attributes(writer, attributes)
+}
+
+// Writes what stood before a change (RFC 1813, section 2.5, wcc_attr).
+#[tactic(auto, unfolding(crate::specs::Results::before))]
+fn write_before(writer: &mut Writer, attributes: &Attributes) -> Result<(), AllocError>
+    ensures { OnOk result (Writes before (before_of attributes.now) writer.old writer.new) }
+{
+    writer.hyper(attributes.size)?;
+    write_time(writer, attributes.mtime)?;
+    write_time(writer, attributes.mtime)
+}
+
+// Writes what was changed (RFC 1813, section 2.5, wcc_data).
+#[tactic(auto, unfolding(crate::specs::Results::change))]
+fn write_change(writer: &mut Writer, changed: &Changed) -> Result<(), AllocError>
+    ensures { OnOk result (Writes change (change_of changed.now) writer.old writer.new) }
+{
+    writer.boolean(true)?;
+    write_before(writer, &changed.before)?;
+    write_after(writer, &changed.after)
+}
+
+// Writes a handle (RFC 1813, section 2.4, nfs_fh3).
+
+fn write_handle(writer: &mut Writer, number: u32, generation: u32) -> Result<(), AllocError>
+    ensures { OnOk result (Writes given_handle (record { number = number; generation = generation }) writer.old writer.new) }
+{
+    writer.word(HANDLE_LENGTH)?;
+    writer.word(HANDLE_MARK)?;
+    writer.word(number)?;
+    writer.word(generation)
+}
+
+// Writes the status of a procedure that is not refused.
+fn write_ok(writer: &mut Writer) -> Result<(), AllocError>
+    ensures { OnOk result (Writes status None writer.old writer.new) }
+{
+    writer.word(OK)
+}
+
+// Writes why a procedure is refused.
+fn write_error(writer: &mut Writer, why: NfsError) -> Result<(), AllocError>
+    ensures { OnOk result (Writes status (Some why) writer.old writer.new) }
+{
+    writer.word(why as u32)
+}
+
+// Writes why a procedure is refused that else tells attributes: none are told.
+fn write_error_untold(writer: &mut Writer, why: NfsError) -> Result<(), AllocError>
+    ensures { OnOk result (writer.new ≡ writer.old ++ (status.spelling (Some why) ++ post_op_attributes.spelling None)) }
+{
+    write_error(writer, why)?;
+    writer.boolean(false)
+}
+
+// Writes why a procedure is refused that else tells of a change: nothing is told.
+#[tactic(auto, unfolding(crate::specs::Results::change))]
+fn write_error_unchanged(writer: &mut Writer, why: NfsError) -> Result<(), AllocError>
+    ensures { OnOk result (writer.new ≡ writer.old ++ (status.spelling (Some why) ++ change.spelling no_change)) }
+{
+    write_error(writer, why)?;
+    writer.boolean(false)?;
+    writer.boolean(false)
+}
+
+// Writes that nothing was changed.
+fn write_no_change(writer: &mut Writer, attributes: &Attributes) -> Result<(), AllocError>
+    ensures { OnOk result (Writes change (unchanged_of attributes.now) writer.old writer.new) }
+{
+    write_change(
+        writer,
+        &Changed {
+            before: *attributes,
+            after: *attributes,
+        },
+    )
+}
+
+// Writes what LOOKUP answers (RFC 1813, section 3.3.3).
+#[tactic(auto, unfolding(crate::specs::Results::lookup_results))]
+fn write_lookup_ok(writer: &mut Writer, found: &Found) -> Result<(), AllocError>
+    ensures { OnOk result (Writes lookup_results (lookup_of found.now) writer.old writer.new) }
+{
+    write_handle(writer, found.file.number, found.generation)?;
+    write_after(writer, &found.file)?;
+    write_after(writer, &found.root)
+}
+
+// Writes what READ answers (RFC 1813, section 3.3.6).
+#[tactic(auto, unfolding(crate::specs::Results::read_results))]
+fn write_read_ok(writer: &mut Writer, portion: &Portion) -> Result<(), AllocError>
+    ensures { OnOk result (Writes read_results (read_results_of portion.now) writer.old writer.new) }
+{
+    let bytes = portion.bytes();
+    write_after(writer, &portion.file())?;
+    writer.word(bytes.len() as u32)?;
+    writer.boolean(portion.is_end())?;
+    writer.opaque(bytes)
+}
+
+// Writes what WRITE answers (RFC 1813, section 3.3.7).
+#[tactic(auto, unfolding(crate::specs::Results::write_results))]
+fn write_write_ok(
+    writer: &mut Writer,
+    changed: &Changed,
+    count: u32,
+    how: StableHow,
+    verifier: Verifier,
+) -> Result<(), AllocError>
+    ensures { OnOk result (Writes write_results (write_of count how verifier.0 changed.now) writer.old writer.new) }
+{
+    write_change(writer, changed)?;
+    writer.word(count)?;
+    writer.enumeration(how.committed())?;
+    writer.fixed(&verifier.0)
+}
+
+// Writes what CREATE answers (RFC 1813, section 3.3.8).
+#[tactic(auto, unfolding(crate::specs::Results::create_results))]
+fn write_create_ok(writer: &mut Writer, found: &Found) -> Result<(), AllocError>
+    ensures { OnOk result (Writes create_results (create_of found.now) writer.old writer.new) }
+{
+    writer.boolean(true)?;
+    write_handle(writer, found.file.number, found.generation)?;
+    write_after(writer, &found.file)?;
+    write_no_change(writer, &found.root)
+}
+
+// Writes what COMMIT answers (RFC 1813, section 3.3.21).
+#[tactic(auto, unfolding(crate::specs::Results::commit_results))]
+fn write_commit_ok(
+    writer: &mut Writer,
+    attributes: &Attributes,
+    verifier: Verifier,
+) -> Result<(), AllocError>
+    ensures { OnOk result (Writes commit_results (commit_of verifier.0 attributes.now) writer.old writer.new) }
+{
+    write_no_change(writer, attributes)?;
+    writer.fixed(&verifier.0)
+}
+
+// Writes what GETATTR answers, or why it is refused (RFC 1813, section 3.3.1).
+pub(crate) fn write_get_attributes(
+    writer: &mut Writer,
+    answer: &Result<Attributes, NfsError>,
+) -> Result<(), AllocError>
+    ensures { OnOk result (Writes (outcome fattr nothing) (outcome_of fattr_of tt answer.now) writer.old writer.new) }
+{
+    match answer {
+        Ok(value) => {
+            write_ok(writer)?;
+            write_attributes(writer, value)
+        }
+        Err(why) => write_error(writer, *why),
+    }
+}
+
+// SETATTR (RFC 1813, section 3.3.2).
+pub(crate) fn write_set_attributes(
+    writer: &mut Writer,
+    answer: &Result<Changed, NfsError>,
+) -> Result<(), AllocError>
+    ensures { OnOk result (Writes (outcome change change) (outcome_of change_of no_change answer.now) writer.old writer.new) }
+{
+    match answer {
+        Ok(value) => {
+            write_ok(writer)?;
+            write_change(writer, value)
+        }
+        Err(why) => write_error_unchanged(writer, *why),
+    }
+}
+
+// LOOKUP (RFC 1813, section 3.3.3).
+pub(crate) fn write_lookup(
+    writer: &mut Writer,
+    answer: &Result<Found, NfsError>,
+) -> Result<(), AllocError>
+    ensures { OnOk result (Writes (outcome lookup_results post_op_attributes) (outcome_of lookup_of None answer.now) writer.old writer.new) }
+{
+    match answer {
+        Ok(value) => {
+            write_ok(writer)?;
+            write_lookup_ok(writer, value)
+        }
+        Err(why) => write_error_untold(writer, *why),
+    }
+}
+
+// READ (RFC 1813, section 3.3.6).
+pub(crate) fn write_read(
+    writer: &mut Writer,
+    answer: &Result<Portion, NfsError>,
+) -> Result<(), AllocError>
+    ensures { OnOk result (Writes (outcome read_results post_op_attributes) (outcome_of read_results_of None answer.now) writer.old writer.new) }
+{
+    match answer {
+        Ok(value) => {
+            write_ok(writer)?;
+            write_read_ok(writer, value)
+        }
+        Err(why) => write_error_untold(writer, *why),
+    }
+}
+
+// WRITE (RFC 1813, section 3.3.7).
+pub(crate) fn write_write(
+    writer: &mut Writer,
+    answer: &Result<Changed, NfsError>,
+    count: u32,
+    how: StableHow,
+    verifier: Verifier,
+) -> Result<(), AllocError>
+    ensures { OnOk result (Writes (outcome write_results change) (outcome_of (write_of count how verifier.0) no_change answer.now) writer.old writer.new) }
+{
+    match answer {
+        Ok(value) => {
+            write_ok(writer)?;
+            write_write_ok(writer, value, count, how, verifier)
+        }
+        Err(why) => write_error_unchanged(writer, *why),
+    }
+}
+
+// CREATE (RFC 1813, section 3.3.8).
+pub(crate) fn write_create(
+    writer: &mut Writer,
+    answer: &Result<Found, NfsError>,
+) -> Result<(), AllocError>
+    ensures { OnOk result (Writes (outcome create_results change) (outcome_of create_of no_change answer.now) writer.old writer.new) }
+{
+    match answer {
+        Ok(value) => {
+            write_ok(writer)?;
+            write_create_ok(writer, value)
+        }
+        Err(why) => write_error_unchanged(writer, *why),
+    }
+}
+
+// REMOVE (RFC 1813, section 3.3.12).
+pub(crate) fn write_remove(
+    writer: &mut Writer,
+    answer: &Result<Attributes, NfsError>,
+) -> Result<(), AllocError>
+    ensures { OnOk result (Writes (outcome change change) (outcome_of unchanged_of no_change answer.now) writer.old writer.new) }
+{
+    match answer {
+        Ok(value) => {
+            write_ok(writer)?;
+            write_no_change(writer, value)
+        }
+        Err(why) => write_error_unchanged(writer, *why),
+    }
+}
+
+// COMMIT (RFC 1813, section 3.3.21).
+pub(crate) fn write_commit(
+    writer: &mut Writer,
+    answer: &Result<Attributes, NfsError>,
+    verifier: Verifier,
+) -> Result<(), AllocError>
+    ensures { OnOk result (Writes (outcome commit_results change) (outcome_of (commit_of verifier.0) no_change answer.now) writer.old writer.new) }
+{
+    match answer {
+        Ok(value) => {
+            write_ok(writer)?;
+            write_commit_ok(writer, value, verifier)
+        }
+        Err(why) => write_error_unchanged(writer, *why),
+    }
+}
