@@ -1,4 +1,6 @@
-// Threads that commit beside a logger and an installer.
+// Threads that commit beside a logger and an installer, and runs of a journal without these.
+mod journal;
+
 ghost use Rattle.std.specs.Prelude.{◌≡◌};
 ghost use Rattle.journal_disk.specs.Disks.{IsSettled};
 
@@ -182,10 +184,11 @@ impl Gate for HeldGate {
     }
 }
 
-/// Opens the gate once the journal has four commits, and waits a million turns for them at most.
+/// Opens the gate once the journal has four commits, and waits a million turns for them at most, or until someone
+/// else opened it.
 fn open_gate<J: Naming, W: Wait>(rt: &W, journal: &Open<J>, gate: &HeldGate) {
     for _ in 0..1_000_000 {
-        if journal.stat(rt).commits == 4 {
+        if journal.stat(rt).commits == 4 || gate.opened.load(Ordering::SeqCst) {
             break;
         }
         yield_now();
@@ -201,6 +204,8 @@ enum Ending {
     Uncovered,
     // Known to be in the history, the wait refused by J6.
     Unsure,
+    // Known not to be in the history, by J6.
+    Lost,
     Refused,
 }
 
@@ -223,22 +228,18 @@ fn waits<'b, J: Naming, H: Abort + Wait>(
 
 /// How it ended.
 fn end_of_wait<'b, J: Naming>(answer: Waited<'b, J, AnyMap>) -> Ending {
-    let fault = match answer {
-        Ok((receipt, note)) => {
-            return if receipt.count() <= note.count() {
-                Ending::Stable
-            } else {
-                Ending::Uncovered
-            };
-        }
-        Err(fault) => fault,
-    };
-    let why = match fault {
-        WaitFault::Unsure(_receipt, why) => why,
-        WaitFault::Refused(_why) => return Ending::Refused,
-    };
+    match answer {
+        Ok((receipt, note)) if receipt.count() <= note.count() => Ending::Stable,
+        Ok(_) => Ending::Uncovered,
+        Err(WaitFault::Unsure(_receipt, why)) => by_fault(why, Ending::Unsure),
+        Err(WaitFault::Refused(why)) => by_fault(why, Ending::Lost),
+    }
+}
+
+/// This ending where the refusal is J6.
+fn by_fault<C: Drop>(why: Refusal<C>, ending: Ending) -> Ending {
     match why {
-        Refusal::DeviceFailed(_cause) => Ending::Unsure,
+        Refusal::DeviceFailed(_cause) => ending,
         _other => Ending::Refused,
     }
 }
@@ -251,12 +252,15 @@ fn inode(number: u8) -> Addr {
     }
 }
 
-/// Four threads wait while the daemon is held at its gate, which is then opened. Answers how they ended.
+/// Four threads wait while the daemon is held at its gate, which is then opened. Each overwrites the inode of its
+/// number. Answers how they ended.
 fn four_wait<J: Naming + Send + Sync, H: Abort + Threads + Wait + Sync>(
     rt: &H,
     alloc: Global,
     journal: &Open<J>,
+    numbers: [u8; 4],
 ) -> [Ending; 4] {
+    let [first, second, third, fourth] = numbers;
     let gate = HeldGate::default();
     let pair = |first: u8, second: u8| {
         join(
@@ -266,7 +270,8 @@ fn four_wait<J: Naming + Send + Sync, H: Abort + Threads + Wait + Sync>(
         )
     };
     let four = || {
-        let ((one, two), (three, four)) = join(rt, || pair(1, 2), || pair(3, 4));
+        let ((one, two), (three, four)) = join(rt, || pair(first, second), || pair(third, fourth));
+        gate.opened.store(true, Ordering::SeqCst);
         journal.stop(rt);
         [one, two, three, four]
     };
@@ -332,7 +337,7 @@ fn become_stable<J: Naming + Send + Sync, H: Abort + Threads + Wait + Sync>(
     requires blocks { J.blocks ≡ 600 }
 {
     let journal = opened::<J, _>(rt, alloc, book);
-    let endings = four_wait(rt, alloc, &journal);
+    let endings = four_wait(rt, alloc, &journal, [1, 2, 3, 4]);
     assert_eq!(rt; endings, [Ending::Stable; 4]);
     assert_eq!(rt; journal.stat(rt).end, 1);
     assert_eq!(rt; image_bytes(rt, alloc, &journal), [1, 2, 3, 4]);
@@ -343,6 +348,37 @@ fn four_commits_wait_for_one_group(rt: HostRuntime) -> Result<(), Fail> {
     let book: Book<AnyMap> = Book::open::<()>()?;
     become_stable::<Brand, _>(&rt, rt.alloc(), &book);
     Ok(())
+}
+
+/// Four commits of one object are in one group: each gives up its slots before it waits.
+fn wait_together<J: Naming + Send + Sync, H: Abort + Threads + Wait + Sync>(
+    rt: &H,
+    alloc: Global,
+    book: &Book<AnyMap>,
+)
+    requires book { book.now ≡ J.book }
+    requires blocks { J.blocks ≡ 600 }
+{
+    let journal = opened::<J, _>(rt, alloc, book);
+    let endings = four_wait(rt, alloc, &journal, [1; 4]);
+    assert_eq!(rt; (endings, journal.stat(rt).end), ([Ending::Stable; 4], 1));
+}
+
+#[test]
+fn who_waits_holds_no_slot(rt: HostRuntime) -> Result<(), Fail> {
+    let book: Book<AnyMap> = Book::open::<()>()?;
+    wait_together::<Brand, _>(&rt, rt.alloc(), &book);
+    Ok(())
+}
+
+/// How all end that wait for one group, where the device fails at its k-th call. The first call reads the inodes'
+/// block for a commit, and those behind it log one block, make a barrier, write block 0 and make a barrier.
+fn ending_at(k: u64) -> Ending {
+    match k {
+        1 => Ending::Lost,
+        2..=5 => Ending::Unsure,
+        _later => Ending::Stable,
+    }
 }
 
 /// The device fails at its k-th call. Each commit that waits has ended, and what was told to be stable is.
@@ -357,16 +393,114 @@ fn end_by_the_fault<J: Naming + Send + Sync, H: Abort + Threads + Wait + Sync>(
 {
     let journal = opened::<J, _>(rt, alloc, book);
     journal.fail_in(rt, k);
-    let endings = four_wait(rt, alloc, &journal);
-    assert_eq!(rt; endings, [Ending::Unsure; 4]);
+    let endings = four_wait(rt, alloc, &journal, [1, 2, 3, 4]);
+    assert_eq!(rt; endings, [ending_at(k); 4]);
 }
 
 #[test]
 fn a_fault_ends_each_wait(rt: HostRuntime) -> Result<(), Fail> {
-    // A commit of an inode reads its block first; the group's log block, a barrier, block 0 and a barrier follow.
-    for k in 2..=5 {
+    for k in 1..=7 {
         let book: Book<AnyMap> = Book::open::<()>()?;
         end_by_the_fault::<Brand, _>(&rt, rt.alloc(), &book, k);
     }
+    Ok(())
+}
+
+/// Commits and waits, again and again, until a commit does not end well. Answers how that one ended.
+fn waits_on<J: Naming, H: Abort + Wait>(
+    rt: &H,
+    alloc: Global,
+    journal: &Open<J>,
+    number: u8,
+) -> Ending {
+    for _ in 0..10_000 {
+        let ending = waits(rt, alloc, journal, number);
+        if ending != Ending::Stable {
+            return ending;
+        }
+    }
+    Ending::Stable
+}
+
+/// Four threads do so beside the daemon, which nobody holds. Answers how they ended.
+fn four_wait_on<J: Naming + Send + Sync, H: Abort + Threads + Wait + Sync>(
+    rt: &H,
+    alloc: Global,
+    journal: &Open<J>,
+) -> [Ending; 4] {
+    let pair = |first: u8, second: u8| {
+        join(
+            rt,
+            || waits_on(rt, alloc, journal, first),
+            || waits_on(rt, alloc, journal, second),
+        )
+    };
+    let four = || {
+        let ((one, two), (three, four)) = join(rt, || pair(1, 2), || pair(3, 4));
+        journal.stop(rt);
+        [one, two, three, four]
+    };
+    let (_ended, endings) = join(rt, || start(rt, journal, &OpenGate).is_ok(), four);
+    endings
+}
+
+/// The device fails at its k-th call, wherever that comes. Each thread has ended, by J6.
+fn all_end_by_the_fault<J: Naming + Send + Sync, H: Abort + Threads + Wait + Sync>(
+    rt: &H,
+    alloc: Global,
+    book: &Book<AnyMap>,
+    k: u64,
+)
+    requires book { book.now ≡ J.book }
+    requires blocks { J.blocks ≡ 600 }
+{
+    let journal = opened::<J, _>(rt, alloc, book);
+    journal.fail_in(rt, k);
+    let endings = four_wait_on(rt, alloc, &journal);
+    let ended = |ending: &Ending| matches!(ending, Ending::Unsure | Ending::Lost);
+    assert!(rt; endings.iter().all(ended), "{k}: {endings:?}");
+}
+
+#[test]
+fn a_fault_at_any_call_ends_each_thread(rt: HostRuntime) -> Result<(), Fail> {
+    // The log is crowded after 257 groups of four calls each, and the installer's calls come among those behind.
+    for k in (1..20u64).chain(1028..1048) {
+        let book: Book<AnyMap> = Book::open::<()>()?;
+        all_end_by_the_fault::<Brand, _>(&rt, rt.alloc(), &book, k);
+    }
+    Ok(())
+}
+
+/// Six hundred commits wait, one after another. Answers whether all became stable.
+fn waits_often<J: Naming, H: Abort + Wait>(rt: &H, alloc: Global, journal: &Open<J>) -> bool {
+    let all_stable = (0..600u32).all(|_| waits(rt, alloc, journal, 1) == Ending::Stable);
+    journal.stop(rt);
+    all_stable
+}
+
+/// Each is a group of one block, and the log has 511 positions: the installer has made room.
+fn go_round_the_log<J: Naming + Send + Sync, H: Abort + Threads + Wait + Sync>(
+    rt: &H,
+    alloc: Global,
+    book: &Book<AnyMap>,
+)
+    requires book { book.now ≡ J.book }
+    requires blocks { J.blocks ≡ 600 }
+{
+    let journal = opened::<J, _>(rt, alloc, book);
+    let ended = join(
+        rt,
+        || start(rt, &journal, &OpenGate).is_ok(),
+        || waits_often(rt, alloc, &journal),
+    );
+    let stat = journal.stat(rt);
+    assert_eq!(rt; (ended, stat.end), ((true, true), 600));
+    assert!(rt; stat.start > 0);
+}
+
+#[test]
+fn the_installer_makes_room(rt: HostRuntime) -> Result<(), Fail> {
+    let book: Book<AnyMap> = Book::open::<()>()?;
+    go_round_the_log::<Brand, _>(&rt, rt.alloc(), &book);
     Ok(())
 }

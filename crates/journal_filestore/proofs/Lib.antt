@@ -17,4 +17,3 @@ pub mod SettingCases
 pub mod Removals
 pub mod Portions
 pub mod Creations
-pub mod ZeroDisks

@@ -44,6 +44,3 @@ pub use reply::{Attributes, Changed, Found};
 pub use settings::{How, NewTime, Settings, Stability};
 pub use status::Status;
 pub use store::{Answer, FileFault, FileStore};
-
-#[cfg(test)]
-mod tests;

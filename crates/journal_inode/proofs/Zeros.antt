@@ -1,8 +1,7 @@
 -- What a block of zeros holds.
 use Rattle.std.proofs.Common.{ℕ, zero, suc, ◌≡◌, ◌<◌, ◌≤◌, ◌+◌, ◌-◌, ◌*◌, ◌/◌, ◌%◌, ◌≢◌, ◌⊎◌, inl, inr, ◌&&◌, nat_lt, false, [], ◌++◌, replicate, take, drop, refl, sym, ap, ◌∙◌, arith}
 use Rattle.std.specs.Prelude.{nat_le, slice_index, slice_range}
-use Rattle.std.proofs.lemmas.List.{take-replicate, drop-replicate, get_or-replicate}
-use Rattle.journal_disk.specs.Disks.{read_of, past_from}
+use Rattle.std.proofs.lemmas.List.{take-replicate, drop-replicate}
 use Rattle.std.proofs.lemmas.Nat.Bits.{bit_at-zero}
 use Rattle.std.proofs.lemmas.Bool.{cases_eq}
 use Rattle.std.proofs.lemmas.Bool.Decides.{nat_tests}
@@ -57,7 +56,3 @@ other_inode old new i zeros low ne before after =
     by_side : (i ≡ 0) ⊎ (i ≡ 0 → ⊥) → slice_range new (i * 128) (i * 128 + 128) ≡ slice_range old (i * 128) (i * 128 + 128)
     by_side (inl is) = before (i * 128) (i * 128 + 128) (omega (arith, is))
     by_side (inr above) = after (i * 128) (i * 128 + 128) (omega (arith, ne, above))
-
--- each block of a disk that begins with zeros reads as zeros
-pub zero_disk : (blocks b : ℕ) → b < blocks → read_of (past_from blocks (replicate blocks (zeros_of Block))) b ≡ zeros_of Block
-zero_disk blocks b low = get_or-replicate blocks b (zeros_of Block) [] low

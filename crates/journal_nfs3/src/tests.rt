@@ -3,6 +3,7 @@ ghost use Rattle.std.specs.Prelude.{◌≡◌};
 
 mod arguments;
 mod crashes;
+mod files;
 mod replies;
 mod vectors;
 

@@ -24,6 +24,3 @@ pub use journal::Journal;
 pub use shared::Why;
 pub use txn::Txn;
 pub use waiting::{WaitFault, Waited};
-
-#[cfg(test)]
-mod tests;

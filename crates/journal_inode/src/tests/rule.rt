@@ -1,7 +1,4 @@
 // A formatted disk, and what the rule admits once objects of it are overwritten.
-ghost use Rattle.std.specs.Prelude.{◌≡◌, IfOk};
-ghost use Rattle.journal_disk.specs.Disks.{read_of};
-ghost use Rattle.journal_inode.specs.Formats.{AreZeros};
 
 use crate::{FileNode, Node, SoundFiles, Time, bit_addr, block_addr, format, inode_addr};
 use journal_block::Block;
@@ -72,20 +69,11 @@ impl ObjectReader for Objects {
 
 const MADE: Time = Time { secs: 5, nanos: 6 };
 
-// A disk of so many blocks of zeros.
-#[tactic(auto, using(crate::proofs::Zeros::zero_disk))]
-fn zeros(alloc: Global, blocks: u64) -> Result<MemDisk, Refusal<()>>
-    ensures size { IfOk result (λ disk. disk.past.size ≡ blocks) }
-    ensures zeros { IfOk result (λ disk. AreZeros blocks (read_of disk.past)) }
-{
-    MemDisk::new(alloc, blocks)
-}
-
 // A disk of 600 blocks without files.
 fn formatted(alloc: Global) -> Result<Objects, Fail> {
     let layout = Layout::new(600).ok_or("a disk may have 600 blocks")?;
     let moment = Moment::new(MADE.secs, MADE.nanos).ok_or("6 is less than a second")?;
-    let disk = zeros(alloc, 600)?;
+    let disk = MemDisk::new::<()>(alloc, 600)?;
     match format(alloc, disk, moment) {
         Ok(disk) => Ok(Objects {
             alloc,
@@ -205,7 +193,7 @@ fn inodes_out_of_place_are_not_admitted(rt: HostRuntime) -> Result<(), Fail> {
 fn a_refused_format_gives_the_disk_back(rt: HostRuntime) -> Result<(), Fail> {
     let moment = Moment::new(5, 6).ok_or("6 is less than a second")?;
     for call in 1..=4 {
-        let mut disk = zeros(rt.alloc(), 532)?;
+        let mut disk = MemDisk::new::<()>(rt.alloc(), 532)?;
         disk.fail_in(call);
         match format(rt.alloc(), disk, moment) {
             Ok(_) => assert!(rt; false, "call {call}"),
