@@ -1,0 +1,41 @@
+use Rattle.std.proofs.Common.{ℕ, take, refl, ap, ◌∙◌}
+use Rattle.journal_server.proofs.Serving.{begins_so_far, goes_on, ends_long, ends_bad, breaks, gives_up, ends_quiet, on_true, on_false, Keeps-Consumes}
+use Rattle.std.proofs.KnownBytes.{Consumes-nil}
+use Rattle.journal_server.proofs.connection.answer_all.Goals as goal
+
+pub loop-init : goal.loop-init
+loop-init g c = (begins_so_far _ _ _ c.new-records.result c.args.session.now c.new-records.ensures, refl)
+
+pub returns-in_default-clause-given_up : goal.returns-in_default-clause-given_up
+returns-in_default-clause-given_up g c = gives_up _ _ _ _ _ _ _ _ _ _ _ c.loop.invariant.0 (Keeps-Consumes _ _ c.in_default.ensures.failed)
+
+pub returns-then-count-eq0-clause-finished : goal.returns-then-count-eq0-clause-finished
+returns-then-count-eq0-clause-finished g c =
+    let read = c.in-Ok.ensures in
+    ends_quiet _ _ _ _ _ _ _ _ _ _ _ _ c.loop.invariant.0 read.piece (ap (λ (k : ℕ). take k c.read_piece.new.buffer) c.if-count-eq0.true) (read.at_end c.if-count-eq0.true) c.end_of-end.ensures.end
+
+pub returns-in_default-take_piece-clause-given_up : goal.returns-in_default-take_piece-clause-given_up
+returns-in_default-take_piece-clause-given_up g c = gives_up _ _ _ _ _ _ _ _ _ _ _ c.loop.invariant.0 c.in-Ok.ensures.piece
+
+pub returns-then-not-short-clause-finished : goal.returns-then-not-short-clause-finished
+returns-then-not-short-clause-finished g c =
+    let fed = c.in-Ok-take_piece.ensures in
+    ends_long _ _ _ _ _ _ _ _ _ _ _ _ _ _ _ c.loop.invariant.0 c.in-Ok.ensures.piece _ fed.fed (on_false _ _ _ c.if-not-short.true fed.short) (on_true _ _ _ c.in-Ok-true.field-0-test c.in-Ok-true.ensures.sent)
+
+pub returns-in-Ok-false-clause-finished : goal.returns-in-Ok-false-clause-finished
+returns-in-Ok-false-clause-finished g c =
+    ends_bad _ _ _ _ _ _ _ _ _ _ _ _ _ _ _ c.loop.invariant.0 c.in-Ok.ensures.piece c.in-Ok-take_piece.ensures.fed (on_false _ _ _ c.in-Ok-false.field-0-test c.in-Ok-false.ensures.sent)
+
+pub returns-in-Err-clause-given_up : goal.returns-in-Err-clause-given_up
+returns-in-Err-clause-given_up g c =
+    breaks _ _ _ _ _ _ _ _ _ _ _ _ _ _ 0 c.loop.invariant.0 c.in-Ok.ensures.piece c.in-Ok-take_piece.ensures.fed c.in-Err.ensures.in_part
+
+pub loop-preserved : goal.loop-preserved
+loop-preserved g c =
+    let fed = c.in-Ok-take_piece.ensures in (
+      goes_on _ _ _ _ _ _ _ _ _ _ _ _ _ _ _ c.loop.invariant.0 c.in-Ok.ensures.piece _ fed.fed (on_true _ _ _ c.if-not-short.false fed.short) (on_true _ _ _ c.in-Ok-true.field-0-test c.in-Ok-true.ensures.sent),
+      c.read_piece.auto.buffer ∙ c.loop.invariant.1,
+    )
+
+pub returns-clause-given_up : goal.returns-clause-given_up
+returns-clause-given_up g c = gives_up _ _ _ _ _ _ _ _ _ _ _ c.loop.invariant.0 (Consumes-nil _)

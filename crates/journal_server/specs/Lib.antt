@@ -1,0 +1,7 @@
+pub mod Connections
+pub mod Lines
+pub mod Output
+pub mod Refusals
+pub mod Sending
+pub mod Serving
+pub mod Sources

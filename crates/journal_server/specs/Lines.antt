@@ -1,0 +1,82 @@
+-- Numbered connections in a queue, and what each thread has put and taken.
+use Rattle.std.specs.Prelude.{if◌then◌else◌, ℕ, zero, suc, ◌≡◌, ◌==◌, ◌+◌, ◌<◌, ◌≤◌, true, List, [], ◌∷◌, ◌++◌}
+use mathlib.Core.Option.{some}
+use lib.ListN.{get_elem?}
+use Rattle.crossbeam_channel.specs.Claims.{Pass, view}
+use Rattle.journal_server.specs.declared.line.Job.{Job}
+use Rattle.journal_server.specs.declared.line.Job.TheVariants.{Serve, Stop}
+use Rattle.journal_server.specs.declared.line.Hand.{Hand}
+use Rattle.journal_server.specs.declared.workers.Work.{Work}
+use Rattle.journal_server.specs.declared.workers.Team.{Team}
+use Rattle.journal_server.specs.declared.workers.Passes.{Passes}
+
+-- ---- lists of numbers
+
+-- how often x stands in the list
+abbrev pub times : ℕ → List ℕ → ℕ
+times x [] = 0
+times x (y ∷ ys) = (if y == x then 1 else 0) + times x ys
+
+-- each number below n stands once in the list, and no other number
+abbrev pub HasEachOnce : List ℕ → ℕ → Type 0
+HasEachOnce numbers n = ((x : ℕ) → x < n → times x numbers ≡ 1) × ((x : ℕ) → n ≤ x → times x numbers ≡ 0)
+
+-- the numbers of some outcomes
+abbrev pub outcome_numbers : {O : Type 0} → List (ℕ × O) → List ℕ
+outcome_numbers [] = []
+outcome_numbers (o ∷ os) = o.0 ∷ outcome_numbers os
+
+-- the numbers below n
+abbrev pub below : ℕ → List ℕ
+below zero = []
+below (suc n) = below n ++ n ∷ []
+
+-- ---- the queue's rule
+
+abbrev pub hand : ℕ → List ℕ → List ℕ → Hand
+hand parts put taken = record { parts = parts; put = put; taken = taken }
+
+-- what two passes have, together
+abbrev pub both : Hand → Hand → Hand
+both v w = hand (v.parts + w.parts) (v.put ++ w.put) (v.taken ++ w.taken)
+
+-- the numbers of the connections among these jobs
+abbrev pub numbers : {T : Type 0} → List (Job T) → List ℕ
+numbers [] = []
+numbers (Serve number load ∷ js) = number ∷ numbers js
+numbers (Stop ∷ js) = numbers js
+
+abbrev pub total : (Hand → ℕ) → List Hand → ℕ
+total f [] = 0
+total f (v ∷ vs) = f v + total f vs
+
+-- a pass with no part has put and taken nothing
+abbrev pub IdleIsEmpty : List Hand → Type 0
+IdleIsEmpty views = (port : ℕ) (v : Hand) → get_elem? views port ≡ some v → v.parts ≡ 0 → (v.put ≡ []) × (v.taken ≡ [])
+
+-- the passes have five parts, and each number was put as often as it was taken or stands in the queue
+abbrev pub IsBalanced : {T : Type 0} → List (Job T) → List Hand → Type 0
+IsBalanced items views =
+    (total (λ v. v.parts) views ≡ 5)
+    × ((x : ℕ) → total (λ v. times x v.put) views ≡ total (λ v. times x v.taken) views + times x (numbers items))
+    × IdleIsEmpty views
+
+-- ---- workers
+
+-- a pass that has done nothing yet
+abbrev pub IsFresh : {T : Type 0} → (Pass (Job T) Hand → Type 0) → Pass (Job T) Hand → Type 0
+IsFresh is_seat pass = is_seat pass × (view pass ≡ hand 1 [] [])
+
+-- the passes before anything is done: a part for each worker, and one for who hands the connections out
+abbrev pub ArePasses : {T : Type 0} → (Pass (Job T) Hand → Type 0) → Passes T → Type 0
+ArePasses is_seat p = IsFresh is_seat p.first × IsFresh is_seat p.second × IsFresh is_seat p.third × IsFresh is_seat p.fourth × IsFresh is_seat p.own
+
+-- What a worker gives back: it has put nothing, and there is an outcome for each connection that it took, unless memory was refused
+abbrev pub IsWork : {T : Type 0} → (Pass (Job T) Hand → Type 0) → Work T → Type 0
+IsWork is_seat w = is_seat w.pass × ((view w.pass).parts ≡ 1) × ((view w.pass).put ≡ []) × (w.is_whole ≡ true → (view w.pass).taken ≡ outcome_numbers w.outcomes.items)
+
+-- What all threads give back: the pass of who put the connections, which took none, and the work of each worker
+abbrev pub IsTeam : {T : Type 0} → (Pass (Job T) Hand → Type 0) → Team T → Type 0
+IsTeam is_seat team =
+    is_seat team.pass × ((view team.pass).parts ≡ 1) × ((view team.pass).taken ≡ [])
+    × IsWork is_seat team.first × IsWork is_seat team.second × IsWork is_seat team.third × IsWork is_seat team.fourth

@@ -1,0 +1,10 @@
+-- Why connections are not served.
+use Rattle.journal_world.specs.declared.refusal.Refusal.{Refusal}
+use Rattle.journal_world.specs.declared.refusal.Refusal.TheVariants.{NoMemory, Worn}
+use Rattle.journal_core.specs.Causes.{Told, IsUnexplained}
+
+-- memory or a thread was refused, or the numbers of sessions are worn
+abbrev pub IsWorkersRefusal : Refusal Told → Type 0
+IsWorkersRefusal NoMemory = Unit {0}
+IsWorkersRefusal (Worn cause) = IsUnexplained cause
+IsWorkersRefusal other = ⊥

@@ -1,0 +1,74 @@
+-- Records that were answered, and replies that were sent.
+use Rattle.std.specs.Prelude.{◌≡◌, ℕ, ◌+◌, ◌<◌, ◌^◌, List, [], ◌∷◌, ◌++◌, length, Option, None}
+use Rattle.std.specs.Io.KnownBytes.{Appends}
+use Rattle.journal_rpc.specs.Calls.{Message, message}
+use Rattle.journal_rpc.specs.Stream.{Stream}
+use Rattle.journal_server.specs.Output.{AllReplies}
+
+-- known bytes grow by a front of these
+pub record AppendsFront (old new : Option (List ℕ)) (bytes : List ℕ) : Type 0 where
+  pub front : List ℕ
+  pub rest : List ℕ
+  pub is : bytes ≡ front ++ rest
+  pub appends : Appends old new front
+
+-- a count grew by so many, where it can
+abbrev pub Counts : ℕ → ℕ → ℕ → Type 0
+Counts old n new = old + n < 2 ^ 64 → new ≡ old + n
+
+-- the records that waited were answered
+pub record Emptied {S : Type 0} (answers : Message → S → S → List ℕ → Type 0) (old new : Stream) (before now : S) (held holds : List ℕ) (count counted : ℕ) : Type 0 where
+  pub text : List ℕ
+  pub replied : AllReplies answers old.records before now text
+  pub is : holds ≡ held ++ text
+  pub rest : new ≡ record old { records = [] }
+  pub counts : Counts count (length old.records) counted
+
+-- they were answered up to one that is no call
+pub record Stopped {S : Type 0} (answers : Message → S → S → List ℕ → Type 0) (old : Stream) (before now : S) (held holds : List ℕ) (count counted : ℕ) : Type 0 where
+  pub text : List ℕ
+  pub answered : List (List ℕ)
+  pub bad : List ℕ
+  pub behind : List (List ℕ)
+  pub records : old.records ≡ answered ++ bad ∷ behind
+  pub no_call : message bad ≡ None
+  pub replied : AllReplies answers answered before now text
+  pub is : holds ≡ held ++ text
+  pub counts : Counts count (length answered) counted
+
+-- memory was refused for a reply, or behind it: a front was answered
+pub record Lost {S : Type 0} (answers : Message → S → S → List ℕ → Type 0) (old : Stream) (before now : S) : Type 0 where
+  pub text : List ℕ
+  pub answered : List (List ℕ)
+  pub behind : List (List ℕ)
+  pub records : old.records ≡ answered ++ behind
+  pub replied : AllReplies answers answered before now text
+
+-- the waiting records were answered, and the replies sent
+pub record Sent {S : Type 0} (answers : Message → S → S → List ℕ → Type 0) (old new : Stream) (before now : S) (held holds : Option (List ℕ)) (count counted : ℕ) : Type 0 where
+  pub text : List ℕ
+  pub replied : AllReplies answers old.records before now text
+  pub sent : Appends held holds text
+  pub rest : new ≡ record old { records = [] }
+  pub counts : Counts count (length old.records) counted
+
+-- those before one that is no call
+pub record SentUpToBad {S : Type 0} (answers : Message → S → S → List ℕ → Type 0) (old : Stream) (before now : S) (held holds : Option (List ℕ)) (count counted : ℕ) : Type 0 where
+  pub text : List ℕ
+  pub answered : List (List ℕ)
+  pub bad : List ℕ
+  pub behind : List (List ℕ)
+  pub records : old.records ≡ answered ++ bad ∷ behind
+  pub no_call : message bad ≡ None
+  pub replied : AllReplies answers answered before now text
+  pub sent : Appends held holds text
+  pub counts : Counts count (length answered) counted
+
+-- a front of them, and a front of the replies was sent
+pub record SentInPart {S : Type 0} (answers : Message → S → S → List ℕ → Type 0) (old : Stream) (before now : S) (held holds : Option (List ℕ)) : Type 0 where
+  pub text : List ℕ
+  pub answered : List (List ℕ)
+  pub behind : List (List ℕ)
+  pub records : old.records ≡ answered ++ behind
+  pub replied : AllReplies answers answered before now text
+  pub sent : AppendsFront held holds text

@@ -1,0 +1,185 @@
+// A connection, from its first byte to its end.
+ghost use Rattle.std.specs.Prelude.{◌≡◌, ◌≢◌, ◌<◌, ◌^◌, length, IfOk, OnErr, MatchBool};
+ghost use Rattle.journal_rpc.specs.Stream.{after};
+ghost use Rattle.journal_rpc.specs.declared.part.Part.TheVariants.{TooLong};
+ghost use Rattle.journal_server.specs.Output.{IsReply, Replies, records_of, answered_of};
+ghost use Rattle.journal_server.specs.Connections.{Exchanges, Ends, Closes, IsBeginning};
+ghost use Rattle.journal_server.specs.Serving.{Finished, Failed};
+
+use crate::replying::answer_and_send;
+use crate::service::{Clock, Service};
+use crate::streams::read_piece;
+use journal_daemon::Gate;
+use journal_disk::BlockDisk;
+use journal_filestore::FileStore;
+use journal_history::{Naming, Session};
+use journal_inode::SoundFiles;
+use journal_nfs3::Verifier;
+use journal_rpc::{FeedRefused, Records};
+use std::alloc::{AllocError, Global};
+use std::io::{Read, Write};
+use std::sync::Wait;
+
+// The most bytes that are read at once: as many as a record may have.
+const PIECE_BYTES: usize = 16384;
+
+/// How a connection ended that was served to its end.
+#[derive(Clone, Copy, Debug, PartialEq, Eq)]
+pub enum End {
+    /// The input ended with a record.
+    EndOfInput,
+    /// The input ended within a record, which has no reply.
+    Truncated,
+    /// A record was no call, or was longer than `journal_rpc::RECORD_BYTES`. What came behind it has no reply.
+    BadRecord,
+}
+
+/// How many records of a connection were answered, and how it ended.
+#[derive(Clone, Copy, Debug, PartialEq, Eq)]
+pub struct Served {
+    /// The records that were answered. It stops at 2^64 - 1.
+    pub answered: u64,
+    /// How the connection ended.
+    pub end: End,
+}
+
+/// Why a connection was given up.
+#[derive(Clone, Copy, Debug, PartialEq, Eq)]
+pub enum ConnFault {
+    /// The reader failed.
+    ReadFailed,
+    /// The writer failed, or took no byte.
+    WriteFailed,
+    /// Memory was refused for what was read, or for a reply.
+    NoMemory,
+}
+
+/// Answers the calls that the reader gives, in order, up to the first bad record, each at the clock's moment behind the
+/// gate, which it passes as `number` with the count of the calls before it. The replies go to the writer.
+///
+/// It reads at most 16 KiB at once. The replies to all calls that are complete then go out with one write. It may wait for
+/// the peer, and for the journal.
+///
+/// Where it gives up, some of the records that it read were answered, from the first on, and their replies were
+/// written up to some byte: a call whose reply could not be written was done.
+pub fn serve<'b, R: Read, W: Write, D: BlockDisk, J: Naming, C: Clock, G: Gate, H: Wait>(
+    rt: &H,
+    alloc: Global,
+    reader: &mut R,
+    writer: &mut W,
+    files: &FileStore<'b, D, J>,
+    session: &mut Session<'b, J, SoundFiles>,
+    clock: &C,
+    verifier: Verifier,
+    gate: &G,
+    number: u64,
+) -> Result<Served, ConnFault>
+    // What was written is the replies to the records of what was read, in order, up to the first that is no call. Each
+    // is what its call comes to at a moment of the clock, and it leads from what the session had seen after the one
+    // before it to what it saw then.
+    ensures replies { IfOk result (λ served. Exchanges (R.remaining reader.old) (R.remaining reader.new) (W.contents writer.old) (W.contents writer.new)
+        (λ input text. Replies (IsReply (C.tells clock.now) verifier.0) (records_of input) session.old session.new text)) }
+
+    // They are counted.
+    ensures counted { IfOk result (λ served. Exchanges (R.remaining reader.old) (R.remaining reader.new) (W.contents writer.old) (W.contents writer.new)
+        (λ input text. answered_of (records_of input) < 2 ^ 64 → served.answered ≡ answered_of (records_of input))) }
+
+    // Each end comes only where it holds.
+    ensures ended { IfOk result (λ served. Exchanges (R.remaining reader.old) (R.remaining reader.new) (W.contents writer.old) (W.contents writer.new)
+        (λ input text. Ends served.end input (R.remaining reader.new))) }
+
+    // Where it gave up, what was written is a beginning of the replies to a front of the records of what was read, and
+    // the session has seen what these come to.
+    ensures given_up { OnErr result (Exchanges (R.remaining reader.old) (R.remaining reader.new) (W.contents writer.old) (W.contents writer.new)
+        (λ input text. IsBeginning (IsReply (C.tells clock.now) verifier.0) (records_of input) session.old session.new text)) }
+{
+    let service = Service {
+        alloc,
+        files,
+        clock,
+        verifier,
+        gate,
+        number,
+    };
+    let Ok(mut buffer) = vec![in alloc; 0u8; PIECE_BYTES] else {
+        return Err(ConnFault::NoMemory);
+    };
+    answer_all(rt, &service, session, reader, writer, &mut buffer)
+}
+
+// Answers the calls, with a buffer that takes a piece.
+fn answer_all<'b, R: Read, W: Write, D: BlockDisk, J: Naming, C: Clock, G: Gate, H: Wait>(
+    rt: &H,
+    service: &Service<'_, 'b, D, J, C, G>,
+    session: &mut Session<'b, J, SoundFiles>,
+    reader: &mut R,
+    writer: &mut W,
+    buffer: &mut [u8],
+) -> Result<Served, ConnFault>
+    requires { 0 < length buffer.old }
+    ensures finished { IfOk result (λ served. Finished (IsReply (C.tells service.now.clock.now) service.now.verifier.0)
+        (R.remaining reader.old) (R.remaining reader.new) (W.contents writer.old) (W.contents writer.new) session.old session.new served.answered served.end) }
+    ensures given_up { OnErr result (Failed (IsReply (C.tells service.now.clock.now) service.now.verifier.0)
+        (R.remaining reader.old) (R.remaining reader.new) (W.contents writer.old) (W.contents writer.new) session.old session.new) }
+{
+    let mut records = Records::new(service.alloc);
+    let mut replies = Vec::new(service.alloc);
+    let mut answered = 0;
+    for _ in 0..u64::MAX {
+        let Ok(count) = read_piece(reader, buffer) else {
+            return Err(ConnFault::ReadFailed);
+        };
+        if count == 0 {
+            let end = end_of(&records);
+            return Ok(Served { answered, end });
+        }
+        let Ok(short) = take_piece(&mut records, &buffer[..count]) else {
+            return Err(ConnFault::NoMemory);
+        };
+        match answer_and_send(
+            rt,
+            service,
+            session,
+            &mut records,
+            &mut replies,
+            &mut answered,
+            writer,
+        ) {
+            Ok(true) => {
+                if !short {
+                    let end = End::BadRecord;
+                    return Ok(Served { answered, end });
+                }
+            }
+            Ok(false) => {
+                let end = End::BadRecord;
+                return Ok(Served { answered, end });
+            }
+            Err(fault) => return Err(fault),
+        }
+    }
+    Err(ConnFault::ReadFailed)
+}
+
+// Takes a piece. `false` says that a header took a record above the limit.
+fn take_piece(records: &mut Records, piece: &[u8]) -> Result<bool, AllocError>
+    ensures fed { IfOk result (λ short. records.new ≡ after records.old piece.now) }
+    ensures short { IfOk result (λ short. MatchBool short (records.new.part ≢ TooLong) (records.new.part ≡ TooLong)) }
+{
+    match records.feed(piece) {
+        Ok(()) => Ok(true),
+        Err(FeedRefused::TooLong) => Ok(false),
+        Err(FeedRefused::NoMemory) => Err(AllocError),
+    }
+}
+
+// Which end it is where nothing is left to read.
+fn end_of(records: &Records) -> End
+    ensures end { Closes result records.now }
+{
+    if records.is_between() {
+        End::EndOfInput
+    } else {
+        End::Truncated
+    }
+}

@@ -1,0 +1,78 @@
+// What the calls of a connection are answered by.
+ghost use Rattle.std.specs.Prelude.{◌≡◌, ℕ, List, IfOk, OnErr};
+ghost use Rattle.journal_rpc.specs.CallViews.{message_of};
+ghost use Rattle.journal_filestore.specs.Handles.{time_of};
+ghost use Rattle.journal_server.specs.Output.{IsReply};
+
+use journal_daemon::Gate;
+use journal_disk::BlockDisk;
+use journal_filestore::FileStore;
+use journal_history::{Naming, Session};
+use journal_inode::SoundFiles;
+use journal_nfs3::{Verifier, answer};
+use journal_rpc::Call;
+use journal_world::Moment;
+use std::alloc::{AllocError, Global};
+use std::sync::Wait;
+
+/// What tells the moments at which calls are answered.
+pub trait Clock {
+    ghost use Rattle.std.specs.Prelude.{⊤};
+    ghost use Rattle.journal_inode.specs.declared.node.Time.{Time};
+
+    /// Which moments it may tell.
+    ghost tells: { Self → Time → Type 0 } = { λ _ _. ⊤ };
+
+    /// The moment now.
+    fn now(&self) -> Moment
+        ensures { tells self.now (time_of result) };
+}
+
+// What answers the calls of one connection: the files, the moments, the verifier of what is written, and the gate that
+// each call passes first, under the connection's number.
+pub(crate) struct Service<'s, 'b, D: BlockDisk, J: Naming, C: Clock, G: Gate> {
+    pub alloc: Global,
+    pub files: &'s FileStore<'b, D, J>,
+    pub clock: &'s C,
+    pub verifier: Verifier,
+    pub gate: &'s G,
+    pub number: u64,
+}
+
+impl<'s, 'b, D: BlockDisk, J: Naming, C: Clock, G: Gate> Drop for Service<'s, 'b, D, J, C, G> {
+    fn drop(self) {
+        let Service {
+            alloc: _,
+            files: _,
+            clock: _,
+            verifier: _,
+            gate: _,
+            number: _,
+        } = self;
+    }
+}
+
+impl<'s, 'b, D: BlockDisk, J: Naming, C: Clock, G: Gate> Service<'s, 'b, D, J, C, G> {
+    // Answers the call number `n` of the connection, at the moment at which it has passed the gate. Where memory for
+    // the reply is refused the call is done all the same, and its reply is lost.
+    pub fn answer<H: Wait>(
+        &self,
+        rt: &H,
+        session: &mut Session<'b, J, SoundFiles>,
+        call: &Call<'_>,
+        n: u64,
+    ) -> Result<Vec<u8>, AllocError>
+        ensures reply { IfOk result (λ reply. IsReply (C.tells self.now.clock.now) self.now.verifier.0
+            (message_of call.now) session.old session.new reply.items) }
+        ensures lost { OnErr result ((reply : List ℕ) × IsReply (C.tells self.now.clock.now) self.now.verifier.0
+            (message_of call.now) session.old session.new reply) }
+    {
+        let (files, clock) = (self.files, self.clock);
+        self.gate.pass(rt, self.number, n);
+        let moment = clock.now();
+        match answer::<D, J, H, ()>(rt, self.alloc, session, call, files, moment, self.verifier) {
+            Ok(reply) => Ok(reply),
+            Err(_) => Err(AllocError),
+        }
+    }
+}
