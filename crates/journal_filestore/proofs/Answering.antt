@@ -19,7 +19,7 @@ use Rattle.journal_filestore.specs.Files.{FileData, Files, is_file_number, with_
 use Rattle.journal_filestore.specs.Operations.{FileTarget, Outcome, file_target, attributes, attributes_of_node, changed}
 use Rattle.journal_filestore.specs.Operations.FileTarget.{gone, root, file}
 use Rattle.journal_filestore.specs.Handles.{data_of, IsAt}
-use Rattle.journal_filestore.specs.Doing.{IsNotYetRead, ReadsOnly, Tells, Puts, Makes, Does}
+use Rattle.journal_filestore.specs.Doing.{IsNotYetRead, ReadsOnly, LearnsThat, Puts, Makes, Does}
 use Rattle.journal_filestore.proofs.Doings.{IsUnread-first, IsUnread-other, Tells-both, Does-told, Does-made}
 use Rattle.journal_filestore.proofs.FilesReplaced.{IsFileNumber-test}
 use Rattle.journal_filestore.proofs.Finding.{case-gone, case-directory, case-regular, IsAt-is, entry_at}
@@ -50,7 +50,7 @@ unread-node t0 t1 i j none one number only =
     IsUnread-other 0 t0 t1 (inode j) (inode i) (IsFileNumber-test j number).to (omega (arith, one))
     (ne_eqb j i (λ is. absurd (omega (arith, (IsFileNumber-test j number).from, is, one)))) only (IsUnread-first t0 (inode j) none)
 
-module _ {A : Type 0} (blocks : ℕ) (k : Files → FileTarget → Outcome A) (i generation : ℕ) (p : Place) (t0 t1 : TxnState) (fresh : t0.writes ≡ []) (found : Tells blocks t0 t1 (λ m. IsAt i generation m p)) where
+module _ {A : Type 0} (blocks : ℕ) (k : Files → FileTarget → Outcome A) (i generation : ℕ) (p : Place) (t0 t1 : TxnState) (fresh : t0.writes ≡ []) (found : LearnsThat blocks t0 t1 (λ m. IsAt i generation m p)) where
   abbrev pub case_of : Files → Result A Status → Files → Type 0
   case_of F r F2 = (r, F2) ≡ k F (file_target F i generation)
 
@@ -84,14 +84,14 @@ module _ {A : Type 0} (blocks : ℕ) (k : Files → FileTarget → Outcome A) (i
       (both.0, both.1 ∙ sym (case-regular (k (files_of m)) m i generation p f is at)))
 
   -- in the root, an inode was read
-  pub Does-in_root : (answer : Result A Status) (t : Time) (j : ℕ) (n : Node) (t2 : TxnState) → p ≡ Directory t → Tells blocks t1 t2 (λ m. node_at m j ≡ n)
+  pub Does-in_root : (answer : Result A Status) (t : Time) (j : ℕ) (n : Node) (t2 : TxnState) → p ≡ Directory t → LearnsThat blocks t1 t2 (λ m. node_at m j ≡ n)
       → ((m : Map) → HasSoundFiles m → (files_of m).root ≡ t → node_at m j ≡ n → k (files_of m) root ≡ (answer, files_of m)) → Does blocks case_of t2.reads t2.writes answer
   Does-in_root answer t j n t2 is read shows =
       Does-told blocks case_of t0 t2 answer _ fresh (Tells-both blocks t0 t1 t2 _ _ found read)
       (λ m sound told. sym (case-directory (k (files_of m)) m i generation p t is told.0 ∙ shows m sound (IsAt-is m i generation p (Directory t) is told.0).1 told.1))
 
   -- in the root, an inode was read, and then something made
-  pub Does-made_in_root : (answer : Result A Status) (t : Time) (j : ℕ) (n : Node) (t2 t3 : TxnState) (Q : Map → Map → Type 0) → p ≡ Directory t → Tells blocks t1 t2 (λ m. node_at m j ≡ n) → Makes blocks t2 t3 Q
+  pub Does-made_in_root : (answer : Result A Status) (t : Time) (j : ℕ) (n : Node) (t2 t3 : TxnState) (Q : Map → Map → Type 0) → p ≡ Directory t → LearnsThat blocks t1 t2 (λ m. node_at m j ≡ n) → Makes blocks t2 t3 Q
       → ((m after : Map) → HasSoundFiles m → (files_of m).root ≡ t → node_at m j ≡ n → Q m after → HasSoundFiles after × ((answer, files_of after) ≡ k (files_of m) root))
       → Does blocks case_of t3.reads t3.writes answer
   Does-made_in_root answer t j n t2 t3 Q is read made shows =

@@ -31,7 +31,7 @@ use Rattle.journal_filestore.specs.Operations.{attributes, attributes_of_node, o
 use Rattle.journal_filestore.specs.declared.find.Place.{Place}
 use Rattle.journal_filestore.specs.declared.find.Place.TheVariants.{Directory}
 use Rattle.journal_filestore.specs.Handles.{data_of, set_node, asked, found_node, IsAt}
-use Rattle.journal_filestore.specs.Doing.{MayBeRead, Tells, Writes, Leads, Puts, Makes, Does}
+use Rattle.journal_filestore.specs.Doing.{MayBeRead, LearnsThat, WritesObject, Leads, Puts, Makes, Does}
 use Rattle.journal_filestore.proofs.Overwrites.{Overwrites}
 use Rattle.journal_filestore.proofs.Doings.{HasWritten-none, HasWritten-more, Makes-written, Makes-told, Makes-like, Tells-nothing, Tells-both, Does-made}
 use Rattle.journal_filestore.proofs.FilesReplaced.{IsFileNumber-test}
@@ -142,16 +142,16 @@ module _ (blocks : ℕ) (s : Settings) (now : Time) (j last : ℕ) (t : Time) (n
       Makes-told blocks t0 t0 _ _ fresh (Tells-nothing blocks t0)
       (λ m sound nothing is root_is. (true, (sound, sym (cond-false _ _ _ small ∙ cond-true _ _ _ (eq-eqb _ 4294967295 (generation_is m is ∙ worn))))))
 
-  pub Makes-no_space : (t1 : TxnState) (P : Map → Type 0) → is_too_big s.size ≡ false → Tells blocks t0 t1 P → Makes blocks t0 t1 (News (Err NoSpace))
+  pub Makes-no_space : (t1 : TxnState) (P : Map → Type 0) → is_too_big s.size ≡ false → LearnsThat blocks t0 t1 P → Makes blocks t0 t1 (News (Err NoSpace))
   Makes-no_space t1 P small told =
       Makes-told blocks t0 t1 P _ fresh told (λ m sound p is root_is. (false, (sound, sym (cond-false _ _ _ small))))
 
   -- a block is found free; block, bit and inode are overwritten
   pub Makes-new : (b : ℕ) (f : FileNode) (answer : Found) (v w : Value) (t1 t2 t3 t4 : TxnState) → is_too_big s.size ≡ false → last ≢ 4294967295 → now.nanos ≤ MAX_NANOS
-      → Tells blocks t0 t1 (λ m. object m (bit (b - FIRST_DATA)) ≡ w) → w ≡ 0 ∷ []
-      → Writes blocks t1 t2 (block b) v → v ≡ zeros_of Block
-      → Writes blocks t2 t3 (bit (b - FIRST_DATA)) (1 ∷ [])
-      → Writes blocks t3 t4 (inode j) (inode_bytes (File f)) → f ≡ new_node last s now b → Fits (File f) → answer ≡ found_node j f t
+      → LearnsThat blocks t0 t1 (λ m. object m (bit (b - FIRST_DATA)) ≡ w) → w ≡ 0 ∷ []
+      → WritesObject blocks t1 t2 (block b) v → v ≡ zeros_of Block
+      → WritesObject blocks t2 t3 (bit (b - FIRST_DATA)) (1 ∷ [])
+      → WritesObject blocks t3 t4 (inode j) (inode_bytes (File f)) → f ≡ new_node last s now b → Fits (File f) → answer ≡ found_node j f t
       → Makes blocks t0 t4 (News (Ok answer))
   Makes-new b f answer v w t1 t2 t3 t4 small young in_second read clear wrote_block is_zeros wrote_bit wrote_node made fits told =
       Makes-written blocks t0 t4 _ ((inode j, inode_bytes (File f)) ∷ (bit (b - FIRST_DATA), 1 ∷ []) ∷ (block b, v) ∷ [])
@@ -213,7 +213,7 @@ Does-room blocks name how now i generation t answer room does = record {
 
 -- what it does by the inode that it read in the root
 pub Does-tail : (blocks : ℕ) (name : List ℕ) (how : How) (now : Time) (i generation : ℕ) (p : Place) (t : Time) (j : ℕ) (n : Node) (t0 t1 t2 t3 : TxnState) (answer : Result Found Status) (Q : Map → Map → Type 0)
-    → Tells blocks t0 t1 (λ m. IsAt i generation m p) → p ≡ Directory t → Tells blocks t1 t2 (λ m. node_at m j ≡ n) → Makes blocks t2 t3 Q
+    → LearnsThat blocks t0 t1 (λ m. IsAt i generation m p) → p ≡ Directory t → LearnsThat blocks t1 t2 (λ m. node_at m j ≡ n) → Makes blocks t2 t3 Q
     → ((m after : Map) → HasSoundFiles m → (files_of m).root ≡ t → node_at m j ≡ n → Q m after → HasSoundFiles after × ((room : Bool) × ((answer, files_of after) ≡ create_how room name how now (files_of m))))
     → Does blocks (CaseOf name how now i generation) t3.reads t3.writes answer
 Does-tail blocks name how now i generation p t j n t0 t1 t2 t3 answer Q found is read made shows =

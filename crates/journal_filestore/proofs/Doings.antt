@@ -16,7 +16,7 @@ use Rattle.journal_inode.specs.Places.Object.{block}
 use Rattle.journal_inode.specs.Sound.{HasSoundFiles}
 use Rattle.journal_filestore.proofs.Overwrites.{Write, pairs_of, AreOnDisk, Overwrites, Overwrites-pairs, same_addr_of}
 use Rattle.journal_filestore.specs.Files.{Files, files_of}
-use Rattle.journal_filestore.specs.Doing.{GivesPairs, MayBeRead, IsNotYetRead, ReadsOnly, Tells, Writes, Makes, Does}
+use Rattle.journal_filestore.specs.Doing.{GivesPairs, MayBeRead, IsNotYetRead, ReadsOnly, LearnsThat, WritesObject, Makes, Does}
 
 -- what agrees with a map is given by it
 pub Gives-Agrees : (m : Map) (ps : List Pair) → Agrees m ps → GivesPairs m ps
@@ -43,7 +43,7 @@ Learns-first old new a v none read =
     subst (λ ws. MatchOption (value_among ws a) (Learns (holding old a) a v new) (λ w. (v ≡ w) × (new ≡ holding old a))) none read
 
 -- a first read tells its value
-Tells-read : (blocks : ℕ) (old new : TxnState) (a : Addr) (v : Value) → value_among old.reads a ≡ None → Learns (holding old a) a v new → Tells blocks old new (λ m. value_at m a ≡ v)
+Tells-read : (blocks : ℕ) (old new : TxnState) (a : Addr) (v : Value) → value_among old.reads a ≡ None → Learns (holding old a) a v new → LearnsThat blocks old new (λ m. value_at m a ≡ v)
 Tells-read blocks old new a v unread read = record {
   writes = ap (λ t. t.writes) read.others;
   before = λ m seen. record {
@@ -63,9 +63,9 @@ Tells-read blocks old new a v unread read = record {
     kept b w is false other = ap (λ t. cond t (Some v) (value_among old.reads b)) other ∙ is
 
 -- the first read of an object tells its value
-pub Tells-object : (blocks : ℕ) (old new : TxnState) (o : Object) (a : Addr) (v : Value) → a ≡ addr_of o → old.writes ≡ [] → IsNotYetRead old o → ReadsValue (holding old a) a v new → Tells blocks old new (λ m. object m o ≡ v)
+pub Tells-object : (blocks : ℕ) (old new : TxnState) (o : Object) (a : Addr) (v : Value) → a ≡ addr_of o → old.writes ≡ [] → IsNotYetRead old o → ReadsValue (holding old a) a v new → LearnsThat blocks old new (λ m. object m o ≡ v)
 Tells-object blocks old new o a v is none unread read =
-    subst (λ b. Tells blocks old new (λ m. value_at m b ≡ v)) is
+    subst (λ b. LearnsThat blocks old new (λ m. value_at m b ≡ v)) is
     (Tells-read blocks old new a v (ap (value_among old.reads) is ∙ unread) (Learns-first old new a v none read))
 
 -- and nothing else is read
@@ -82,7 +82,7 @@ pub IsUnread-first : (t : TxnState) (o : Object) → t.reads ≡ [] → IsNotYet
 IsUnread-first t o none = ap (λ rs. value_among rs (addr_of o)) none
 
 -- two reads tell both
-pub Tells-both : (blocks : ℕ) (t0 t1 t2 : TxnState) (P Q : Map → Type 0) → Tells blocks t0 t1 P → Tells blocks t1 t2 Q → Tells blocks t0 t2 (λ m. P m × Q m)
+pub Tells-both : (blocks : ℕ) (t0 t1 t2 : TxnState) (P Q : Map → Type 0) → LearnsThat blocks t0 t1 P → LearnsThat blocks t1 t2 Q → LearnsThat blocks t0 t2 (λ m. P m × Q m)
 Tells-both blocks t0 t1 t2 P Q first second = record {
   writes = second.writes ∙ first.writes;
   before = λ m seen. first.before m (second.before m seen);
@@ -90,7 +90,7 @@ Tells-both blocks t0 t1 t2 P Q first second = record {
 }
 
 -- what is told may be said otherwise
-pub Tells-like : (blocks : ℕ) (old new : TxnState) (P Q : Map → Type 0) → ((m : Map) → HasSoundFiles m → P m → Q m) → Tells blocks old new P → Tells blocks old new Q
+pub Tells-like : (blocks : ℕ) (old new : TxnState) (P Q : Map → Type 0) → ((m : Map) → HasSoundFiles m → P m → Q m) → LearnsThat blocks old new P → LearnsThat blocks old new Q
 Tells-like blocks old new P Q like told = record {
   writes = told.writes;
   before = told.before;
@@ -105,7 +105,7 @@ pub record HasWritten (blocks : ℕ) (t : TxnState) (ws : List Write) : Type 0 w
 pub HasWritten-none : (blocks : ℕ) (t : TxnState) → t.writes ≡ [] → HasWritten blocks t []
 HasWritten-none blocks t none = record { pairs = λ a. ap (λ ws. value_among ws a) none; on_disk = tt }
 
-pub HasWritten-more : (blocks : ℕ) (old new : TxnState) (o : Object) (v : Value) (ws : List Write) → Writes blocks old new o v → HasWritten blocks old ws → HasWritten blocks new ((o, v) ∷ ws)
+pub HasWritten-more : (blocks : ℕ) (old new : TxnState) (o : Object) (v : Value) (ws : List Write) → WritesObject blocks old new o v → HasWritten blocks old ws → HasWritten blocks new ((o, v) ∷ ws)
 HasWritten-more blocks old new o v ws writes had = record {
   pairs = λ a. writes.pairs a ∙ ap (λ rest. cond (is_same a (addr_of o)) (Some v) rest) (had.pairs a);
   on_disk = (writes.on_disk, had.on_disk);
@@ -123,7 +123,7 @@ Makes-written blocks t0 t1 Q ws written before shows = record {
 }
 
 -- what it makes that only reads
-pub Makes-told : (blocks : ℕ) (t0 t1 : TxnState) (P : Map → Type 0) (Q : Map → Map → Type 0) → t0.writes ≡ [] → Tells blocks t0 t1 P
+pub Makes-told : (blocks : ℕ) (t0 t1 : TxnState) (P : Map → Type 0) (Q : Map → Map → Type 0) → t0.writes ≡ [] → LearnsThat blocks t0 t1 P
     → ((m : Map) → HasSoundFiles m → P m → Q m m) → Makes blocks t0 t1 Q
 Makes-told blocks t0 t1 P Q none told shows = record {
   before = told.before;
@@ -143,7 +143,7 @@ Makes-like blocks t0 t1 P Q like made = record {
 
 -- What a transaction does that was told something, and made something of it
 pub Does-made : {A : Type 0} (blocks : ℕ) (case : Files → A → Files → Type 0) (t0 t1 t2 : TxnState) (answer : A) (P : Map → Type 0) (Q : Map → Map → Type 0)
-    → Tells blocks t0 t1 P → Makes blocks t1 t2 Q
+    → LearnsThat blocks t0 t1 P → Makes blocks t1 t2 Q
     → ((m n : Map) → HasSoundFiles m → P m → Q m n → HasSoundFiles n × case (files_of m) answer (files_of n))
     → Does blocks case t2.reads t2.writes answer
 Does-made {A} blocks case t0 t1 t2 answer P Q told made shows = record {
@@ -166,12 +166,12 @@ bit_value (b ∷ d ∷ v) is =
     absurd (omega arith)
 
 -- nothing more was read
-pub Tells-nothing : (blocks : ℕ) (t : TxnState) → Tells blocks t t (λ m. Unit {0})
+pub Tells-nothing : (blocks : ℕ) (t : TxnState) → LearnsThat blocks t t (λ m. Unit {0})
 Tells-nothing blocks t = record { writes = refl; before = λ m seen. seen; now = λ m seen. tt }
 
 -- What a transaction does that was told enough to answer, and only read
 pub Does-told : {A : Type 0} (blocks : ℕ) (case : Files → A → Files → Type 0) (old t : TxnState) (answer : A) (P : Map → Type 0) → old.writes ≡ []
-    → Tells blocks old t P → ((m : Map) → HasSoundFiles m → P m → case (files_of m) answer (files_of m))
+    → LearnsThat blocks old t P → ((m : Map) → HasSoundFiles m → P m → case (files_of m) answer (files_of m))
     → Does blocks case t.reads t.writes answer
 Does-told blocks case old t answer P none told shows =
     Does-made blocks case t t t answer _ _ (Tells-nothing blocks t)
@@ -183,7 +183,7 @@ Does-told blocks case old t answer P none told shows =
     (λ m n sound nothing both. both)
 
 -- an overwritten address is an object of the disk
-pub Writes-overwritten : (blocks : ℕ) (old new : TxnState) (o : Object) (v : Value) → OverwritesAddr (holding old (addr_of o)) (addr_of o) v new → IsOnDisk blocks o → Writes blocks old new o v
+pub Writes-overwritten : (blocks : ℕ) (old new : TxnState) (o : Object) (v : Value) → OverwritesAddr (holding old (addr_of o)) (addr_of o) v new → IsOnDisk blocks o → WritesObject blocks old new o v
 Writes-overwritten blocks old new o v over here = record {
   reads = ap (λ t. t.reads) over.others;
   pairs = over.writes;

@@ -12,7 +12,7 @@ use Rattle.journal_filestore.specs.Files.{files_of}
 use Rattle.journal_filestore.specs.Operations.{PortionState, attributes_of_node, portion, read_case}
 use Rattle.journal_filestore.specs.Operations.FileTarget.{file}
 use Rattle.journal_filestore.specs.Handles.{data_of}
-use Rattle.journal_filestore.specs.Doing.{Tells, Leads, Makes}
+use Rattle.journal_filestore.specs.Doing.{LearnsThat, Leads, Makes}
 use Rattle.journal_filestore.proofs.Doings.{Makes-told}
 use Rattle.journal_filestore.proofs.Answering.{attributes-data}
 
@@ -46,7 +46,7 @@ bytes-none m f offset n none = sym (nothing (content m f) offset n none)
 
 -- the block was read, which changes nothing
 pub Makes-read : (blocks i offset count : ℕ) (f : FileNode) (p : PortionState) (told : Attributes) (n : ℕ) (b : List ℕ) (t0 t1 : TxnState) → t0.writes ≡ []
-    → Tells blocks t0 t1 (λ m. object m (block f.block) ≡ b) → n ≡ min count (f.size - offset) → n ≢ 0 → told ≡ attributes_of_node i f
+    → LearnsThat blocks t0 t1 (λ m. object m (block f.block) ≡ b) → n ≡ min count (f.size - offset) → n ≢ 0 → told ≡ attributes_of_node i f
     → p ≡ record { file = told; bytes = slice_range b offset (offset + n); is_end = nat_le f.size (offset + n) }
     → Makes blocks t0 t1 (λ m after. IsSoundFile m f → Leads after (Ok p) (read_case offset count (files_of m) (file i (data_of m f))))
 Makes-read blocks i offset count f p told n b t0 t1 fresh read length_is some told_is portion_is =

@@ -8,14 +8,14 @@ use Rattle.journal_inode.specs.Places.Object.{inode, bit}
 use Rattle.journal_inode.specs.Nodes.{inode_bytes, Fits}
 use Rattle.journal_inode.specs.Sound.{node_at}
 use Rattle.journal_filestore.specs.Files.{is_file_number}
-use Rattle.journal_filestore.specs.Doing.{MayBeRead, Writes, Puts, Makes}
+use Rattle.journal_filestore.specs.Doing.{MayBeRead, WritesObject, Puts, Makes}
 use Rattle.journal_filestore.proofs.Doings.{HasWritten-none, HasWritten-more, Makes-written}
 use Rattle.journal_filestore.proofs.Removing.{Puts-removed}
 
 -- the inode becomes free, and the bit of the file's block is cleared
 pub Makes-remove : (blocks j : ℕ) (f : FileNode) (t0 t1 t2 : TxnState) → t0.writes ≡ []
-    → Writes blocks t0 t1 (inode j) (inode_bytes (Free f.generation))
-    → Writes blocks t1 t2 (bit (f.block - FIRST_DATA)) (0 ∷ [])
+    → WritesObject blocks t0 t1 (inode j) (inode_bytes (Free f.generation))
+    → WritesObject blocks t1 t2 (bit (f.block - FIRST_DATA)) (0 ∷ [])
     → is_file_number j ≡ true → Fits (File f)
     → Makes blocks t0 t2 (λ m n. node_at m j ≡ File f → Puts m n j (record { generation = f.generation; file = None }))
 Makes-remove blocks j f t0 t1 t2 fresh wrote_node wrote_bit number fits =

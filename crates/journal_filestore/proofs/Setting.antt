@@ -20,7 +20,7 @@ use Rattle.journal_filestore.specs.declared.settings.Settings.{Settings}
 use Rattle.journal_filestore.specs.Files.{is_file_number}
 use Rattle.journal_filestore.specs.Operations.{resized, time_after, with_settings, is_no_time, is_too_big}
 use Rattle.journal_filestore.specs.Handles.{data_of, set_node}
-use Rattle.journal_filestore.specs.Doing.{MayBeRead, Tells, Writes, Puts, Makes}
+use Rattle.journal_filestore.specs.Doing.{MayBeRead, LearnsThat, WritesObject, Puts, Makes}
 use Rattle.journal_filestore.proofs.Overwrites.{written_to, Overwrites, first_is, first_is_not}
 use Rattle.journal_filestore.proofs.Doings.{HasWritten-none, HasWritten-more, Makes-written}
 use Rattle.journal_filestore.proofs.FilesReplaced.{IsFileNumber-test}
@@ -78,7 +78,7 @@ module _ (blocks i : ℕ) (f : FileNode) (s : Settings) (now : Time) (small : is
       size = ap (unwrap_or s.size) (sym old.whole) ∙ sym (length-resized (content m f) s.size)
 
   -- no bytes are cut off, and the inode is overwritten
-  pub Makes-set_alone : (g : FileNode) (t0 t1 : TxnState) → t0.writes ≡ [] → Writes blocks t0 t1 (inode i) (inode_bytes (File g)) → g ≡ set_node f s now → f.size ≤ g.size
+  pub Makes-set_alone : (g : FileNode) (t0 t1 : TxnState) → t0.writes ≡ [] → WritesObject blocks t0 t1 (inode i) (inode_bytes (File g)) → g ≡ set_node f s now → f.size ≤ g.size
       → Makes blocks t0 t1 (λ m n. is_file_number i ≡ true → node_at m i ≡ File f → Puts m n i (record { generation = f.generation; file = Some (with_settings (data_of m f) s now) }))
   Makes-set_alone g t0 t1 fresh wrote is more =
       Makes-written blocks t0 t1 _ ((inode i, inode_bytes (File g)) ∷ [])
@@ -94,8 +94,8 @@ module _ (blocks i : ℕ) (f : FileNode) (s : Settings) (now : Time) (small : is
       (stays-alone m n i f (set_node f s now) (old.data_block, old.on_disk) (subst (λ x. Overwrites m n ((inode i, inode_bytes (File x)) ∷ [])) is o)))
 
   -- some are, and the block is overwritten too
-  pub Makes-set_block : (g : FileNode) (old_block new_block : Value) (t0 t1 t2 t3 : TxnState) → t0.writes ≡ [] → Tells blocks t0 t1 (λ m. object m (block f.block) ≡ old_block)
-      → Writes blocks t1 t2 (block f.block) new_block → Writes blocks t2 t3 (inode i) (inode_bytes (File g))
+  pub Makes-set_block : (g : FileNode) (old_block new_block : Value) (t0 t1 t2 t3 : TxnState) → t0.writes ≡ [] → LearnsThat blocks t0 t1 (λ m. object m (block f.block) ≡ old_block)
+      → WritesObject blocks t1 t2 (block f.block) new_block → WritesObject blocks t2 t3 (inode i) (inode_bytes (File g))
       → g ≡ set_node f s now → g.size < f.size → length old_block ≡ FILE_BYTES → new_block ≡ take g.size old_block ++ replicate (length old_block - g.size) 0
       → Makes blocks t0 t3 (λ m n. is_file_number i ≡ true → node_at m i ≡ File f → Puts m n i (record { generation = f.generation; file = Some (with_settings (data_of m f) s now) }))
   Makes-set_block g old_block new_block t0 t1 t2 t3 fresh read wrote_block wrote_node is less whole cut =

@@ -19,7 +19,7 @@ use Rattle.journal_filestore.specs.Files.{FileData, Files, is_file_number, files
 use Rattle.journal_filestore.specs.Operations.{attributes, attributes_of_node, changed, placed, with_data, write_case}
 use Rattle.journal_filestore.specs.Operations.FileTarget.{file}
 use Rattle.journal_filestore.specs.Handles.{data_of}
-use Rattle.journal_filestore.specs.Doing.{MayBeRead, Tells, Writes, Places, Puts, Makes}
+use Rattle.journal_filestore.specs.Doing.{MayBeRead, LearnsThat, WritesObject, Places, Puts, Makes}
 use Rattle.journal_filestore.proofs.Doings.{HasWritten-more, Makes-written}
 use Rattle.journal_filestore.proofs.FilesReplaced.{IsFileNumber-test}
 use Rattle.journal_filestore.proofs.Placing.{length-placed}
@@ -63,7 +63,7 @@ with_data-whole old bs whole fills =
     sym (ap (λ rest. bs ++ rest) (drop_all (0 + length bs) old (omega (arith, whole, fills))) ∙ append-nil bs)
 
 -- the block is filled
-pub Places-whole : (blocks b offset : ℕ) (bs : List ℕ) (t0 t1 : TxnState) → Writes blocks t0 t1 (block b) bs → length bs ≡ FILE_BYTES → offset + length bs ≤ FILE_BYTES → Places blocks t0 t1 b offset bs
+pub Places-whole : (blocks b offset : ℕ) (bs : List ℕ) (t0 t1 : TxnState) → WritesObject blocks t0 t1 (block b) bs → length bs ≡ FILE_BYTES → offset + length bs ≤ FILE_BYTES → Places blocks t0 t1 b offset bs
 Places-whole blocks b offset bs t0 t1 wrote fills fits = record {
   before = λ m seen. subst (λ rs. MayBeRead blocks rs m) wrote.reads seen;
   value = bs;
@@ -75,8 +75,8 @@ Places-whole blocks b offset bs t0 t1 wrote fills fits = record {
 }
 
 -- it is read, and data are placed in it
-pub Places-read : (blocks b offset : ℕ) (bs old_block new_block : List ℕ) (t0 t1 t2 : TxnState) → Tells blocks t0 t1 (λ m. object m (block b) ≡ old_block)
-    → Writes blocks t1 t2 (block b) new_block → t0.writes ≡ [] → new_block ≡ with_data old_block offset bs → Places blocks t0 t2 b offset bs
+pub Places-read : (blocks b offset : ℕ) (bs old_block new_block : List ℕ) (t0 t1 t2 : TxnState) → LearnsThat blocks t0 t1 (λ m. object m (block b) ≡ old_block)
+    → WritesObject blocks t1 t2 (block b) new_block → t0.writes ≡ [] → new_block ≡ with_data old_block offset bs → Places blocks t0 t2 b offset bs
 Places-read blocks b offset bs old_block new_block t0 t1 t2 read wrote fresh is_new = record {
   before = λ m seen. read.before m (subst (λ rs. MayBeRead blocks rs m) wrote.reads seen);
   value = new_block;
@@ -96,7 +96,7 @@ stored-whole m f sound =
 -- what is made of the file
 pub Makes-write : (blocks i offset : ℕ) (bs : List ℕ) (now : Time) (f g : FileNode) (t0 t1 t2 : TxnState) → t0.writes ≡ []
     → Places blocks t0 t1 f.block offset bs
-    → Writes blocks t1 t2 (inode i) (inode_bytes (File g))
+    → WritesObject blocks t1 t2 (inode i) (inode_bytes (File g))
     → g ≡ written f offset bs now
     → offset + length bs ≤ FILE_BYTES → now.nanos ≤ MAX_NANOS → Fits (File (written f offset bs now))
     → Makes blocks t0 t2 (λ m n. is_file_number i ≡ true → node_at m i ≡ File f → Puts m n i (record { generation = f.generation; file = Some (placed_data m f offset bs now) }))

@@ -31,13 +31,13 @@ abbrev pub ReadsOnly : TxnState → TxnState → Object → Type 0
 ReadsOnly old new o = (a : Addr) → is_same a (addr_of o) ≡ false → value_among new.reads a ≡ value_among old.reads a
 
 -- The transaction only read, and P holds of each map that it may have read
-pub record Tells (blocks : ℕ) (old new : TxnState) (P : Map → Type 0) : Type 0 where
+pub record LearnsThat (blocks : ℕ) (old new : TxnState) (P : Map → Type 0) : Type 0 where
   pub writes : new.writes ≡ old.writes
   pub before : (m : Map) → MayBeRead blocks new.reads m → MayBeRead blocks old.reads m
   pub now : (m : Map) → MayBeRead blocks new.reads m → P m
 
 -- The transaction overwrote an object of the disk
-pub record Writes (blocks : ℕ) (old new : TxnState) (o : Object) (v : Value) : Type 0 where
+pub record WritesObject (blocks : ℕ) (old new : TxnState) (o : Object) (v : Value) : Type 0 where
   pub reads : new.reads ≡ old.reads
   pub pairs : SamePairs new.writes ((addr_of o, v) ∷ old.writes)
   pub on_disk : IsOnDisk blocks o

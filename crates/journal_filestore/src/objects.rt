@@ -9,7 +9,7 @@ ghost use Rattle.journal_inode.specs.Places.{object};
 ghost use Rattle.journal_inode.specs.Places.Object.{bit, inode, block};
 ghost use Rattle.journal_inode.specs.Nodes.{inode_bytes, Fits};
 ghost use Rattle.journal_inode.specs.Sound.{node_at};
-ghost use Rattle.journal_filestore.specs.Doing.{Tells, Writes, IsNotYetRead, ReadsOnly};
+ghost use Rattle.journal_filestore.specs.Doing.{LearnsThat, WritesObject, IsNotYetRead, ReadsOnly};
 
 use crate::store::{FileTxn, Why};
 use journal_disk::BlockDisk;
@@ -27,7 +27,7 @@ pub(crate) fn read_node<'j, 'b, D: BlockDisk, J: Naming, W: Wait>(
     requires number { number < INODES }
     requires unread { IsNotYetRead txn.old (inode number) }
     requires writes { txn.old.writes ≡ [] }
-    ensures told { IfOk result (λ node. Tells J.blocks txn.old txn.new (λ m. node_at m number ≡ node)) }
+    ensures told { IfOk result (λ node. LearnsThat J.blocks txn.old txn.new (λ m. node_at m number ≡ node)) }
     ensures reads { OnOk result (ReadsOnly txn.old txn.new (inode number)) }
     ensures fits { IfOk result Fits }
 {
@@ -43,7 +43,7 @@ pub(crate) fn read_block<'j, 'b, D: BlockDisk, J: Naming, W: Wait>(
 ) -> Result<Value, Why<'b, J>>
     requires unread { FIRST_DATA ≤ number → IsNotYetRead txn.old (block number) }
     requires writes { txn.old.writes ≡ [] }
-    ensures told { IfOk result (λ value. Tells J.blocks txn.old txn.new (λ m. object m (block number) ≡ value)) }
+    ensures told { IfOk result (λ value. LearnsThat J.blocks txn.old txn.new (λ m. object m (block number) ≡ value)) }
     ensures whole { IfOk result (λ value. length value ≡ 4096) }
     ensures data_block { OnOk result (FIRST_DATA ≤ number) }
 {
@@ -61,7 +61,7 @@ pub(crate) fn read_bit<'j, 'b, D: BlockDisk, J: Naming, W: Wait>(
 ) -> Result<bool, Why<'b, J>>
     requires unread { (k : ℕ) → k < BLOCK_BITS → IsNotYetRead txn.old (bit k) }
     requires writes { txn.old.writes ≡ [] }
-    ensures told { IfOk result (λ is_set. Tells J.blocks txn.old txn.new
+    ensures told { IfOk result (λ is_set. LearnsThat J.blocks txn.old txn.new
         (λ m. object m (bit (number - FIRST_DATA)) ≡ (if is_set then 1 else 0) ∷ [])) }
     ensures data_block { OnOk result (FIRST_DATA ≤ number) }
 {
@@ -80,7 +80,7 @@ pub(crate) fn write_node<'j, 'b, D: BlockDisk, J: Naming, W: Wait>(
     node: &Node,
 ) -> Result<(), Why<'b, J>>
     requires { number < INODES }
-    ensures { OnOk result (Writes J.blocks txn.old txn.new (inode number) (inode_bytes node.now)) }
+    ensures { OnOk result (WritesObject J.blocks txn.old txn.new (inode number) (inode_bytes node.now)) }
 {
     txn.overwrite(rt, inode_addr(number), &node.bytes())
 }
@@ -92,7 +92,7 @@ pub(crate) fn write_block<'j, 'b, D: BlockDisk, J: Naming, W: Wait>(
     number: u64,
     bytes: &[u8],
 ) -> Result<(), Why<'b, J>>
-    ensures { OnOk result (Writes J.blocks txn.old txn.new (block number) bytes.now) }
+    ensures { OnOk result (WritesObject J.blocks txn.old txn.new (block number) bytes.now) }
 {
     if number < FIRST_DATA {
         return Err(Refusal::BadAddress);
@@ -107,7 +107,7 @@ pub(crate) fn write_bit<'j, 'b, D: BlockDisk, J: Naming, W: Wait>(
     number: u64,
     is_set: bool,
 ) -> Result<(), Why<'b, J>>
-    ensures { OnOk result (Writes J.blocks txn.old txn.new (bit (number - FIRST_DATA)) ((if is_set then 1 else 0) ∷ [])) }
+    ensures { OnOk result (WritesObject J.blocks txn.old txn.new (bit (number - FIRST_DATA)) ((if is_set then 1 else 0) ∷ [])) }
 {
     if !has_bit(number) {
         return Err(Refusal::BadAddress);

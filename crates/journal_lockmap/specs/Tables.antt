@@ -10,5 +10,5 @@ abbrev pub is_taken : Table → ℕ → Bool
 is_taken table slot = slice_index_or table slot false
 
 -- every other slot is taken or free as it was
-abbrev pub ChangesOnly : Table → Table → ℕ → Type 0
-ChangesOnly before after slot = (other : ℕ) → other ≢ slot → is_taken after other ≡ is_taken before other
+abbrev pub ChangesOnlySlot : Table → Table → ℕ → Type 0
+ChangesOnlySlot before after slot = (other : ℕ) → other ≢ slot → is_taken after other ≡ is_taken before other

@@ -1,7 +1,7 @@
 // A slot that its holder took.
 ghost use Rattle.std.specs.Prelude.{◌≡◌, ◌<◌, ◌↔◌, false, IsTrue, IsSome, IfSome};
 ghost use Rattle.journal_world.specs.declared.address.TheConstants.{SLOTS};
-ghost use Rattle.journal_lockmap.specs.Tables.{is_taken, ChangesOnly};
+ghost use Rattle.journal_lockmap.specs.Tables.{is_taken, ChangesOnlySlot};
 
 use crate::slots::Slots;
 use std::marker::Model;
@@ -40,7 +40,7 @@ impl Held {
         ensures free { IsSome result ↔ (is_taken slots.old slot ≡ false) }
         ensures held { IfSome result (λ held. held ≡ slot) }
         ensures taken { IsTrue (is_taken slots.new slot) }
-        ensures others { ChangesOnly slots.old slots.new slot }
+        ensures others { ChangesOnlySlot slots.old slots.new slot }
     {
         if slots.mark(slot) {
             Some(Held { slot })
@@ -52,7 +52,7 @@ impl Held {
     // Frees the slot in the table.
     pub(crate) fn give_back(self, slots: &mut Slots)
         ensures free { is_taken slots.new self ≡ false }
-        ensures others { ChangesOnly slots.old slots.new self }
+        ensures others { ChangesOnlySlot slots.old slots.new self }
     {
         let Held { slot } = self;
         slots.unmark(slot);

@@ -1,7 +1,7 @@
 // Which slots are taken.
 ghost use Rattle.std.specs.Prelude.{◌≡◌, ◌<◌, ◌↔◌, false, IsTrue, IfOk, replicate};
 ghost use Rattle.journal_world.specs.declared.address.TheConstants.{SLOTS};
-ghost use Rattle.journal_lockmap.specs.Tables.{is_taken, ChangesOnly};
+ghost use Rattle.journal_lockmap.specs.Tables.{is_taken, ChangesOnlySlot};
 
 use journal_world::SLOTS;
 use std::alloc::{AllocError, Global};
@@ -48,7 +48,7 @@ impl Slots {
         requires in_range { slot < SLOTS }
         ensures free { IsTrue result ↔ (is_taken self.old slot ≡ false) }
         ensures taken { IsTrue (is_taken self.new slot) }
-        ensures others { ChangesOnly self.old self.new slot }
+        ensures others { ChangesOnlySlot self.old self.new slot }
     {
         let free = !self.is_taken(slot);
         self.taken[usize::from(slot)] = true;
@@ -59,7 +59,7 @@ impl Slots {
     pub fn unmark(&mut self, slot: u16)
         requires in_range { slot < SLOTS }
         ensures free { is_taken self.new slot ≡ false }
-        ensures others { ChangesOnly self.old self.new slot }
+        ensures others { ChangesOnlySlot self.old self.new slot }
     {
         self.taken[usize::from(slot)] = false;
     }

@@ -4,7 +4,7 @@ use Rattle.std.specs.Prelude.{min}
 use lib.ListN.{length-append}
 use Rattle.journal_rpc.specs.Calls.{Message, message}
 use Rattle.journal_server.specs.Output.{AllReplies, AllCalls, answered_of, counted}
-use Rattle.journal_server.specs.Sending.{Counts}
+use Rattle.journal_server.specs.Sending.{GrowsBy}
 
 some_not_none : {A : Type 0} (x : A) (o : Option A) → o ≡ Some x → o ≢ None
 some_not_none x o e n = absurd cc
@@ -29,21 +29,21 @@ counts_front answers [] bad behind old new text h none = ap (λ (c : Option Mess
 counts_front answers (r ∷ rs) bad behind old new text h none =
     ap (λ (c : Option Message). counted c (answered_of (rs ++ bad ∷ behind))) h.1 ∙ one_longer (answered_of (rs ++ bad ∷ behind)) rs r (counts_front answers rs bad behind h.2.0 new h.2.2 h.2.4 none)
 
-pub counts_more : (a b : List (List ℕ)) (n new : ℕ) → Counts 0 (length a) n → Counts n (length b) new → Counts 0 (length (a ++ b)) new
+pub counts_more : (a b : List (List ℕ)) (n new : ℕ) → GrowsBy 0 (length a) n → GrowsBy n (length b) new → GrowsBy 0 (length (a ++ b)) new
 counts_more a b n new h k lt =
     let l = length-append a b in
     let e = h (omega (arith, l, lt)) in
     let f = k (omega (arith, l, lt, e)) in
     omega (arith, l, e, f)
 
-pub counts_one : (old n new : ℕ) (rs : List (List ℕ)) (r : List ℕ) → Counts old (length rs) n → new ≡ min (n + 1) (2 ^ 64 - 1) → Counts old (length (rs ++ r ∷ [])) new
+pub counts_one : (old n new : ℕ) (rs : List (List ℕ)) (r : List ℕ) → GrowsBy old (length rs) n → new ≡ min (n + 1) (2 ^ 64 - 1) → GrowsBy old (length (rs ++ r ∷ [])) new
 counts_one old n new rs r h is lt =
     let l = length-append rs (r ∷ []) in
     let e = h (omega (arith, l, lt)) in
     omega (arith, l, lt, e, is)
 
 -- what the count is where it fits
-pub counts_fit : (k m n : ℕ) → m ≡ k → Counts 0 k n → m < 2 ^ 64 → n ≡ m
+pub counts_fit : (k m n : ℕ) → m ≡ k → GrowsBy 0 k n → m < 2 ^ 64 → n ≡ m
 counts_fit k m n is h lt =
     let e = h (omega (arith, is, lt)) in
     omega (arith, e, is)

@@ -12,8 +12,8 @@ use Rattle.journal_server.specs.declared.connection.End.{End}
 use Rattle.journal_server.specs.declared.connection.Served.{Served}
 use Rattle.journal_server.specs.declared.connection.ConnFault.{ConnFault}
 use Rattle.journal_server.specs.declared.connection.End.TheVariants.{EndOfInput, Truncated, BadRecord}
-use Rattle.journal_server.specs.Output.{Replies, AllReplies, records_of, answered_of, AllCalls}
-use Rattle.journal_server.specs.Connections.{Exchanges, Closes, Ends, IsBeginning}
+use Rattle.journal_server.specs.Output.{RepliesUpToBad, AllReplies, records_of, answered_of, AllCalls}
+use Rattle.journal_server.specs.Connections.{Exchanges, Closes, IsEnd, IsBeginning}
 use Rattle.journal_server.specs.Serving.{SoFar, Finished, Failed}
 use Rattle.journal_server.specs.Sending.{Sent, SentUpToBad, SentInPart}
 use Rattle.journal_server.proofs.Answering.{then_replies, all_then, stops}
@@ -75,10 +75,10 @@ module _ {S : Type 0} (answers : Message → S → S → List ℕ → Type 0) (f
       }
 
   -- all the records were answered
-  all_output : (rs : List (List ℕ)) (text : List ℕ) (input : List ℕ) → (after fresh input).records ≡ rs → AllReplies answers rs start now text → Replies answers (records_of input) start now text
+  all_output : (rs : List (List ℕ)) (text : List ℕ) (input : List ℕ) → (after fresh input).records ≡ rs → AllReplies answers rs start now text → RepliesUpToBad answers (records_of input) start now text
   all_output rs text input records all =
-      subst (λ (qs : List (List ℕ)). Replies answers qs start now text) (append-nil rs ∙ sym records)
-      (subst (λ (t : List ℕ). Replies answers (rs ++ []) start now t) (append-nil text)
+      subst (λ (qs : List (List ℕ)). RepliesUpToBad answers qs start now text) (append-nil rs ∙ sym records)
+      (subst (λ (t : List ℕ). RepliesUpToBad answers (rs ++ []) start now t) (append-nil text)
       (then_replies answers rs [] start now now text [] all (refl, refl)))
 
   -- the last piece had a header past the limit
@@ -114,7 +114,7 @@ module _ {S : Type 0} (answers : Message → S → S → List ℕ → Type 0) (f
         text = text;
         read = Consumes-trans from left left2 h.input piece h.read c;
         wrote = Appends-trans before held holds h.text e.text h.wrote e.sent;
-        replied = subst (λ (rs : List (List ℕ)). Replies answers rs start now text) (sym records) (subst (λ (t : List ℕ). Replies answers (front ++ e.bad ∷ e.behind) start now t) (append-nil text) stopped);
+        replied = subst (λ (rs : List (List ℕ)). RepliesUpToBad answers rs start now text) (sym records) (subst (λ (t : List ℕ). RepliesUpToBad answers (front ++ e.bad ∷ e.behind) start now t) (append-nil text) stopped);
         count = counts_fit (length front) _ m count (counts_more h.answered e.answered n m h.counts e.counts);
         ended = inr (front, e.bad, e.behind, records, e.no_call);
       }
@@ -169,8 +169,8 @@ ends_quiet answers from left left2 before held waiting start now piece n end h c
       text = h.text;
       read = subst (Consumes from left2) (ap (λ (p : List ℕ). h.input ++ p) empty ∙ append-nil h.input) (Consumes-trans from left left2 h.input piece h.read c);
       wrote = h.wrote;
-      replied = subst (λ (qs : List (List ℕ)). Replies answers qs start now h.text) (append-nil h.answered ∙ sym records)
-          (subst (λ (t : List ℕ). Replies answers (h.answered ++ []) start now t) (append-nil h.text)
+      replied = subst (λ (qs : List (List ℕ)). RepliesUpToBad answers qs start now h.text) (append-nil h.answered ∙ sym records)
+          (subst (λ (t : List ℕ). RepliesUpToBad answers (h.answered ++ []) start now t) (append-nil h.text)
           (then_replies answers h.answered [] start now now h.text [] h.replied (refl, refl)));
       count = counts_fit (length h.answered) _ n count h.counts;
       ended = of end closes;
@@ -188,7 +188,7 @@ ends_quiet answers from left left2 before held waiting start now piece n end h c
     calls : AllCalls s.records
     calls = subst AllCalls (sym (ap (λ (t : Stream). t.records) h.is ∙ ap (λ (rs : List (List ℕ)). h.answered ++ rs) h.none ∙ append-nil h.answered)) (calls_all answers h.answered start now h.text h.replied)
 
-    of : (e : End) → Closes e waiting → Ends e h.input left2
+    of : (e : End) → Closes e waiting → IsEnd e h.input left2
     of EndOfInput b = (quiet, calls, record { begun = begun ∙ b.begun; part = part ∙ b.part })
     of Truncated b = (quiet, calls, λ t. b (record { begun = sym begun ∙ t.begun; part = sym part ∙ t.part }), λ long. h.short (sym part ∙ long))
     of BadRecord b = absurd b
@@ -196,7 +196,7 @@ ends_quiet answers from left left2 before held waiting start now piece n end h c
 -- ---- what is told of a connection, a fact at a time
 
 module _ {S : Type 0} (answers : Message → S → S → List ℕ → Type 0) (from left held holds : Option (List ℕ)) (old new : S) where
-  pub tells_replies : (r : Result Served ConnFault) → IfOk r (λ s. Finished answers from left held holds old new s.answered s.end) → IfOk r (λ s. Exchanges from left held holds (λ input text. Replies answers (records_of input) old new text))
+  pub tells_replies : (r : Result Served ConnFault) → IfOk r (λ s. Finished answers from left held holds old new s.answered s.end) → IfOk r (λ s. Exchanges from left held holds (λ input text. RepliesUpToBad answers (records_of input) old new text))
   tells_replies (Ok s) h = (h.input, h.text, h.read, h.wrote, h.replied)
   tells_replies (Err why) h = tt
 
@@ -204,7 +204,7 @@ module _ {S : Type 0} (answers : Message → S → S → List ℕ → Type 0) (f
   tells_count (Ok s) h = (h.input, h.text, h.read, h.wrote, h.count)
   tells_count (Err why) h = tt
 
-  pub tells_end : (r : Result Served ConnFault) → IfOk r (λ s. Finished answers from left held holds old new s.answered s.end) → IfOk r (λ s. Exchanges from left held holds (λ input text. Ends s.end input left))
+  pub tells_end : (r : Result Served ConnFault) → IfOk r (λ s. Finished answers from left held holds old new s.answered s.end) → IfOk r (λ s. Exchanges from left held holds (λ input text. IsEnd s.end input left))
   tells_end (Ok s) h = (h.input, h.text, h.read, h.wrote, h.ended)
   tells_end (Err why) h = tt
 

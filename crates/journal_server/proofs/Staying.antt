@@ -21,7 +21,7 @@ use Rattle.journal_nfs3.specs.Calls.{asks}
 use Rattle.journal_nfs3.specs.Served.{TellsOutcome, Performs, Serves, has_to_wait, is_accepted}
 use Rattle.journal_nfs3.specs.Answers.{ServesCall, Answers}
 use Rattle.journal_nfs3.proofs.Marked.{serves_marked}
-use Rattle.journal_server.specs.Output.{IsReply, IsRepliedUnlessBad, IsRepliedThen, Replies, AllReplies}
+use Rattle.journal_server.specs.Output.{IsReply, IsRepliedUnlessBad, IsRepliedThen, RepliesUpToBad, AllReplies}
 use Rattle.journal_server.proofs.Answering.{then_replies}
 
 abbrev Grows : SessionState → SessionState → Type 0
@@ -63,19 +63,19 @@ call_grows verifier now (Ok operation) old new outcome h = serves_grows verifier
 reply_grows : (tells : Time → Type 0) (verifier : List ℕ) (call : Message) (old new : SessionState) (text : List ℕ) → IsReply tells verifier call old new text → Grows old new
 reply_grows tells verifier call old new text h = call_grows verifier h.moment (asks call.asked) old new h.answers.outcome h.answers.comes
 
-all_grow : (tells : Time → Type 0) (verifier : List ℕ) (records : List (List ℕ)) (old new : SessionState) (text : List ℕ) → Replies (IsReply tells verifier) records old new text → Grows old new
+all_grow : (tells : Time → Type 0) (verifier : List ℕ) (records : List (List ℕ)) (old new : SessionState) (text : List ℕ) → RepliesUpToBad (IsReply tells verifier) records old new text → Grows old new
 all_grow tells verifier [] old new text h = grows-same old new h.0
 all_grow tells verifier (r ∷ rs) old new text h = of (λ mid more k. all_grow tells verifier rs mid new more k) (message r) h
   where
-    of : ((mid : SessionState) (more : List ℕ) → Replies (IsReply tells verifier) rs mid new more → Grows mid new)
-        → (m : Option Message) → IsRepliedUnlessBad (IsReply tells verifier) m old new text (λ mid more. Replies (IsReply tells verifier) rs mid new more) → Grows old new
+    of : ((mid : SessionState) (more : List ℕ) → RepliesUpToBad (IsReply tells verifier) rs mid new more → Grows mid new)
+        → (m : Option Message) → IsRepliedUnlessBad (IsReply tells verifier) m old new text (λ mid more. RepliesUpToBad (IsReply tells verifier) rs mid new more) → Grows old new
     of rest None k = grows-same old new k.0
     of rest (Some call) k = grows-trans old k.0 new (reply_grows tells verifier call old k.0 k.1 k.3) (rest k.0 k.2 k.4)
 
 floor_grows : (old new : SessionState) → Grows old new → floor old.seen ≤ floor new.seen
 floor_grows old new p = subst (λ (h : List Entry). floor old.seen ≤ floor h) p.1 (floor-append-le old.seen p.0)
 
-pub replies_grow : (tells : Time → Type 0) (verifier : List ℕ) (records : List (List ℕ)) (old new : SessionState) (text : List ℕ) → Replies (IsReply tells verifier) records old new text → IsPrefix old.seen new.seen × (floor old.seen ≤ floor new.seen)
+pub replies_grow : (tells : Time → Type 0) (verifier : List ℕ) (records : List (List ℕ)) (old new : SessionState) (text : List ℕ) → RepliesUpToBad (IsReply tells verifier) records old new text → IsPrefix old.seen new.seen × (floor old.seen ≤ floor new.seen)
 replies_grow tells verifier records old new text h =
     let p = all_grow tells verifier records old new text h in
     (p, floor_grows old new p)
@@ -89,14 +89,14 @@ call_marked verifier now (Ok o) operation r old new outcome e f wt ok h =
 
 pub stays_stable : (tells : Time → Type 0) (verifier : List ℕ) (call : Message) (operation : Operation) (r : Results) (old mid new : SessionState) (reply : List ℕ) (behind : List (List ℕ)) (more : List ℕ)
     → (replied : IsReply tells verifier call old mid reply) → asks call.asked ≡ Ok operation → replied.answers.outcome ≡ Ok r → IsTrue (has_to_wait operation) → IsTrue (is_accepted r)
-    → Replies (IsReply tells verifier) behind mid new more → count old.seen + 1 ≤ floor new.seen
+    → RepliesUpToBad (IsReply tells verifier) behind mid new more → count old.seen + 1 ≤ floor new.seen
 stays_stable tells verifier call operation r old mid new reply behind more replied e f wt ok h =
     let now = call_marked verifier replied.moment (asks call.asked) operation r old mid replied.answers.outcome e f wt ok replied.answers.comes in
     let later = (replies_grow tells verifier behind mid new more h).1 in
     omega (arith, now, later)
 
-pub all_are_replies : {S : Type 0} (answers : Message → S → S → List ℕ → Type 0) (records : List (List ℕ)) (old new : S) (text : List ℕ) → AllReplies answers records old new text → Replies answers records old new text
+pub all_are_replies : {S : Type 0} (answers : Message → S → S → List ℕ → Type 0) (records : List (List ℕ)) (old new : S) (text : List ℕ) → AllReplies answers records old new text → RepliesUpToBad answers records old new text
 all_are_replies answers records old new text h =
-    subst (λ (rs : List (List ℕ)). Replies answers rs old new text) (append-nil records)
-    (subst (λ (t : List ℕ). Replies answers (records ++ []) old new t) (append-nil text)
+    subst (λ (rs : List (List ℕ)). RepliesUpToBad answers rs old new text) (append-nil records)
+    (subst (λ (t : List ℕ). RepliesUpToBad answers (records ++ []) old new t) (append-nil text)
     (then_replies answers records [] old new new text [] h (refl, refl)))

@@ -18,10 +18,10 @@ abbrev pub HasBadRecord : Stream → Type 0
 HasBadRecord s = (s.part ≡ TooLong) ⊎ ((front : List (List ℕ)) × (bad : List ℕ) × (behind : List (List ℕ)) × (s.records ≡ front ++ bad ∷ behind) × (message bad ≡ None))
 
 -- Where each end comes, after some input: the reader is at its end and each record is a call, with nothing behind them or a record that is begun; or there is a bad record
-abbrev pub Ends : End → List ℕ → Option (List ℕ) → Type 0
-Ends EndOfInput input left = IsAtEnd left × AllCalls (after fresh input).records × IsBetween (after fresh input)
-Ends Truncated input left = IsAtEnd left × AllCalls (after fresh input).records × (IsBetween (after fresh input) → ⊥) × ((after fresh input).part ≢ TooLong)
-Ends BadRecord input left = HasBadRecord (after fresh input)
+abbrev pub IsEnd : End → List ℕ → Option (List ℕ) → Type 0
+IsEnd EndOfInput input left = IsAtEnd left × AllCalls (after fresh input).records × IsBetween (after fresh input)
+IsEnd Truncated input left = IsAtEnd left × AllCalls (after fresh input).records × (IsBetween (after fresh input) → ⊥) × ((after fresh input).part ≢ TooLong)
+IsEnd BadRecord input left = HasBadRecord (after fresh input)
 
 -- which end it is where nothing is left to read
 abbrev pub Closes : End → Stream → Type 0

@@ -27,9 +27,9 @@ IsRepliedUnlessBad answers None old new text goes_on = (new ≡ old) × (text �
 IsRepliedUnlessBad answers (Some call) old new text goes_on = IsRepliedThen answers call old text goes_on
 
 -- The replies to these records, in order, up to the first that is no call
-abbrev pub Replies : {S : Type 0} → (Message → S → S → List ℕ → Type 0) → List (List ℕ) → S → S → List ℕ → Type 0
-Replies answers [] old new text = (new ≡ old) × (text ≡ [])
-Replies answers (r ∷ rs) old new text = IsRepliedUnlessBad answers (message r) old new text (λ mid more. Replies answers rs mid new more)
+abbrev pub RepliesUpToBad : {S : Type 0} → (Message → S → S → List ℕ → Type 0) → List (List ℕ) → S → S → List ℕ → Type 0
+RepliesUpToBad answers [] old new text = (new ≡ old) × (text ≡ [])
+RepliesUpToBad answers (r ∷ rs) old new text = IsRepliedUnlessBad answers (message r) old new text (λ mid more. RepliesUpToBad answers rs mid new more)
 
 -- Each of these records is a call, and these are the replies
 abbrev pub AllReplies : {S : Type 0} → (Message → S → S → List ℕ → Type 0) → List (List ℕ) → S → S → List ℕ → Type 0

@@ -13,8 +13,8 @@ pub record AppendsFront (old new : Option (List ℕ)) (bytes : List ℕ) : Type 
   pub appends : Appends old new front
 
 -- a count grew by so many, where it can
-abbrev pub Counts : ℕ → ℕ → ℕ → Type 0
-Counts old n new = old + n < 2 ^ 64 → new ≡ old + n
+abbrev pub GrowsBy : ℕ → ℕ → ℕ → Type 0
+GrowsBy old n new = old + n < 2 ^ 64 → new ≡ old + n
 
 -- the records that waited were answered
 pub record Emptied {S : Type 0} (answers : Message → S → S → List ℕ → Type 0) (old new : Stream) (before now : S) (held holds : List ℕ) (count counted : ℕ) : Type 0 where
@@ -22,7 +22,7 @@ pub record Emptied {S : Type 0} (answers : Message → S → S → List ℕ → 
   pub replied : AllReplies answers old.records before now text
   pub is : holds ≡ held ++ text
   pub rest : new ≡ record old { records = [] }
-  pub counts : Counts count (length old.records) counted
+  pub counts : GrowsBy count (length old.records) counted
 
 -- they were answered up to one that is no call
 pub record Stopped {S : Type 0} (answers : Message → S → S → List ℕ → Type 0) (old : Stream) (before now : S) (held holds : List ℕ) (count counted : ℕ) : Type 0 where
@@ -34,7 +34,7 @@ pub record Stopped {S : Type 0} (answers : Message → S → S → List ℕ → 
   pub no_call : message bad ≡ None
   pub replied : AllReplies answers answered before now text
   pub is : holds ≡ held ++ text
-  pub counts : Counts count (length answered) counted
+  pub counts : GrowsBy count (length answered) counted
 
 -- memory was refused for a reply, or behind it: a front was answered
 pub record Lost {S : Type 0} (answers : Message → S → S → List ℕ → Type 0) (old : Stream) (before now : S) : Type 0 where
@@ -50,7 +50,7 @@ pub record Sent {S : Type 0} (answers : Message → S → S → List ℕ → Typ
   pub replied : AllReplies answers old.records before now text
   pub sent : Appends held holds text
   pub rest : new ≡ record old { records = [] }
-  pub counts : Counts count (length old.records) counted
+  pub counts : GrowsBy count (length old.records) counted
 
 -- those before one that is no call
 pub record SentUpToBad {S : Type 0} (answers : Message → S → S → List ℕ → Type 0) (old : Stream) (before now : S) (held holds : Option (List ℕ)) (count counted : ℕ) : Type 0 where
@@ -62,7 +62,7 @@ pub record SentUpToBad {S : Type 0} (answers : Message → S → S → List ℕ 
   pub no_call : message bad ≡ None
   pub replied : AllReplies answers answered before now text
   pub sent : Appends held holds text
-  pub counts : Counts count (length answered) counted
+  pub counts : GrowsBy count (length answered) counted
 
 -- a front of them, and a front of the replies was sent
 pub record SentInPart {S : Type 0} (answers : Message → S → S → List ℕ → Type 0) (old : Stream) (before now : S) (held holds : Option (List ℕ)) : Type 0 where

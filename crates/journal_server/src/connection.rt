@@ -2,8 +2,8 @@
 ghost use Rattle.std.specs.Prelude.{◌≡◌, ◌≢◌, ◌<◌, ◌^◌, length, IfOk, OnErr, MatchBool};
 ghost use Rattle.journal_rpc.specs.Stream.{after};
 ghost use Rattle.journal_rpc.specs.declared.part.Part.TheVariants.{TooLong};
-ghost use Rattle.journal_server.specs.Output.{IsReply, Replies, records_of, answered_of};
-ghost use Rattle.journal_server.specs.Connections.{Exchanges, Ends, Closes, IsBeginning};
+ghost use Rattle.journal_server.specs.Output.{IsReply, RepliesUpToBad, records_of, answered_of};
+ghost use Rattle.journal_server.specs.Connections.{Exchanges, IsEnd, Closes, IsBeginning};
 ghost use Rattle.journal_server.specs.Serving.{Finished, Failed};
 
 use crate::replying::answer_and_send;
@@ -78,7 +78,7 @@ pub fn serve<'b, R: Read, W: Write, D: BlockDisk, J: Naming, C: Clock, G: Gate, 
     // is what its call comes to at a moment of the clock, and it leads from what the session had seen after the one
     // before it to what it saw then.
     ensures replies { IfOk result (λ served. Exchanges (R.remaining reader.old) (R.remaining reader.new) (W.contents writer.old) (W.contents writer.new)
-        (λ input text. Replies (IsReply (C.tells clock.now) verifier.0) (records_of input) session.old session.new text)) }
+        (λ input text. RepliesUpToBad (IsReply (C.tells clock.now) verifier.0) (records_of input) session.old session.new text)) }
 
     // They are counted.
     ensures counted { IfOk result (λ served. Exchanges (R.remaining reader.old) (R.remaining reader.new) (W.contents writer.old) (W.contents writer.new)
@@ -86,7 +86,7 @@ pub fn serve<'b, R: Read, W: Write, D: BlockDisk, J: Naming, C: Clock, G: Gate, 
 
     // Each end comes only where it holds.
     ensures ended { IfOk result (λ served. Exchanges (R.remaining reader.old) (R.remaining reader.new) (W.contents writer.old) (W.contents writer.new)
-        (λ input text. Ends served.end input (R.remaining reader.new))) }
+        (λ input text. IsEnd served.end input (R.remaining reader.new))) }
 
     // Where it gave up, what was written is a beginning of the replies to a front of the records of what was read, and
     // the session has seen what these come to.

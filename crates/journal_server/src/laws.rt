@@ -8,7 +8,7 @@ ghost use Rattle.journal_nfs3.specs.Arguments.{Operation};
 ghost use Rattle.journal_nfs3.specs.Results.{Results};
 ghost use Rattle.journal_nfs3.specs.Calls.{asks};
 ghost use Rattle.journal_nfs3.specs.Served.{has_to_wait, is_accepted};
-ghost use Rattle.journal_server.specs.Output.{IsReply, Replies, AllReplies};
+ghost use Rattle.journal_server.specs.Output.{IsReply, RepliesUpToBad, AllReplies};
 
 use crate::service::Clock;
 
@@ -20,16 +20,16 @@ use crate::service::Clock;
 /// COMMIT, SETATTR, CREATE, REMOVE, and WRITE with DATA_SYNC or FILE_SYNC wait so (RFC 1813, sections 3.3.7 and 3.3.21).
 pub fn what_was_stable_stays_stable<C: Clock>(clock: &C)
     ensures grows { (verifier : List ℕ) (records : List (List ℕ)) (old new : SessionState) (text : List ℕ)
-        → Replies (IsReply (C.tells clock.now) verifier) records old new text
+        → RepliesUpToBad (IsReply (C.tells clock.now) verifier) records old new text
         → IsPrefix old.seen new.seen × (floor old.seen ≤ floor new.seen) }
     ensures stable { (verifier : List ℕ) (call : Message) (operation : Operation) (r : Results)
         (old mid new : SessionState) (reply : List ℕ) (behind : List (List ℕ)) (more : List ℕ)
         → (replied : IsReply (C.tells clock.now) verifier call old mid reply) → asks call.asked ≡ Ok operation → replied.answers.outcome ≡ Ok r
         → IsTrue (has_to_wait operation) → IsTrue (is_accepted r)
-        → Replies (IsReply (C.tells clock.now) verifier) behind mid new more
+        → RepliesUpToBad (IsReply (C.tells clock.now) verifier) behind mid new more
         → count old.seen + 1 ≤ floor new.seen }
     ensures front { (verifier : List ℕ) (records : List (List ℕ)) (old new : SessionState) (text : List ℕ)
-        → AllReplies (IsReply (C.tells clock.now) verifier) records old new text → Replies (IsReply (C.tells clock.now) verifier) records old new text }
+        → AllReplies (IsReply (C.tells clock.now) verifier) records old new text → RepliesUpToBad (IsReply (C.tells clock.now) verifier) records old new text }
 {
     let _ = clock;
 }

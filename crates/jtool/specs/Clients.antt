@@ -29,15 +29,15 @@ pub record ClientState : Type 0 where
   pub txn : Option TxnState
 
 -- the transaction that a line finds: the open one, or one that begins, after all that the session has then seen
-abbrev pub Finds : ClientState → TxnState → SessionState → Type 0
-Finds old t session = MatchOption old.txn
+abbrev pub FindsTransaction : ClientState → TxnState → SessionState → Type 0
+FindsTransaction old t session = MatchOption old.txn
     (OnlyExtends old.session session × (t ≡ begun session.seen))
     (λ found. (t ≡ found) × (session ≡ old.session))
 
 -- The transaction overwrites the address
-pub record Puts (old : ClientState) (a : Addr) (v : Value) (new : ClientState) : Type 0 where
+pub record PutsValue (old : ClientState) (a : Addr) (v : Value) (new : ClientState) : Type 0 where
   pub found : TxnState
-  pub finds : Finds old found new.session
+  pub finds : FindsTransaction old found new.session
   pub left : TxnState
   pub is_open : new.txn ≡ Some left
   pub overwrites : Overwrites (holding found a) a v left
@@ -45,7 +45,7 @@ pub record Puts (old : ClientState) (a : Addr) (v : Value) (new : ClientState) :
 -- The transaction is told the value: its own overwrite, where there is one, else what the map gives
 pub record Gets (old : ClientState) (a : Addr) (v : Value) (new : ClientState) : Type 0 where
   pub found : TxnState
-  pub finds : Finds old found new.session
+  pub finds : FindsTransaction old found new.session
   pub left : TxnState
   pub is_open : new.txn ≡ Some left
   pub reads : ReadsValue (holding found a) a v left
@@ -53,7 +53,7 @@ pub record Gets (old : ClientState) (a : Addr) (v : Value) (new : ClientState) :
 -- The transaction is open, as it was
 pub record KeepsOpen (old : ClientState) (why : TxnState → Type 0) (new : ClientState) : Type 0 where
   pub found : TxnState
-  pub finds : Finds old found new.session
+  pub finds : FindsTransaction old found new.session
   pub is_open : new.txn ≡ Some found
   pub refused : why found
 
@@ -121,7 +121,7 @@ GivesAnswer blocks command answer = ⊥
 -- What a command is answered, and leaves, of a journal over so many blocks. `put` and `get` begin a transaction where none is
 -- open, also where they are refused
 abbrev pub Obeys : ℕ → ClientState → Command → Answer → ClientState → Type 0
-Obeys blocks old (commands.Put a v) answers.Done new = Puts old a v.now new
+Obeys blocks old (commands.Put a v) answers.Done new = PutsValue old a v.now new
 Obeys blocks old (commands.Put a v) answer new = KeepsOpen old (λ t. IsRefused (IsOverwriteRefusal blocks t a v.now) answer) new
 Obeys blocks old (commands.Get a) (answers.Value v) new = Gets old a v new
 Obeys blocks old (commands.Get a) answer new = KeepsOpen old (λ t. IsRefused (IsReadRefusal blocks t a) answer) new
@@ -157,6 +157,6 @@ GoesOn (Ok answer) flow = flow ≡ Continue answer
 GoesOn (Err why) flow = (answer : Answer) × Refuses why answer × (flow ≡ Continue answer)
 
 -- a crash ends the journal, unless it is refused
-abbrev pub Ends : {C : Type 0} → Result Crash (Refusal C) → ControlFlow Crash Answer → Type 0
-Ends (Ok crash) flow = flow ≡ Break crash
-Ends (Err why) flow = (answer : Answer) × Refuses why answer × (flow ≡ Continue answer)
+abbrev pub EndsMount : {C : Type 0} → Result Crash (Refusal C) → ControlFlow Crash Answer → Type 0
+EndsMount (Ok crash) flow = flow ≡ Break crash
+EndsMount (Err why) flow = (answer : Answer) × Refuses why answer × (flow ≡ Continue answer)

@@ -4,7 +4,7 @@ ghost use Rattle.journal_world.specs.Addresses.{Value};
 ghost use Rattle.journal_twophase.specs.Journals.{IsSessionRefusal};
 ghost use Rattle.journal_twophase.specs.Transactions.{IsOverwriteRefusal, IsReadRefusal};
 ghost use Rattle.jtool.specs.Commands.{IsInside};
-ghost use Rattle.jtool.specs.Clients.{most_of, Finds, Puts, Gets, KeepsOpen, CommitsOpen, IsChosen, IsStepRefusal, GivesAnswer, Obeys, Replies, AnswersLine, GoesOn, Ends};
+ghost use Rattle.jtool.specs.Clients.{most_of, FindsTransaction, PutsValue, Gets, KeepsOpen, CommitsOpen, IsChosen, IsStepRefusal, GivesAnswer, Obeys, Replies, AnswersLine, GoesOn, EndsMount};
 
 use crate::answer::Answer;
 use crate::blocks::bytes_of;
@@ -134,7 +134,7 @@ impl<'j, 'b, J: Naming> Client<'j, 'b, J> {
     }
 
     fn put<W: Wait>(&mut self, rt: &W, addr: Addr, value: &[u8]) -> Answered<'b, J>
-        ensures done { IfOk result (λ answer. (answer ≡ Answer.Done) × Puts self.old addr value.now self.new) }
+        ensures done { IfOk result (λ answer. (answer ≡ Answer.Done) × PutsValue self.old addr value.now self.new) }
         ensures refusal { IfErr result (λ why. KeepsOpen self.old (λ t. IsOverwriteRefusal J.blocks t addr value.now why) self.new) }
     {
         let mut txn = self.take_or_begin();
@@ -266,7 +266,7 @@ impl<'j, 'b, J: Naming> Client<'j, 'b, J> {
 
     // Takes the open transaction out, or begins one where none is open.
     fn take_or_begin(&mut self) -> Txn<'j, 'b, MemDisk, AnyMap, J>
-        ensures finds { Finds self.old result self.new.session }
+        ensures finds { FindsTransaction self.old result self.new.session }
         ensures taken { self.new.txn ≡ None }
     {
         let journal = self.journal;
@@ -296,7 +296,7 @@ fn goes_on<C: Drop>(answered: Result<Answer, Refusal<C>>) -> ControlFlow<Crash, 
 
 // The journal ends by the crash, unless that was refused.
 fn ends<C: Drop>(crash: Result<Crash, Refusal<C>>) -> ControlFlow<Crash, Answer>
-    ensures { Ends crash result }
+    ensures { EndsMount crash result }
 {
     match crash {
         Ok(crash) => ControlFlow::Break(crash),

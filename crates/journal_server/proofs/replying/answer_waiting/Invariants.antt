@@ -1,6 +1,6 @@
 use Rattle.std.proofs.Common.{◌≡◌, ◌++◌, length, List, ℕ}
 use Rattle.journal_server.specs.Output.{IsReply, AllReplies}
-use Rattle.journal_server.specs.Sending.{Counts}
+use Rattle.journal_server.specs.Sending.{GrowsBy}
 use Rattle.journal_server.proofs.replying.answer_waiting.Given as goal
 
 abbrev pub invariant-loop-record : goal.invariant-loop-record
@@ -9,7 +9,7 @@ invariant-loop-record g l =
     × AllReplies (IsReply (g.C.Clock.tells l.service.clock.now) l.service.verifier.0) answered l.fn.session l.session text
     × (l.replies.items ≡ l.fn.replies.items ++ text)
     × (l.fn.records ≡ record l.records { records = answered ++ l.records.records })
-    × Counts l.fn.answered (length answered) l.answered
+    × GrowsBy l.fn.answered (length answered) l.answered
 
 abbrev pub decreases-loop-record : goal.decreases-loop-record
 decreases-loop-record g l = length l.records.records
