@@ -26,7 +26,7 @@ impl<'j, 'b, D: BlockDisk, R: MapRule, J: Naming> OneStep for Logger<'j, 'b, D, 
     type Cause = Cause<'b, J, R>;
 
     fn step<W: Wait>(&self, rt: &W) -> Result<Step, Refusal<Cause<'b, J, R>>> {
-        self.journal.log_step(rt)
+        self.journal.log_gathered(rt)
     }
 
     fn idle<W: Wait>(&self, rt: &W) {

@@ -1,9 +1,9 @@
 -- What is counted in what a session has seen.
-use Rattle.std.proofs.Common.{◌≡◌, ◌≤◌, ℕ, List, [], ◌∷◌, ◌++◌, length, length-append, Some, Result, Ok, Err, IfOk, filter_map, refl, ap, sym, subst, ◌∙◌, arith}
+use Rattle.std.proofs.Common.{◌≡◌, ◌≤◌, ℕ, List, [], ◌∷◌, ◌++◌, length, length-append, Result, Ok, Err, IfOk, refl, ap, sym, ◌∙◌, arith}
 use Rattle.std.proofs.lemmas.List.Elements.{filter_map-append}
 use mathlib.Core.List.{IsPrefix}
 use Rattle.journal_world.specs.Maps.{Map}
-use Rattle.journal_world.specs.Histories.{Entry, Follows, committed, commits, count}
+use Rattle.journal_world.specs.Histories.{Entry, committed, commits, count}
 use Rattle.journal_world.specs.Histories.Entry.{opening, commit, stable}
 use Rattle.journal_history.specs.Soundness.{IsSound}
 use Rattle.journal_history.specs.Tokens.{SessionState, StableCount}

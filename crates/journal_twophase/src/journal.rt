@@ -140,6 +140,17 @@ impl<'b, D: BlockDisk, R: MapRule, J: Naming> Journal<'b, D, R, J> {
         self.core.log_step(rt)
     }
 
+    /// Does the next thing of the logger as `log_step` does, but first waits until all threads have gone on that a mark
+    /// woke, so that their next commits share a group. They need nothing of the logger to go on, so the wait ends, and a
+    /// stop or a device that failed ends it too. It waits for no commit, since a thread may have none to make.
+    ///
+    /// It is refused as `log_step` is.
+    pub fn log_gathered<W: Wait>(&self, rt: &W) -> Result<Step, Why<'b, J, R>>
+        ensures { IfErr result IsLogRefusal }
+    {
+        self.core.log_gathered(rt)
+    }
+
     /// Does the next thing of the installer, as `Core::install_step` says, with at most one device call that
     /// changes the disk. It is idle where nothing is logged that is not at home.
     ///

@@ -17,6 +17,7 @@
 mod commit;
 mod journal;
 mod shared;
+mod sleepers;
 mod txn;
 mod waiting;
 

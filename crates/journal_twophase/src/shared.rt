@@ -17,6 +17,7 @@ ghost use Rattle.journal_twophase.specs.Journals.{BeginsWith, IsSessionRefusal, 
 ghost use Rattle.journal_twophase.specs.Transactions.{Finds, IsLookRefusal, IsEndRefusal};
 ghost use Rattle.journal_twophase.specs.Commits.{IsCommitted, IsTryRefusal, IsCommitRefusal};
 
+use crate::sleepers::Sleepers;
 use journal_block::Block;
 use journal_core::{Cause, Core, Found, Spares, Stat, Transaction};
 use journal_disk::{BlockDisk, MemDisk};
@@ -37,12 +38,14 @@ pub(crate) struct Shared<'b, D: BlockDisk, R: MapRule, J: Naming> {
     pub(crate) core: Core<'b, D, R, J>,
     // The logger sleeps until a commit wakes it.
     pub(crate) logger_sleeps: bool,
+    // Those that wait for a mark.
+    pub(crate) sleepers: Sleepers,
 }
 
 /// The core of a journal, under its lock.
 ///
 /// There is one condition variable for each reason to wait, so that nobody is woken for another's. Each is notified
-/// once the lock is let go.
+/// once the lock is let go, but by a thread that keeps it for its own wait.
 #[derive(Drop)]
 pub(crate) struct SharedCore<'b, D: BlockDisk, R: MapRule, J: Naming> {
     pub(crate) shared: Mutex<Shared<'b, D, R, J>>,
@@ -52,6 +55,8 @@ pub(crate) struct SharedCore<'b, D: BlockDisk, R: MapRule, J: Naming> {
     pub(crate) marked: Condvar,
     // The logger waits for a commit, or for positions that are free.
     logging: Condvar,
+    // The logger waits until all have gone on that a mark woke.
+    pub(crate) gathered: Condvar,
     // The installer waits for a crowded log.
     installing: Condvar,
 }
@@ -84,10 +89,12 @@ impl<'b, D: BlockDisk, R: MapRule, J: Naming> SharedCore<'b, D, R, J> {
             shared: Mutex::new(Shared {
                 core,
                 logger_sleeps: false,
+                sleepers: Sleepers::default(),
             }),
             room: Condvar::new(),
             marked: Condvar::new(),
             logging: Condvar::new(),
+            gathered: Condvar::new(),
             installing: Condvar::new(),
         };
         Ok((shared, start))
@@ -231,11 +238,43 @@ impl<'b, D: BlockDisk, R: MapRule, J: Naming> SharedCore<'b, D, R, J> {
     pub(crate) fn log_step<W: Wait>(&self, rt: &W) -> Result<Step, Why<'b, J, R>>
         ensures { IfErr result IsLogRefusal }
     {
+        self.log_in(self.shared.lock(rt))
+    }
+
+    // Does the next thing of the logger once all have gone on that a mark woke. Else the first of them that commits again
+    // would have a group for itself, and the others would wait for the next.
+    pub(crate) fn log_gathered<W: Wait>(&self, rt: &W) -> Result<Step, Why<'b, J, R>>
+        ensures { IfErr result IsLogRefusal }
+    {
+        self.log_in(self.lock_gathered(rt))
+    }
+
+    // Takes the lock once all have gone on that a mark woke, or where the logger would be refused. They need the lock alone
+    // to go on, so this waits for nobody that waits for the logger.
+    fn lock_gathered<'s, W: Wait>(&'s self, rt: &W) -> MutexGuard<'s, Shared<'b, D, R, J>> {
+        let mut shared = self.shared.lock(rt);
+        for _ in rt.forever() {
+            if shared.sleepers.have_gone_on() || shared.core.check_running().is_err() {
+                return shared;
+            }
+            shared = self.gathered.wait(rt, shared);
+        }
+        unreachable!()
+    }
+
+    // Does the next thing of the logger, with the lock held at first.
+    fn log_in(&self, shared: MutexGuard<'_, Shared<'b, D, R, J>>) -> Result<Step, Why<'b, J, R>>
+        ensures { IfErr result IsLogRefusal }
+    {
         let (answer, before, after) = {
-            let mut shared = self.shared.lock(rt);
+            let mut shared = shared;
             let before = progress_of(&shared.core);
             let answer = shared.core.log_step();
-            (answer, before, progress_of(&shared.core))
+            let after = progress_of(&shared.core);
+            if before.stat.floor < after.stat.floor {
+                shared.sleepers.wake();
+            }
+            (answer, before, after)
         };
         self.tell_of_step(&answer, before, after);
         answer
@@ -335,6 +374,7 @@ impl<'b, D: BlockDisk, R: MapRule, J: Naming> SharedCore<'b, D, R, J> {
         self.room.notify_all();
         self.marked.notify_all();
         self.logging.notify_all();
+        self.gathered.notify_all();
         self.installing.notify_all();
     }
 
@@ -375,11 +415,13 @@ impl<'b, D: BlockDisk, R: MapRule, J: Naming> SharedCore<'b, D, R, J> {
             room: _,
             marked: _,
             logging: _,
+            gathered: _,
             installing: _,
         } = self;
         let Shared {
             core,
             logger_sleeps: _,
+            sleepers: _,
         } = shared.into_inner();
         core
     }

@@ -84,9 +84,24 @@ impl<'b, D: BlockDisk, R: MapRule, J: Naming> SharedCore<'b, D, R, J> {
             if wait_step(&shared.core, session, commits)? {
                 return Ok(StableNote::new(&session.front(), commits));
             }
-            shared = self.marked.wait(rt, shared);
+            shared = self.sleep(rt, shared);
         }
         unreachable!()
+    }
+
+    // Sleeps until a mark is made or all are woken. The last that a mark woke lets the logger go on, which waits for them.
+    fn sleep<'s, W: Wait>(
+        &'s self,
+        rt: &W,
+        shared: MutexGuard<'s, Shared<'b, D, R, J>>,
+    ) -> MutexGuard<'s, Shared<'b, D, R, J>> {
+        let mut shared = shared;
+        shared.sleepers.count_in();
+        let mut shared = self.marked.wait(rt, shared);
+        if shared.sleepers.count_out() {
+            self.gathered.notify_all();
+        }
+        shared
     }
 
     // Commits the transaction, gives up its slots, and sleeps in the same hold of the lock until it is stable.
