@@ -29,6 +29,9 @@ const VERIFIER: Verifier = Verifier([1, 2, 3, 4, 5, 6, 7, 8]);
 // The call of NULL with number 1 as a record of one fragment, and its reply (RFC 5531, section 9).
 const NULL: [u32; 11] = [0x8000_0028, 1, 0, 2, 0x186a3, 3, 0, 0, 0, 0, 0];
 
+// The same call in fragments of 20, 0 and 20 bytes.
+const NULL_CUT: [u32; 13] = [0x14, 1, 0, 2, 0x186a3, 3, 0, 0x8000_0014, 0, 0, 0, 0, 0];
+
 const NULL_REPLY: [u32; 7] = [0x8000_0018, 1, 1, 0, 0, 0, 0];
 
 // A clock that stands still.

@@ -412,13 +412,13 @@ fn in_threads<'s, I: Source + Drop, K: Serve<I::Connection> + Sync, H: Threads +
     source: I,
     shop: &'s K,
     sender: &'s LineSender<I::Connection>,
-    receiver: &'s LineReceiver<I::Connection>,
+    line: &'s LineReceiver<I::Connection>,
     passes: Passes<I::Connection>,
 ) -> (Result<Vec<(u64, Outcome)>, AllocError>, I)
 where
     I::Connection: Drop + Send,
     requires passes { ArePasses (IsSeatAt (sends_on sender.now)) passes }
-    requires same { receives_on receiver.now ≡ sends_on sender.now }
+    requires same { receives_on line.now ≡ sends_on sender.now }
     ensures { IfOk result.0 (λ outcomes. HasEachOnce (outcome_numbers outcomes.items) (I.given result.1 - I.given source)) }
 {
     thread::scope(
@@ -427,9 +427,8 @@ where
         |scope| -> (Result<Vec<(u64, Outcome)>, AllocError>, I)
             requires { IsFresh (IsSeatAt (sends_on sender.now)) passes.first × IsFresh (IsSeatAt (sends_on sender.now)) passes.second
                 × IsFresh (IsSeatAt (sends_on sender.now)) passes.third × IsFresh (IsSeatAt (sends_on sender.now)) passes.fourth
-                × IsFresh (IsSeatAt (sends_on sender.now)) passes.own × (receives_on receiver.now ≡ sends_on sender.now) }
-            ensures { IfOk result.0 (λ outcomes. HasEachOnce (outcome_numbers outcomes.items)
-                (I.given result.1 - I.given source)) }
+                × IsFresh (IsSeatAt (sends_on sender.now)) passes.own × (receives_on line.now ≡ sends_on sender.now) }
+            ensures { IfOk result.0 (λ outcomes. HasEachOnce (outcome_numbers outcomes.items) (I.given result.1 - I.given source)) }
         {
             let Passes {
                 first,
@@ -439,26 +438,18 @@ where
                 own: mut pass,
             } = passes;
             let mut source = source;
-            let first = scope.spawn_with(
-                Works(receiver),
-                move || work_on(rt, alloc, shop, receiver, first),
-            );
-            let second = scope.spawn_with(
-                Works(receiver),
-                move || work_on(rt, alloc, shop, receiver, second),
-            );
-            let third = scope.spawn_with(
-                Works(receiver),
-                move || work_on(rt, alloc, shop, receiver, third),
-            );
-            let fourth = scope.spawn_with(
-                Works(receiver),
-                move || work_on(rt, alloc, shop, receiver, fourth),
-            );
+            let work = move || work_on(rt, alloc, shop, line, first);
+            let first = scope.spawn_with(Works(line), work);
+            let work = move || work_on(rt, alloc, shop, line, second);
+            let second = scope.spawn_with(Works(line), work);
+            let work = move || work_on(rt, alloc, shop, line, third);
+            let third = scope.spawn_with(Works(line), work);
+            let work = move || work_on(rt, alloc, shop, line, fourth);
+            let fourth = scope.spawn_with(Works(line), work);
             let are_made = first.is_ok() && second.is_ok() && third.is_ok() && fourth.is_ok();
             let given = hand_out(rt, are_made, &mut source, sender, &mut pass);
             stop_all(rt, sender, &mut pass);
-            match (first, second, third, fourth) {
+            let outcomes = match (first, second, third, fourth) {
                 (Ok(first), Ok(second), Ok(third), Ok(fourth)) => {
                     let team = Team {
                         pass,
@@ -467,11 +458,11 @@ where
                         third: third.join(rt),
                         fourth: fourth.join(rt),
                     };
-                    let outcomes = gather(rt, alloc, sender, receiver, team, given);
-                    (outcomes, source)
+                    gather(rt, alloc, sender, line, team, given)
                 }
-                _ => (Err(AllocError), source),
-            }
+                _ => Err(AllocError),
+            };
+            (outcomes, source)
         },
     )
 }

@@ -21,18 +21,23 @@ fn says(mut stream: &TcpStream, bytes: &[u8]) -> io::Result<()> {
     stream.shutdown(Shutdown::Write)
 }
 
-// Connects twice, and waits for the second reply before the first. Answers both.
+// Connects twice, and waits for the second reply before the first. Answers both. The first call comes byte by byte, the
+// second in fragments.
 fn calls_twice<H: Net<Listener = TcpListener, Stream = TcpStream>>(
     rt: &H,
     alloc: Global,
     there: SocketAddr,
     call: &[u8],
+    cut: &[u8],
     gate: &HeldGate,
 ) -> io::Result<(Vec<u8>, Vec<u8>)> {
     let first = TcpStream::connect(rt, there)?;
-    says(&first, call)?;
+    for byte in call {
+        (&mut &first).write_all(&[*byte])?;
+    }
+    first.shutdown(Shutdown::Write)?;
     let second = TcpStream::connect(rt, there)?;
-    says(&second, call)?;
+    says(&second, cut)?;
     let later = heard(&second, alloc);
     gate.is_open.store(true, Ordering::SeqCst);
     Ok((heard(&first, alloc), later))
@@ -48,6 +53,7 @@ fn are_served_at_once<
 {
     let files = mounted::<J, _>(rt, alloc, book);
     let call = bytes_of(rt, alloc, &NULL);
+    let cut = bytes_of(rt, alloc, &NULL_CUT);
     let wanted = bytes_of(rt, alloc, &NULL_REPLY);
     let listener = TcpListener::bind(rt, "127.0.0.1:0")
         .ok()
@@ -61,7 +67,7 @@ fn are_served_at_once<
             let (outcomes, _) = run_workers(rt, alloc, source, &files, &Still, VERIFIER, &gate);
             outcomes.ok()
         },
-        || calls_twice(rt, alloc, there, &call, &gate).ok(),
+        || calls_twice(rt, alloc, there, &call, &cut, &gate).ok(),
     );
     let outcomes = outcomes.expect(rt, "outcomes");
     let (first, second) = replies.expect(rt, "replies");

@@ -15,22 +15,7 @@ fn cuttings_do_not_matter<J: Naming, H: Abort + Wait>(
 {
     let files = mounted::<J, _>(rt, alloc, book);
     let wanted = bytes_of(rt, alloc, &NULL_REPLY);
-    let cut: [u32; 13] = [
-        20,
-        1,
-        0,
-        2,
-        0x186a3,
-        3,
-        0x0000_0000,
-        0x8000_0014,
-        0,
-        0,
-        0,
-        0,
-        0,
-    ];
-    for words in [NULL.as_slice(), cut.as_slice()] {
+    for words in [NULL.as_slice(), NULL_CUT.as_slice()] {
         let call = bytes_of(rt, alloc, words);
         for step in [1, 7, 4096] {
             let mut reader = Dripping {
