@@ -20,19 +20,20 @@ unsigned bs e = grind (arith, nat_tests)
 unpadded : (bs : List ℕ) → is_padded bs ≡ false → get_or bs 0 0 ≡ 48 → length bs ≤ 1
 unpadded bs e z = grind (arith, nat_tests)
 
-from_ok : {E : Type 0} (bs : List ℕ) (r : Result ℕ E) → is_padded bs ≡ false → OkIff r (AllDigits 10 bs × (0 < length bs) × (digits_value 10 bs < 2 ^ 32)) (digits_value 10 bs) → IfSome (result_ok r) (λ n. (n < 2 ^ 32) × (bs ≡ decimal n))
-from_ok bs (Ok n) plain ((all, some, small), is) =
+from_ok : {E : Type 0} (k : ℕ) → 2 ^ k ≤ 2 ^ 64 → (bs : List ℕ) (r : Result ℕ E) → is_padded bs ≡ false → OkIff r (AllDigits 10 bs × (0 < length bs) × (digits_value 10 bs < 2 ^ k)) (digits_value 10 bs)
+    → IfSome (result_ok r) (λ n. (n < 2 ^ k) × (bs ≡ decimal n))
+from_ok k fits bs (Ok n) plain ((all, some, small), is) =
     rw is (small, sym (decimal-digits_value digits bs all some (λ e. omega (arith, unpadded bs plain e)) (omega arith)))
-from_ok bs (Err e) plain h = tt
+from_ok k fits bs (Err e) plain h = tt
 
--- what is read is the number's text
-pub decimal_from_parse : {E : Type 0} (bs : List ℕ) (r : Result ℕ E) → is_padded bs ≡ false → ParsesUnsigned 32 10 bs r → IfSome (result_ok r) (λ n. (n < 2 ^ 32) × (bs ≡ decimal n))
-decimal_from_parse bs r plain h = from_ok bs r plain (parse_plain digits 32 bs r h (unsigned bs plain))
+-- what is read is the number's text, of a number of so many bits
+pub decimal_from_parse : {E : Type 0} (k : ℕ) → 2 ^ k ≤ 2 ^ 64 → (bs : List ℕ) (r : Result ℕ E) → is_padded bs ≡ false → ParsesUnsigned k 10 bs r → IfSome (result_ok r) (λ n. (n < 2 ^ k) × (bs ≡ decimal n))
+decimal_from_parse k fits bs r plain h = from_ok k fits bs r plain (parse_plain digits k bs r h (unsigned bs plain))
 
 -- each number's text is read
-pub decimal_is_parsed : {E : Type 0} (bs : List ℕ) (r : Result ℕ E) → ParsesUnsigned 32 10 bs r → IfNone (result_ok r) ((n : ℕ) → n < 2 ^ 32 → bs ≢ decimal n)
-decimal_is_parsed bs (Ok x) h = tt
-decimal_is_parsed bs (Err e) h = λ n small is. let read = parse-decimal 32 n bs (Err e) small (omega arith) is h in cc
+pub decimal_is_parsed : {E : Type 0} (k : ℕ) → 2 ^ k ≤ 2 ^ 64 → (bs : List ℕ) (r : Result ℕ E) → ParsesUnsigned k 10 bs r → IfNone (result_ok r) ((n : ℕ) → n < 2 ^ k → bs ≢ decimal n)
+decimal_is_parsed k fits bs (Ok x) h = tt
+decimal_is_parsed k fits bs (Err e) h = λ n small is. let read = parse-decimal k n bs (Err e) small (omega arith) is h in cc
 
 -- it is not padded
 pub is_padded-decimal : (n : ℕ) → n < 2 ^ 64 → is_padded (decimal n) ≡ false

@@ -1,19 +1,33 @@
 -- How the program ends.
-use Rattle.std.proofs.Common.{◌≡◌, ◌≢◌, ℕ, List, [], Option, Result, Ok, Err, sym, ap, subst, ◌∙◌, arith, get_or}
+use Rattle.std.proofs.Common.{◌≡◌, ◌≢◌, ◌⊎◌, inl, inr, ℕ, List, [], ◌∷◌, length, Option, Result, Ok, Err, sym, ap, subst, ◌∙◌, arith, get_or}
 use Rattle.std.specs.Prelude.{◌==◌}
 use Rattle.std.proofs.lemmas.Fmt.{decimal_injective}
 use Rattle.jtool.specs.declared.ask.Fault.{Fault}
 use Rattle.jtool.specs.declared.ask.Fault.TheVariants as faults
-use Rattle.jtool.specs.Programs.{AsksScript, IsSize, CannotBegin, status_of}
+use Rattle.jtool.specs.Programs.{AsksScript, AsksFormat, AsksServe, MayBeAsked, IsSize, CannotBegin, status_of}
 use Rattle.jtool.specs.Transcripts.{IsTranscript, Runs}
+
+-- words that ask for a script ask for nothing else
+pub script_is_no_format : (words : List (List ℕ)) (n : ℕ) (path : List ℕ) (m : ℕ) → AsksScript words n → AsksFormat words path m → ⊥
+script_is_no_format words n path m asks other =
+    let same : 2 ≡ 3 = ap length (sym asks.1 ∙ other.1) in
+    absurd (omega (arith, same))
+
+pub script_is_no_service : (words : List (List ℕ)) (n : ℕ) (path : List ℕ) (port k : ℕ) → AsksScript words n → AsksServe words path port k → ⊥
+script_is_no_service words n path port k asks other =
+    let same : 2 ≡ 4 = ap length (sym asks.1 ∙ other.2) in
+    absurd (omega (arith, same))
 
 -- words that ask for a script begin one
 pub can_begin : (words : List (List ℕ)) (fault : Fault) → CannotBegin words fault → (n : ℕ) → AsksScript words n → IsSize n → ⊥
-can_begin words faults.Usage none n asks size = none n asks
-can_begin words faults.BadSize (m, other, outside) n asks size =
+can_begin words faults.Usage none n asks size = none.0 n asks
+can_begin words faults.BadSize (m, inl other, outside) n asks size =
     let same : m ≡ n = decimal_injective m n (omega (arith, other.0)) (omega (arith, asks.0)) (ap (λ l. get_or l 1 []) (sym other.1 ∙ asks.1)) in
     outside (subst IsSize (sym same) size)
+can_begin words faults.BadSize (m, inr (path, other), outside) n asks size = script_is_no_format words n path m asks other
 can_begin words faults.BadLine none n asks size = none
+can_begin words (faults.BadFile path) none n asks size = none
+can_begin words faults.CannotListen none n asks size = none
 can_begin words (faults.Stopped stop) none n asks size = none
 
 -- what was said of a script's end, by the status
@@ -27,5 +41,7 @@ ends_by_fault left held new r fault status runs is told other = by_fault fault (
     by_fault : (f : Fault) → Runs left held new (Err f) → status ≡ status_of f → IsTranscript left held new (status == 2)
     by_fault faults.BadLine h e = subst (λ n. IsTranscript left held new (n == 2)) (sym e) h
     by_fault (faults.Stopped stop) h e = absurd (other e)
+    by_fault (faults.BadFile path) h e = absurd h
+    by_fault faults.CannotListen h e = absurd h
     by_fault faults.Usage h e = absurd h
     by_fault faults.BadSize h e = absurd h

@@ -1,33 +1,52 @@
 -- What the program's words ask for, and its statuses.
-use Rattle.std.specs.Prelude.{ℕ, ◌≡◌, ◌<◌, ◌≤◌, ◌^◌, List, [], ◌∷◌, codes}
+use Rattle.std.specs.Prelude.{ℕ, ◌≡◌, ◌⊎◌, ◌<◌, ◌≤◌, ◌^◌, List, [], ◌∷◌, codes}
 use Rattle.std.specs.Fmt.{decimal}
 use Rattle.journal_world.specs.declared.layout.TheConstants.{MIN_BLOCKS, MAX_BLOCKS}
 use Rattle.jtool.specs.declared.ask.Ask.{Ask}
-use Rattle.jtool.specs.declared.ask.Ask.TheVariants.{Script}
+use Rattle.jtool.specs.declared.ask.Ask.TheVariants.{Script, Format, Serve}
 use Rattle.jtool.specs.declared.ask.Fault.{Fault}
-use Rattle.jtool.specs.declared.ask.Fault.TheVariants.{Usage, BadSize, BadLine, Stopped}
+use Rattle.jtool.specs.declared.ask.Fault.TheVariants.{Usage, BadSize, BadLine, BadFile, CannotListen, Stopped}
 
 -- the words ask for a script on a disk of so many blocks
 abbrev pub AsksScript : List (List ℕ) → ℕ → Type 0
 AsksScript words n = (n < 2 ^ 32) × (words ≡ codes "script" ∷ decimal n ∷ [])
 
+-- the words ask for a disk of so many blocks in the file at the path
+abbrev pub AsksFormat : List (List ℕ) → List ℕ → ℕ → Type 0
+AsksFormat words path n = (n < 2 ^ 32) × (words ≡ codes "format" ∷ path ∷ decimal n ∷ [])
+
+-- the words ask for the service of the file at the path, at a port, to so many connections
+abbrev pub AsksServe : List (List ℕ) → List ℕ → ℕ → ℕ → Type 0
+AsksServe words path port k = (port < 2 ^ 16) × (k < 2 ^ 32) × (words ≡ codes "serve" ∷ path ∷ decimal port ∷ decimal k ∷ [])
+
 -- a disk may have so many blocks
 abbrev pub IsSize : ℕ → Type 0
 IsSize n = (MIN_BLOCKS ≤ n) × (n ≤ MAX_BLOCKS)
 
--- how many blocks a script is asked for
-abbrev pub asked_blocks : Ask → ℕ
-asked_blocks (Script blocks) = blocks
+-- the words ask for this, and it can be done
+abbrev pub Asks : List (List ℕ) → Ask → Type 0
+Asks words (Script blocks) = AsksScript words blocks × IsSize blocks
+Asks words (Format path blocks) = AsksFormat words path.now blocks × IsSize blocks
+Asks words (Serve service) = AsksServe words service.path.now service.port service.connections
+
+-- the words ask for a disk of so many blocks, in memory or in a file
+abbrev pub MayBeAsked : List (List ℕ) → ℕ → Type 0
+MayBeAsked words n = AsksScript words n ⊎ ((path : List ℕ) × AsksFormat words path n)
 
 -- the status of a program that does not end well
 abbrev pub status_of : Fault → ℕ
 status_of Usage = 2
 status_of BadSize = 2
 status_of BadLine = 2
+status_of (BadFile path) = 1
+status_of CannotListen = 1
 status_of (Stopped stop) = 1
 
--- why nothing begins that the words ask for
+-- why nothing begins that the words ask for: they ask for nothing, or for a disk of a size that there is not
 abbrev pub CannotBegin : List (List ℕ) → Fault → Type 0
-CannotBegin words Usage = (n : ℕ) → AsksScript words n → ⊥
-CannotBegin words BadSize = (n : ℕ) × AsksScript words n × (IsSize n → ⊥)
+CannotBegin words Usage =
+    ((n : ℕ) → AsksScript words n → ⊥)
+    × ((path : List ℕ) (n : ℕ) → AsksFormat words path n → ⊥)
+    × ((path : List ℕ) (port k : ℕ) → AsksServe words path port k → ⊥)
+CannotBegin words BadSize = (n : ℕ) × MayBeAsked words n × (IsSize n → ⊥)
 CannotBegin words fault = ⊥

@@ -1,9 +1,11 @@
-//! The journal at the command line: `jtool script N` makes an empty disk of N blocks in memory, and
-//! answers the commands that it reads on standard input, a line for a line.
+//! The journal at the command line: `jtool script N` makes an empty disk of N blocks in memory, and answers the commands that
+//! it reads on standard input, a line for a line. `jtool format FILE N` makes a disk without files in a file, and `jtool
+//! serve FILE PORT K` serves its files to K connections.
 #![tactic(auto)]
 
 ghost use Rattle.std.specs.Prelude.{◌≡◌, ◌≢◌, ◌≤◌, ◌==◌, ℕ, map, string_bytes, IsErrAnd};
-ghost use Rattle.jtool.specs.Programs.{AsksScript, IsSize, status_of};
+ghost use Rattle.jtool.specs.Programs.{AsksScript, Asks, IsSize, status_of};
+ghost use Rattle.jtool.specs.declared.ask.Ask.{Ask};
 ghost use Rattle.jtool.specs.Transcripts.{IsTranscript, Runs};
 
 mod answer;
@@ -11,13 +13,16 @@ mod ask;
 mod blocks;
 mod choice;
 mod client;
+mod clock;
 mod command;
 mod console;
 mod down;
+mod file;
 mod line;
 mod number;
 mod room;
 mod script;
+mod serve;
 mod steps;
 #[cfg(test)]
 mod tests;
@@ -28,28 +33,35 @@ use ask::{Ask, Fault, Stop};
 use std::alloc::Global;
 use std::env;
 use std::env::Env;
+use std::fs::{File, Files};
 use std::io::{BufWriter, Read, Write};
+use std::net::{Net, TcpListener, TcpStream};
 use std::process::ExitCode;
 use std::sync::Wait;
+use std::thread::Threads;
+use std::time::Clock;
 
-/// The program: its words, its three streams, and the status that it answers. That is 1 where memory was
-/// refused before the first line, or input or output failed, else 2 where the words or a line were bad,
-/// else 0.
+/// The program: its words, its three streams, and the status that it answers. That is 1 where memory was refused before
+/// the first line, where input or output failed, where a file or a port is not to be had, or where the service was refused;
+/// else 2 where the words or a line were bad; else 0.
 ///
-/// What it answers is written out as soon as no further line is at hand.
-pub fn run<W: Wait, I: Read, O: Write, E: Write>(
-    rt: &W,
-    alloc: Global,
-    words: &[String],
-    input: &mut I,
-    output: &mut O,
-    faults: &mut E,
-) -> u8
-    // Words that ask for no script that there can be.
-    ensures words { ((n : ℕ) → AsksScript (map string_bytes words.now) n → IsSize n → ⊥) → result ≡ 2 }
+/// What a script answers is written out as soon as no further line is at hand, and so is each line of the service.
+pub fn run<
+    R: Files<File = File>
+        + Net<Listener = TcpListener, Stream = TcpStream>
+        + Clock
+        + Threads
+        + Wait
+        + Sync,
+    I: Read,
+    O: Write,
+    E: Write,
+>(rt: &R, alloc: Global, words: &[String], input: &mut I, output: &mut O, faults: &mut E) -> u8
+    // Words that ask for nothing that there can be.
+    ensures words { ((ask : Ask) → Asks (map string_bytes words.now) ask → ⊥) → result ≡ 2 }
     ensures status { result ≤ 2 }
 
-    // Words that ask for one: at status 0 or 2 the output gained the answers of all lines of the input, of which
+    // Words that ask for a script: at status 0 or 2 the output gained the answers of all lines of the input, of which
     // some is a bad line exactly at 2.
     ensures script { (n : ℕ) → AsksScript (map string_bytes words.now) n → IsSize n → result ≢ 1
         → IsTranscript (I.remaining input.old) (O.contents output.old) (O.contents output.new) (result == 2) }
@@ -61,20 +73,32 @@ pub fn run<W: Wait, I: Read, O: Write, E: Write>(
 }
 
 // Does what the words ask for.
-fn obey<W: Wait, I: Read, O: Write>(
-    rt: &W,
+fn obey<
+    'w,
+    R: Files<File = File>
+        + Net<Listener = TcpListener, Stream = TcpStream>
+        + Clock
+        + Threads
+        + Wait
+        + Sync,
+    I: Read,
+    O: Write,
+>(
+    rt: &R,
     alloc: Global,
-    words: &[String],
+    words: &'w [String],
     input: &mut I,
     output: &mut O,
-) -> Result<(), Fault>
-    ensures words { ((n : ℕ) → AsksScript (map string_bytes words.now) n → IsSize n → ⊥)
+) -> Result<(), Fault<'w>>
+    ensures words { ((ask : Ask) → Asks (map string_bytes words.now) ask → ⊥)
         → IsErrAnd result (λ fault. status_of fault ≡ 2) }
     ensures script { (n : ℕ) → AsksScript (map string_bytes words.now) n → IsSize n
         → Runs (I.remaining input.old) (O.contents output.old) (O.contents output.new) result }
 {
     match Ask::read(words)? {
         Ask::Script { blocks } => script::run(rt, alloc, blocks, input, output),
+        Ask::Format { path, blocks } => file::format(rt, alloc, path, blocks),
+        Ask::Serve(service) => serve::run(rt, alloc, service, output),
     }
 }
 
@@ -98,7 +122,7 @@ fn main(rt: HostRuntime) -> ExitCode {
 fn start<R: Env + AllocGlobal, O: Write + Drop>(
     rt: &R,
     output: O,
-) -> Result<(Vec<String>, BufWriter<O>), Fault> {
+) -> Result<(Vec<String>, BufWriter<O>), Fault<'static>> {
     let words = env::args(rt)?
         .skip(1)
         .collect(rt.alloc())

@@ -16,6 +16,17 @@ pub fn read(text: &[u8]) -> Option<u32>
     str::from_utf8(text).ok()?.parse().ok()
 }
 
+/// The number of a port that the text is, as `read` has it.
+pub fn read_port(text: &[u8]) -> Option<u16>
+    ensures found { IfSome result (λ n. (n < 2 ^ 16) × (text.now ≡ decimal n)) }
+    ensures none { IfNone result ((n : ℕ) → n < 2 ^ 16 → text.now ≢ decimal n) }
+{
+    if is_padded(text) {
+        return None;
+    }
+    str::from_utf8(text).ok()?.parse().ok()
+}
+
 // Whether the text begins with a sign, or with a zero before others: `parse` would take these.
 fn is_padded(text: &[u8]) -> bool
     ensures { result ≡ begins_padded text.now }

@@ -29,13 +29,13 @@ pub enum Next {
 }
 
 /// Answers the lines of the input, over a new disk of so many blocks.
-pub fn run<W: Wait, I: Read, O: Write>(
+pub fn run<'w, W: Wait, I: Read, O: Write>(
     rt: &W,
     alloc: Global,
     blocks: u64,
     input: &mut I,
     output: &mut O,
-) -> Result<(), Fault>
+) -> Result<(), Fault<'w>>
     requires { IsSize blocks }
     ensures { Runs (I.remaining input.old) (O.contents output.old) (O.contents output.new) result }
 {

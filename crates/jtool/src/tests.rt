@@ -3,14 +3,19 @@ mod crashes;
 mod examples;
 mod refusals;
 mod rows;
+mod services;
 mod streams;
 
 use crate::line::LONGEST;
 use crate::run;
 use std::alloc::{AllocError, Global};
+use std::fs::{File, Files};
+use std::net::{Net, TcpListener, TcpStream};
 use std::process::Abort;
 use std::sync::Wait;
 use std::test::Fail;
+use std::thread::Threads;
+use std::time::Clock;
 use streams::{BrokenReader, BrokenWriter};
 
 const USAGE: &str = "usage: jtool script N | jtool format FILE N | jtool serve FILE PORT K\n";
@@ -31,12 +36,14 @@ fn words_of(alloc: Global, words: &[&str]) -> Result<Vec<String>, AllocError> {
     Ok(owned)
 }
 
-fn run_with<H: Wait>(
-    rt: &H,
-    alloc: Global,
-    words: &[&str],
-    mut input: &[u8],
-) -> Result<Run, AllocError> {
+fn run_with<
+    H: Files<File = File>
+        + Net<Listener = TcpListener, Stream = TcpStream>
+        + Clock
+        + Threads
+        + Wait
+        + Sync,
+>(rt: &H, alloc: Global, words: &[&str], mut input: &[u8]) -> Result<Run, AllocError> {
     let words = words_of(alloc, words)?;
     let mut output = Vec::new(alloc);
     let mut faults = Vec::new(alloc);
@@ -59,13 +66,15 @@ fn wants(rt: &impl Abort, run: &Run, script: &[u8], output: &[u8], status: u8) {
 }
 
 /// Runs the script on a disk of 600 blocks, and wants this output and that status.
-fn check<H: Abort + Wait>(
-    rt: &H,
-    alloc: Global,
-    script: &[u8],
-    output: &[u8],
-    status: u8,
-) -> Result<(), Fail> {
+fn check<
+    H: Abort
+        + Files<File = File>
+        + Net<Listener = TcpListener, Stream = TcpStream>
+        + Clock
+        + Threads
+        + Wait
+        + Sync,
+>(rt: &H, alloc: Global, script: &[u8], output: &[u8], status: u8) -> Result<(), Fail> {
     let run = run_with(rt, alloc, &["script", "600"], script)?;
     wants(rt, &run, script, output, status);
     Ok(())
@@ -246,12 +255,30 @@ fn words_are_checked(rt: HostRuntime) -> Result<(), Fail> {
         (&["script", "0600"], USAGE, 2),
         (&["script", "six"], USAGE, 2),
         (&["script", "4294967296"], USAGE, 2),
-        (&["format", "disk", "600"], USAGE, 2),
-        (&["serve", "disk", "2049", "1"], USAGE, 2),
+        (&["format", "disk"], USAGE, 2),
+        (&["format", "disk", "0600"], USAGE, 2),
+        (&["format", "disk", "600", "1"], USAGE, 2),
+        (&["serve", "disk", "2049"], USAGE, 2),
+        (&["serve", "disk", "65536", "1"], USAGE, 2),
+        (&["serve", "disk", "02049", "1"], USAGE, 2),
+        (&["serve", "disk", "2049", "4294967296"], USAGE, 2),
+        (&["serve", "disk", "2049", "1", "1"], USAGE, 2),
         (&["script", "0"], "bad size\n", 2),
         (&["script", "531"], "bad size\n", 2),
         (&["script", "33300"], "bad size\n", 2),
         (&["script", "4294967295"], "bad size\n", 2),
+        (&["format", "no folder/disk", "531"], "bad size\n", 2),
+        (&["format", "no folder/disk", "33300"], "bad size\n", 2),
+        (
+            &["format", "no folder/disk", "532"],
+            "cannot use no folder/disk\n",
+            1,
+        ),
+        (
+            &["serve", "no folder/disk", "65535", "1"],
+            "cannot use no folder/disk\n",
+            1,
+        ),
         (&["script", "532"], "", 0),
         (&["script", "33299"], "", 0),
     ];
@@ -282,7 +309,15 @@ fn printed(rt: &impl Abort, output: &[u8], has_failed: bool, at: usize) {
 }
 
 /// A run whose input fails once it was read so often; whether it did.
-fn fails_to_read<H: Abort + Wait>(rt: &H, alloc: Global, words: &[String], reads: usize) -> bool {
+fn fails_to_read<
+    H: Abort
+        + Files<File = File>
+        + Net<Listener = TcpListener, Stream = TcpStream>
+        + Clock
+        + Threads
+        + Wait
+        + Sync,
+>(rt: &H, alloc: Global, words: &[String], reads: usize) -> bool {
     let mut input = BrokenReader::new(SCRIPT, reads);
     let mut output = Vec::new(alloc);
     let mut faults = Vec::new(alloc);
@@ -306,7 +341,15 @@ fn a_failing_read_ends_the_run(rt: HostRuntime) -> Result<(), Fail> {
 }
 
 /// A run whose output fails once it was written to so often; whether it did.
-fn fails_to_write<H: Abort + Wait>(rt: &H, alloc: Global, words: &[String], writes: usize) -> bool {
+fn fails_to_write<
+    H: Abort
+        + Files<File = File>
+        + Net<Listener = TcpListener, Stream = TcpStream>
+        + Clock
+        + Threads
+        + Wait
+        + Sync,
+>(rt: &H, alloc: Global, words: &[String], writes: usize) -> bool {
     let mut input = SCRIPT;
     let mut output = BrokenWriter::new(alloc, writes);
     let mut faults = Vec::new(alloc);

@@ -2,10 +2,14 @@
 
 use super::{Run, run_with};
 use std::alloc::{AllocError, Global};
+use std::fs::{File, Files};
 use std::io;
 use std::io::Write;
+use std::net::{Net, TcpListener, TcpStream};
 use std::sync::Wait;
 use std::test::Fail;
+use std::thread::Threads;
+use std::time::Clock;
 
 /// Lines, each with its answer where no device call fails. Once one failed, no line has its answer any more,
 /// but for a `put`.
@@ -27,7 +31,14 @@ const LINES: &[(&str, &[u8])] = &[
 ];
 
 /// A run of these lines whose so-manyth device call fails.
-fn run_failing<H: Wait>(rt: &H, alloc: Global, call: u64) -> io::Result<Run> {
+fn run_failing<
+    H: Files<File = File>
+        + Net<Listener = TcpListener, Stream = TcpStream>
+        + Clock
+        + Threads
+        + Wait
+        + Sync,
+>(rt: &H, alloc: Global, call: u64) -> io::Result<Run> {
     let mut script = Vec::new(alloc);
     writeln!(script, "fail {call}")?;
     for (line, _) in LINES {
@@ -82,12 +93,14 @@ fn each_failing_call_is_told_from_then_on(rt: HostRuntime) -> Result<(), Fail> {
 }
 
 /// Two groups and an install, of which the so-manyth device call fails, and then a crash.
-fn run_crashing<H: Wait>(
-    rt: &H,
-    alloc: Global,
-    call: u64,
-    choice: &str,
-) -> Result<Run, AllocError> {
+fn run_crashing<
+    H: Files<File = File>
+        + Net<Listener = TcpListener, Stream = TcpStream>
+        + Clock
+        + Threads
+        + Wait
+        + Sync,
+>(rt: &H, alloc: Global, call: u64, choice: &str) -> Result<Run, AllocError> {
     let mut script = Vec::new(alloc);
     let _ = write!(
         script,

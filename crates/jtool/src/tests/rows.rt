@@ -2,20 +2,27 @@
 
 use super::{check, run_with, wants};
 use std::alloc::{AllocError, Global};
+use std::fs::{File, Files};
 use std::io;
 use std::io::Write;
+use std::net::{Net, TcpListener, TcpStream};
 use std::ops::RangeInclusive;
 use std::process::Abort;
 use std::sync::Wait;
 use std::test::Fail;
+use std::thread::Threads;
+use std::time::Clock;
 
 /// Runs the script on a disk of 600 blocks, and wants these answers.
-fn answers<H: Abort + Wait>(
-    rt: &H,
-    alloc: Global,
-    script: &str,
-    answers: &str,
-) -> Result<(), Fail> {
+fn answers<
+    H: Abort
+        + Files<File = File>
+        + Net<Listener = TcpListener, Stream = TcpStream>
+        + Clock
+        + Threads
+        + Wait
+        + Sync,
+>(rt: &H, alloc: Global, script: &str, answers: &str) -> Result<(), Fail> {
     check(rt, alloc, script.as_bytes(), answers.as_bytes(), 0)
 }
 
@@ -55,12 +62,15 @@ fn what_was_not_logged_is_gone(rt: HostRuntime) -> Result<(), Fail> {
 }
 
 /// A crash of this choice, once block 0 is written and nothing after it, leaves this value.
-fn crashes_to<H: Abort + Wait>(
-    rt: &H,
-    alloc: Global,
-    choice: &str,
-    value: &str,
-) -> Result<(), Fail> {
+fn crashes_to<
+    H: Abort
+        + Files<File = File>
+        + Net<Listener = TcpListener, Stream = TcpStream>
+        + Clock
+        + Threads
+        + Wait
+        + Sync,
+>(rt: &H, alloc: Global, choice: &str, value: &str) -> Result<(), Fail> {
     let mut script = Vec::new(alloc);
     write!(
         script,
@@ -114,13 +124,15 @@ fn print_all(printed: &mut Vec<u8>, blocks: RangeInclusive<u64>, commit: &str) -
 }
 
 /// Runs the script on a disk of so many blocks, and wants these answers.
-fn answers_on<H: Abort + Wait>(
-    rt: &H,
-    alloc: Global,
-    blocks: &str,
-    script: &[u8],
-    printed: &[u8],
-) -> Result<(), Fail> {
+fn answers_on<
+    H: Abort
+        + Files<File = File>
+        + Net<Listener = TcpListener, Stream = TcpStream>
+        + Clock
+        + Threads
+        + Wait
+        + Sync,
+>(rt: &H, alloc: Global, blocks: &str, script: &[u8], printed: &[u8]) -> Result<(), Fail> {
     let run = run_with(rt, alloc, &["script", blocks], script)?;
     wants(rt, &run, script, printed, 0);
     Ok(())

@@ -21,9 +21,9 @@ pub returns-clause-found : goal.returns-clause-found
 returns-clause-found c =
     let plain : is_padded c.args.text.now ≡ false = sym c.is_padded.ensures ∙ c.if-is_padded.false in
     let same : c.in_ok-ok.field-0.now ≡ c.args.text.now = grind (arith, common_steps) in
-    rw c.ok-2.ensures.value (decimal_from_parse _ _ plain (rw same at c.parse.ensures.value.0))
+    rw c.ok-2.ensures.value (decimal_from_parse 32 (omega arith) _ _ plain (rw same at c.parse.ensures.value.0))
 
 pub returns-clause-none : goal.returns-clause-none
 returns-clause-none c =
     let same : c.in_ok-ok.field-0.now ≡ c.args.text.now = grind (arith, common_steps) in
-    rw c.ok-2.ensures.value (decimal_is_parsed _ _ (rw same at c.parse.ensures.value.0))
+    rw c.ok-2.ensures.value (decimal_is_parsed 32 (omega arith) _ _ (rw same at c.parse.ensures.value.0))

@@ -1,0 +1,43 @@
+// The system's clock, as moments of files.
+ghost use Rattle.std.specs.Prelude.{◌≡◌};
+
+use journal_nfs3::Verifier;
+use journal_world::Moment;
+use std::time::{Clock, SystemTime, UNIX_EPOCH};
+
+// A moment has the seconds modulo this.
+const SECONDS: u64 = 1 << 32;
+
+/// A clock that a service asks for its moments.
+pub struct WallClock<'r, R: Clock>(pub &'r R);
+
+impl<'r, R: Clock> Drop for WallClock<'r, R> {
+    fn drop(self) {
+        let WallClock(_) = self;
+    }
+}
+
+impl<'r, R: Clock> journal_server::Clock for WallClock<'r, R> {
+    fn now(&self) -> Moment {
+        now(self.0)
+    }
+}
+
+/// The moment now, or 0 where the clock cannot be read.
+pub fn now<R: Clock>(rt: &R) -> Moment {
+    read(rt).unwrap_or(Moment { secs: 0, nanos: 0 })
+}
+
+// The moment now.
+fn read<R: Clock>(rt: &R) -> Option<Moment> {
+    let time = SystemTime::now(rt).ok()?;
+    let since = time.duration_since(UNIX_EPOCH).ok()?;
+    Moment::new((since.as_secs() % SECONDS) as u32, since.subsec_nanos())
+}
+
+/// The verifier of a mount at this moment: its seconds and its nanoseconds, each with the most significant byte first.
+pub fn verifier_of(moment: Moment) -> Verifier {
+    let [a, b, c, d] = moment.secs.to_be_bytes();
+    let [e, f, g, h] = moment.nanos.to_be_bytes();
+    Verifier([a, b, c, d, e, f, g, h])
+}
