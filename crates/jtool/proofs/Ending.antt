@@ -1,10 +1,10 @@
 -- How the program ends.
-use Rattle.std.proofs.Common.{◌≡◌, ◌≢◌, ◌⊎◌, inl, inr, ℕ, List, [], ◌∷◌, length, Option, Result, Ok, Err, sym, ap, subst, ◌∙◌, arith, get_or}
+use Rattle.std.proofs.Common.{◌≡◌, ◌≢◌, inl, inr, ℕ, List, [], length, Option, Result, Ok, Err, sym, ap, subst, ◌∙◌, arith, get_or}
 use Rattle.std.specs.Prelude.{◌==◌}
 use Rattle.std.proofs.lemmas.Fmt.{decimal_injective}
 use Rattle.jtool.specs.declared.ask.Fault.{Fault}
 use Rattle.jtool.specs.declared.ask.Fault.TheVariants as faults
-use Rattle.jtool.specs.Programs.{AsksScript, AsksFormat, AsksServe, MayBeAsked, IsSize, CannotBegin, status_of}
+use Rattle.jtool.specs.Programs.{AsksScript, AsksFormat, AsksServe, IsSize, CannotBegin, status_of}
 use Rattle.jtool.specs.Transcripts.{IsTranscript, Runs}
 
 -- words that ask for a script ask for nothing else

@@ -9,7 +9,7 @@ use Rattle.std.proofs.lemmas.List.Concat.{flat_map-append}
 use Rattle.jtool.specs.declared.script.Next.{Next}
 use Rattle.jtool.specs.declared.script.Next.TheVariants as nexts
 use Rattle.jtool.specs.Lines.{TakesLine}
-use Rattle.jtool.specs.Transcripts.{Streams, Turn, IsTurn, printed, is_bad, some_bad, Consists, Talks, TakesOneLine, TakesLineOrEnd, AnswersLastLine, IsTranscript, TalksToTheEnd, AsksOpening, ComesTo}
+use Rattle.jtool.specs.Transcripts.{Streams, Turn, IsTurn, printed, is_bad, some_bad, Consists, Talks, TakesOneLine, TakesLineOrEnd, AnswersLastLine, TalksToTheEnd, AsksOpening, ComesTo}
 
 -- ---- lists of turns
 

@@ -4,7 +4,7 @@ use Rattle.std.specs.Prelude.{◌==◌, if◌then◌else◌, IfNone, IfSome}
 use Rattle.jtool.specs.declared.command.Command.{Command}
 use Rattle.jtool.specs.declared.command.verb.Verb.{Verb}
 use Rattle.jtool.specs.declared.command.verb.Verb.TheVariants as verbs
-use Rattle.jtool.specs.Commands.{line_words, verb_text, FollowsVerb, Says, LineSays, IsInside}
+use Rattle.jtool.specs.Commands.{line_words, verb_text, FollowsVerb, Says, LineSays}
 
 -- ---- a verb is known by its first two letters
 

@@ -16,6 +16,7 @@ mod client;
 mod clock;
 mod command;
 mod console;
+mod daemon;
 mod down;
 mod file;
 mod line;

@@ -5,8 +5,9 @@ ghost use Rattle.jtool.specs.Programs.{status_of};
 
 use crate::ask::{Fault, Service, Stop};
 use crate::clock::{WallClock, verifier_of};
+use crate::daemon::Daemon;
 use crate::{clock, file};
-use journal_daemon::{OpenGate, start};
+use journal_daemon::OpenGate;
 use journal_disk::FileDisk;
 use journal_filestore::FileStore;
 use journal_history::{Book, Naming};
@@ -75,7 +76,7 @@ fn mount<
     Ok(closed?)
 }
 
-// Serves while the daemon runs, and ends it then. All commits are stable then.
+// Serves while the daemon runs, and ends it. All commits are stable then.
 fn serve_beside_daemon<
     'w,
     'b,
@@ -92,22 +93,21 @@ fn serve_beside_daemon<
 ) -> Result<(), Fault<'w>>
     ensures { IfErr result (λ fault. status_of fault ≡ 1) }
 {
+    let daemon = Daemon::new();
     thread::scope(
         thread::scope_env(),
         rt,
         |scope| -> Result<(), Fault<'_>>
             ensures { IfErr result (λ fault. status_of fault ≡ 1) }
         {
-            let Ok(daemon) = scope.spawn(move || start(rt, files.journal(), &OpenGate).is_ok())
-            else {
-                return Err(Fault::Stopped(Stop::Refused(Refusal::NoMemory)));
+            let runs = scope.spawn(|| daemon.run(rt, files)).is_ok() && daemon.is_running(rt);
+            let served = if runs {
+                listen(rt, alloc, files, service, verifier, output)
+            } else {
+                Err(Fault::Stopped(Stop::Refused(Refusal::NoMemory)))
             };
-            let served = listen(rt, alloc, files, service, verifier, output);
             let flushed = flush(rt, files);
             files.journal().stop(rt);
-            if !daemon.join(rt) {
-                return Err(Fault::Stopped(Stop::Refused(Refusal::NoMemory)));
-            }
             served?;
             Ok(flushed?)
         },
