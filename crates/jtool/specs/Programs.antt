@@ -24,10 +24,10 @@ abbrev pub IsSize : ℕ → Type 0
 IsSize n = (MIN_BLOCKS ≤ n) × (n ≤ MAX_BLOCKS)
 
 -- the words ask for this, and it can be done
-abbrev pub Asks : List (List ℕ) → Ask → Type 0
-Asks words (Script blocks) = AsksScript words blocks × IsSize blocks
-Asks words (Format path blocks) = AsksFormat words path.now blocks × IsSize blocks
-Asks words (Serve service) = AsksServe words service.path.now service.port service.connections
+abbrev pub AsksFor : List (List ℕ) → Ask → Type 0
+AsksFor words (Script blocks) = AsksScript words blocks × IsSize blocks
+AsksFor words (Format path blocks) = AsksFormat words path.now blocks × IsSize blocks
+AsksFor words (Serve service) = AsksServe words service.path.now service.port service.connections
 
 -- the words ask for a disk of so many blocks, in memory or in a file
 abbrev pub MayBeAsked : List (List ℕ) → ℕ → Type 0

@@ -1,6 +1,6 @@
 // What the program's words ask for, and how the program ends.
 ghost use Rattle.std.specs.Prelude.{◌≡◌, ◌≤◌, ℕ, map, string_bytes, IfOk, IfErr, IfSome, IfNone, OnOk, List};
-ghost use Rattle.jtool.specs.Programs.{AsksScript, AsksFormat, AsksServe, Asks, IsSize, MayBeAsked, CannotBegin, status_of};
+ghost use Rattle.jtool.specs.Programs.{AsksScript, AsksFormat, AsksServe, AsksFor, IsSize, MayBeAsked, CannotBegin, status_of};
 
 use crate::number;
 use journal_world::{Layout, Refusal};
@@ -35,7 +35,7 @@ pub struct Service<'w> {
 impl<'w> Ask<'w> {
     /// What the words ask for.
     pub fn read(words: &'w [String]) -> Result<Ask<'w>, Fault<'w>>
-        ensures ok { IfOk result (Asks (map string_bytes words.now)) }
+        ensures ok { IfOk result (AsksFor (map string_bytes words.now)) }
         ensures err { IfErr result (CannotBegin (map string_bytes words.now)) }
     {
         if let Some(blocks) = script_asked(words) {

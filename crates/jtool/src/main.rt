@@ -4,7 +4,7 @@
 #![tactic(auto)]
 
 ghost use Rattle.std.specs.Prelude.{◌≡◌, ◌≢◌, ◌≤◌, ◌==◌, ℕ, map, string_bytes, IsErrAnd};
-ghost use Rattle.jtool.specs.Programs.{AsksScript, Asks, IsSize, status_of};
+ghost use Rattle.jtool.specs.Programs.{AsksScript, AsksFor, IsSize, status_of};
 ghost use Rattle.jtool.specs.declared.ask.Ask.{Ask};
 ghost use Rattle.jtool.specs.Transcripts.{IsTranscript, Runs};
 
@@ -59,7 +59,7 @@ pub fn run<
     E: Write,
 >(rt: &R, alloc: Global, words: &[String], input: &mut I, output: &mut O, faults: &mut E) -> u8
     // Words that ask for nothing that there can be.
-    ensures words { ((ask : Ask) → Asks (map string_bytes words.now) ask → ⊥) → result ≡ 2 }
+    ensures words { ((ask : Ask) → AsksFor (map string_bytes words.now) ask → ⊥) → result ≡ 2 }
     ensures status { result ≤ 2 }
 
     // Words that ask for a script: at status 0 or 2 the output gained the answers of all lines of the input, of which
@@ -91,7 +91,7 @@ fn obey<
     input: &mut I,
     output: &mut O,
 ) -> Result<(), Fault<'w>>
-    ensures words { ((ask : Ask) → Asks (map string_bytes words.now) ask → ⊥)
+    ensures words { ((ask : Ask) → AsksFor (map string_bytes words.now) ask → ⊥)
         → IsErrAnd result (λ fault. status_of fault ≡ 2) }
     ensures script { (n : ℕ) → AsksScript (map string_bytes words.now) n → IsSize n
         → Runs (I.remaining input.old) (O.contents output.old) (O.contents output.new) result }
