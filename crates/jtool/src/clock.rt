@@ -1,5 +1,6 @@
 // The system's clock, as moments of files.
-ghost use Rattle.std.specs.Prelude.{◌≡◌};
+ghost use Rattle.std.specs.Prelude.{◌≡◌, ◌++◌};
+ghost use Rattle.std.specs.Int.{w32, to_be_bytes};
 
 use journal_nfs3::Verifier;
 use journal_world::Moment;
@@ -36,7 +37,9 @@ fn read<R: Clock>(rt: &R) -> Option<Moment> {
 }
 
 /// The verifier of a mount at this moment: its seconds and its nanoseconds, each with the most significant byte first.
-pub fn verifier_of(moment: Moment) -> Verifier {
+pub fn verifier_of(moment: Moment) -> Verifier
+    ensures { result.0 ≡ to_be_bytes w32 moment.secs ++ to_be_bytes w32 moment.nanos }
+{
     let [a, b, c, d] = moment.secs.to_be_bytes();
     let [e, f, g, h] = moment.nanos.to_be_bytes();
     Verifier([a, b, c, d, e, f, g, h])
