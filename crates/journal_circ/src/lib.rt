@@ -30,8 +30,6 @@ mod circ;
 mod extent;
 mod fail_stop;
 mod layout;
-#[cfg(test)]
-mod tests;
 
 pub use circ::installer::{Freed, HomesPut, HomesSynced, StartPut};
 pub use circ::logger::{EndPut, LogBlocksPut, LogBlocksSynced};

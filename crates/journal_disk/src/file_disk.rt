@@ -123,6 +123,3 @@ impl<F: FileExt + OpenFile + Seek + Drop> BlockDisk for FileDisk<F> {
         self.count(synced)
     }
 }
-
-#[cfg(test)]
-mod tests;

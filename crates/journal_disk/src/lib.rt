@@ -15,8 +15,6 @@ mod block_disk;
 mod events;
 mod file_disk;
 mod mem_disk;
-#[cfg(test)]
-mod tests;
 
 pub use block_disk::{BlockDisk, DiskFault};
 pub use file_disk::FileDisk;

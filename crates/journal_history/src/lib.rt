@@ -31,6 +31,3 @@ pub use law::{Opened, Recorded};
 pub use receipt::{Receipt, StableNote};
 pub use session::Session;
 pub use writer::Writer;
-
-#[cfg(test)]
-mod tests;

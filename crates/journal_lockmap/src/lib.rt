@@ -19,6 +19,3 @@ mod slots;
 pub use held::Held;
 pub use map::LockMap;
 pub use slots::Slots;
-
-#[cfg(test)]
-mod tests;

@@ -23,8 +23,6 @@
 
 mod bounds;
 mod mem_log;
-#[cfg(test)]
-mod tests;
 
 pub use bounds::{Bounds, Group};
 pub use mem_log::MemLog;

@@ -16,8 +16,6 @@ mod rules;
 mod spares;
 mod stage;
 mod steps;
-#[cfg(test)]
-mod tests;
 mod writes;
 
 pub use object_log::ObjectLog;

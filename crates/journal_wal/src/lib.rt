@@ -15,8 +15,6 @@ mod install;
 mod log;
 mod open;
 mod plan;
-#[cfg(test)]
-mod tests;
 mod wal;
 
 pub use append::{MAX_TAIL, MAX_UPDATES};

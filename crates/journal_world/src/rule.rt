@@ -70,6 +70,3 @@ impl MapRule for AnyMap {
         Ok(true)
     }
 }
-
-#[cfg(test)]
-mod tests;
