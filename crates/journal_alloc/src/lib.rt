@@ -11,6 +11,3 @@
 mod alloc;
 
 pub use alloc::Alloc;
-
-#[cfg(test)]
-mod tests;

@@ -21,6 +21,3 @@ pub use making::format;
 pub use node::{FILE_BYTES, FileNode, NODE_BYTES, Node, Time};
 pub use place::{INODES, bit_addr, block_addr, inode_addr};
 pub use rule::SoundFiles;
-
-#[cfg(test)]
-mod tests;

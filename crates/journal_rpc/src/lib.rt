@@ -25,6 +25,3 @@ pub use laws::{
 pub use protocol::RECORD_BYTES;
 pub use records::{FeedRefused, Record, Records};
 pub use replies::{CallRefused, Results, write_reply};
-
-#[cfg(test)]
-mod tests;

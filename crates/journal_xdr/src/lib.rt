@@ -23,6 +23,3 @@ pub use laws::{
 };
 pub use reader::Reader;
 pub use writer::Writer;
-
-#[cfg(test)]
-mod tests;

@@ -1,8 +1,8 @@
 // A formatted disk, and what the rule admits once objects of it are overwritten.
 
-use crate::{FileNode, Node, SoundFiles, Time, bit_addr, block_addr, format, inode_addr};
 use journal_block::Block;
 use journal_disk::{BlockDisk, MemDisk};
+use journal_inode::{FileNode, Node, SoundFiles, Time, bit_addr, block_addr, format, inode_addr};
 use journal_object::{load, store};
 use journal_world::{Addr, Layout, MapRule, Moment, ObjectReader, Refusal, SUPERBLOCK, Value};
 use std::alloc::Global;

@@ -1,5 +1,5 @@
 // Inodes by hand: where the fields lie, and what is read of bytes that are no inode's.
-use crate::{FileNode, NODE_BYTES, Node, Time};
+use journal_inode::{FileNode, NODE_BYTES, Node, Time};
 use std::test::*;
 
 // Bytes 0 to 31 of a file's inode, each field by its bytes, the lowest first.

@@ -1,4 +1,4 @@
-use super::*;
+use journal_xdr::{Enumeration, Reader, Writer};
 use std::test::*;
 
 #[derive(Clone, Copy, Debug, PartialEq, Eq)]
@@ -12,7 +12,7 @@ impl Enumeration for Kind {
     ghost use Rattle.std.specs.Prelude.{refl, [], ◌∷◌};
     ghost use Rattle.journal_xdr.specs.Basic.{listed};
     ghost use Rattle.journal_xdr.specs.BasicLaws.{listed_back};
-    ghost use Rattle.journal_xdr.specs.declared.tests.Kind.TheVariants.{Text, Data, Exec};
+    ghost use Rattle.journal_wire_tests.specs.declared.xdr.Kind.TheVariants.{Text, Data, Exec};
 
     ghost meaning = { λ n. listed ((0, Text) ∷ (1, Data) ∷ (2, Exec) ∷ []) n };
 

@@ -1,4 +1,4 @@
-use super::*;
+use journal_alloc::Alloc;
 use std::test::*;
 
 // The numbers 10 to 13, of which 11 is out.

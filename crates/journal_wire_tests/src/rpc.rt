@@ -1,4 +1,6 @@
-use super::*;
+use journal_rpc::{
+    CallRefused, FeedRefused, RECORD_BYTES, Records, Results, read_call, write_reply,
+};
 use journal_xdr::Writer;
 use std::alloc::{AllocError, Global};
 use std::test::*;

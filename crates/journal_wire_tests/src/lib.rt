@@ -1,0 +1,15 @@
+//! Tests of what stands on no journal: numbers that are handed out, inodes and the rule of sound files, items of
+//! XDR, and records, calls and replies of RPC.
+//!
+//! They stand here and not in the crates that they test, since a crate with tests is proved twice. They see what every
+//! caller sees. What they expect comes from the standards and from `docs/FORMATS.md`, and is written out by hand.
+#![tactic(auto)]
+
+#[cfg(test)]
+mod alloc;
+#[cfg(test)]
+mod inode;
+#[cfg(test)]
+mod rpc;
+#[cfg(test)]
+mod xdr;
