@@ -1,3 +1,4 @@
+// Numbers that are handed out, and those that come back.
 use journal_alloc::Alloc;
 use std::test::*;
 
@@ -6,46 +7,65 @@ fn four(rt: &HostRuntime) -> Result<Alloc, Fail> {
     Ok(Alloc::new(10, vec![in rt.alloc(); false, true, false, false]?))
 }
 
+// The next four that go.
+fn take_four(numbers: &mut Alloc) -> [Option<u64>; 4] {
+    [
+        numbers.take(),
+        numbers.take(),
+        numbers.take(),
+        numbers.take(),
+    ]
+}
+
+// Whether these are taken back, one after another.
+fn give_all(numbers: &mut Alloc, back: &[u64; 6]) -> [bool; 6] {
+    let mut taken = [false; 6];
+    for i in 0..6 {
+        taken[i] = numbers.give(back[i]);
+    }
+    taken
+}
+
 #[test]
 fn the_lowest_that_is_not_out_goes_first(rt: HostRuntime) -> Result<(), Fail> {
     let mut numbers = four(&rt)?;
-    assert_eq!(rt; numbers.take(), Some(10));
-    assert_eq!(rt; numbers.take(), Some(12));
-    assert_eq!(rt; numbers.take(), Some(13));
-    assert_eq!(rt; numbers.take(), None);
-    assert_eq!(rt; numbers.take(), None);
+    let went = take_four(&mut numbers);
+    assert_eq!(rt;
+        (went, numbers.take()),
+        ([Some(10), Some(12), Some(13), None], None)
+    );
     Ok(())
 }
 
 #[test]
 fn a_number_that_came_back_goes_again(rt: HostRuntime) -> Result<(), Fail> {
     let mut numbers = four(&rt)?;
-    assert_eq!(rt; numbers.take(), Some(10));
-    assert_eq!(rt; numbers.take(), Some(12));
-    assert!(rt; numbers.give(11));
-    assert!(rt; numbers.give(10));
-    assert_eq!(rt; numbers.take(), Some(10));
-    assert_eq!(rt; numbers.take(), Some(11));
-    assert_eq!(rt; numbers.take(), Some(13));
-    assert_eq!(rt; numbers.take(), None);
+    let went = (numbers.take(), numbers.take());
+    let back = (numbers.give(11), numbers.give(10));
+    let again = take_four(&mut numbers);
+    assert_eq!(rt;
+        (went, back, again),
+        (
+            (Some(10), Some(12)),
+            (true, true),
+            [Some(10), Some(11), Some(13), None]
+        )
+    );
     Ok(())
 }
 
 #[test]
 fn what_is_not_out_is_not_taken_back(rt: HostRuntime) -> Result<(), Fail> {
     let mut numbers = four(&rt)?;
-    for n in [0, 9, 10, 12, 14, u64::MAX] {
-        assert!(rt; !numbers.give(n));
-    }
-    assert!(rt; numbers.give(11));
-    assert!(rt; !numbers.give(11));
+    let taken = give_all(&mut numbers, &[0, 9, 10, 12, 14, u64::MAX]);
+    let twice = (numbers.give(11), numbers.give(11));
+    assert_eq!(rt; (taken, twice), ([false; 6], (true, false)));
     Ok(())
 }
 
 #[test]
-fn an_empty_list_has_no_number(rt: HostRuntime) -> Result<(), Fail> {
+fn an_empty_list_has_no_number(rt: HostRuntime) {
     let mut numbers = Alloc::new(u64::MAX, Vec::new(rt.alloc()));
-    assert_eq!(rt; numbers.take(), None);
-    assert!(rt; !numbers.give(u64::MAX));
-    Ok(())
+    let went = numbers.take();
+    assert_eq!(rt; (went, numbers.give(u64::MAX)), (None, false));
 }

@@ -1,5 +1,6 @@
+// Streams of records, calls and their replies, as RFC 5531 has them.
 use journal_rpc::{
-    CallRefused, FeedRefused, RECORD_BYTES, Records, Results, read_call, write_reply,
+    Call, CallRefused, FeedRefused, RECORD_BYTES, Records, Results, read_call, write_reply,
 };
 use journal_xdr::Writer;
 use std::alloc::{AllocError, Global};
@@ -22,18 +23,24 @@ const CALL_IN_FRAGMENTS: [u32; 13] = [0x14, 1, 0, 2, 0x186a3, 3, 0, 0x8000_0014,
 
 const REPLY: [u32; 7] = [0x8000_0018, 1, 1, 0, 0, 0, 0];
 
-// The reply of a server of version 3 of program 100003, whose only procedure, 0, takes and answers nothing.
-fn answer(alloc: Global, record: &[u8]) -> Result<Option<Vec<u8>>, AllocError> {
-    let Some(call) = read_call(record) else {
-        return Ok(None);
-    };
-    let outcome = match call.request(100_003, 3) {
-        Ok(request) if request.procedure != 0 => Err(CallRefused::ProcedureUnavailable),
-        Ok(request) if !request.arguments.is_empty() => Err(CallRefused::GarbageArguments),
-        Ok(_) => Ok(()),
-        Err(refusal) => Err(refusal),
-    };
-    Ok(Some(write_reply(alloc, call.xid, &outcome, 64)?))
+// What a server of version 3 of program 100003 does, whose only procedure, 0, takes and answers nothing.
+fn outcome_of(call: &Call<'_>) -> Result<(), CallRefused> {
+    let request = call.request(100_003, 3)?;
+    if request.procedure != 0 {
+        return Err(CallRefused::ProcedureUnavailable);
+    }
+    if !request.arguments.is_empty() {
+        return Err(CallRefused::GarbageArguments);
+    }
+    Ok(())
+}
+
+// Its reply to a record, or nothing where that is no call.
+fn answer(alloc: Global, record: &[u8]) -> Result<Vec<u8>, AllocError> {
+    match read_call(record) {
+        Some(call) => write_reply(alloc, call.xid, &outcome_of(&call), 64),
+        None => Ok(Vec::new(alloc)),
+    }
 }
 
 // Feeds a piece, and again where memory was refused: nothing had changed.
@@ -44,20 +51,37 @@ fn feed(records: &mut Records, piece: &[u8]) -> Result<(), FeedRefused> {
     }
 }
 
-// Feeds a stream in pieces of at most so many bytes, whose one record is to be answered so.
-fn is_answered(rt: &HostRuntime, stream: &[u8], piece: usize, reply: &[u8]) -> Result<bool, Fail> {
-    let mut records = Records::new(rt.alloc());
+// Feeds a stream in pieces of at most so many bytes, and says whether each was taken.
+fn feed_all(records: &mut Records, stream: &[u8], piece: usize) -> bool {
     for piece in stream.chunks(piece.max(1)) {
-        if feed(&mut records, piece).is_err() {
-            return Ok(false);
+        if feed(records, piece).is_err() {
+            return false;
         }
     }
-    let Some(record) = records.next() else {
-        return Ok(false);
+    true
+}
+
+// The reply to the first record, if there is one, and whether it is alone.
+fn answer_first(alloc: Global, records: &mut Records) -> Result<(Vec<u8>, bool), AllocError> {
+    let reply = match records.next() {
+        Some(record) => answer(alloc, record.as_bytes())?,
+        None => Vec::new(alloc),
     };
-    let is_alone = records.next().is_none() && records.is_between();
-    let answered = answer(rt.alloc(), record.as_bytes())?;
-    Ok(is_alone && answered.is_some_and(|bytes| bytes.as_slice() == reply))
+    Ok((reply, records.next().is_none() && records.is_between()))
+}
+
+// The reply to a stream of one record that comes in pieces of at most so many bytes.
+fn answer_stream(
+    alloc: Global,
+    stream: &[u8],
+    piece: usize,
+) -> Result<(Vec<u8>, bool), AllocError> {
+    let mut records = Records::new(alloc);
+    if feed_all(&mut records, stream, piece) {
+        answer_first(alloc, &mut records)
+    } else {
+        Ok((Vec::new(alloc), false))
+    }
 }
 
 #[test]
@@ -69,71 +93,78 @@ fn a_record_in_any_cutting(rt: HostRuntime) -> Result<(), Fail> {
     behind_empty_fragments.extend_from_slice(&whole)?;
     for stream in [&whole, &cut, &behind_empty_fragments] {
         for piece in [1, 3, 7, 5000] {
-            assert!(rt;
-                is_answered(&rt, stream, piece, &reply)?,
-                "pieces of {piece}"
+            let (answered, alone) = answer_stream(rt.alloc(), stream, piece)?;
+            assert_eq!(rt;
+                (answered.as_slice(), alone),
+                (reply.as_slice(), true),
+                "{piece}"
             );
         }
     }
     Ok(())
 }
 
+// A record's words behind its header, and the words of its reply; none ends the connection.
+const CASES: [(&[u32], &[u32]); 11] = [
+    (
+        &[8, 0, 2, 0x186a3, 3, 16, 0, 0, 0, 0],
+        &[0x8000_0018, 8, 1, 0, 0, 0, 3],
+    ),
+    (
+        &[9, 0, 2, 0x186a3, 4, 0, 0, 0, 0, 0],
+        &[0x8000_0020, 9, 1, 0, 0, 0, 2, 3, 3],
+    ),
+    (
+        &[10, 0, 3, 0x186a3, 3, 0, 0, 0, 0, 0],
+        &[0x8000_0018, 10, 1, 1, 0, 2, 2],
+    ),
+    (
+        &[11, 0, 2, 0x186a5, 3, 0, 0, 0, 0, 0],
+        &[0x8000_0018, 11, 1, 0, 0, 0, 1],
+    ),
+    (
+        &[12, 0, 2, 0x186a3, 3, 0, 0, 0, 0, 0, 0],
+        &[0x8000_0018, 12, 1, 0, 0, 0, 4],
+    ),
+    // Nothing behind another version of RPC.
+    (&[18, 0, 3], &[0x8000_0018, 18, 1, 1, 0, 2, 2]),
+    // Any flavor, and bodies of a credential and a verifier.
+    (
+        &[
+            19,
+            0,
+            2,
+            0x186a3,
+            3,
+            0,
+            1,
+            5,
+            0x6162_6364,
+            0x6500_0000,
+            7,
+            4,
+            0xffff_ffff,
+        ],
+        &[0x8000_0018, 19, 1, 0, 0, 0, 0],
+    ),
+    // The length of a credential over its limit, padding other than zeros, a reply, and nothing.
+    (&[17, 0, 2, 0, 0, 0, 0, 0x191], &[]),
+    (&[17, 0, 2, 0x186a3, 3, 0, 1, 1, 0x6100_0001, 0, 0], &[]),
+    (&[20, 1], &[]),
+    (&[], &[]),
+];
+
+// What the words are answered by, and whether that is as it should be.
+fn is_answered(alloc: Global, asked: &[u32], wanted: &[u32]) -> Result<bool, AllocError> {
+    let record = bytes_of(alloc, asked)?;
+    let wanted = bytes_of(alloc, wanted)?;
+    Ok(answer(alloc, &record)?.as_slice() == wanted.as_slice())
+}
+
 #[test]
 fn the_answer_to_each_header(rt: HostRuntime) -> Result<(), Fail> {
-    // A record's words behind its header, and the words of its reply; none ends the connection.
-    let cases: [(&[u32], &[u32]); 11] = [
-        (
-            &[8, 0, 2, 0x186a3, 3, 16, 0, 0, 0, 0],
-            &[0x8000_0018, 8, 1, 0, 0, 0, 3],
-        ),
-        (
-            &[9, 0, 2, 0x186a3, 4, 0, 0, 0, 0, 0],
-            &[0x8000_0020, 9, 1, 0, 0, 0, 2, 3, 3],
-        ),
-        (
-            &[10, 0, 3, 0x186a3, 3, 0, 0, 0, 0, 0],
-            &[0x8000_0018, 10, 1, 1, 0, 2, 2],
-        ),
-        (
-            &[11, 0, 2, 0x186a5, 3, 0, 0, 0, 0, 0],
-            &[0x8000_0018, 11, 1, 0, 0, 0, 1],
-        ),
-        (
-            &[12, 0, 2, 0x186a3, 3, 0, 0, 0, 0, 0, 0],
-            &[0x8000_0018, 12, 1, 0, 0, 0, 4],
-        ),
-        // Nothing behind another version of RPC.
-        (&[18, 0, 3], &[0x8000_0018, 18, 1, 1, 0, 2, 2]),
-        // Any flavor, and bodies of a credential and a verifier.
-        (
-            &[
-                19,
-                0,
-                2,
-                0x186a3,
-                3,
-                0,
-                1,
-                5,
-                0x6162_6364,
-                0x6500_0000,
-                7,
-                4,
-                0xffff_ffff,
-            ],
-            &[0x8000_0018, 19, 1, 0, 0, 0, 0],
-        ),
-        // The length of a credential over its limit, padding other than zeros, a reply, and nothing.
-        (&[17, 0, 2, 0, 0, 0, 0, 0x191], &[]),
-        (&[17, 0, 2, 0x186a3, 3, 0, 1, 1, 0x6100_0001, 0, 0], &[]),
-        (&[20, 1], &[]),
-        (&[], &[]),
-    ];
-    for (asked, answered) in cases {
-        let record = bytes_of(rt.alloc(), asked)?;
-        let wanted = bytes_of(rt.alloc(), answered)?;
-        let reply = answer(rt.alloc(), &record)?.unwrap_or(Vec::new(rt.alloc()));
-        assert_eq!(rt; reply.as_slice(), wanted.as_slice(), "{asked:?}");
+    for (asked, wanted) in CASES {
+        assert!(rt; is_answered(rt.alloc(), asked, wanted)?, "{asked:?}");
     }
     Ok(())
 }
@@ -151,22 +182,36 @@ fn a_header_cut_short_is_no_call(rt: HostRuntime) -> Result<(), Fail> {
     Ok(())
 }
 
+// Whether the next record has these bytes.
+fn comes(records: &mut Records, bytes: &[u8]) -> bool {
+    match records.next() {
+        Some(record) => record.as_bytes() == bytes,
+        None => false,
+    }
+}
+
 #[test]
 fn a_record_above_the_limit(rt: HostRuntime) -> Result<(), Fail> {
     let mut full = bytes_of(rt.alloc(), &[0x8000_4000])?;
     full.resize(4 + RECORD_BYTES, 7)?;
-    let mut records = Records::new(rt.alloc());
-    assert_eq!(rt; feed(&mut records, &full), Ok(()));
-    let record = records.next().ok_or("a record of the greatest length")?;
-    assert_eq!(rt; record.as_bytes(), &full[4..]);
-
     // A record, and then two fragments of 16385 bytes together.
     let too_long = bytes_of(rt.alloc(), &[0x8000_0000, 4, 0, 0x8000_3ffd])?;
-    assert_eq!(rt; feed(&mut records, &too_long), Err(FeedRefused::TooLong));
-    assert_eq!(rt; records.feed(&full), Err(FeedRefused::TooLong));
-    assert!(rt; !records.is_between());
-    let record = records.next().ok_or("the record before it")?;
-    assert!(rt; record.as_bytes().is_empty() && records.next().is_none());
+    let mut records = Records::new(rt.alloc());
+    let greatest = (feed(&mut records, &full), comes(&mut records, &full[4..]));
+    let fed = (feed(&mut records, &too_long), records.feed(&full));
+    let before = (
+        records.is_between(),
+        comes(&mut records, &[]),
+        records.next().is_none(),
+    );
+    assert_eq!(rt;
+        (greatest, fed, before),
+        (
+            (Ok(()), true),
+            (Err(FeedRefused::TooLong), Err(FeedRefused::TooLong)),
+            (false, true, true)
+        )
+    );
     Ok(())
 }
 

@@ -1,4 +1,6 @@
+// Items, as RFC 4506 spells them.
 use journal_xdr::{Enumeration, Reader, Writer};
+use std::alloc::{AllocError, Global};
 use std::test::*;
 
 #[derive(Clone, Copy, Debug, PartialEq, Eq)]
@@ -41,48 +43,29 @@ impl Enumeration for Kind {
     }
 }
 
-// What a file is, and by which program it was made or is run.
-#[derive(Clone, Copy, Debug, PartialEq, Eq)]
-enum Nature<'a> {
-    Text,
-    Data { creator: &'a [u8] },
-    Exec { interpreter: &'a [u8] },
-}
-
-#[derive(Clone, Copy, Debug, PartialEq, Eq)]
-struct File<'a> {
-    name: &'a [u8],
-    nature: Nature<'a>,
-    owner: &'a [u8],
-    data: &'a [u8],
-}
-
+// The most bytes of a name, of an owner's name and of data.
 const NAME_BYTES: u32 = 255;
 
 const OWNER_BYTES: u32 = 32;
 
 const DATA_BYTES: u32 = 65535;
 
-fn read_nature<'a>(reader: &mut Reader<'a>) -> Option<Nature<'a>> {
+// A file of RFC 4506, section 7: its name, its kind, the program that made it or runs it, its owner and its data.
+type File<'a> = (&'a [u8], Kind, &'a [u8], &'a [u8], &'a [u8]);
+
+fn read_nature<'a>(reader: &mut Reader<'a>) -> Option<(Kind, &'a [u8])> {
     Some(match reader.enumeration()? {
-        Kind::Text => Nature::Text,
-        Kind::Data => Nature::Data {
-            creator: reader.string(NAME_BYTES)?,
-        },
-        Kind::Exec => Nature::Exec {
-            interpreter: reader.string(NAME_BYTES)?,
-        },
+        Kind::Text => (Kind::Text, &[]),
+        kind => (kind, reader.string(NAME_BYTES)?),
     })
 }
 
 fn read_file(bytes: &[u8]) -> Option<File<'_>> {
     let mut reader = Reader::new(bytes);
-    Some(File {
-        name: reader.string(NAME_BYTES)?,
-        nature: read_nature(&mut reader)?,
-        owner: reader.string(OWNER_BYTES)?,
-        data: reader.opaque(DATA_BYTES)?,
-    })
+    let name = reader.string(NAME_BYTES)?;
+    let (kind, program) = read_nature(&mut reader)?;
+    let owner = reader.string(OWNER_BYTES)?;
+    Some((name, kind, program, owner, reader.opaque(DATA_BYTES)?))
 }
 
 // The example of RFC 4506, section 7.
@@ -92,132 +75,176 @@ const FILE: [u8; 48] = [
     b'i', b't', b')', 0, 0,
 ];
 
-#[test]
-fn the_example_of_the_standard(rt: HostRuntime) -> Result<(), Fail> {
-    let file = read_file(&FILE).ok_or("the example is a file")?;
-    assert_eq!(rt; file.name, b"sillyprog".as_slice());
-    assert_eq!(rt;
-        file.nature,
-        Nature::Exec {
-            interpreter: b"lisp"
-        }
-    );
-    assert_eq!(rt; file.owner, b"john".as_slice());
-    assert_eq!(rt; file.data, b"(quit)".as_slice());
+// The same file.
+const SILLY: File<'static> = (b"sillyprog", Kind::Exec, b"lisp", b"john", b"(quit)");
 
-    let mut writer = Writer::with_capacity(rt.alloc(), FILE.len())?;
+fn write_file(writer: &mut Writer) -> Result<(), AllocError> {
     writer.string(b"sillyprog")?;
     writer.enumeration(Kind::Exec)?;
     writer.string(b"lisp")?;
     writer.string(b"john")?;
-    writer.opaque(b"(quit)")?;
-    assert_eq!(rt; writer.len(), FILE.len());
-    assert_eq!(rt; writer.into_bytes().as_slice(), FILE.as_slice());
-    Ok(())
+    writer.opaque(b"(quit)")
 }
 
 #[test]
-fn cut_short_or_changed_it_is_refused(rt: HostRuntime) -> Result<(), Fail> {
-    for length in 0..FILE.len() {
-        assert!(rt; read_file(&FILE[..length]).is_none(), "cut to {length}");
-    }
-    // The place of a byte, and what stands there in place of the right one: padding, a length over its
-    // limit, a kind that is not listed.
-    let changes = [
-        (13, 1),
-        (15, 255),
-        (46, 1),
-        (47, 128),
-        (2, 1),
-        (31, 33),
-        (19, 3),
-        (16, 1),
-    ];
-    for (place, byte) in changes {
-        let mut bytes = FILE;
-        bytes[place] = byte;
-        assert!(rt; read_file(&bytes).is_none(), "{byte} at {place}");
-    }
+fn the_example_of_the_standard(rt: HostRuntime) -> Result<(), Fail> {
+    let mut writer = Writer::with_capacity(rt.alloc(), FILE.len())?;
+    write_file(&mut writer)?;
+    let length = writer.len();
+    let written = writer.into_bytes();
+    assert_eq!(rt;
+        (read_file(&FILE), length, written.as_slice()),
+        (Some(SILLY), 48, FILE.as_slice())
+    );
     Ok(())
 }
 
-// One item of each type.
-#[derive(Clone, Copy, Debug, PartialEq, Eq)]
-struct Items<'a> {
-    count: u32,
-    size: u64,
-    flag: bool,
-    mark: &'a [u8],
-    next: Option<u32>,
-    name: &'a [u8],
-    kind: Kind,
-    data: &'a [u8],
+// Changes of the example: the place of a byte, and what stands there in place of the right one. They are padding, a
+// length over its limit, or a kind that is not listed.
+const CHANGES: [(usize, u8); 8] = [
+    (13, 1),
+    (15, 255),
+    (46, 1),
+    (47, 128),
+    (2, 1),
+    (31, 33),
+    (19, 3),
+    (16, 1),
+];
+
+// Whether the example is no file, with this byte in this place.
+fn is_refused(place: usize, byte: u8) -> bool {
+    let mut bytes = FILE;
+    if let Some(changed) = bytes.get_mut(place) {
+        *changed = byte;
+    }
+    read_file(&bytes).is_none()
 }
 
-// The most bytes of a name and of data.
+#[test]
+fn cut_short_or_changed_it_is_refused(rt: HostRuntime) {
+    for length in 0..48 {
+        assert!(rt; read_file(&FILE[..length]).is_none(), "cut to {length}");
+    }
+    for (place, byte) in CHANGES {
+        assert!(rt; is_refused(place, byte), "{byte} at {place}");
+    }
+}
+
+// An item, as it is written and read. Of names and data 5 bytes may be read.
+#[derive(Clone, Copy)]
+enum Item {
+    Word(u32),
+    Hyper(u64),
+    Truth(bool),
+    Listed(Kind),
+    Fixed(&'static [u8]),
+    Name(&'static [u8]),
+    Data(&'static [u8]),
+}
+
 const LIMIT: u32 = 5;
 
-fn read_items<'a>(reader: &mut Reader<'a>) -> Option<Items<'a>> {
-    Some(Items {
-        count: reader.word()?,
-        size: reader.hyper()?,
-        flag: reader.boolean()?,
-        mark: reader.fixed(3)?,
-        next: if reader.boolean()? {
-            Some(reader.word()?)
-        } else {
-            None
-        },
-        name: reader.string(LIMIT)?,
-        kind: reader.enumeration()?,
-        data: reader.opaque(LIMIT)?,
+fn write(writer: &mut Writer, item: Item) -> Result<(), AllocError> {
+    match item {
+        Item::Word(number) => writer.word(number),
+        Item::Hyper(number) => writer.hyper(number),
+        Item::Truth(truth) => writer.boolean(truth),
+        Item::Listed(kind) => writer.enumeration(kind),
+        Item::Fixed(bytes) => writer.fixed(bytes),
+        Item::Name(bytes) if bytes.len() <= 5 => writer.string(bytes),
+        Item::Data(bytes) if bytes.len() <= 5 => writer.opaque(bytes),
+        // What may not be read is not written.
+        Item::Name(_) | Item::Data(_) => Err(AllocError),
+    }
+}
+
+// Whether the item is read, or `None` where what is read is refused.
+fn reads(reader: &mut Reader<'_>, item: Item) -> Option<bool> {
+    Some(match item {
+        Item::Word(number) => reader.word()? == number,
+        Item::Hyper(number) => reader.hyper()? == number,
+        Item::Truth(truth) => reader.boolean()? == truth,
+        Item::Listed(kind) => reader.enumeration::<Kind>()? == kind,
+        Item::Fixed(bytes) => reader.fixed(bytes.len())? == bytes,
+        Item::Name(bytes) => reader.string(LIMIT)? == bytes,
+        Item::Data(bytes) => reader.opaque(LIMIT)? == bytes,
     })
 }
 
-// The items of the next test, and one more number.
-const ITEMS: [u8; 52] = [
-    1, 2, 3, 4, 0, 1, 2, 3, 4, 5, 6, 255, 0, 0, 0, 1, 97, 98, 99, 0, 0, 0, 0, 1, 255, 255, 255,
-    255, 0, 0, 0, 0, 0, 0, 0, 1, 0, 0, 0, 5, 65, 66, 67, 68, 69, 0, 0, 0, 128, 0, 0, 7,
+// One item of each type with its spelling.
+const ITEMS: [(Item, &[u8]); 10] = [
+    (Item::Word(0x0102_0304), &[1, 2, 3, 4]),
+    (Item::Word(0xffff_ffff), &[255, 255, 255, 255]),
+    (
+        Item::Hyper(0x0001_0203_0405_06ff),
+        &[0, 1, 2, 3, 4, 5, 6, 255],
+    ),
+    (Item::Truth(true), &[0, 0, 0, 1]),
+    (Item::Truth(false), &[0, 0, 0, 0]),
+    (Item::Listed(Kind::Data), &[0, 0, 0, 1]),
+    (Item::Fixed(b"abc"), &[97, 98, 99, 0]),
+    (Item::Name(b""), &[0, 0, 0, 0]),
+    (
+        Item::Name(b"abcde"),
+        &[0, 0, 0, 5, 97, 98, 99, 100, 101, 0, 0, 0],
+    ),
+    (
+        Item::Data(b"ABCDE"),
+        &[0, 0, 0, 5, 65, 66, 67, 68, 69, 0, 0, 0],
+    ),
 ];
+
+// Whether the item is read of these bytes, or `None` where they are refused, and whether nothing is left.
+fn read_of(bytes: &[u8], item: Item) -> (Option<bool>, bool) {
+    let mut reader = Reader::new(bytes);
+    (reads(&mut reader, item), reader.is_at_end())
+}
+
+// What is written of the item.
+fn spelled(alloc: Global, item: Item) -> Result<Vec<u8>, AllocError> {
+    let mut writer = Writer::with_capacity(alloc, 0)?;
+    write(&mut writer, item)?;
+    Ok(writer.into_bytes())
+}
+
+// Whether the spelling is refused wherever it is cut.
+fn is_whole(spelling: &[u8], item: Item) -> bool {
+    for length in 0..spelling.len() {
+        if read_of(&spelling[..length], item).0.is_some() {
+            return false;
+        }
+    }
+    true
+}
 
 #[test]
 fn one_item_of_each_type(rt: HostRuntime) -> Result<(), Fail> {
-    let mut writer = Writer::with_capacity(rt.alloc(), ITEMS.len())?;
-    writer.word(0x0102_0304)?;
-    writer.hyper(0x0001_0203_0405_06ff)?;
-    writer.boolean(true)?;
-    writer.fixed(b"abc")?;
-    writer.boolean(true)?;
-    writer.word(0xffff_ffff)?;
-    writer.string(b"")?;
-    writer.enumeration(Kind::Data)?;
-    writer.opaque(b"ABCDE")?;
-    assert_eq!(rt; writer.into_bytes().as_slice(), &ITEMS[..48]);
-
-    let items = Items {
-        count: 0x0102_0304,
-        size: 0x0001_0203_0405_06ff,
-        flag: true,
-        mark: b"abc",
-        next: Some(0xffff_ffff),
-        name: b"",
-        kind: Kind::Data,
-        data: b"ABCDE",
-    };
-    let mut reader = Reader::new(&ITEMS);
-    assert_eq!(rt; read_items(&mut reader).ok_or("items")?, items);
-    assert!(rt; !reader.is_at_end());
-    assert_eq!(rt; reader.rest(), [128, 0, 0, 7].as_slice());
-    assert_eq!(rt; reader.word().ok_or("a number")?, 0x8000_0007);
-    assert!(rt; reader.is_at_end());
-
-    for length in 0..48 {
-        assert!(rt;
-            read_items(&mut Reader::new(&ITEMS[..length])).is_none(),
-            "cut to {length}"
+    for (item, spelling) in ITEMS {
+        assert_eq!(rt; spelled(rt.alloc(), item)?.as_slice(), spelling);
+        assert_eq!(rt;
+            (read_of(spelling, item), is_whole(spelling, item)),
+            ((Some(true), true), true),
+            "{spelling:?}"
         );
     }
     Ok(())
+}
+
+#[test]
+fn what_stands_behind_an_item_is_left(rt: HostRuntime) {
+    let mut reader = Reader::new(&[0, 0, 0, 9, 128, 0, 0, 7]);
+    let (first, at_end, rest) = (reader.word(), reader.is_at_end(), reader.rest());
+    assert_eq!(rt;
+        (first, at_end, rest, reader.word(), reader.is_at_end()),
+        (
+            Some(9),
+            false,
+            [128, 0, 0, 7].as_slice(),
+            Some(0x8000_0007),
+            true
+        )
+    );
 }
 
 #[test]

@@ -1,59 +1,81 @@
 // Inodes by hand: where the fields lie, and what is read of bytes that are no inode's.
-use journal_inode::{FileNode, NODE_BYTES, Node, Time};
+use journal_inode::{FileNode, NODE_BYTES, Node, Time, bit_addr, block_addr, inode_addr};
+use journal_world::Addr;
 use std::test::*;
 
-// Bytes 0 to 31 of a file's inode, each field by its bytes, the lowest first.
-const FIELDS: [u8; 32] = [
+// Inodes, and bytes 0 to 31 of each: kind, generation, size, block, seconds and nanoseconds, the lowest byte first.
+const FILE: Node = Node::File(FileNode {
+    generation: 0x4433_2211,
+    size: 2048,
+    block: 531,
+    mtime: Time {
+        secs: 5,
+        nanos: 0x1000_0007,
+    },
+});
+
+const FILE_FRONT: [u8; 32] = [
     2, 0, 0, 0, 0x11, 0x22, 0x33, 0x44, 0, 8, 0, 0, 0, 0, 0, 0, 0x13, 2, 0, 0, 0, 0, 0, 0, 5, 0, 0,
     0, 7, 0, 0, 0x10,
 ];
 
-fn front(bytes: &[u8; NODE_BYTES]) -> &[u8] {
-    &bytes[..32]
+const FREE_FRONT: [u8; 32] = [
+    0, 0, 0, 0, 7, 0, 0, 0, 0, 0, 0, 0, 0, 0, 0, 0, 0, 0, 0, 0, 0, 0, 0, 0, 0, 0, 0, 0, 0, 0, 0, 0,
+];
+
+const ROOT: Node = Node::Root(Time { secs: 3, nanos: 4 });
+
+const ROOT_FRONT: [u8; 32] = [
+    1, 0, 0, 0, 1, 0, 0, 0, 0, 0, 0, 0, 0, 0, 0, 0, 0, 0, 0, 0, 0, 0, 0, 0, 3, 0, 0, 0, 4, 0, 0, 0,
+];
+
+// These bytes, and zeros behind them.
+fn filled_up(front: &[u8; 32]) -> [u8; NODE_BYTES] {
+    let mut bytes = [0; NODE_BYTES];
+    bytes[..32].copy_from_slice(front);
+    bytes
 }
 
-fn behind(bytes: &[u8; NODE_BYTES]) -> &[u8] {
-    &bytes[32..]
-}
-
-fn written() -> Node {
-    Node::File(FileNode {
-        generation: 0x4433_2211,
-        size: 2048,
-        block: 531,
-        mtime: Time {
-            secs: 5,
-            nanos: 0x1000_0007,
-        },
-    })
+// Whether the bytes are an inode's.
+fn is_inode(bytes: &[u8; NODE_BYTES]) -> bool {
+    Node::read(bytes).bytes() == *bytes
 }
 
 #[test]
 fn the_fields_of_a_file_lie_lowest_byte_first(rt: HostRuntime) {
-    let bytes = written().bytes();
-    assert_eq!(rt; front(&bytes), &FIELDS[..]);
-    assert!(rt; behind(&bytes).iter().all(|byte| *byte == 0));
-    assert_eq!(rt; Node::read(&bytes), written());
+    let bytes = filled_up(&FILE_FRONT);
+    assert_eq!(rt; (FILE.bytes(), Node::read(&bytes)), (bytes, FILE));
 }
 
 #[test]
 fn a_free_inode_and_the_root_have_no_size(rt: HostRuntime) {
-    let free = Node::Free(7).bytes();
-    assert_eq!(rt; &free[..8], &[0u8, 0, 0, 0, 7, 0, 0, 0][..]);
-    assert!(rt; free[8..].iter().all(|byte| *byte == 0));
-
-    let root = Node::Root(Time { secs: 3, nanos: 4 }).bytes();
-    assert_eq!(rt; &root[..8], &[1u8, 0, 0, 0, 1, 0, 0, 0][..]);
-    assert_eq!(rt; &root[24..32], &[3u8, 0, 0, 0, 4, 0, 0, 0][..]);
+    let wanted = (filled_up(&FREE_FRONT), filled_up(&ROOT_FRONT));
+    assert_eq!(rt; (Node::Free(7).bytes(), ROOT.bytes()), wanted);
 }
 
 #[test]
 fn bytes_of_no_inode_are_read_as_one_of_other_bytes(rt: HostRuntime) {
-    let mut bytes = [0; NODE_BYTES];
-    bytes[0] = 3;
-    assert!(rt; Node::read(&bytes).bytes() != bytes);
-    bytes[0] = 2;
-    assert!(rt; Node::read(&bytes).bytes() == bytes);
-    bytes[127] = 1;
-    assert!(rt; Node::read(&bytes).bytes() != bytes);
+    let mut other_kind = [0; NODE_BYTES];
+    other_kind[0] = 3;
+    let mut file = [0; NODE_BYTES];
+    file[0] = 2;
+    let mut longer = file;
+    longer[127] = 1;
+    assert_eq!(rt;
+        (is_inode(&other_kind), is_inode(&file), is_inode(&longer)),
+        (false, true, false)
+    );
+}
+
+#[test]
+fn objects_lie_where_the_format_says(rt: HostRuntime) {
+    let found = [
+        inode_addr(1),
+        inode_addr(32),
+        inode_addr(511),
+        bit_addr(540),
+        block_addr(540),
+    ];
+    let wanted = [(515, 1024), (516, 0), (530, 31744), (514, 9), (540, 0)];
+    assert_eq!(rt; found, wanted.map(|(block, off)| Addr { block, off }));
 }

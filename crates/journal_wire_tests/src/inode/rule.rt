@@ -1,12 +1,10 @@
 // A formatted disk, and what the rule admits once objects of it are overwritten.
-
 use journal_block::Block;
 use journal_disk::{BlockDisk, MemDisk};
-use journal_inode::{FileNode, Node, SoundFiles, Time, bit_addr, block_addr, format, inode_addr};
+use journal_inode::{FileNode, Node, SoundFiles, Time, format};
 use journal_object::{load, store};
-use journal_world::{Addr, Layout, MapRule, Moment, ObjectReader, Refusal, SUPERBLOCK, Value};
+use journal_world::{Addr, Layout, MapRule, Moment, ObjectReader, Refusal, Value};
 use std::alloc::Global;
-use std::process::Abort;
 use std::test::*;
 
 // Reads the objects of a disk in memory. Of the disk nothing is proved here, so the reader is not trusted.
@@ -15,25 +13,30 @@ struct Objects {
     alloc: Global,
     layout: Layout,
     disk: MemDisk,
+    // Room for a block.
+    block: Block,
 }
 
 impl Objects {
-    // The block as it reads, or zeros past the end.
-    fn block(&self, number: u64) -> Result<Block, Refusal<()>> {
-        let mut block = Block::try_new(self.alloc)?;
-        if number < self.disk.size() {
-            self.disk.peek(number, &mut block);
+    fn put(&mut self, addr: Addr, value: &[u8]) -> Result<(), Fail> {
+        if addr.block >= self.disk.size() {
+            return Err(Fail::from("no such block"));
         }
-        Ok(block)
+        self.disk.peek(addr.block, &mut self.block);
+        store::<()>(&self.layout, &mut self.block, addr, value)?;
+        self.disk.write(addr.block, &self.block)?;
+        Ok(())
     }
 
-    fn put(&mut self, addr: Addr, value: &[u8]) -> Result<(), Fail> {
-        let mut block = self.block(addr.block)?;
-        store::<()>(&self.layout, &mut block, addr, value)?;
-        if addr.block < self.disk.size() {
-            self.disk.write(addr.block, &block)?;
+    // Whether a block has these bytes from a place on.
+    fn has(&mut self, number: u64, place: usize, bytes: &[u8]) -> bool {
+        if number < self.disk.size() {
+            self.disk.peek(number, &mut self.block);
         }
-        Ok(())
+        match self.block.as_bytes().get(place..) {
+            Some(rest) => rest.starts_with(bytes),
+            None => false,
+        }
     }
 }
 
@@ -56,11 +59,11 @@ impl ObjectReader for Objects {
         let Some(kind) = self.layout.kind(addr.block) else {
             unreachable!()
         };
-        let Ok(block) = self.block(addr.block) else {
-            return Err(Refusal::NoMemory);
-        };
+        if addr.block < self.disk.size() {
+            self.disk.peek(addr.block, &mut self.block);
+        }
         let mut bytes = vec![in self.alloc; 0u8; kind.bytes()]?;
-        match load::<()>(&self.layout, &block, addr, &mut bytes) {
+        match load::<()>(&self.layout, &self.block, addr, &mut bytes) {
             Ok(()) => Ok(Value::new(bytes)),
             Err(_) => Err(Refusal::DeviceFailed(())),
         }
@@ -69,37 +72,80 @@ impl ObjectReader for Objects {
 
 const MADE: Time = Time { secs: 5, nanos: 6 };
 
+const NOW: Moment = Moment { secs: 5, nanos: 6 };
+
 // A disk of 600 blocks without files.
 fn formatted(alloc: Global) -> Result<Objects, Fail> {
     let layout = Layout::new(600).ok_or("a disk may have 600 blocks")?;
-    let moment = Moment::new(MADE.secs, MADE.nanos).ok_or("6 is less than a second")?;
+    let block = Block::try_new::<()>(alloc)?;
     let disk = MemDisk::new::<()>(alloc, 600)?;
-    match format(alloc, disk, moment) {
+    match format(alloc, disk, NOW) {
         Ok(disk) => Ok(Objects {
             alloc,
             layout,
             disk,
+            block,
         }),
         Err(refused) => Err(Fail::from(refused.refusal)),
     }
 }
 
+// Overwrites an object: an inode, under its number; a file's, with its generation, size and block; the bit of the data
+// block that has this place among them; ten bytes at the front of a data block, of which the last is 1.
+#[derive(Clone, Copy)]
+enum Put {
+    Inode(u32, Node),
+    File(u32, u32, u64, u64),
+    Bit(u32),
+    Ten(u64),
+}
+
+// Where an inode lies.
+fn place_of(inode: u32) -> Addr {
+    Addr {
+        block: 515 + u64::from(inode / 32),
+        off: inode % 32 * 1024,
+    }
+}
+
+fn overwrite(objects: &mut Objects, what: Put) -> Result<(), Fail> {
+    match what {
+        Put::Inode(i, node) => objects.put(place_of(i), &node.bytes()),
+        Put::File(i, generation, size, block) => {
+            let node = Node::File(FileNode {
+                generation,
+                size,
+                block,
+                mtime: MADE,
+            });
+            objects.put(place_of(i), &node.bytes())
+        }
+        Put::Bit(off) => objects.put(Addr { block: 514, off }, &[1]),
+        Put::Ten(block) => {
+            let mut bytes = [0u8; 4096];
+            bytes[9] = 1;
+            objects.put(Addr { block, off: 0 }, &bytes)
+        }
+    }
+}
+
 // Whether the rule admits the disk without files, once these objects are overwritten.
-fn admits(alloc: Global, written: &[(Addr, &[u8])]) -> Result<bool, Fail> {
+fn admits(alloc: Global, written: &[Put]) -> Result<bool, Fail> {
     let mut objects = formatted(alloc)?;
-    for (addr, value) in written {
-        objects.put(*addr, value)?;
+    for what in written {
+        overwrite(&mut objects, *what)?;
     }
     Ok(SoundFiles::new(alloc).admit(&mut objects)?)
 }
 
-fn file(generation: u32, size: u64, block: u64) -> Node {
-    Node::File(FileNode {
-        generation,
-        size,
-        block,
-        mtime: MADE,
-    })
+// The first case of which the rule says something else.
+fn first_wrong(alloc: Global, cases: &[(&[Put], bool)]) -> Result<Option<usize>, Fail> {
+    for (i, (written, is_sound)) in cases.iter().enumerate() {
+        if admits(alloc, written)? != *is_sound {
+            return Ok(Some(i));
+        }
+    }
+    Ok(None)
 }
 
 #[test]
@@ -108,100 +154,117 @@ fn a_formatted_disk_is_admitted(rt: HostRuntime) -> Result<(), Fail> {
     Ok(())
 }
 
+// What blocks of the formatted disk have from a place on.
+const PIECES: [(u64, usize, &[u8]); 7] = [
+    (0, 0, &[0; 24]),
+    (1, 0, &[0; 24]),
+    (
+        513,
+        0,
+        &[
+            0x47, 0x4a, 0x4e, 0x4c, 0x44, 0x53, 0x4b, 0x31, 1, 0, 0, 0, 0, 0, 0, 0, 0x58, 2, 0, 0,
+            0, 0, 0, 0, 0,
+        ],
+    ),
+    // 69 bits are clear, and the others set.
+    (514, 0, &[0, 0, 0, 0, 0, 0, 0, 0, 0xe0, 0xff]),
+    (514, 4095, &[0xff]),
+    (515, 127, &[0, 1, 0, 0, 0, 1, 0, 0, 0, 0]),
+    (515, 151, &[0, 5, 0, 0, 0, 6, 0, 0, 0, 0]),
+];
+
 #[test]
 fn a_formatted_disk_has_its_superblock_and_its_bits(rt: HostRuntime) -> Result<(), Fail> {
-    let objects = formatted(rt.alloc())?;
-    let block = objects.block(SUPERBLOCK)?;
-    assert_eq!(rt; &block.as_bytes()[..8], &b"GJNLDSK1"[..]);
-    assert_eq!(rt; block.get_u64(8), 1);
-    assert_eq!(rt; block.get_u64(16), 600);
-    let bits = objects.block(514)?;
-    for (i, is_set) in [(0, false), (68, false), (69, true), (32767, true)] {
-        assert_eq!(rt; bits.bit(i), is_set, "bit {i}");
+    let mut objects = formatted(rt.alloc())?;
+    for (block, place, bytes) in PIECES {
+        assert!(rt; objects.has(block, place, bytes), "block {block}, {place}");
     }
-    let inodes = objects.block(515)?;
-    assert_eq!(rt; &inodes.as_bytes()[128..256], &Node::Root(MADE).bytes()[..]);
     Ok(())
 }
 
 #[test]
 fn a_file_with_its_bit_is_admitted(rt: HostRuntime) -> Result<(), Fail> {
-    let (inode, bit) = (inode_addr(2), bit_addr(531));
-    let node = file(1, 4096, 531).bytes();
-    assert!(rt; admits(rt.alloc(), &[(inode, &node), (bit, &[1])])?);
-    assert!(rt; !admits(rt.alloc(), &[(inode, &node)])?);
-    assert!(rt; !admits(rt.alloc(), &[(bit, &[1])])?);
+    const CASES: [(&[Put], bool); 3] = [
+        (&[Put::File(2, 1, 4096, 531), Put::Bit(0)], true),
+        (&[Put::File(2, 1, 4096, 531)], false),
+        (&[Put::Bit(0)], false),
+    ];
+    assert_eq!(rt; first_wrong(rt.alloc(), &CASES)?, None);
     Ok(())
 }
 
 #[test]
 fn two_files_do_not_have_one_block(rt: HostRuntime) -> Result<(), Fail> {
-    let node = file(1, 0, 599).bytes();
-    let other = file(1, 0, 598).bytes();
-    let bits = [(bit_addr(599), &[1u8][..]), (bit_addr(598), &[1])];
-    for (second, is_sound) in [(node, false), (other, true)] {
-        let files = [(inode_addr(2), &node[..]), (inode_addr(511), &second[..])];
-        let written = [files[0], files[1], bits[0], bits[1]];
-        assert_eq!(rt; admits(rt.alloc(), &written)?, is_sound);
-    }
+    const FIRST: Put = Put::File(2, 1, 0, 599);
+    const CASES: [(&[Put], bool); 2] = [
+        (
+            &[FIRST, Put::File(511, 1, 0, 599), Put::Bit(68), Put::Bit(67)],
+            false,
+        ),
+        (
+            &[FIRST, Put::File(511, 1, 0, 598), Put::Bit(68), Put::Bit(67)],
+            true,
+        ),
+    ];
+    assert_eq!(rt; first_wrong(rt.alloc(), &CASES)?, None);
     Ok(())
 }
 
 #[test]
 fn bytes_past_the_size_are_zero(rt: HostRuntime) -> Result<(), Fail> {
-    let mut bytes = [0u8; 4096];
-    bytes[9] = 1;
-    for (size, is_sound) in [(9, false), (10, true)] {
-        let node = file(1, size, 540).bytes();
-        let written = [
-            (inode_addr(2), &node[..]),
-            (bit_addr(540), &[1]),
-            (block_addr(540), &bytes[..]),
-        ];
-        assert_eq!(rt; admits(rt.alloc(), &written)?, is_sound, "size {size}");
-    }
+    const CASES: [(&[Put], bool); 2] = [
+        (
+            &[Put::File(2, 1, 9, 540), Put::Bit(9), Put::Ten(540)],
+            false,
+        ),
+        (
+            &[Put::File(2, 1, 10, 540), Put::Bit(9), Put::Ten(540)],
+            true,
+        ),
+    ];
+    assert_eq!(rt; first_wrong(rt.alloc(), &CASES)?, None);
     Ok(())
 }
 
 #[test]
 fn inodes_out_of_place_are_not_admitted(rt: HostRuntime) -> Result<(), Fail> {
-    let late = Time {
+    const LATE: Time = Time {
         secs: 0,
         nanos: 1_000_000_000,
     };
-    for (i, node, is_sound) in [
-        (0, Node::Free(1), false),
-        (1, Node::Free(0), false),
-        (1, Node::Root(late), false),
-        (2, Node::Root(MADE), false),
-        (2, Node::Free(7), true),
-        (511, file(0, 0, 531), false),
-        (511, file(1, 4097, 531), false),
-        (511, file(1, 0, 530), false),
-        (511, file(1, 0, 600), false),
-    ] {
-        assert_eq!(rt;
-            admits(rt.alloc(), &[(inode_addr(i), &node.bytes())])?,
-            is_sound,
-            "inode {i}"
-        );
-    }
+    const CASES: [(&[Put], bool); 10] = [
+        (&[Put::Inode(0, Node::Free(1))], false),
+        (&[Put::Inode(1, Node::Free(0))], false),
+        (&[Put::Inode(1, Node::Root(LATE))], false),
+        (&[Put::Inode(2, Node::Root(MADE))], false),
+        (&[Put::Inode(2, Node::Free(7))], true),
+        (&[Put::File(511, 0, 0, 531), Put::Bit(0)], false),
+        (&[Put::File(511, 1, 4097, 531), Put::Bit(0)], false),
+        (&[Put::File(511, 1, 4096, 531), Put::Bit(0)], true),
+        (&[Put::File(511, 1, 0, 530)], false),
+        (&[Put::File(511, 1, 0, 600)], false),
+    ];
+    assert_eq!(rt; first_wrong(rt.alloc(), &CASES)?, None);
     Ok(())
+}
+
+// Whether a format is refused by the failing of this device call, and how many blocks the disk has that comes back.
+fn refused(alloc: Global, call: u64) -> Result<(bool, u64), Fail> {
+    let mut disk = MemDisk::new::<()>(alloc, 532)?;
+    disk.fail_in(call);
+    Ok(match format(alloc, disk, NOW) {
+        Ok(_) => (false, 0),
+        Err(refused) => (
+            refused.refusal == Refusal::DeviceFailed(()),
+            refused.disk.size(),
+        ),
+    })
 }
 
 #[test]
 fn a_refused_format_gives_the_disk_back(rt: HostRuntime) -> Result<(), Fail> {
-    let moment = Moment::new(5, 6).ok_or("6 is less than a second")?;
     for call in 1..=4 {
-        let mut disk = MemDisk::new::<()>(rt.alloc(), 532)?;
-        disk.fail_in(call);
-        match format(rt.alloc(), disk, moment) {
-            Ok(_) => assert!(rt; false, "call {call}"),
-            Err(refused) => {
-                assert_eq!(rt; refused.refusal, Refusal::DeviceFailed(()));
-                assert_eq!(rt; refused.disk.size(), 532);
-            }
-        }
+        assert_eq!(rt; refused(rt.alloc(), call)?, (true, 532), "call {call}");
     }
     Ok(())
 }
