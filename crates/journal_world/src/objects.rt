@@ -1,5 +1,5 @@
 // Values by address.
-ghost use Rattle.std.specs.Prelude.{◌≡◌, ℕ, [], ◌∷◌, ◌++◌, IsTrue, OnOk, OnErr, IfSome, IfNone};
+ghost use Rattle.std.specs.Prelude.{◌≡◌, ℕ, [], ◌∷◌, IsTrue, OnOk, OnErr};
 ghost use Rattle.std.specs.Option.{option_copied};
 ghost use Rattle.journal_world.specs.Maps.{Map, value_among, value_at, SamePairs, Agrees, is_object, are_objects};
 ghost use Rattle.journal_world.specs.Orders.{HasAscendingBlocks};
@@ -61,14 +61,6 @@ impl Objects {
     {
         self.values.insert(addr, value)?;
         Ok(())
-    }
-
-    /// Takes the pair of the greatest address out.
-    pub fn pop_last(&mut self) -> Option<(Addr, Value)>
-        ensures some { IfSome result (λ pair. self.old ≡ self.new ++ pair ∷ []) }
-        ensures none { IfNone result ((self.old ≡ []) × (self.new ≡ [])) }
-    {
-        self.values.pop_last()
     }
 }
 
