@@ -2,4 +2,4 @@ use Rattle.journal_daemon.proofs.tests.image_bytes.Given as goal
 
 -- the book that was just opened, and the disk's blocks
 abbrev pub ghosts-first_bytes : goal.ghosts-first_bytes
-ghosts-first_bytes g a = record { book = a.book.now; blocks = 600 }
+ghosts-first_bytes g a = record { book = a.book.now; blocks = g.J.Naming.blocks }

@@ -3,10 +3,8 @@ ghost use Rattle.std.specs.Prelude.{◌≡◌};
 
 use super::gated_disk::{Gate, GatedDisk, comes};
 use super::*;
-use std::marker::Brand;
 use std::sync::atomic::{AtomicBool, Ordering};
-use std::test::Fail;
-use std::thread::{Threads, join, yield_now};
+use std::thread::{join, yield_now};
 
 /// What a thread ends with: its session, and the counts of its receipts.
 #[derive(Drop)]
@@ -52,28 +50,22 @@ fn agree<'b, J: Naming, H: Abort>(rt: &H, ours: &mut Done<'b, J>, theirs: &mut D
     assert_eq!(rt; (counts, met), ((100, 100, true), (201, 201, 100, 100)));
 }
 
-fn counts_once<J: Naming + Send + Sync, H: Abort + Threads + Wait + Sync>(
+pub(super) fn commit_side_by_side<J: Naming + Send + Sync, H: Abort + Threads + Wait + Sync>(
     rt: &H,
     alloc: Global,
-    book: &Book<AnyMap>,
-)
-    requires book { book.now ≡ J.book }
-    requires blocks { J.blocks ≡ 600 }
-{
-    let journal = opened::<J, _>(rt, alloc, book, 600);
+    journal: &Open<MemDisk, J>,
+) {
     let (mut ours, mut theirs) = join(
         rt,
-        || commits_hundred(rt, alloc, &journal, 515),
-        || commits_hundred(rt, alloc, &journal, 516),
+        || commits_hundred(rt, alloc, journal, 515),
+        || commits_hundred(rt, alloc, journal, 516),
     );
     agree(rt, &mut ours, &mut theirs);
 }
 
 #[test]
-fn two_threads_commit_side_by_side(rt: HostRuntime) -> Result<(), Fail> {
-    let book: Book<AnyMap> = Book::open::<()>()?;
-    counts_once::<Brand, _>(&rt, rt.alloc(), &book);
-    Ok(())
+fn two_threads_commit_side_by_side(rt: HostRuntime) {
+    try_out(&rt, rt.alloc(), Trial::CommitSideBySide);
 }
 
 /// What two threads tell one another: that a transaction is open, and that another was committed.
@@ -122,29 +114,23 @@ fn commits_beside<J: Naming, H: Abort + Wait>(
 }
 
 /// A transaction that stands still stops no other one of other slots.
-fn goes_on<J: Naming + Send + Sync, H: Abort + Threads + Wait + Sync>(
+pub(super) fn go_on<J: Naming + Send + Sync, H: Abort + Threads + Wait + Sync>(
     rt: &H,
     alloc: Global,
-    book: &Book<AnyMap>,
-)
-    requires book { book.now ≡ J.book }
-    requires blocks { J.blocks ≡ 600 }
-{
-    let journal = opened::<J, _>(rt, alloc, book, 600);
+    journal: &Open<MemDisk, J>,
+) {
     let flags = Flags::default();
     let ended = join(
         rt,
-        || keeps_open(rt, alloc, &journal, &flags),
-        || commits_beside(rt, alloc, &journal, &flags),
+        || keeps_open(rt, alloc, journal, &flags),
+        || commits_beside(rt, alloc, journal, &flags),
     );
     assert_eq!(rt; ended, (((0, true), 2), (true, (0, 1))));
 }
 
 #[test]
-fn an_open_transaction_stops_no_other(rt: HostRuntime) -> Result<(), Fail> {
-    let book: Book<AnyMap> = Book::open::<()>()?;
-    goes_on::<Brand, _>(&rt, rt.alloc(), &book);
-    Ok(())
+fn an_open_transaction_stops_no_other(rt: HostRuntime) {
+    try_out(&rt, rt.alloc(), Trial::GoOn);
 }
 
 /// Commits, and logs it as far as the first barrier and on to the mark. Says what was put, how many steps
@@ -156,7 +142,20 @@ fn logs_one<J: Naming, H: Abort + Wait>(
 ) -> ((u64, u64), u64, bool) {
     let mut session = client(rt, journal);
     let put = put(rt, alloc, journal, &mut session, INODE, &[1; 128]);
-    (put, logs(rt, journal), session.is_stable(1))
+    (put, logs(rt, journal, 100), session.is_stable(1))
+}
+
+/// Begins a transaction, lets a barrier go on that waits, and gives the transaction up.
+fn begins<'b, J: Naming, W: Wait>(
+    rt: &W,
+    alloc: Global,
+    journal: &Open<'b, GatedDisk, J>,
+    session: &mut Client<'b, J>,
+    gate: &Gate,
+) {
+    let txn = journal.begin(alloc, session);
+    gate.opened.store(true, Ordering::SeqCst);
+    txn.abort(rt);
 }
 
 /// Observes, asks, meets and begins while a barrier waits, and then lets it go on. Says whether it waited,
@@ -172,9 +171,7 @@ fn looks_on<'b, J: Naming, W: Wait>(
     session.observe();
     let stable = session.is_stable(1);
     other.meet(session);
-    let txn = journal.begin(alloc, session);
-    gate.opened.store(true, Ordering::SeqCst);
-    txn.abort(rt);
+    begins(rt, alloc, journal, session, gate);
     (reached, stable, session.seen(), other.seen())
 }
 
@@ -205,20 +202,20 @@ fn stops_nobody<J: Naming + Send + Sync, H: Abort + Threads + Wait + Sync>(
     book: &Book<AnyMap>,
 )
     requires book { book.now ≡ J.book }
-    requires blocks { J.blocks ≡ 600 }
+    requires blocks { J.blocks ≡ 800 }
 {
     let gate = Gate::default();
-    let disk = MemDisk::new::<()>(alloc, 600).expect(rt, "a disk");
+    let disk = MemDisk::new::<()>(alloc, BLOCKS).expect(rt, "a disk");
     let disk = GatedDisk { disk, gate: &gate };
-    let journal: Result<Open<GatedDisk, J>, _> = Journal::open(alloc, book, disk, &AnyMap);
-    looks_beside(rt, alloc, &journal.ok().expect(rt, "a journal"), &gate);
+    let journal: Open<GatedDisk, J> = opened_on(rt, alloc, book, disk);
+    looks_beside(rt, alloc, &journal, &gate);
+    let _disk = journal.into_disk();
 }
 
 #[test]
-fn a_barrier_stops_no_observer(rt: HostRuntime) -> Result<(), Fail> {
-    let book: Book<AnyMap> = Book::open::<()>()?;
+fn a_barrier_stops_no_observer(rt: HostRuntime) {
+    let book: Book<AnyMap> = Book::open::<()>().ok().expect(&rt, "a book");
     stops_nobody::<Brand, _>(&rt, rt.alloc(), &book);
-    Ok(())
 }
 
 /// Overwrites these data blocks, and says whether it could.
@@ -228,12 +225,11 @@ fn fills<J: Naming, W: Wait>(
     (first, end): (u64, u64),
     bytes: &[u8],
 ) -> bool {
+    let mut filled = true;
     for block in first..end {
-        if txn.overwrite(rt, Addr { block, off: 0 }, bytes).is_err() {
-            return false;
-        }
+        filled &= txn.overwrite(rt, Addr { block, off: 0 }, bytes).is_ok();
     }
-    true
+    filled
 }
 
 /// Tries to commit a transaction that overwrites these.
@@ -261,10 +257,11 @@ fn fills_up<J: Naming, H: Abort + Wait>(
     let first = tries(rt, alloc, journal, &mut session, (531, 659), bytes);
     let second = tries(rt, alloc, journal, &mut session, (659, 786), bytes);
     let third = tries(rt, alloc, journal, &mut session, (786, 787), bytes);
-    assert_eq!(rt; (first, second, third), ((true, 0), (true, 0), (true, 12)));
     // What was refused left no entry.
     session.observe();
-    assert_eq!(rt; (journal.stat(rt).commits, session.seen()), (2, 3));
+    let seen = session.seen();
+    assert_eq!(rt; (first, second, third), ((true, 0), (true, 0), (true, 12)));
+    assert_eq!(rt; (journal.stat(rt).commits, seen), (2, 3));
 }
 
 /// Says that it asks for room, and commits a further block. Answers the refusal's number.
@@ -285,10 +282,8 @@ fn waits_for_room<J: Naming, H: Abort + Wait>(
 /// Makes the device fail at a read.
 fn breaks<J: Naming, H: Abort + Wait>(rt: &H, alloc: Global, journal: &Open<MemDisk, J>) -> u64 {
     let mut session = client(rt, journal);
-    let mut txn = journal.begin(alloc, &mut session);
     journal.fail_in(rt, 1);
-    let number = number_of(txn.read(rt, BIT));
-    txn.abort(rt);
+    let (number, _, _) = look_at(rt, alloc, journal, &mut session, BIT);
     number
 }
 
@@ -316,39 +311,32 @@ fn ends_the_wait<J: Naming, H: Abort + Wait>(
     }
 }
 
-/// A commit waits for room, until there is some or the device fails.
-fn waits<J: Naming + Send + Sync, H: Abort + Threads + Wait + Sync>(
+/// A commit waits for room, until there is some or the device fails. It and the other thread are refused by
+/// this number then.
+pub(super) fn wait_for_room<J: Naming + Send + Sync, H: Abort + Threads + Wait + Sync>(
     rt: &H,
     alloc: Global,
-    book: &Book<AnyMap>,
+    journal: &Open<MemDisk, J>,
     fails: bool,
-) -> ((bool, u64), u64)
-    requires book { book.now ≡ J.book }
-    requires blocks { J.blocks ≡ 800 }
-{
+    refused: u64,
+) {
     let bytes = vec![in alloc; 1u8; 4096].expect(rt, "bytes");
-    let journal = opened::<J, _>(rt, alloc, book, 800);
-    fills_up(rt, alloc, &journal, &bytes);
+    fills_up(rt, alloc, journal, &bytes);
     let asks = AtomicBool::new(false);
-    join(
+    let ended = join(
         rt,
-        || waits_for_room(rt, alloc, &journal, &bytes, &asks),
-        || ends_the_wait(rt, alloc, &journal, &asks, fails),
-    )
+        || waits_for_room(rt, alloc, journal, &bytes, &asks),
+        || ends_the_wait(rt, alloc, journal, &asks, fails),
+    );
+    assert_eq!(rt; ended, ((true, refused), refused));
 }
 
 #[test]
-fn a_commit_waits_for_room(rt: HostRuntime) -> Result<(), Fail> {
-    let book: Book<AnyMap> = Book::open::<()>()?;
-    let ended = waits::<Brand, _>(&rt, rt.alloc(), &book, false);
-    assert_eq!(rt; ended, ((true, 0), 0));
-    Ok(())
+fn a_commit_waits_for_room(rt: HostRuntime) {
+    try_out(&rt, rt.alloc(), Trial::WaitForRoom);
 }
 
 #[test]
-fn a_fault_ends_the_wait_for_room(rt: HostRuntime) -> Result<(), Fail> {
-    let book: Book<AnyMap> = Book::open::<()>()?;
-    let ended = waits::<Brand, _>(&rt, rt.alloc(), &book, true);
-    assert_eq!(rt; ended, ((true, 6), 6));
-    Ok(())
+fn a_fault_ends_the_wait_for_room(rt: HostRuntime) {
+    try_out(&rt, rt.alloc(), Trial::BreakTheWaitForRoom);
 }

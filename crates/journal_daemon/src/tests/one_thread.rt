@@ -3,26 +3,27 @@ ghost use Rattle.std.specs.Prelude.{◌≡◌};
 
 use super::*;
 use journal_block::Block;
-use std::marker::Brand;
-use std::test::Fail;
 
 /// An address that names no object.
 const NOWHERE: Addr = Addr { block: 512, off: 0 };
 
-/// A transaction reads and overwrites, and is refused what names no object or is no value.
-fn acts<J: Naming, H: Abort + Wait>(rt: &H, txn: &mut OpenTxn<MemDisk, J>) {
+/// A transaction reads and overwrites.
+fn acts<J: Naming, W: Wait>(
+    rt: &W,
+    txn: &mut OpenTxn<MemDisk, J>,
+) -> ((u64, usize, u8), u64, (u64, usize, u8), (u64, usize, u8)) {
     let opened = look(rt, txn, INODE);
     let wrote = number_of(txn.overwrite(rt, INODE, &[7; 128]));
     let own = look(rt, txn, INODE);
-    let bit = look(rt, txn, BIT);
-    assert_eq!(rt;
-        (opened, wrote, own, bit),
-        ((0, 128, 0), 0, (0, 128, 7), (0, 1, 0))
-    );
+    (opened, wrote, own, look(rt, txn, BIT))
+}
+
+/// It is refused what names no object or is no value.
+fn errs<J: Naming, W: Wait>(rt: &W, txn: &mut OpenTxn<MemDisk, J>) -> (u64, u64, u64) {
     let nowhere = number_of(txn.read(rt, NOWHERE));
     let wrote = number_of(txn.overwrite(rt, NOWHERE, &[7]));
     let short = number_of(txn.overwrite(rt, INODE, &[7; 127]));
-    assert_eq!(rt; (nowhere, wrote, short), (2, 2, 3));
+    (nowhere, wrote, short)
 }
 
 /// It is committed. Answers its count, the session's number of commits, and how much it has seen.
@@ -33,26 +34,41 @@ fn commits<'b, J: Naming, H: Abort + Wait>(
     session: &mut Client<'b, J>,
 ) -> (u64, u64, u64) {
     let mut txn = journal.begin(alloc, session);
-    acts(rt, &mut txn);
+    let acted = acts(rt, &mut txn);
+    let erred = errs(rt, &mut txn);
     let count = count_of(txn.try_commit(rt, session));
+    assert_eq!(rt;
+        (acted, erred),
+        (((0, 128, 0), 0, (0, 128, 7), (0, 1, 0)), (2, 2, 3))
+    );
     (count, session.made(), session.seen())
 }
 
-/// A later transaction of another session reads what was committed, and not what was given up.
+/// Overwrites, and gives that up.
 fn forgets<'b, J: Naming, W: Wait>(
     rt: &W,
     alloc: Global,
     journal: &Open<'b, MemDisk, J>,
-    other: &mut Client<'b, J>,
-) -> (u64, (u64, usize, u8), u64) {
-    let mut txn = journal.begin(alloc, other);
+    session: &mut Client<'b, J>,
+) -> u64 {
+    let mut txn = journal.begin(alloc, session);
     let wrote = number_of(txn.overwrite(rt, INODE, &[8; 128]));
     txn.abort(rt);
-    let mut txn = journal.begin(alloc, other);
+    wrote
+}
+
+/// A later transaction of another session reads what was committed, and not what was given up.
+fn finds<'b, J: Naming, W: Wait>(
+    rt: &W,
+    alloc: Global,
+    journal: &Open<'b, MemDisk, J>,
+    session: &mut Client<'b, J>,
+) -> ((u64, usize, u8), u64) {
+    let mut txn = journal.begin(alloc, session);
     let found = look(rt, &mut txn, INODE);
     let seen = txn.front().len();
     txn.abort(rt);
-    (wrote, found, seen)
+    (found, seen)
 }
 
 /// Makes steps of the installer until one does not move. Answers how many moved.
@@ -72,16 +88,20 @@ fn numbers<J: Naming, W: Wait>(rt: &W, journal: &Open<MemDisk, J>) -> (u64, u64,
 }
 
 /// A commit of one block is logged, marked and installed.
-fn settles<J: Naming, H: Abort + Wait>(rt: &H, alloc: Global, journal: &Open<MemDisk, J>)
-    requires { J.blocks ≡ 600 }
-{
+fn settles<J: Naming, H: Abort + Wait>(rt: &H, journal: &Open<MemDisk, J>) {
     let fresh = numbers(rt, journal);
-    let logged = (logs(rt, journal), numbers(rt, journal));
+    let logged = (logs(rt, journal, 100), numbers(rt, journal));
     let installed = (installs(rt, journal), numbers(rt, journal));
     assert_eq!(rt;
         (fresh, logged, installed),
         ((1, 0, 0, 0), (6, (1, 1, 0, 1)), (4, (1, 1, 1, 1)))
     );
+}
+
+/// The home block is what was committed, and nothing is pending.
+fn lies_home<J: Naming, H: Abort + Wait>(rt: &H, alloc: Global, journal: &Open<MemDisk, J>)
+    requires { J.blocks ≡ 800 }
+{
     let mut block = Block::try_new::<()>(alloc).expect(rt, "a block");
     journal.inspect(rt, 515, &mut block);
     let pending = journal.pending(rt).ok().expect(rt, "a list");
@@ -106,6 +126,18 @@ fn faults<J: Naming, W: Wait>(
     (wrote, device, own, nowhere, later)
 }
 
+/// A commit is refused there.
+fn commits_no_more<'b, J: Naming, W: Wait>(
+    rt: &W,
+    alloc: Global,
+    journal: &Open<'b, MemDisk, J>,
+    session: &mut Client<'b, J>,
+) -> ((u64, u64, u64, u64, u64), u64) {
+    let mut txn = journal.begin(alloc, session);
+    let asked = faults(rt, journal, &mut txn);
+    (asked, number_of(txn.commit(rt, session)))
+}
+
 /// Commits and steps are refused there.
 fn stops<'b, J: Naming, H: Abort + Wait>(
     rt: &H,
@@ -113,9 +145,7 @@ fn stops<'b, J: Naming, H: Abort + Wait>(
     journal: &Open<'b, MemDisk, J>,
     session: &mut Client<'b, J>,
 ) {
-    let mut txn = journal.begin(alloc, session);
-    let asked = faults(rt, journal, &mut txn);
-    let commit = number_of(txn.commit(rt, session));
+    let (asked, commit) = commits_no_more(rt, alloc, journal, session);
     let log = number_of(journal.log_step(rt));
     let install = number_of(journal.install_step(rt));
     assert_eq!(rt; (asked, commit, log, install), ((0, 6, 6, 6, 0), 6, 6, 6));
@@ -123,27 +153,31 @@ fn stops<'b, J: Naming, H: Abort + Wait>(
 
 /// What calls answer, from the first commit to a fault. A session that commits nothing is told of the mark.
 fn runs<'b, J: Naming, H: Abort + Wait>(rt: &H, alloc: Global, journal: &Open<'b, MemDisk, J>)
-    requires { J.blocks ≡ 600 }
+    requires { J.blocks ≡ 800 }
 {
     let mut session = client(rt, journal);
     let mut other = client(rt, journal);
     let committed = commits(rt, alloc, journal, &mut session);
-    let found = forgets(rt, alloc, journal, &mut other);
-    assert_eq!(rt; (committed, found), ((1, 1, 2), (0, (0, 128, 7), 2)));
-    settles(rt, alloc, journal);
-    assert_eq!(rt; (other.is_stable(1), other.seen()), (true, 3));
+    let forgot = forgets(rt, alloc, journal, &mut other);
+    let found = finds(rt, alloc, journal, &mut other);
+    settles(rt, journal);
+    lies_home(rt, alloc, journal);
+    assert_eq!(rt;
+        (committed, forgot, found, other.is_stable(1), other.seen()),
+        ((1, 1, 2), 0, ((0, 128, 7), 2), true, 3)
+    );
     stops(rt, alloc, journal, &mut session);
 }
 
 /// Opens a second journal on the book, whose disk is handed back.
 fn opens_again<J: Naming, H: Abort>(rt: &H, alloc: Global, book: &Book<AnyMap>) -> (u64, bool)
     requires book { book.now ≡ J.book }
-    requires blocks { J.blocks ≡ 600 }
+    requires blocks { J.blocks ≡ 800 }
 {
-    let disk = MemDisk::new::<()>(alloc, 600).expect(rt, "a disk");
+    let disk = MemDisk::new::<()>(alloc, BLOCKS).expect(rt, "a disk");
     let again: Result<Open<MemDisk, J>, _> = Journal::open(alloc, book, disk, &AnyMap);
     match again {
-        Ok(_) => (0, false),
+        Ok(journal) => (journal.into_disk().size(), false),
         Err(refused) => (
             refused.disk.size(),
             matches!(refused.refusal, Refusal::Stale(_)),
@@ -158,26 +192,21 @@ fn closes<'b, J: Naming, H: Abort + Wait>(rt: &H, journal: Open<'b, MemDisk, J>)
     (late.seen(), disk.size())
 }
 
-fn answers<J: Naming, H: Abort + Wait>(
-    rt: &H,
-    alloc: Global,
-    book: &Book<AnyMap>,
-) -> ((u64, bool), (u64, u64))
+fn answers<J: Naming, H: Abort + Wait>(rt: &H, alloc: Global, book: &Book<AnyMap>)
     requires book { book.now ≡ J.book }
-    requires blocks { J.blocks ≡ 600 }
+    requires blocks { J.blocks ≡ 800 }
 {
-    let journal = opened::<J, _>(rt, alloc, book, 600);
+    let journal = opened::<J, _>(rt, alloc, book);
     runs(rt, alloc, &journal);
     let again = opens_again::<J, _>(rt, alloc, book);
-    (again, closes(rt, journal))
+    let closed = closes(rt, journal);
+    assert_eq!(rt; (again, closed), ((800, true), (3, 800)));
 }
 
 #[test]
-fn each_call_is_answered(rt: HostRuntime) -> Result<(), Fail> {
-    let book: Book<AnyMap> = Book::open::<()>()?;
-    let ended = answers::<Brand, _>(&rt, rt.alloc(), &book);
-    assert_eq!(rt; ended, ((600, true), (3, 600)));
-    Ok(())
+fn each_call_is_answered(rt: HostRuntime) {
+    let book: Book<AnyMap> = Book::open::<()>().ok().expect(&rt, "a book");
+    answers::<Brand, _>(&rt, rt.alloc(), &book);
 }
 
 /// One transaction holds a slot and tries a lower one, which another holds until it is given up.
@@ -216,19 +245,17 @@ fn excludes<'b, J: Naming, H: Abort + Wait>(
     (tried, count_of(first.commit(rt, &mut ours)))
 }
 
-fn is_busy<J: Naming, H: Abort + Wait>(rt: &H, alloc: Global, book: &Book<AnyMap>)
-    requires book { book.now ≡ J.book }
-    requires blocks { J.blocks ≡ 600 }
-{
-    let journal = opened::<J, _>(rt, alloc, book, 600);
+pub(super) fn is_busy<J: Naming + Send + Sync, H: Abort + Threads + Wait + Sync>(
+    rt: &H,
+    alloc: Global,
+    journal: &Open<MemDisk, J>,
+) {
     let bytes = vec![in alloc; 1u8; 4096].expect(rt, "bytes");
-    let answered = excludes(rt, alloc, &journal, &bytes);
+    let answered = excludes(rt, alloc, journal, &bytes);
     assert_eq!(rt; answered, ([0, 0, 5, 5, 0], 1));
 }
 
 #[test]
-fn a_lower_slot_that_is_held_is_busy(rt: HostRuntime) -> Result<(), Fail> {
-    let book: Book<AnyMap> = Book::open::<()>()?;
-    is_busy::<Brand, _>(&rt, rt.alloc(), &book);
-    Ok(())
+fn a_lower_slot_that_is_held_is_busy(rt: HostRuntime) {
+    try_out(&rt, rt.alloc(), Trial::IsBusy);
 }

@@ -1,5 +1,0 @@
-use Rattle.journal_daemon.proofs.tests.journal.one_thread.each_call_is_answered.Given as goal
-
--- the book that was just opened, and the disk's blocks
-abbrev pub ghosts-answers : goal.ghosts-answers
-ghosts-answers g a = record { book = a.book.now; blocks = 600 }

@@ -1,5 +1,0 @@
-use Rattle.journal_daemon.proofs.tests.journal.threads.a_barrier_stops_no_observer.Given as goal
-
--- the book that was just opened, and the disk's blocks
-abbrev pub ghosts-stops_nobody : goal.ghosts-stops_nobody
-ghosts-stops_nobody g a = record { book = a.book.now; blocks = 600 }

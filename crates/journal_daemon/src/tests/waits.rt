@@ -1,0 +1,145 @@
+// What is told of stable commits, and what a crash leaves.
+use super::*;
+use journal_history::StableNote;
+
+/// The refusal's number, and the count of a note.
+fn noted<'b, J: Naming>(answer: Result<StableNote<'b, J, AnyMap>, Reason<'b, J>>) -> (u64, u64) {
+    match answer {
+        Ok(note) => (0, note.count()),
+        refused => (number_of(refused), 0),
+    }
+}
+
+/// Commits an inode.
+fn committed<'b, J: Naming, H: Abort + Wait>(
+    rt: &H,
+    alloc: Global,
+    journal: &Open<'b, MemDisk, J>,
+    session: &mut Client<'b, J>,
+) -> Receipt<'b, J, AnyMap> {
+    let mut txn = journal.begin(alloc, session);
+    let wrote = number_of(txn.overwrite(rt, INODE, &[1; 128]));
+    let answer = txn.commit(rt, session);
+    assert_eq!(rt; wrote, 0);
+    answer.ok().expect(rt, "a commit")
+}
+
+/// Waits for a receipt and for all that the session has seen.
+fn awaits<'b, J: Naming, W: Wait>(
+    rt: &W,
+    journal: &Open<'b, MemDisk, J>,
+    session: &mut Client<'b, J>,
+    receipt: &Receipt<'b, J, AnyMap>,
+) -> ((u64, u64), (u64, u64)) {
+    let waited = noted(journal.wait_stable(rt, session, receipt));
+    (waited, noted(journal.flush(rt, session)))
+}
+
+/// A mark is told to who waits for it, and to an observer who never committed.
+fn tells<'b, J: Naming, H: Abort + Wait>(
+    rt: &H,
+    journal: &Open<'b, MemDisk, J>,
+    session: &mut Client<'b, J>,
+    receipt: &Receipt<'b, J, AnyMap>,
+) {
+    let mut other = client(rt, journal);
+    let before = other.seen();
+    let moved = logs(rt, journal, 100);
+    let awaited = awaits(rt, journal, session, receipt);
+    let told = other.is_stable(1);
+    assert_eq!(rt;
+        (
+            moved,
+            awaited,
+            before,
+            other.seen(),
+            told,
+            other.is_stable(2)
+        ),
+        (6, ((0, 1), (0, 1)), 2, 3, true, false)
+    );
+}
+
+/// A stop ends an open transaction.
+fn stops<'b, J: Naming, W: Wait>(
+    rt: &W,
+    alloc: Global,
+    journal: &Open<'b, MemDisk, J>,
+    session: &mut Client<'b, J>,
+) -> ((u64, usize, u8), u64, u64) {
+    let mut txn = journal.begin(alloc, session);
+    journal.stop(rt);
+    let read = look(rt, &mut txn, INODE);
+    let wrote = number_of(txn.overwrite(rt, INODE, &[2; 128]));
+    (read, wrote, number_of(txn.commit(rt, session)))
+}
+
+/// After a stop all is refused by J13, but a wait for a mark that stands.
+fn refuses_the_rest<'b, J: Naming, H: Abort + Wait>(
+    rt: &H,
+    journal: &Open<'b, MemDisk, J>,
+    session: &mut Client<'b, J>,
+    receipt: &Receipt<'b, J, AnyMap>,
+    late: &Receipt<'b, J, AnyMap>,
+) {
+    let log = number_of(journal.log_step(rt));
+    let install = number_of(journal.install_step(rt));
+    let (stands, _) = awaits(rt, journal, session, receipt);
+    let lacks = awaits(rt, journal, session, late);
+    assert_eq!(rt;
+        (log, install, stands, lacks),
+        (13, 13, (0, 1), ((13, 0), (13, 0)))
+    );
+}
+
+/// A session that has seen the opening alone waits for nothing.
+pub(super) fn answer_waits<J: Naming + Send + Sync, H: Abort + Threads + Wait + Sync>(
+    rt: &H,
+    alloc: Global,
+    journal: &Open<MemDisk, J>,
+) {
+    let mut session = client(rt, journal);
+    let fresh = noted(journal.flush(rt, &mut session));
+    let receipt = committed(rt, alloc, journal, &mut session);
+    tells(rt, journal, &mut session, &receipt);
+    let late = committed(rt, alloc, journal, &mut session);
+    let stopped = stops(rt, alloc, journal, &mut session);
+    assert_eq!(rt; (fresh, stopped), ((0, 0), ((13, 0, 0), 0, 13)));
+    refuses_the_rest(rt, journal, &mut session, &receipt, &late);
+}
+
+#[test]
+fn a_mark_is_told_and_a_stop_ends_the_rest(rt: HostRuntime) {
+    try_out(&rt, rt.alloc(), Trial::AnswerWaits);
+}
+
+/// The first byte of inode 1 in an image that a crash may leave now.
+fn image_byte<'b, J: Naming, H: Abort + Wait>(
+    rt: &H,
+    alloc: Global,
+    journal: &Open<'b, MemDisk, J>,
+    session: &mut Client<'b, J>,
+    choice: &[u32],
+) -> u8 {
+    let [first, ..] = image_bytes(rt, alloc, journal, session, choice);
+    first
+}
+
+/// Where block 0 was written and no barrier made, a crash leaves the old map or the new one.
+pub(super) fn leave_either<J: Naming + Send + Sync, H: Abort + Threads + Wait + Sync>(
+    rt: &H,
+    alloc: Global,
+    journal: &Open<MemDisk, J>,
+) {
+    let mut session = client(rt, journal);
+    let put = put(rt, alloc, journal, &mut session, inode(1), &[1; 128]);
+    let moved = logs(rt, journal, 4);
+    let none = image_byte(rt, alloc, journal, &mut session, &[]);
+    let all = image_byte(rt, alloc, journal, &mut session, &[1]);
+    assert_eq!(rt; (put == (0, 1), moved == 4, none, all), (true, true, 0, 1));
+}
+
+#[test]
+fn an_image_is_of_the_choice(rt: HostRuntime) {
+    try_out(&rt, rt.alloc(), Trial::LeaveEither);
+}
