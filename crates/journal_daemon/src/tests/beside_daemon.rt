@@ -18,7 +18,22 @@ trait Work {
     ) -> Self::Answer;
 }
 
-/// Does the work of each number in a thread of its own.
+/// Does the work of two numbers, each in a thread of its own.
+fn in_two<T: Work + Sync, J: Naming + Send + Sync, H: Abort + Threads + Wait + Sync>(
+    rt: &H,
+    alloc: Global,
+    journal: &Open<MemDisk, J>,
+    work: &T,
+    (first, second): (u8, u8),
+) -> (T::Answer, T::Answer) {
+    join(
+        rt,
+        || work.work(rt, alloc, journal, first),
+        || work.work(rt, alloc, journal, second),
+    )
+}
+
+/// Does that of four.
 fn in_four<T: Work + Sync, J: Naming + Send + Sync, H: Abort + Threads + Wait + Sync>(
     rt: &H,
     alloc: Global,
@@ -29,40 +44,52 @@ fn in_four<T: Work + Sync, J: Naming + Send + Sync, H: Abort + Threads + Wait + 
     let [first, second, third, fourth] = numbers;
     let ((one, two), (three, four)) = join(
         rt,
-        || {
-            join(
-                rt,
-                || work.work(rt, alloc, journal, first),
-                || work.work(rt, alloc, journal, second),
-            )
-        },
-        || {
-            join(
-                rt,
-                || work.work(rt, alloc, journal, third),
-                || work.work(rt, alloc, journal, fourth),
-            )
-        },
+        || in_two(rt, alloc, journal, work, (first, second)),
+        || in_two(rt, alloc, journal, work, (third, fourth)),
     );
     [one, two, three, four]
 }
 
-/// Does it beside the daemon, which is stopped then. Answers whether the daemon ended well, too.
-fn beside_daemon<
-    A,
-    F: FnOnce() -> A,
-    G: Gate + Sync,
-    J: Naming + Send + Sync,
-    H: Abort + Threads + Wait + Sync,
->(rt: &H, journal: &Open<MemDisk, J>, gate: &G, work: F) -> (bool, A)
-    requires { F.IsAlwaysCallable work }
-{
-    let worked = || {
-        let answer = work();
-        journal.stop(rt);
-        answer
+/// A gate that holds each thread until the journal has four commits or the gate is opened, for a million turns at
+/// most.
+#[derive(Drop)]
+struct HeldGate<'j, 'b, J: Naming> {
+    journal: &'j Open<'b, MemDisk, J>,
+    opened: AtomicBool,
+}
+
+impl<'j, 'b, J: Naming> Gate for HeldGate<'j, 'b, J> {
+    fn pass<W: Wait>(&self, rt: &W, _who: u64, _n: u64) {
+        for _ in 0..1_000_000 {
+            if self.opened.load(Ordering::SeqCst) || self.journal.stat(rt).commits == 4 {
+                return;
+            }
+            yield_now();
+        }
+    }
+}
+
+/// Does it beside the daemon, which may be held at its gate first. The gate is opened and the daemon stopped then.
+fn beside_daemon<T: Work + Sync, J: Naming + Send + Sync, H: Abort + Threads + Wait + Sync>(
+    rt: &H,
+    alloc: Global,
+    journal: &Open<MemDisk, J>,
+    is_held: bool,
+    work: &T,
+    numbers: [u8; 4],
+) -> [T::Answer; 4] {
+    let gate = HeldGate {
+        journal,
+        opened: AtomicBool::new(!is_held),
     };
-    join(rt, || start(rt, journal, gate).is_ok(), worked)
+    let four = || {
+        let answers = in_four(rt, alloc, journal, work, numbers);
+        gate.opened.store(true, Ordering::SeqCst);
+        journal.stop(rt);
+        answers
+    };
+    let (_ended, answers) = join(rt, || start(rt, journal, &gate).is_ok(), four);
+    answers
 }
 
 /// The inode that all count in.
@@ -162,8 +189,7 @@ pub(super) fn count_once<J: Naming + Send + Sync, H: Abort + Threads + Wait + Sy
     alloc: Global,
     journal: &Open<MemDisk, J>,
 ) {
-    let four = || in_four(rt, alloc, journal, &CommitMany, [1, 2, 3, 4]);
-    let (_ended, done) = beside_daemon(rt, journal, &OpenGate, four);
+    let done = beside_daemon(rt, alloc, journal, false, &CommitMany, [1, 2, 3, 4]);
     let (each_once, made) = counted(&done);
     assert_eq!(rt;
         (each_once, made, journal.stat(rt).commits),
@@ -174,25 +200,6 @@ pub(super) fn count_once<J: Naming + Send + Sync, H: Abort + Threads + Wait + Sy
 #[test]
 fn four_threads_count_to_two_thousand(rt: HostRuntime) {
     try_out(&rt, rt.alloc(), Trial::CountOnce);
-}
-
-/// A gate that holds each thread until the journal has four commits or the gate is opened, for a million turns at
-/// most.
-#[derive(Drop)]
-struct HeldGate<'j, 'b, J: Naming> {
-    journal: &'j Open<'b, MemDisk, J>,
-    opened: AtomicBool,
-}
-
-impl<'j, 'b, J: Naming> Gate for HeldGate<'j, 'b, J> {
-    fn pass<W: Wait>(&self, rt: &W, _who: u64, _n: u64) {
-        for _ in 0..1_000_000 {
-            if self.opened.load(Ordering::SeqCst) || self.journal.stat(rt).commits == 4 {
-                return;
-            }
-            yield_now();
-        }
-    }
 }
 
 /// How a commit that waited ended.
@@ -258,34 +265,13 @@ fn by_fault<C: Drop>(why: Refusal<C>, ending: Ending) -> Ending {
     }
 }
 
-/// Four threads wait while the daemon is held at its gate, which is then opened. Each overwrites the inode of its
-/// number. Answers how they ended.
-fn four_wait<J: Naming + Send + Sync, H: Abort + Threads + Wait + Sync>(
-    rt: &H,
-    alloc: Global,
-    journal: &Open<MemDisk, J>,
-    numbers: [u8; 4],
-) -> [Ending; 4] {
-    let gate = HeldGate {
-        journal,
-        opened: AtomicBool::new(false),
-    };
-    let four = || {
-        let endings = in_four(rt, alloc, journal, &WaitOnce, numbers);
-        gate.opened.store(true, Ordering::SeqCst);
-        endings
-    };
-    let (_ended, endings) = beside_daemon(rt, journal, &gate, four);
-    endings
-}
-
 /// Commits that waited are in the least that a crash may leave, and one group carried them all.
 pub(super) fn become_stable<J: Naming + Send + Sync, H: Abort + Threads + Wait + Sync>(
     rt: &H,
     alloc: Global,
     journal: &Open<MemDisk, J>,
 ) {
-    let endings = four_wait(rt, alloc, journal, [1, 2, 3, 4]);
+    let endings = beside_daemon(rt, alloc, journal, true, &WaitOnce, [1, 2, 3, 4]);
     let groups = journal.stat(rt).end;
     let mut session = client(rt, journal);
     // No write since the last barrier stands.
@@ -307,7 +293,7 @@ pub(super) fn wait_together<J: Naming + Send + Sync, H: Abort + Threads + Wait +
     alloc: Global,
     journal: &Open<MemDisk, J>,
 ) {
-    let endings = four_wait(rt, alloc, journal, [1; 4]);
+    let endings = beside_daemon(rt, alloc, journal, true, &WaitOnce, [1; 4]);
     assert_eq!(rt; (endings, journal.stat(rt).end), ([Ending::Stable; 4], 1));
 }
 
@@ -334,7 +320,7 @@ pub(super) fn end_by_the_fault<J: Naming + Send + Sync, H: Abort + Threads + Wai
     k: u64,
 ) {
     journal.fail_in(rt, k);
-    let endings = four_wait(rt, alloc, journal, [1, 2, 3, 4]);
+    let endings = beside_daemon(rt, alloc, journal, true, &WaitOnce, [1, 2, 3, 4]);
     assert_eq!(rt; endings, [ending_at(k); 4]);
 }
 
@@ -382,8 +368,7 @@ pub(super) fn all_end_by_the_fault<J: Naming + Send + Sync, H: Abort + Threads +
     k: u64,
 ) {
     journal.fail_in(rt, k);
-    let four = || in_four(rt, alloc, journal, &WaitOn, [1, 2, 3, 4]);
-    let (_ended, endings) = beside_daemon(rt, journal, &OpenGate, four);
+    let endings = beside_daemon(rt, alloc, journal, false, &WaitOn, [1, 2, 3, 4]);
     let ended = endings.map(is_ended);
     assert_eq!(rt; ended, [true; 4], "{}: {endings:?}", k);
 }
@@ -399,18 +384,18 @@ fn a_fault_at_any_call_ends_each_thread(rt: HostRuntime) {
     }
 }
 
-/// Six hundred commits wait, one after another. Answers whether all became stable.
+/// Six hundred commits wait, one after another, and the daemon is stopped. Answers whether all became stable.
 fn waits_often<J: Naming, H: Abort + Wait>(
     rt: &H,
     alloc: Global,
     journal: &Open<MemDisk, J>,
 ) -> bool {
+    let mut stable = true;
     for _ in 0..600 {
-        if waits(rt, alloc, journal, 1) != Ending::Stable {
-            return false;
-        }
+        stable &= waits(rt, alloc, journal, 1) == Ending::Stable;
     }
-    true
+    journal.stop(rt);
+    stable
 }
 
 /// Each is a group of one block, and the log has 511 positions: the installer has made room.
@@ -419,8 +404,11 @@ pub(super) fn go_round_the_log<J: Naming + Send + Sync, H: Abort + Threads + Wai
     alloc: Global,
     journal: &Open<MemDisk, J>,
 ) {
-    let often = || waits_often(rt, alloc, journal);
-    let ended = beside_daemon(rt, journal, &OpenGate, often);
+    let ended = join(
+        rt,
+        || start(rt, journal, &OpenGate).is_ok(),
+        || waits_often(rt, alloc, journal),
+    );
     let stat = journal.stat(rt);
     assert_eq!(rt; (ended, stat.end), ((true, true), 600));
     assert!(rt; stat.start > 0);

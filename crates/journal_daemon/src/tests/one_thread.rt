@@ -8,9 +8,9 @@ use journal_block::Block;
 const NOWHERE: Addr = Addr { block: 512, off: 0 };
 
 /// A transaction reads and overwrites.
-fn acts<J: Naming, W: Wait>(
+fn acts<D: BlockDisk, J: Naming, W: Wait>(
     rt: &W,
-    txn: &mut OpenTxn<MemDisk, J>,
+    txn: &mut OpenTxn<D, J>,
 ) -> ((u64, usize, u8), u64, (u64, usize, u8), (u64, usize, u8)) {
     let opened = look(rt, txn, INODE);
     let wrote = number_of(txn.overwrite(rt, INODE, &[7; 128]));
@@ -19,7 +19,7 @@ fn acts<J: Naming, W: Wait>(
 }
 
 /// It is refused what names no object or is no value.
-fn errs<J: Naming, W: Wait>(rt: &W, txn: &mut OpenTxn<MemDisk, J>) -> (u64, u64, u64) {
+fn errs<D: BlockDisk, J: Naming, W: Wait>(rt: &W, txn: &mut OpenTxn<D, J>) -> (u64, u64, u64) {
     let nowhere = number_of(txn.read(rt, NOWHERE));
     let wrote = number_of(txn.overwrite(rt, NOWHERE, &[7]));
     let short = number_of(txn.overwrite(rt, INODE, &[7; 127]));
@@ -210,10 +210,10 @@ fn each_call_is_answered(rt: HostRuntime) {
 }
 
 /// One transaction holds a slot and tries a lower one, which another holds until it is given up.
-fn tries_a_lower_slot<'j, J: Naming, W: Wait>(
+fn tries_a_lower_slot<'j, D: BlockDisk, J: Naming, W: Wait>(
     rt: &W,
-    first: &mut OpenTxn<'j, '_, MemDisk, J>,
-    second: OpenTxn<'j, '_, MemDisk, J>,
+    first: &mut OpenTxn<'j, '_, D, J>,
+    second: OpenTxn<'j, '_, D, J>,
     bytes: &[u8],
 ) -> [u64; 5] {
     let mut second = second;

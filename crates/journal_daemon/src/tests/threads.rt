@@ -135,10 +135,10 @@ fn an_open_transaction_stops_no_other(rt: HostRuntime) {
 
 /// Commits, and logs it as far as the first barrier and on to the mark. Says what was put, how many steps
 /// moved, and whether the commit is stable then.
-fn logs_one<J: Naming, H: Abort + Wait>(
+fn logs_one<D: BlockDisk, J: Naming, H: Abort + Wait>(
     rt: &H,
     alloc: Global,
-    journal: &Open<GatedDisk, J>,
+    journal: &Open<D, J>,
 ) -> ((u64, u64), u64, bool) {
     let mut session = client(rt, journal);
     let put = put(rt, alloc, journal, &mut session, INODE, &[1; 128]);
@@ -146,10 +146,10 @@ fn logs_one<J: Naming, H: Abort + Wait>(
 }
 
 /// Begins a transaction, lets a barrier go on that waits, and gives the transaction up.
-fn begins<'b, J: Naming, W: Wait>(
+fn begins<'b, D: BlockDisk, J: Naming, W: Wait>(
     rt: &W,
     alloc: Global,
-    journal: &Open<'b, GatedDisk, J>,
+    journal: &Open<'b, D, J>,
     session: &mut Client<'b, J>,
     gate: &Gate,
 ) {
@@ -160,10 +160,10 @@ fn begins<'b, J: Naming, W: Wait>(
 
 /// Observes, asks, meets and begins while a barrier waits, and then lets it go on. Says whether it waited,
 /// whether the commit was stable then, and how much of the history both sessions have seen.
-fn looks_on<'b, J: Naming, W: Wait>(
+fn looks_on<'b, D: BlockDisk, J: Naming, W: Wait>(
     rt: &W,
     alloc: Global,
-    journal: &Open<'b, GatedDisk, J>,
+    journal: &Open<'b, D, J>,
     (session, other): (&mut Client<'b, J>, &mut Client<'b, J>),
     gate: &Gate,
 ) -> (bool, bool, u64, u64) {
@@ -219,24 +219,25 @@ fn a_barrier_stops_no_observer(rt: HostRuntime) {
 }
 
 /// Overwrites these data blocks, and says whether it could.
-fn fills<J: Naming, W: Wait>(
+fn fills<D: BlockDisk, J: Naming, W: Wait>(
     rt: &W,
-    txn: &mut OpenTxn<MemDisk, J>,
+    txn: &mut OpenTxn<D, J>,
     (first, end): (u64, u64),
     bytes: &[u8],
 ) -> bool {
-    let mut filled = true;
     for block in first..end {
-        filled &= txn.overwrite(rt, Addr { block, off: 0 }, bytes).is_ok();
+        if txn.overwrite(rt, Addr { block, off: 0 }, bytes).is_err() {
+            return false;
+        }
     }
-    filled
+    true
 }
 
 /// Tries to commit a transaction that overwrites these.
-fn tries<'b, J: Naming, W: Wait>(
+fn tries<'b, D: BlockDisk, J: Naming, W: Wait>(
     rt: &W,
     alloc: Global,
-    journal: &Open<'b, MemDisk, J>,
+    journal: &Open<'b, D, J>,
     session: &mut Client<'b, J>,
     blocks: (u64, u64),
     bytes: &[u8],

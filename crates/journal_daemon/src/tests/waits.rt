@@ -75,21 +75,17 @@ fn stops<'b, J: Naming, W: Wait>(
 }
 
 /// After a stop all is refused by J13, but a wait for a mark that stands.
-fn refuses_the_rest<'b, J: Naming, H: Abort + Wait>(
-    rt: &H,
+fn refuses_the_rest<'b, J: Naming, W: Wait>(
+    rt: &W,
     journal: &Open<'b, MemDisk, J>,
     session: &mut Client<'b, J>,
     receipt: &Receipt<'b, J, AnyMap>,
     late: &Receipt<'b, J, AnyMap>,
-) {
+) -> ((u64, u64), (u64, u64), ((u64, u64), (u64, u64))) {
     let log = number_of(journal.log_step(rt));
     let install = number_of(journal.install_step(rt));
     let (stands, _) = awaits(rt, journal, session, receipt);
-    let lacks = awaits(rt, journal, session, late);
-    assert_eq!(rt;
-        (log, install, stands, lacks),
-        (13, 13, (0, 1), ((13, 0), (13, 0)))
-    );
+    ((log, install), stands, awaits(rt, journal, session, late))
 }
 
 /// A session that has seen the opening alone waits for nothing.
@@ -104,25 +100,20 @@ pub(super) fn answer_waits<J: Naming + Send + Sync, H: Abort + Threads + Wait + 
     tells(rt, journal, &mut session, &receipt);
     let late = committed(rt, alloc, journal, &mut session);
     let stopped = stops(rt, alloc, journal, &mut session);
-    assert_eq!(rt; (fresh, stopped), ((0, 0), ((13, 0, 0), 0, 13)));
-    refuses_the_rest(rt, journal, &mut session, &receipt, &late);
+    let rest = refuses_the_rest(rt, journal, &mut session, &receipt, &late);
+    assert_eq!(rt;
+        (fresh, stopped, rest),
+        (
+            (0, 0),
+            ((13, 0, 0), 0, 13),
+            ((13, 13), (0, 1), ((13, 0), (13, 0)))
+        )
+    );
 }
 
 #[test]
 fn a_mark_is_told_and_a_stop_ends_the_rest(rt: HostRuntime) {
     try_out(&rt, rt.alloc(), Trial::AnswerWaits);
-}
-
-/// The first byte of inode 1 in an image that a crash may leave now.
-fn image_byte<'b, J: Naming, H: Abort + Wait>(
-    rt: &H,
-    alloc: Global,
-    journal: &Open<'b, MemDisk, J>,
-    session: &mut Client<'b, J>,
-    choice: &[u32],
-) -> u8 {
-    let [first, ..] = image_bytes(rt, alloc, journal, session, choice);
-    first
 }
 
 /// Where block 0 was written and no barrier made, a crash leaves the old map or the new one.
@@ -134,8 +125,8 @@ pub(super) fn leave_either<J: Naming + Send + Sync, H: Abort + Threads + Wait + 
     let mut session = client(rt, journal);
     let put = put(rt, alloc, journal, &mut session, inode(1), &[1; 128]);
     let moved = logs(rt, journal, 4);
-    let none = image_byte(rt, alloc, journal, &mut session, &[]);
-    let all = image_byte(rt, alloc, journal, &mut session, &[1]);
+    let [none, ..] = image_bytes(rt, alloc, journal, &mut session, &[]);
+    let [all, ..] = image_bytes(rt, alloc, journal, &mut session, &[1]);
     assert_eq!(rt; (put == (0, 1), moved == 4, none, all), (true, true, 0, 1));
 }
 
