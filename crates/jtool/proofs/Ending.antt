@@ -4,8 +4,9 @@ use Rattle.std.specs.Prelude.{◌==◌}
 use Rattle.std.proofs.lemmas.Fmt.{decimal_injective}
 use Rattle.jtool.specs.declared.ask.Fault.{Fault}
 use Rattle.jtool.specs.declared.ask.Fault.TheVariants as faults
-use Rattle.jtool.specs.Programs.{AsksScript, AsksFormat, AsksServe, IsSize, CannotBegin, status_of}
-use Rattle.jtool.specs.Transcripts.{IsTranscript, Runs}
+use Rattle.journal_script.specs.Sizes.{IsSize}
+use Rattle.journal_script.specs.Transcripts.{IsTranscript}
+use Rattle.jtool.specs.Programs.{AsksScript, AsksFormat, AsksServe, CannotBegin, EndsScript, status_of}
 
 -- words that ask for a script ask for nothing else
 pub script_is_no_format : (words : List (List ℕ)) (n : ℕ) (path : List ℕ) (m : ℕ) → AsksScript words n → AsksFormat words path m → ⊥
@@ -28,19 +29,23 @@ can_begin words faults.BadSize (m, inr (path, other), outside) n asks size = scr
 can_begin words faults.BadLine none n asks size = none
 can_begin words (faults.BadFile path) none n asks size = none
 can_begin words faults.CannotListen none n asks size = none
-can_begin words (faults.Stopped stop) none n asks size = none
+can_begin words (faults.Refused why) none n asks size = none
+can_begin words faults.CannotRead none n asks size = none
+can_begin words faults.CannotWrite none n asks size = none
 
 -- what was said of a script's end, by the status
-pub ends_well : (left held new : Option (List ℕ)) (r : Result (Unit {0}) Fault) (done : Unit {0}) → Runs left held new r → r ≡ Ok done → IsTranscript left held new (0 == 2)
-ends_well left held new r done runs is = subst (Runs left held new) is runs
+pub ends_well : (left held new : Option (List ℕ)) (r : Result (Unit {0}) Fault) (done : Unit {0}) → EndsScript left held new r → r ≡ Ok done → IsTranscript left held new (0 == 2)
+ends_well left held new r done runs is = subst (EndsScript left held new) is runs
 
-pub ends_by_fault : (left held new : Option (List ℕ)) (r : Result (Unit {0}) Fault) (fault : Fault) (status : ℕ) → Runs left held new r → r ≡ Err fault → status ≡ status_of fault → status ≢ 1
+pub ends_by_fault : (left held new : Option (List ℕ)) (r : Result (Unit {0}) Fault) (fault : Fault) (status : ℕ) → EndsScript left held new r → r ≡ Err fault → status ≡ status_of fault → status ≢ 1
     → IsTranscript left held new (status == 2)
-ends_by_fault left held new r fault status runs is told other = by_fault fault (subst (Runs left held new) is runs) told
+ends_by_fault left held new r fault status runs is told other = by_fault fault (subst (EndsScript left held new) is runs) told
   where
-    by_fault : (f : Fault) → Runs left held new (Err f) → status ≡ status_of f → IsTranscript left held new (status == 2)
+    by_fault : (f : Fault) → EndsScript left held new (Err f) → status ≡ status_of f → IsTranscript left held new (status == 2)
     by_fault faults.BadLine h e = subst (λ n. IsTranscript left held new (n == 2)) (sym e) h
-    by_fault (faults.Stopped stop) h e = absurd (other e)
+    by_fault (faults.Refused why) h e = absurd (other e)
+    by_fault faults.CannotRead h e = absurd (other e)
+    by_fault faults.CannotWrite h e = absurd (other e)
     by_fault (faults.BadFile path) h e = absurd h
     by_fault faults.CannotListen h e = absurd h
     by_fault faults.Usage h e = absurd h

@@ -1,15 +1,2 @@
 pub mod Asking
-pub mod Decimals
-pub mod Digits
-pub mod Terms
-pub mod Parts
-pub mod LineEnds
-pub mod Printing
-pub mod Poking
-pub mod Behind
-pub mod Listing
-pub mod Verbs
-pub mod Words
-pub mod Talking
 pub mod Ending
-pub mod Replying

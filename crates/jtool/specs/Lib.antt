@@ -1,9 +1,1 @@
-pub mod Answers
-pub mod Clients
-pub mod Commands
-pub mod Downs
-pub mod Lines
-pub mod Numbers
 pub mod Programs
-pub mod Transcripts
-pub mod Values

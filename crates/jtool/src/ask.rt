@@ -1,8 +1,11 @@
 // What the program's words ask for, and how the program ends.
 ghost use Rattle.std.specs.Prelude.{◌≡◌, ◌≤◌, ℕ, map, string_bytes, IfOk, IfErr, IfSome, IfNone, OnOk, List};
-ghost use Rattle.jtool.specs.Programs.{AsksScript, AsksFormat, AsksServe, AsksFor, IsSize, MayBeAsked, CannotBegin, status_of};
+ghost use Rattle.journal_script.specs.Sizes.{IsSize};
+ghost use Rattle.jtool.specs.Programs.{AsksScript, AsksFormat, AsksServe, AsksFor, MayBeAsked, CannotBegin, status_of};
 
-use crate::number;
+use journal_command::{read_number, read_port};
+use journal_script::Stop;
+use journal_service::{Service, ServiceFault};
 use journal_world::{Layout, Refusal};
 use std::alloc::AllocError;
 use std::io;
@@ -19,17 +22,6 @@ pub enum Ask<'w> {
     Format { path: &'w str, blocks: u64 },
     /// Serve the files of a disk.
     Serve(Service<'w>),
-}
-
-/// A file service that is asked for.
-#[derive(Clone, Copy)]
-pub struct Service<'w> {
-    /// Where the file is that has the disk.
-    pub path: &'w str,
-    /// The port to which connections come, or 0 for one that is free.
-    pub port: u16,
-    /// How many connections are served.
-    pub connections: u64,
 }
 
 impl<'w> Ask<'w> {
@@ -60,7 +52,7 @@ fn script_asked(words: &[String]) -> Option<u64>
 {
     match words {
         [what, blocks] if what.as_str() == "script" => {
-            Some(u64::from(number::read(blocks.as_bytes())?))
+            Some(u64::from(read_number(blocks.as_bytes())?))
         }
         _ => None,
     }
@@ -74,7 +66,7 @@ fn format_asked(words: &[String]) -> Option<(&str, u64)>
     match words {
         [what, path, blocks] if what.as_str() == "format" => Some((
             path.as_str(),
-            u64::from(number::read(blocks.as_bytes())?),
+            u64::from(read_number(blocks.as_bytes())?),
         )),
         _ => None,
     }
@@ -88,8 +80,8 @@ fn serve_asked(words: &[String]) -> Option<Service<'_>>
     match words {
         [what, path, port, connections] if what.as_str() == "serve" => Some(Service {
             path: path.as_str(),
-            port: number::read_port(port.as_bytes())?,
-            connections: u64::from(number::read(connections.as_bytes())?),
+            port: read_port(port.as_bytes())?,
+            connections: u64::from(read_number(connections.as_bytes())?),
         }),
         _ => None,
     }
@@ -114,19 +106,12 @@ pub enum Fault<'w> {
     Usage,
     /// No disk has so many blocks.
     BadSize,
+    /// Some line was bad, as its answer said.
+    BadLine,
     /// The file at this path could not be made, opened, read to its end, or made stable.
     BadFile(&'w str),
     /// The port is not to be had, or the system refused a connection.
     CannotListen,
-    /// Some line was bad, as its answer said.
-    BadLine,
-    /// Not all was done.
-    Stopped(Stop),
-}
-
-/// Why not all was done.
-#[derive(Drop)]
-pub enum Stop {
     /// What comes before the first line was refused, or what the service needs, or the close.
     Refused(Refusal<()>),
     /// Standard input failed.
@@ -135,7 +120,19 @@ pub enum Stop {
     CannotWrite,
 }
 
-impl Fault<'_> {
+impl<'w> Fault<'w> {
+    /// Why the disk in the file at the path was not made or not served.
+    pub fn of_disk(fault: ServiceFault, path: &'w str) -> Fault<'w>
+        ensures { status_of result ≡ 1 }
+    {
+        match fault {
+            ServiceFault::BadFile => Fault::BadFile(path),
+            ServiceFault::CannotListen => Fault::CannotListen,
+            ServiceFault::Refused(why) => Fault::Refused(why),
+            ServiceFault::CannotWrite => Fault::CannotWrite,
+        }
+    }
+
     /// Prints the fault, and answers the program's status.
     pub fn report<W: Write>(&self, faults: &mut W) -> u8
         ensures { result ≡ status_of self.now }
@@ -144,7 +141,11 @@ impl Fault<'_> {
         let _ = self.print(faults);
         match self {
             Fault::Usage | Fault::BadSize | Fault::BadLine => 2,
-            Fault::BadFile(_) | Fault::CannotListen | Fault::Stopped(_) => 1,
+            Fault::BadFile(_)
+            | Fault::CannotListen
+            | Fault::Refused(_)
+            | Fault::CannotRead
+            | Fault::CannotWrite => 1,
         }
     }
 
@@ -155,38 +156,32 @@ impl Fault<'_> {
             Fault::BadLine => Ok(()),
             Fault::BadFile(path) => writeln!(faults, "cannot use {path}"),
             Fault::CannotListen => writeln!(faults, "cannot listen"),
-            Fault::Stopped(Stop::Refused(why)) => writeln!(faults, "refused {}", why.name()),
-            Fault::Stopped(Stop::CannotRead) => writeln!(faults, "cannot read standard input"),
-            Fault::Stopped(Stop::CannotWrite) => writeln!(faults, "cannot write standard output"),
+            Fault::Refused(why) => writeln!(faults, "refused {}", why.name()),
+            Fault::CannotRead => writeln!(faults, "cannot read standard input"),
+            Fault::CannotWrite => writeln!(faults, "cannot write standard output"),
         }
     }
 }
 
-impl Stop {
-    /// It was refused.
-    pub fn refused<C: Drop>(why: Refusal<C>) -> Stop {
-        Stop::Refused(why.with_cause(()))
-    }
-}
-
+/// Of a script that was given up.
 impl From<Stop> for Fault<'_> {
-    ghost use Rattle.jtool.specs.declared.ask.Fault.TheVariants.{Stopped};
+    ghost use Rattle.std.specs.Prelude.{◌≡◌};
+    ghost use Rattle.jtool.specs.Programs.{stopped};
 
-    ghost from_gives = { λ stop fault. fault ≡ Stopped stop };
+    ghost from_gives = { λ stop fault. fault ≡ stopped stop };
 
     fn from(stop: Stop) -> Self {
-        Fault::Stopped(stop)
+        match stop {
+            Stop::Refused(why) => Fault::Refused(why),
+            Stop::CannotRead => Fault::CannotRead,
+            Stop::CannotWrite => Fault::CannotWrite,
+        }
     }
 }
 
-impl From<AllocError> for Stop {
-    ghost use Rattle.jtool.specs.declared.ask.Stop.TheVariants.{Refused};
-    ghost use Rattle.journal_world.specs.declared.refusal.Refusal.TheVariants.{NoMemory};
-
-    ghost from_gives = { λ _ stop. stop ≡ Refused NoMemory };
-
-    fn from(_error: AllocError) -> Stop {
-        Stop::Refused(Refusal::NoMemory)
+impl From<AllocError> for Fault<'_> {
+    fn from(_error: AllocError) -> Self {
+        Fault::Refused(Refusal::NoMemory)
     }
 }
 
@@ -194,7 +189,7 @@ impl From<AllocError> for Stop {
 impl From<io::Error> for Fault<'_> {
     fn from(error: io::Error) -> Self {
         if error.kind() == ErrorKind::OutOfMemory {
-            Fault::Stopped(AllocError.into())
+            Fault::Refused(Refusal::NoMemory)
         } else {
             Fault::Usage
         }

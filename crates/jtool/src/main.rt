@@ -3,34 +3,18 @@
 //! serve FILE PORT K` serves its files to K connections.
 #![tactic(auto)]
 
-ghost use Rattle.std.specs.Prelude.{◌≡◌, ◌≢◌, ◌≤◌, ◌==◌, ℕ, map, string_bytes, IsErrAnd};
-ghost use Rattle.jtool.specs.Programs.{AsksScript, AsksFor, IsSize, status_of};
+ghost use Rattle.std.specs.Prelude.{◌≡◌, ◌≢◌, ◌≤◌, ◌==◌, ℕ, map, string_bytes, IfErr, IsErrAnd};
+ghost use Rattle.journal_script.specs.Sizes.{IsSize};
+ghost use Rattle.journal_script.specs.Transcripts.{IsTranscript};
+ghost use Rattle.jtool.specs.Programs.{AsksScript, AsksFor, EndsScript, status_of};
 ghost use Rattle.jtool.specs.declared.ask.Ask.{Ask};
-ghost use Rattle.jtool.specs.Transcripts.{IsTranscript, Runs};
 
-mod answer;
 mod ask;
-mod blocks;
-mod choice;
-mod client;
-mod clock;
-mod command;
-mod console;
-mod daemon;
-mod down;
-mod file;
-mod line;
-mod number;
-mod room;
-mod script;
-mod serve;
-mod steps;
 #[cfg(test)]
 mod tests;
-mod up;
-mod value;
 
-use ask::{Ask, Fault, Stop};
+use ask::{Ask, Fault};
+use journal_service::Service;
 use std::alloc::Global;
 use std::env;
 use std::env::Env;
@@ -94,12 +78,64 @@ fn obey<
     ensures words { ((ask : Ask) → AsksFor (map string_bytes words.now) ask → ⊥)
         → IsErrAnd result (λ fault. status_of fault ≡ 2) }
     ensures script { (n : ℕ) → AsksScript (map string_bytes words.now) n → IsSize n
-        → Runs (I.remaining input.old) (O.contents output.old) (O.contents output.new) result }
+        → EndsScript (I.remaining input.old) (O.contents output.old) (O.contents output.new) result }
 {
     match Ask::read(words)? {
-        Ask::Script { blocks } => script::run(rt, alloc, blocks, input, output),
-        Ask::Format { path, blocks } => file::format(rt, alloc, path, blocks),
-        Ask::Serve(service) => serve::run(rt, alloc, service, output),
+        Ask::Script { blocks } => answer_script(rt, alloc, blocks, input, output),
+        Ask::Format { path, blocks } => format(rt, alloc, path, blocks),
+        Ask::Serve(service) => serve(rt, alloc, service, output),
+    }
+}
+
+// Answers a script.
+fn answer_script<'w, R: Wait, I: Read, O: Write>(
+    rt: &R,
+    alloc: Global,
+    blocks: u64,
+    input: &mut I,
+    output: &mut O,
+) -> Result<(), Fault<'w>>
+    requires { IsSize blocks }
+    ensures { EndsScript (I.remaining input.old) (O.contents output.old) (O.contents output.new) result }
+{
+    if journal_script::run(rt, alloc, blocks, input, output)? {
+        return Err(Fault::BadLine);
+    }
+    Ok(())
+}
+
+// Makes a disk in a file.
+fn format<'w, R: Files<File = File> + Clock>(
+    rt: &R,
+    alloc: Global,
+    path: &'w str,
+    blocks: u64,
+) -> Result<(), Fault<'w>>
+    requires { IsSize blocks }
+    ensures { IfErr result (λ fault. status_of fault ≡ 1) }
+{
+    match journal_service::format(rt, alloc, path, blocks) {
+        Ok(()) => Ok(()),
+        Err(fault) => Err(Fault::of_disk(fault, path)),
+    }
+}
+
+// Serves the files of the disk in a file.
+fn serve<
+    'w,
+    R: Files<File = File>
+        + Net<Listener = TcpListener, Stream = TcpStream>
+        + Clock
+        + Threads
+        + Wait
+        + Sync,
+    O: Write,
+>(rt: &R, alloc: Global, service: Service<'w>, output: &mut O) -> Result<(), Fault<'w>>
+    ensures { IfErr result (λ fault. status_of fault ≡ 1) }
+{
+    match journal_service::serve(rt, alloc, service, output) {
+        Ok(()) => Ok(()),
+        Err(fault) => Err(Fault::of_disk(fault, service.path)),
     }
 }
 
@@ -124,10 +160,7 @@ fn start<R: Env + AllocGlobal, O: Write + Drop>(
     rt: &R,
     output: O,
 ) -> Result<(Vec<String>, BufWriter<O>), Fault<'static>> {
-    let words = env::args(rt)?
-        .skip(1)
-        .collect(rt.alloc())
-        .map_err(Stop::from)?;
+    let words = env::args(rt)?.skip(1).collect(rt.alloc())?;
     let output = BufWriter::new(rt.alloc(), output)?;
     Ok((words, output))
 }

@@ -6,8 +6,8 @@ mod rows;
 mod services;
 mod streams;
 
-use crate::line::LONGEST;
 use crate::run;
+use journal_command::LINE_BYTES;
 use std::alloc::{AllocError, Global};
 use std::fs::{File, Files};
 use std::net::{Net, TcpListener, TcpStream};
@@ -231,7 +231,7 @@ fn put_lines(script: &mut Vec<u8>, longest: &[u8]) -> Result<(), AllocError> {
 #[test]
 fn longer_lines_are_bad(rt: HostRuntime) -> Result<(), Fail> {
     let longest = longest_line(rt.alloc())?;
-    assert_eq!(&rt; longest.len(), LONGEST);
+    assert_eq!(&rt; longest.len(), LINE_BYTES);
     let mut script = Vec::new(rt.alloc());
     put_lines(&mut script, &longest)?;
     let answers = b"ok\ncommitted 1\nbad line\nno transaction\nbad line\n= 00*4096\nok\n";

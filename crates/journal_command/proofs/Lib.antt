@@ -1,0 +1,10 @@
+pub mod Decimals
+pub mod Digits
+pub mod Terms
+pub mod Parts
+pub mod LineEnds
+pub mod Printing
+pub mod Behind
+pub mod Listing
+pub mod Verbs
+pub mod Words

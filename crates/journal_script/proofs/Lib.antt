@@ -1,0 +1,3 @@
+pub mod Poking
+pub mod Talking
+pub mod Replying

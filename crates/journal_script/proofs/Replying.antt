@@ -1,0 +1,143 @@
+-- Replies to commands and lines, from what the calls behind them answer.
+use Rattle.std.proofs.Common.{◌≡◌, ◌⊎◌, inl, inr, ℕ, true, false, List, Option, Some, None, Result, Ok, Err, refl, sym, subst}
+use Rattle.std.specs.Prelude.{IfOk, IfErr}
+use Rattle.std.specs.declared.ops.ControlFlow.{ControlFlow}
+use Rattle.std.specs.declared.ops.ControlFlow.TheVariants.{Continue, Break}
+use Rattle.journal_world.specs.declared.refusal.Refusal.{Refusal}
+use Rattle.journal_command.specs.declared.command.Command.{Command}
+use Rattle.journal_command.specs.declared.command.Command.TheVariants as commands
+use Rattle.journal_script.specs.declared.answer.Answer.{Answer}
+use Rattle.journal_script.specs.declared.answer.Answer.TheVariants as answers
+use Rattle.journal_script.specs.declared.client.Crash.{Crash}
+use Rattle.journal_disk.specs.Disks.{IsSettled, Past, DiskState}
+use Rattle.journal_core.specs.Openings.{IsOpenRefusal}
+use Rattle.journal_disk.specs.MemDisks.{MemState}
+use Rattle.journal_script.specs.declared.script.Next.{Next}
+use Rattle.journal_script.specs.declared.script.Next.TheVariants as nexts
+use Rattle.journal_script.specs.declared.up.Opening.{Opening}
+use Rattle.journal_script.specs.declared.up.Opening.TheVariants as openings
+use Rattle.journal_script.proofs.Talking.{talks_none, talks_more, leaves_join, leaves_opened}
+use Rattle.journal_script.specs.Downs.{ObeysDown, AnswersDown}
+use Rattle.journal_script.specs.Answers.{Refuses}
+use Rattle.journal_command.specs.Commands.{LineSays}
+use Rattle.journal_script.specs.Transcripts.{Streams, IsAnswerTo, IsOpening, IsOpened, Talks, TakesOneLine, AsksOpening, Prints, ComesTo, ComesToBy, ComesToCrash, Opens, OpensToCrash, RefusesOpening}
+use Rattle.journal_core.specs.Causes.{Told}
+use Rattle.journal_script.specs.Clients.{ClientState, IsRefusal, IsRefused, GivesAnswer, Replies, AnswersLine, GoesOn}
+
+-- ---- replies of a journal
+
+-- what a call gave or was refused goes on
+pub replies_plain : (blocks : ℕ) (old : ClientState) (command : Command) (r : Result Answer (Refusal Told)) (flow : ControlFlow Crash Answer)
+    → ((answer : Answer) → GivesAnswer blocks command answer ⊎ IsRefused (IsRefusal command) answer → Replies blocks old command (Continue answer) old)
+    → IfOk r (GivesAnswer blocks command) → IfErr r (IsRefusal command) → GoesOn r flow → Replies blocks old command flow old
+replies_plain blocks old command (Ok answer) flow replies gives refused goes =
+    subst (λ (f : ControlFlow Crash Answer). Replies blocks old command f old) (sym goes) (replies answer (inl gives))
+replies_plain blocks old command (Err why) flow replies gives refused goes =
+    subst (λ (f : ControlFlow Crash Answer). Replies blocks old command f old) (sym goes.2) (replies goes.0 (inr (why, refused, goes.1)))
+
+-- a crash that opens the disk is one that the line names
+reply_opens : (blocks : ℕ) (old new : ClientState) (line : List ℕ) (crash : Crash) → AnswersLine blocks old line (Break crash) new → crash.opens ≡ true → IsOpening line
+reply_opens blocks old new line crash (inl (commands.Down choice, says, replies)) opens = cc
+reply_opens blocks old new line crash (inl (commands.Crash choice, says, replies)) opens = inr (choice, says)
+reply_opens blocks old new line crash (inl (command, says, replies)) opens = absurd replies
+reply_opens blocks old new line crash (inr (none, told, same)) opens = cc told
+
+-- ---- a line that opens a disk
+
+-- it was opened, and lines were answered
+opens_up : (opening : Opening) (crash : Option Crash) (a c : Streams) (next : Next) → OpensToCrash opening crash a c → ((old new : Streams) → ComesToCrash crash old new → ComesTo next old new)
+    → Opens opening a c next
+opens_up openings.First crash a c next (b, same, comes) leaves = subst (λ (s : Streams). ComesTo next s c) same (leaves b c comes)
+opens_up openings.Asked crash a c next (b, told, comes) leaves = λ opens.
+    (b, record { answer = answers.Opened; answered = inr (inr (inr (opens, tt))); prints = told }, leaves b c comes)
+
+pub opens_up_ok : {E : Type 0} (r : Result Next E) (opening : Opening) (crash : Option Crash) (a c : Streams) → OpensToCrash opening crash a c → IfOk r (λ next. (old new : Streams) → ComesToCrash crash old new → ComesTo next old new)
+    → IfOk r (Opens opening a c)
+opens_up_ok (Ok next) opening crash a c told leaves = opens_up opening crash a c next told leaves
+opens_up_ok (Err stop) opening crash a c told leaves = tt
+
+told_refused : (line : List ℕ) (before after : DiskState) (why : Refusal Told) (answer : Answer) → IsOpenRefusal (λ _. Unit {0}) before after why → Refuses why answer → IsOpened answer
+told_refused line before after why (answers.Refused told) refusal refuses = (before, after, (why, refusal, refuses))
+told_refused line before after why answer refusal refuses = absurd refuses
+
+-- it was refused
+opens_refused : (opening : Opening) (a b : Streams) (next : Next) (disk : MemState) (before after : DiskState) (why : Refusal Told) → RefusesOpening opening why disk a b next
+    → IsOpenRefusal (λ _. Unit {0}) before after why → IsSettled disk.past → Opens opening a b next
+opens_refused openings.First a b next disk before after why refused refusal settled = absurd refused
+opens_refused openings.Asked a b next disk before after why (is, (answer, refuses, prints)) refusal settled = λ opens. (
+  b,
+  record { answer = answer; answered = inr (inr (inr (opens, told_refused a.line before after why answer refusal refuses))); prints = prints },
+  subst (λ (n : Next). ComesTo n b b) (sym is) (settled, talks_none b),
+)
+
+pub opens_refused_ok : {E : Type 0} (r : Result Next E) (opening : Opening) (a b : Streams) (disk : MemState) (before after : DiskState) (why : Refusal Told) → IfOk r (RefusesOpening opening why disk a b)
+    → IsOpenRefusal (λ _. Unit {0}) before after why → IsSettled disk.past → IfOk r (Opens opening a b)
+opens_refused_ok (Ok next) opening a b disk before after why refused refusal settled = opens_refused opening a b next disk before after why refused refusal settled
+opens_refused_ok (Err stop) opening a b disk before after why refused refusal settled = tt
+
+-- ---- from a reply to the streams, where the console's room was used in between
+
+asks_at : (b c mid : Streams) → TakesOneLine b c → mid ≡ c → TakesOneLine b mid
+asks_at b c mid asks same = subst (λ (s : Streams). TakesOneLine b s) (sym same) asks
+
+-- the line was answered
+pub goes_on : (a b c mid d : Streams) (blocks : ℕ) (old new : ClientState) (line : List ℕ) (reply : ControlFlow Crash Answer) (answer : Answer) → Talks a b → TakesOneLine b c → mid ≡ c → line ≡ mid.line
+    → AnswersLine blocks old line reply new → reply ≡ Continue answer → Prints answer mid d → Talks a d
+goes_on a b c mid d blocks old new line reply answer talks asks same is answers goes prints =
+    let replied = subst (λ (f : ControlFlow Crash Answer). AnswersLine blocks old line f new) goes answers in
+    talks_more a b mid d talks (asks_at b c mid asks same)
+    (record { answer = answer; answered = subst (λ l. IsAnswerTo l answer) is (inl (blocks, old, new, replied)); prints = prints })
+
+-- the line ends the journal, and the opening answers it
+pub ends_to_open : (a b c mid : Streams) (blocks : ℕ) (old new : ClientState) (line : List ℕ) (reply : ControlFlow Crash Answer) (crash : Crash) → Talks a b → TakesOneLine b c → mid ≡ c → line ≡ mid.line
+    → AnswersLine blocks old line reply new → reply ≡ Break crash → crash.opens ≡ true → ComesToBy crash.opens a mid
+ends_to_open a b c mid blocks old new line reply crash talks asks same is replied ends opens =
+    let asked = reply_opens blocks old new line crash (subst (λ (f : ControlFlow Crash Answer). AnswersLine blocks old line f new) ends replied) opens in
+    subst (λ t. ComesToBy t a mid) (sym opens) (b, talks, asks_at b c mid asks same, subst IsOpening is asked)
+
+-- the line ends the journal, and was answered
+pub ends_to_down : (a b c mid d : Streams) (blocks : ℕ) (old new : ClientState) (line : List ℕ) (reply : ControlFlow Crash Answer) (crash : Crash) → Talks a b → TakesOneLine b c → mid ≡ c → line ≡ mid.line
+    → AnswersLine blocks old line reply new → reply ≡ Break crash → crash.opens ≡ false → Prints answers.Done mid d → ComesToBy crash.opens a d
+ends_to_down a b c mid d blocks old new line reply crash talks asks same is replied ends opens prints =
+    let broken = subst (λ (f : ControlFlow Crash Answer). AnswersLine blocks old line f new) ends replied in
+    subst (λ t. ComesToBy t a d) (sym opens) (talks_more a b mid d talks (asks_at b c mid asks same)
+    (record { answer = answers.Done; answered = subst (λ l. IsAnswerTo l answers.Done) is (inr (inl (crash, (blocks, old, new, broken), opens, refl))); prints = prints }))
+
+-- ---- a disk that is down
+
+down_opens : (old new : Past) (command : Command) (line : List ℕ) → LineSays line command → ObeysDown old command None new → IsOpening line
+down_opens old new commands.Open line says obeys = inl says
+down_opens old new command line says obeys = cc obeys.0
+
+-- the line was answered
+pub down_goes_on : (a b c mid d : Streams) (old new : Past) (line : List ℕ) (told : Option Answer) (answer : Answer) → Talks a b → TakesOneLine b c → mid ≡ c → line ≡ mid.line
+    → AnswersDown old line told new → told ≡ Some answer → Prints answer mid d → Talks a d
+down_goes_on a b c mid d old new line told answer talks asks same is answers goes prints =
+    talks_more a b mid d talks (asks_at b c mid asks same) (record {
+      answer = answer;
+      answered = subst (λ l. IsAnswerTo l answer) is (inr (inr (inl (old, new, subst (λ (t : Option Answer). AnswersDown old line t new) goes answers))));
+      prints = prints;
+    })
+
+-- the line opens the disk
+pub down_asks : (a b c mid : Streams) (old new : Past) (line : List ℕ) (told : Option Answer) → Talks a b → TakesOneLine b c → mid ≡ c → line ≡ mid.line
+    → AnswersDown old line told new → told ≡ None → AsksOpening a mid
+down_asks a b c mid old new line told talks asks same is answers opens =
+    (b, talks, asks_at b c mid asks same, subst IsOpening is (asked (subst (λ (t : Option Answer). AnswersDown old line t new) opens answers)))
+  where
+    asked : AnswersDown old line None new → IsOpening line
+    asked (inl (command, says, obeys)) = down_opens old new command line says obeys
+    asked (inr (none, told, same)) = cc told
+
+-- ---- from line to line
+
+-- a line asked for the opening, and lines were answered from there on
+pub leaves_open : (a b c : Streams) (old next : Next) (disk : MemState) → old ≡ nexts.Open disk → ComesTo old a b → Opens openings.Asked b c next → ComesTo next a c
+leaves_open a b c old next disk is before opens =
+    let asks = (subst (λ (n : Next). ComesTo n a b) is before).1 in
+    let more = opens asks.3 in
+    leaves_opened next a b more.0 c asks more.1 more.2
+
+-- lines were answered while the disk was down
+pub leaves_down : (a b c : Streams) (old next : Next) (disk : MemState) → old ≡ nexts.Down disk → ComesTo old a b → ComesTo next b c → ComesTo next a c
+leaves_down a b c old next disk is before more = leaves_join next a b c (subst (λ (n : Next). ComesTo n a b) is before).1 more

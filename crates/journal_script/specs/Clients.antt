@@ -1,0 +1,162 @@
+-- What a command does to the client of an open journal, and what it is answered.
+use Rattle.std.specs.Prelude.{ℕ, ◌≡◌, ◌⊎◌, ◌<◌, ◌≤◌, ◌-◌, ◌^◌, false, true, List, [], length, replicate, Option, Some, None, Result, Ok, Err, IsSome, MatchOption, unwrap_or}
+use Rattle.std.specs.declared.ops.ControlFlow.{ControlFlow}
+use Rattle.std.specs.declared.ops.ControlFlow.TheVariants.{Continue, Break}
+use Rattle.journal_world.specs.declared.address.Addr.{Addr}
+use Rattle.journal_world.specs.declared.refusal.Refusal.{Refusal}
+use Rattle.journal_world.specs.declared.refusal.Refusal.TheVariants.{NoMemory}
+use Rattle.journal_world.specs.Addresses.{Value}
+use Rattle.journal_history.specs.Tokens.{SessionState, CommitPlace, OnlyExtends}
+use Rattle.journal_core.specs.Causes.{Told}
+use Rattle.journal_twophase.specs.Journals.{IsLogRefusal, IsInstallRefusal}
+use Rattle.journal_twophase.specs.Transactions.{TxnState, core_of, begun, holding, ReadsValue, Overwrites, IsReadRefusal, IsOverwriteRefusal}
+use Rattle.journal_twophase.specs.Commits.{IsCommitted, IsTryRefusal}
+use Rattle.journal_command.specs.declared.command.Command.{Command}
+use Rattle.journal_command.specs.declared.command.Command.TheVariants as commands
+use Rattle.journal_command.specs.declared.command.Choice.{Choice}
+use Rattle.journal_command.specs.declared.command.Choice.TheVariants as choices
+use Rattle.journal_script.specs.declared.answer.Answer.{Answer}
+use Rattle.journal_script.specs.declared.answer.Answer.TheVariants as answers
+use Rattle.journal_script.specs.declared.client.Crash.{Crash}
+use Rattle.journal_script.specs.declared.steps.Actor.{Actor}
+use Rattle.journal_script.specs.declared.steps.Actor.TheVariants as actors
+use Rattle.journal_script.specs.Answers.{to_no_command, Refuses}
+use Rattle.journal_command.specs.Commands.{LineSays}
+
+-- The session, and the transaction that is open
+pub record ClientState : Type 0 where
+  pub session : SessionState
+  pub txn : Option TxnState
+
+-- the transaction that a line finds: the open one, or one that begins, after all that the session has then seen
+abbrev pub FindsTransaction : ClientState → TxnState → SessionState → Type 0
+FindsTransaction old t session = MatchOption old.txn
+    (OnlyExtends old.session session × (t ≡ begun session.seen))
+    (λ found. (t ≡ found) × (session ≡ old.session))
+
+-- The transaction overwrites the address
+pub record PutsValue (old : ClientState) (a : Addr) (v : Value) (new : ClientState) : Type 0 where
+  pub found : TxnState
+  pub finds : FindsTransaction old found new.session
+  pub left : TxnState
+  pub is_open : new.txn ≡ Some left
+  pub overwrites : Overwrites (holding found a) a v left
+
+-- The transaction is told the value: its own overwrite, where there is one, else what the map gives
+pub record Gets (old : ClientState) (a : Addr) (v : Value) (new : ClientState) : Type 0 where
+  pub found : TxnState
+  pub finds : FindsTransaction old found new.session
+  pub left : TxnState
+  pub is_open : new.txn ≡ Some left
+  pub reads : ReadsValue (holding found a) a v left
+
+-- The transaction is open, as it was
+pub record KeepsOpen (old : ClientState) (why : TxnState → Type 0) (new : ClientState) : Type 0 where
+  pub found : TxnState
+  pub finds : FindsTransaction old found new.session
+  pub is_open : new.txn ≡ Some found
+  pub refused : why found
+
+-- The transaction was committed, and the answer is the receipt's count
+pub record CommitsAndEnds (t : TxnState) (old : ClientState) (n : ℕ) (new : ClientState) : Type 0 where
+  pub receipt : CommitPlace
+  pub blocks : ℕ
+  pub committed : IsCommitted (λ m. Unit {0}) blocks t.began (core_of t) old.session new.session receipt
+  pub counted : n ≡ receipt.count
+  pub ended : new.txn ≡ None
+
+-- It was refused, and is ended
+pub record RefusesAndEnds (t : TxnState) (old : ClientState) (why : Refusal Told) (new : ClientState) : Type 0 where
+  pub refused : IsTryRefusal (core_of t) old.session why
+  pub session : OnlyExtends old.session new.session
+  pub ended : new.txn ≡ None
+
+-- what a commit answers, and does to the open transaction
+abbrev pub CommitsOpen : ClientState → Result Answer (Refusal Told) → ClientState → Type 0
+CommitsOpen old (Ok (answers.Committed n)) new = MatchOption old.txn ⊥ (λ t. CommitsAndEnds t old n new)
+CommitsOpen old (Ok answers.NoTransaction) new = (old.txn ≡ None) × (new ≡ old)
+CommitsOpen old (Ok answer) new = ⊥
+CommitsOpen old (Err why) new = MatchOption old.txn ⊥ (λ t. RefusesAndEnds t old why new)
+
+-- so many steps, at most, where a number stands there
+abbrev pub most_of : Option ℕ → ℕ
+most_of most = unwrap_or most 18446744073709551615
+
+-- why a step is refused
+abbrev pub IsStepRefusal : Actor → Refusal Told → Type 0
+IsStepRefusal actors.Logger why = IsLogRefusal why
+IsStepRefusal actors.Installer why = IsInstallRefusal why
+IsStepRefusal actors.Waiter why = IsLogRefusal why ⊎ IsInstallRefusal why
+
+-- why a command is refused that looks at no transaction
+abbrev pub IsRefusal : Command → Refusal Told → Type 0
+IsRefusal commands.Wait why = IsStepRefusal actors.Waiter why
+IsRefusal (commands.Log most) why = IsStepRefusal actors.Logger why
+IsRefusal (commands.Install most) why = IsStepRefusal actors.Installer why
+IsRefusal commands.Pend why = why ≡ NoMemory
+IsRefusal (commands.Disk block at len) why = why ≡ NoMemory
+IsRefusal (commands.Down choice) why = why ≡ NoMemory
+IsRefusal (commands.Crash choice) why = why ≡ NoMemory
+IsRefusal command why = ⊥
+
+-- the answer is a refusal, which may come
+abbrev pub IsRefused : (Refusal Told → Type 0) → Answer → Type 0
+IsRefused may_come answer = (why : Refusal Told) × may_come why × Refuses why answer
+
+-- what a command gives that is done and looks at no transaction, of a journal over so many blocks
+abbrev pub GivesAnswer : ℕ → Command → Answer → Type 0
+GivesAnswer blocks commands.Wait (answers.Stable n) = Unit {0}
+GivesAnswer blocks (commands.Log most) (answers.Logged n) = n ≤ most_of most
+GivesAnswer blocks (commands.Install most) (answers.Installed n) = n ≤ most_of most
+GivesAnswer blocks commands.Stat (answers.Stat stat) = Unit {0}
+GivesAnswer blocks commands.Pend (answers.Pending pending) = Unit {0}
+GivesAnswer blocks (commands.Disk block at len) (answers.Value v) = (block < blocks) × (length v ≡ len)
+GivesAnswer blocks (commands.Disk block at len) answers.BadLine = block < blocks → ⊥
+GivesAnswer blocks (commands.Fail call) answers.Done = Unit {0}
+GivesAnswer blocks commands.Open answers.Up = Unit {0}
+GivesAnswer blocks (commands.Poke block at v) answers.Up = block < blocks
+GivesAnswer blocks (commands.Poke block at v) answers.BadLine = block < blocks → ⊥
+GivesAnswer blocks command answer = ⊥
+
+-- What a command is answered, and leaves, of a journal over so many blocks. `put` and `get` begin a transaction where none is
+-- open, also where they are refused
+abbrev pub Obeys : ℕ → ClientState → Command → Answer → ClientState → Type 0
+Obeys blocks old (commands.Put a v) answers.Done new = PutsValue old a v.now new
+Obeys blocks old (commands.Put a v) answer new = KeepsOpen old (λ t. IsRefused (IsOverwriteRefusal blocks t a v.now) answer) new
+Obeys blocks old (commands.Get a) (answers.Value v) new = Gets old a v new
+Obeys blocks old (commands.Get a) answer new = KeepsOpen old (λ t. IsRefused (IsReadRefusal blocks t a) answer) new
+Obeys blocks old commands.Commit (answers.Committed n) new = MatchOption old.txn ⊥ (λ t. CommitsAndEnds t old n new)
+Obeys blocks old commands.Commit answers.NoTransaction new = (old.txn ≡ None) × (new ≡ old)
+Obeys blocks old commands.Commit answer new = MatchOption old.txn ⊥ (λ t. IsRefused (λ why. RefusesAndEnds t old why new) answer)
+Obeys blocks old commands.Abort answers.Done new = IsSome old.txn × (new ≡ record old { txn = None })
+Obeys blocks old commands.Abort answer new = (answer ≡ answers.NoTransaction) × (old.txn ≡ None) × (new ≡ old)
+Obeys blocks old command answer new = (GivesAnswer blocks command answer ⊎ IsRefused (IsRefusal command) answer) × (new ≡ old)
+
+-- The numbers choose the image: 0 for each block, the last write of each, or what the line lists
+abbrev pub IsChosen : Choice → List ℕ → Type 0
+IsChosen choices.Stable numbers = numbers ≡ []
+IsChosen choices.Last numbers = (blocks : ℕ) × (numbers ≡ replicate blocks (2 ^ 32 - 1))
+IsChosen (choices.Listed listed) numbers = numbers ≡ listed.now
+
+-- The command is obeyed and answered, or ends the journal by the crash that it names
+abbrev pub Replies : ℕ → ClientState → Command → ControlFlow Crash Answer → ClientState → Type 0
+Replies blocks old command (Continue answer) new = Obeys blocks old command answer new
+Replies blocks old (commands.Down choice) (Break crash) new = IsChosen choice crash.numbers.items × (crash.opens ≡ false) × (new ≡ old)
+Replies blocks old (commands.Crash choice) (Break crash) new = IsChosen choice crash.numbers.items × (crash.opens ≡ true) × (new ≡ old)
+Replies blocks old command (Break crash) new = ⊥
+
+-- The line says a command, which is replied to so; or it says none, which changes nothing
+abbrev pub AnswersLine : ℕ → ClientState → List ℕ → ControlFlow Crash Answer → ClientState → Type 0
+AnswersLine blocks old line reply new =
+    ((command : Command) × LineSays line command × Replies blocks old command reply new)
+    ⊎ (((command : Command) → LineSays line command → ⊥) × (reply ≡ Continue (to_no_command line)) × (new ≡ old))
+
+-- what is answered goes on
+abbrev pub GoesOn : {C : Type 0} → Result Answer (Refusal C) → ControlFlow Crash Answer → Type 0
+GoesOn (Ok answer) flow = flow ≡ Continue answer
+GoesOn (Err why) flow = (answer : Answer) × Refuses why answer × (flow ≡ Continue answer)
+
+-- a crash ends the journal, unless it is refused
+abbrev pub EndsMount : {C : Type 0} → Result Crash (Refusal C) → ControlFlow Crash Answer → Type 0
+EndsMount (Ok crash) flow = flow ≡ Break crash
+EndsMount (Err why) flow = (answer : Answer) × Refuses why answer × (flow ≡ Continue answer)

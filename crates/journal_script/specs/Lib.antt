@@ -1,0 +1,5 @@
+pub mod Answers
+pub mod Clients
+pub mod Downs
+pub mod Sizes
+pub mod Transcripts

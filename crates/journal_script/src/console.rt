@@ -1,0 +1,77 @@
+// The input of a script, and what is printed.
+ghost use Rattle.std.specs.Prelude.{◌≡◌, false, OnOk, IfOk};
+ghost use Rattle.journal_script.specs.Transcripts.{streams, TakesLineOrEnd, Prints};
+
+use crate::answer::Answer;
+use crate::stop::Stop;
+use journal_command::{Lines, Room};
+use std::alloc::Global;
+use std::io::{Read, Write};
+use std::marker::Model;
+
+/// The input of a script, with all the memory that its lines share. What is printed goes to the output that
+/// each call is lent.
+///
+/// Contracts see what is left of the input, where it is known, the line that was read last, and whether some
+/// line was bad.
+#[derive(Drop)]
+pub struct Console<I: Read> {
+    pub lines: Lines<I>,
+    /// For what a line spells.
+    pub room: Room,
+    some_bad: bool,
+}
+
+impl<I: Read> Model for Console<I> {
+    ghost use Rattle.journal_script.specs.Transcripts.{ConsoleState};
+
+    ghost Value = { ConsoleState };
+
+    ghost view = { λ console. record {
+      left = console.lines.left;
+      line = console.lines.line;
+      bad = console.some_bad;
+    } };
+}
+
+impl<I: Read + Drop> Console<I> {
+    /// Takes the memory.
+    pub fn new(alloc: Global, input: I) -> Result<Console<I>, Stop>
+        ensures left { IfOk result (λ console. console.left ≡ I.remaining input) }
+        ensures bad { IfOk result (λ console. console.bad ≡ false) }
+    {
+        Ok(Console {
+            lines: Lines::new(alloc, input)?,
+            room: Room::new(alloc)?,
+            some_bad: false,
+        })
+    }
+
+    /// Reads the next line. `false` at the end of the input. Where the line is not at hand, what was printed is
+    /// written out first, since the writer of the input may wait for that answer.
+    pub fn advance<O: Write>(&mut self, output: &mut O) -> Result<bool, Stop>
+        ensures { IfOk result (TakesLineOrEnd (streams self.old (O.contents output.old)) (streams self.new (O.contents output.new))) }
+    {
+        if !self.lines.is_at_hand() {
+            output.flush().map_err(|_| Stop::CannotWrite)?;
+        }
+        self.lines.advance().map_err(|_| Stop::CannotRead)
+    }
+
+    /// Prints an answer.
+    pub fn print<O: Write>(&mut self, answer: &Answer, output: &mut O) -> Result<(), Stop>
+        ensures { OnOk result (Prints answer.now (streams self.old (O.contents output.old)) (streams self.new (O.contents output.new))) }
+    {
+        if matches!(answer, Answer::BadLine) {
+            self.some_bad = true;
+        }
+        answer.print(output).map_err(|_| Stop::CannotWrite)
+    }
+
+    /// Whether some line was bad.
+    pub fn some_bad(&self) -> bool
+        ensures { result ≡ self.now.bad }
+    {
+        self.some_bad
+    }
+}

@@ -1,0 +1,89 @@
+// A script: lines that are read, obeyed and answered one after another, over one disk.
+ghost use Rattle.std.specs.Prelude.{◌≡◌, IfOk, OnOk};
+ghost use Rattle.journal_disk.specs.Disks.{IsSettled, read_of};
+ghost use Rattle.journal_inode.specs.Nodes.{no_time};
+ghost use Rattle.journal_inode.specs.Formats.{IsFormatted};
+ghost use Rattle.journal_script.specs.Transcripts.{streams, ComesTo, Runs};
+ghost use Rattle.journal_script.specs.Sizes.{IsSize};
+
+use crate::console::Console;
+use crate::stop::Stop;
+use crate::up::Opening;
+use crate::{down, up};
+use journal_disk::MemDisk;
+use journal_inode::format;
+use journal_world::{Moment, Refused};
+use std::alloc::Global;
+use std::io::{Read, Write};
+use std::sync::Wait;
+
+/// What comes after a line.
+#[derive(Drop)]
+pub enum Next {
+    /// The line opens the disk, and is answered by what comes of it.
+    Open(MemDisk),
+    /// Lines to a disk that is down.
+    Down(MemDisk),
+    /// Nothing: the input ended.
+    End,
+}
+
+/// Answers the lines of the input, over a new disk of so many blocks, and tells whether some line was bad.
+///
+/// What was answered is written out as soon as no further line is at hand.
+pub fn run<W: Wait, I: Read, O: Write>(
+    rt: &W,
+    alloc: Global,
+    blocks: u64,
+    input: &mut I,
+    output: &mut O,
+) -> Result<bool, Stop>
+    requires { IsSize blocks }
+
+    // The output gained the answers of all lines of the input, in order, of which some is a bad line exactly where it says
+    // so. Where it is given up, nothing is said of what was printed.
+    ensures { Runs (I.remaining input.old) (O.contents output.old) (O.contents output.new) result }
+{
+    let mut console = Console::new(alloc, input)?;
+    answer_all(rt, alloc, blocks, &mut console, output)?;
+    Ok(console.some_bad())
+}
+
+// A disk without files, of so many blocks. A script has no clock: the root directory's time is 0.
+fn new_disk(alloc: Global, blocks: u64) -> Result<MemDisk, Stop>
+    requires { IsSize blocks }
+    ensures settled { IfOk result (λ disk. IsSettled disk.past) }
+    ensures formatted { IfOk result (λ disk. IsFormatted blocks no_time (read_of disk.past)) }
+{
+    let disk = match MemDisk::new::<()>(alloc, blocks) {
+        Ok(disk) => disk,
+        Err(why) => return Err(Stop::refused(why)),
+    };
+    match format(alloc, disk, Moment { secs: 0, nanos: 0 }) {
+        Ok(disk) => Ok(disk),
+        Err(Refused { refusal, .. }) => Err(Stop::refused(refusal)),
+    }
+}
+
+// Makes the disk, opens it, and answers each line.
+fn answer_all<W: Wait, I: Read + Drop, O: Write>(
+    rt: &W,
+    alloc: Global,
+    blocks: u64,
+    console: &mut Console<I>,
+    output: &mut O,
+) -> Result<(), Stop>
+    requires { IsSize blocks }
+    ensures { OnOk result (ComesTo Next.End (streams console.old (O.contents output.old)) (streams console.new (O.contents output.new))) }
+{
+    let disk = new_disk(alloc, blocks)?;
+    let mut next = up::run(rt, alloc, disk, Opening::First, console, output)?;
+    for _ in 0..u64::MAX {
+        next = match next {
+            Next::Open(disk) => up::run(rt, alloc, disk, Opening::Asked, console, output)?,
+            Next::Down(disk) => down::run(alloc, disk, console, output)?,
+            Next::End => return Ok(()),
+        };
+    }
+    Err(Stop::CannotRead)
+}

@@ -1,0 +1,69 @@
+// The logger and the installer, driven step by step.
+ghost use Rattle.std.specs.Prelude.{◌≤◌, IfOk, IfErr};
+ghost use Rattle.journal_script.specs.Clients.{IsStepRefusal};
+
+use journal_disk::MemDisk;
+use journal_history::Naming;
+use journal_twophase::{Journal, Why};
+use journal_world::{AnyMap, Step};
+use std::sync::Wait;
+
+/// Who makes steps.
+#[derive(Clone, Copy)]
+pub enum Actor {
+    Logger,
+    Installer,
+    /// The logger, or the installer where that one is idle, until all commits are marked as stable.
+    Waiter,
+}
+
+/// Steps of the actor until it has nothing to do, at most so many. Answers how many moved.
+pub fn drive<'b, J: Naming, W: Wait>(
+    rt: &W,
+    journal: &Journal<'b, MemDisk, AnyMap, J>,
+    actor: Actor,
+    most: u64,
+) -> Result<u64, Why<'b, J, AnyMap>>
+    ensures moved { IfOk result (λ moved. moved ≤ most) }
+    ensures refusal { IfErr result (IsStepRefusal actor) }
+{
+    for moved in 0..most {
+        if let Step::Idle = step(rt, journal, actor)? {
+            return Ok(moved);
+        }
+    }
+    Ok(most)
+}
+
+// The actor's next step.
+fn step<'b, J: Naming, W: Wait>(
+    rt: &W,
+    journal: &Journal<'b, MemDisk, AnyMap, J>,
+    actor: Actor,
+) -> Result<Step, Why<'b, J, AnyMap>>
+    ensures { IfErr result (IsStepRefusal actor) }
+{
+    match actor {
+        Actor::Logger => journal.log_step(rt),
+        Actor::Installer => journal.install_step(rt),
+        Actor::Waiter => wait_step(rt, journal),
+    }
+}
+
+// The logger's next step where not all commits are marked, or the installer's where that one waits for a
+// place in the log.
+fn wait_step<'b, J: Naming, W: Wait>(
+    rt: &W,
+    journal: &Journal<'b, MemDisk, AnyMap, J>,
+) -> Result<Step, Why<'b, J, AnyMap>>
+    ensures { IfErr result (IsStepRefusal Actor.Waiter) }
+{
+    let stat = journal.stat(rt);
+    if stat.floor == stat.commits {
+        return Ok(Step::Idle);
+    }
+    match journal.log_step(rt)? {
+        Step::Moved => Ok(Step::Moved),
+        Step::Idle => journal.install_step(rt),
+    }
+}

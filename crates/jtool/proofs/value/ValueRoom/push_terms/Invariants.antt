@@ -1,6 +1,0 @@
-use Rattle.std.proofs.Common.{length, take}
-use Rattle.jtool.proofs.Parts.{AreTerms, parts}
-use Rattle.jtool.proofs.value.ValueRoom.push_terms.Given as goal
-
-abbrev pub invariant-loop-term : goal.invariant-loop-term
-invariant-loop-term l = AreTerms (take (length l.yielded) (parts l.text)) l.self.bytes.items
