@@ -1,3 +1,4 @@
+pub mod Asking
 pub mod Decimals
 pub mod Digits
 pub mod Terms

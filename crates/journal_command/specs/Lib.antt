@@ -1,3 +1,4 @@
+pub mod Asks
 pub mod Commands
 pub mod Lines
 pub mod Numbers

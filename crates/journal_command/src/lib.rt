@@ -1,5 +1,5 @@
-//! What the lines of a script say, with no journal: the lines of an input, the command that each says, and how numbers and
-//! values are written.
+//! What a program's words and the lines of a script say, with no journal: what the words ask for, the lines of an input, the
+//! command that each says, and how numbers and values are written.
 //!
 //! A line is its words, with one space between each two, and `specs/Commands.antt` says which words say which command. A
 //! command lends the bytes of its value, or the numbers of its choice, from a `Room` whose memory is taken once, so that
@@ -9,6 +9,7 @@
 //! prints the text that spells it by its maximal runs of equal bytes.
 #![tactic(auto)]
 
+mod ask;
 mod choice;
 mod command;
 mod line;
@@ -16,6 +17,7 @@ mod number;
 mod room;
 mod value;
 
+pub use ask::{Ask, AskFault};
 pub use command::{Choice, Command};
 pub use line::{LINE_BYTES, Lines};
 pub use number::{read_number, read_port};

@@ -2,6 +2,7 @@
 mod beside_daemon;
 mod gated_disk;
 mod one_thread;
+mod steps;
 mod threads;
 mod waits;
 
@@ -50,7 +51,7 @@ fn inode(number: u8) -> Addr {
 /// What is tried of a journal over a new disk.
 #[derive(Clone, Copy, Drop)]
 enum Trial {
-    CountOnce,
+    CountOnce(bool),
     BecomeStable,
     WaitTogether,
     EndByTheFault(u64),
@@ -93,7 +94,9 @@ fn try_on<J: Naming + Send + Sync, H: Abort + Threads + Wait + Sync>(
     trial: Trial,
 ) {
     match trial {
-        Trial::CountOnce => beside_daemon::count_once(rt, alloc, journal),
+        Trial::CountOnce(have_to_wait) => {
+            beside_daemon::count_once(rt, alloc, journal, have_to_wait);
+        }
         Trial::BecomeStable => beside_daemon::become_stable(rt, alloc, journal),
         Trial::WaitTogether => beside_daemon::wait_together(rt, alloc, journal),
         Trial::EndByTheFault(k) => beside_daemon::end_by_the_fault(rt, alloc, journal, k),

@@ -1,9 +1,10 @@
 // A disk in a file of the system, and in one whose calls are cut short, interrupted or refused.
 ghost use Rattle.std.specs.Prelude.{◌≤◌, IfOk};
 
-use journal_block::Block;
-use journal_disk::{BlockDisk, DiskFault, FileDisk};
-use journal_world::Refusal;
+use crate::disk::Call::{Barrier, Failures, Read, Size, Write};
+use crate::disk::{Row, wrong_row};
+use crate::runs::{DEVICE_FAILED, Wrong};
+use journal_disk::FileDisk;
 use std::alloc::Global;
 use std::cell::Cell;
 use std::fs::{File, Files, Metadata, OpenFile, OpenOptions};
@@ -86,111 +87,91 @@ impl<'a> Seek for Uneven<'a> {
     }
 }
 
-// A new file of so many zeros, and its path.
-fn new_file(
-    rt: &(impl Files<File = File> + Env + AllocGlobal),
-    name: &str,
-    bytes: u64,
-) -> Result<(File, PathBuf), Fail> {
+fn new_path(rt: &(impl Env + AllocGlobal), name: &str) -> Result<PathBuf, Fail> {
     let mut path = env::temp_dir(rt)?;
     path.push(name)?;
+    Ok(path)
+}
+
+// A new file of so many zeros.
+fn new_file(rt: &impl Files<File = File>, path: &PathBuf, bytes: u64) -> io::Result<File> {
     let file = OpenOptions::new()
         .read(true)
         .write(true)
         .create(true)
         .truncate(true)
-        .open(rt, &path)?;
+        .open(rt, path)?;
     file.set_len(bytes)?;
-    Ok((file, path))
+    Ok(file)
 }
 
-// A block that begins with a number and ends with it.
-fn marked(alloc: Global, number: u64) -> Result<Block, Refusal<()>> {
-    let mut block = Block::try_new(alloc)?;
-    block.put_u64(0, number);
-    block.put_u64(4088, number);
-    Ok(block)
-}
-
-fn write<D: BlockDisk>(
-    rt: &impl Abort,
-    disk: &mut D,
-    block: u64,
-    from: &Block,
-) -> Result<(), DiskFault> {
-    assert!(rt; block < disk.size());
-    disk.write(block, from)
-}
-
-// The numbers at both ends of a block.
-fn read<D: BlockDisk>(
-    rt: &impl Abort,
-    disk: &mut D,
-    block: u64,
-    into: &mut Block,
-) -> Result<(u64, u64), DiskFault> {
-    assert!(rt; block < disk.size());
-    disk.read(block, into)?;
-    Ok((into.get_u64(0), into.get_u64(4088)))
-}
-
-// Writes the last block of three, and reads it in the file that is opened again.
-fn write_and_read_again(
-    rt: &(impl Files<File = File> + Abort),
+// The first row that the disk in the file at a path answers otherwise.
+fn wrong_in_file(
+    rt: &(impl Files<File = File> + AllocGlobal + Abort),
     name: &str,
-    block: &mut Block,
-) -> io::Result<()> {
+    rows: &[Row],
+) -> io::Result<Wrong> {
     let mut disk = FileDisk::open(rt, name)?;
-    assert_eq!(rt; disk.size(), 3);
-    assert_eq!(rt; write(rt, &mut disk, 2, block), Ok(()));
-    assert_eq!(rt; disk.barrier(), Ok(()));
-    drop(disk);
-    let mut disk = FileDisk::open(rt, name)?;
-    assert_eq!(rt; read(rt, &mut disk, 1, block), Ok((0, 0)));
-    assert_eq!(rt; read(rt, &mut disk, 2, block), Ok((7, 7)));
-    assert_eq!(rt; disk.failures(), 0);
-    Ok(())
+    Ok(wrong_row(rt, rt.alloc(), &mut disk, rows))
 }
+
+// Three blocks, and a part of a fourth that is none.
+static WRITTEN: [Row; 3] = [(Size, 3), (Write(2, 7), 0), (Barrier, 0)];
+
+// The same file, opened again.
+static READ: [Row; 3] = [(Read(1), 0), (Read(2), 7), (Failures, 0)];
 
 #[test]
 fn what_is_written_is_in_the_file(rt: HostRuntime) -> Result<(), Fail> {
-    // Three blocks, and a part of a fourth that is none.
-    let (file, path) = new_file(&rt, "palkhuveg-file-disk", 3 * 4096 + 4095)?;
-    drop(file);
+    let path = new_path(&rt, "palkhuveg-file-disk")?;
+    drop(new_file(&rt, &path, 3 * 4096 + 4095)?);
     let name = path.as_path().to_str().ok_or("the path is text")?;
-    let mut block = marked(rt.alloc(), 7)?;
-    write_and_read_again(&rt, name, &mut block)?;
+    let written = wrong_in_file(&rt, name, &WRITTEN)?;
+    let read = wrong_in_file(&rt, name, &READ)?;
     fs::remove_file(&rt, name)?;
-    assert!(rt; FileDisk::open(&rt, name).is_err());
+    assert_eq!(rt;
+        (written, read, FileDisk::open(&rt, name).is_err()),
+        (None, None, true)
+    );
     Ok(())
 }
 
-// Calls that are carried on, and then a write whose second piece is refused, as all calls after it.
-fn write_and_read_unevenly(
+static UNEVEN: [Row; 5] = [
+    (Write(1, 5), 0),
+    (Barrier, 0),
+    (Read(0), 0),
+    (Read(1), 5),
+    (Failures, 0),
+];
+
+// The second piece of the write is refused, as all calls after it.
+static REFUSED: [Row; 4] = [
+    (Write(0, 5), DEVICE_FAILED),
+    (Read(1), DEVICE_FAILED),
+    (Barrier, DEVICE_FAILED),
+    (Failures, 3),
+];
+
+static AGAIN: [Row; 2] = [(Read(1), 5), (Failures, 3)];
+
+// The first row that is answered otherwise, of those before the refusals, during them and after them.
+fn wrong_unevenly(
     rt: &impl Abort,
+    alloc: Global,
     disk: &mut FileDisk<Uneven>,
     calls: &Calls,
-    block: &mut Block,
-) {
-    assert_eq!(rt; write(rt, disk, 1, block), Ok(()));
-    assert_eq!(rt; disk.barrier(), Ok(()));
-    assert_eq!(rt; read(rt, disk, 0, block), Ok((0, 0)));
-    assert_eq!(rt; read(rt, disk, 1, block), Ok((5, 5)));
-    assert_eq!(rt; disk.failures(), 0);
+) -> [Wrong; 3] {
+    let uneven = wrong_row(rt, alloc, disk, &UNEVEN);
     calls.refused_from.set(calls.made.get().saturating_add(2));
-    assert_eq!(rt; write(rt, disk, 0, block), Err(DiskFault));
-    assert_eq!(rt; read(rt, disk, 1, block), Err(DiskFault));
-    assert_eq!(rt; disk.barrier(), Err(DiskFault));
-    assert_eq!(rt; disk.failures(), 3);
+    let refused = wrong_row(rt, alloc, disk, &REFUSED);
     calls.refused_from.set(u64::MAX);
-    assert_eq!(rt; read(rt, disk, 1, block), Ok((5, 5)));
-    assert_eq!(rt; disk.failures(), 3);
+    [uneven, refused, wrong_row(rt, alloc, disk, &AGAIN)]
 }
 
 #[test]
 fn short_and_interrupted_calls_are_carried_on(rt: HostRuntime) -> Result<(), Fail> {
-    let (file, path) = new_file(&rt, "palkhuveg-uneven-disk", 2 * 4096)?;
-    let mut block = marked(rt.alloc(), 5)?;
+    let path = new_path(&rt, "palkhuveg-uneven-disk")?;
+    let file = new_file(&rt, &path, 2 * 4096)?;
     let calls = Calls {
         made: Cell::new(0),
         refused_from: Cell::new(u64::MAX),
@@ -199,7 +180,105 @@ fn short_and_interrupted_calls_are_carried_on(rt: HostRuntime) -> Result<(), Fai
         file,
         calls: &calls,
     })?;
-    write_and_read_unevenly(&rt, &mut disk, &calls, &mut block);
+    let wrong = wrong_unevenly(&rt, rt.alloc(), &mut disk, &calls);
     fs::remove_file(&rt, &path)?;
+    assert_eq!(rt; wrong, [None, None, None]);
+    Ok(())
+}
+
+// A call that a file heard: a write at an offset, or that what was written is to be kept.
+#[derive(Clone, Copy, Debug, PartialEq, Eq)]
+enum Heard {
+    Write(u64),
+    Sync,
+}
+
+// The first four calls of a file, and how many there were.
+#[derive(Drop)]
+struct Notes {
+    calls: Cell<[Option<Heard>; 4]>,
+    made: Cell<usize>,
+}
+
+impl Notes {
+    fn note(&self, call: Heard) {
+        let mut calls = self.calls.get();
+        if let Some(place) = calls.get_mut(self.made.get()) {
+            *place = Some(call);
+        }
+        self.calls.set(calls);
+        self.made.set(self.made.get().saturating_add(1));
+    }
+}
+
+// A file of two blocks that notes its calls and keeps nothing.
+#[derive(Drop)]
+struct Noted<'a> {
+    notes: &'a Notes,
+}
+
+impl<'a> FileExt for Noted<'a> {
+    fn read_at(&self, _buf: &mut [u8], _offset: u64) -> io::Result<usize> {
+        Ok(0)
+    }
+
+    fn write_at(&self, buf: &[u8], offset: u64) -> io::Result<usize> {
+        self.notes.note(Heard::Write(offset));
+        Ok(buf.len())
+    }
+}
+
+impl<'a> OpenFile for Noted<'a> {
+    fn metadata(&self) -> io::Result<Metadata> {
+        Err(ErrorKind::Unsupported.into())
+    }
+
+    fn set_len(&self, _size: u64) -> io::Result<()> {
+        Ok(())
+    }
+
+    fn sync_all(&self) -> io::Result<()> {
+        self.sync_data()
+    }
+
+    fn sync_data(&self) -> io::Result<()> {
+        self.notes.note(Heard::Sync);
+        Ok(())
+    }
+}
+
+impl<'a> Seek for Noted<'a> {
+    fn seek(&mut self, _to: SeekFrom) -> io::Result<u64> {
+        Ok(2 * 4096)
+    }
+}
+
+// What a power loss leaves rests on it that each barrier asks the system, the first one too.
+#[test]
+fn each_barrier_is_a_sync(rt: HostRuntime) -> Result<(), Fail> {
+    let notes = Notes {
+        calls: Cell::new([None; 4]),
+        made: Cell::new(0),
+    };
+    let mut disk = FileDisk::over(Noted { notes: &notes })?;
+    let wrong = wrong_row(
+        &rt,
+        rt.alloc(),
+        &mut disk,
+        &[(Write(1, 5), 0), (Write(0, 5), 0), (Barrier, 0)],
+    );
+    assert_eq!(rt;
+        (wrong, notes.calls.get(), notes.made.get()),
+        (
+            None,
+            [
+                Some(Heard::Write(4096)),
+                Some(Heard::Write(0)),
+                Some(Heard::Sync),
+                None
+            ],
+            3
+        )
+    );
     Ok(())
 }

@@ -2,13 +2,13 @@ ghost use Rattle.std.specs.Prelude.{◌≡◌, length, IfSome};
 ghost use Rattle.journal_world.specs.Histories.{commits_of};
 ghost use Rattle.journal_history.specs.Tokens.{made};
 
+use crate::runs::number;
 use journal_history::{
     Book, Front, Naming, Opened, Receipt, Recorded, Session, StableNote, Writer,
 };
 use journal_world::{AnyMap, Layout};
 use std::marker::Brand;
 use std::mem::size_of;
-use std::process::Abort;
 use std::sync::Wait;
 use std::test::*;
 use std::thread::{Threads, join};
@@ -38,6 +38,11 @@ impl Recorded for Blank {
     ghost writes = { λ blank. [] };
 }
 
+// Three numbers that are told.
+type Told = [u64; 3];
+
+const REFUSED: Told = [u64::MAX; 3];
+
 // A writer with a session whose commits are all that the history has under its number.
 #[derive(Drop)]
 struct Author<'b, J: Naming> {
@@ -62,21 +67,36 @@ impl<'b, J: Naming> Author<'b, J> {
         Some((Author { writer, session }, other))
     }
 
-    fn commit(&mut self) -> Option<Receipt<'b, J, AnyMap>> {
+    // Commits a transaction. The place, the count and the number of entries that the receipt tells.
+    fn commit(&mut self) -> Told {
         if self.writer.len() >= 100 {
-            return None;
+            return REFUSED;
         }
-        self.writer.commit(&mut self.session, &Blank).ok()
+        match self.writer.commit(&mut self.session, &Blank) {
+            Ok(receipt) => [receipt.place(), receipt.count(), receipt.front().len()],
+            Err(_) => REFUSED,
+        }
     }
 
-    // Marks all commits as stable, and tells it.
-    fn mark_all(&mut self) -> Option<()> {
+    // Marks all commits as stable, and tells it. How long the history is then, how many commits it has, and how many of
+    // them are stable.
+    fn mark(&mut self) -> Told {
         if self.writer.len() >= 100 || self.writer.count() < self.writer.floor() {
-            return None;
+            return REFUSED;
         }
-        self.writer.mark(self.writer.count()).ok()?;
+        if self.writer.mark(self.writer.count()).is_err() {
+            return REFUSED;
+        }
         self.writer.tell();
-        Some(())
+        [self.writer.len(), self.writer.count(), self.writer.floor()]
+    }
+
+    // Shows the session the history.
+    fn show(&mut self) -> Told {
+        match self.writer.show(&mut self.session) {
+            Ok(()) => told(&self.session),
+            Err(_) => REFUSED,
+        }
     }
 }
 
@@ -84,128 +104,161 @@ impl<'b, J: Naming> Author<'b, J> {
 // book and a length, so that what it has seen has no bytes, and the others are fronts beside their numbers.
 #[test]
 fn tokens_have_no_bytes(rt: HostRuntime) {
-    assert_eq!(rt; size_of::<Book<AnyMap>>(), 16);
-    assert_eq!(rt; size_of::<Front<Brand, AnyMap>>(), 16);
-    assert_eq!(rt; size_of::<Session<Brand, AnyMap>>(), 48);
-    assert_eq!(rt; size_of::<Receipt<Brand, AnyMap>>(), 32);
-    assert_eq!(rt; size_of::<StableNote<Brand, AnyMap>>(), 24);
+    let sizes = [
+        size_of::<Book<AnyMap>>(),
+        size_of::<Front<Brand, AnyMap>>(),
+        size_of::<Session<Brand, AnyMap>>(),
+        size_of::<Receipt<Brand, AnyMap>>(),
+        size_of::<StableNote<Brand, AnyMap>>(),
+    ];
+    assert_eq!(rt; sizes, [16, 16, 48, 32, 24]);
 }
 
-// Two commits, and what is told of them.
-fn commits<J: Naming>(rt: &impl Abort, author: &mut Author<J>) -> Result<(), Fail> {
-    let first = author.commit().ok_or("first")?;
-    let second = author.commit().ok_or("second")?;
-    assert_eq!(rt; first.place(), 1);
-    assert_eq!(rt; first.count(), 1);
-    assert_eq!(rt; first.front().len(), 2);
-    assert_eq!(rt; second.place(), 2);
-    assert_eq!(rt; second.count(), 2);
-    assert_eq!(rt; second.front().len(), 3);
-    Ok(())
+// A session's number, how many commits it made, and how many entries it has seen.
+fn told<J: Naming>(session: &Session<J, AnyMap>) -> Told {
+    let seen = session.seen();
+    let front = session.front().len();
+    [
+        session.number(),
+        session.made(),
+        if front == seen { seen } else { u64::MAX },
+    ]
 }
 
-// What a session answers that has the number, made so many commits and has seen so many entries.
-fn knows<J: Naming>(rt: &impl Abort, session: &Session<J, AnyMap>, is: (u64, u64, u64)) {
-    assert_eq!(rt; session.number(), is.0);
-    assert_eq!(rt; session.made(), is.1);
-    assert_eq!(rt; session.seen(), is.2);
-    assert_eq!(rt; session.front().len(), is.2);
+// How long the history is that refuses a further writer, which has then seen all of it. 0 where none does.
+fn begin_again<J: Naming>(book: &Book<AnyMap>, layout: Layout) -> u64
+    requires book { book.now ≡ J.book }
+    requires blocks { layout.blocks ≡ J.blocks }
+{
+    match Writer::<J, AnyMap>::begin(book, &Zeros { layout }) {
+        Ok(_) => 0,
+        Err(longer) => longer.len(),
+    }
 }
 
-// A mark is known once it is told, and no more than it.
-fn marks<J: Naming>(
-    rt: &impl Abort,
-    author: &mut Author<J>,
-    other: &mut Session<J, AnyMap>,
-) -> Result<(), Fail> {
-    assert!(rt; !other.is_stable(1));
-    author.mark_all().ok_or("marked")?;
-    assert_eq!(rt; author.writer.len(), 4);
-    assert_eq!(rt; author.writer.count(), 2);
-    assert_eq!(rt; author.writer.floor(), 2);
-    assert!(rt; other.is_stable(2));
-    assert!(rt; !other.is_stable(3));
-    let note = StableNote::new(&author.writer.front(), author.writer.floor());
-    assert_eq!(rt; note.count(), 2);
-    assert_eq!(rt; note.front().len(), 4);
-    Ok(())
+// The mark that is told of the whole history, and how long that is.
+fn note<J: Naming>(writer: &Writer<J, AnyMap>) -> Told {
+    let note = StableNote::new(&writer.front(), writer.floor());
+    [note.count(), note.front().len(), 0]
 }
 
-// A commit and a later mark are told too.
-fn marks_again<J: Naming>(
-    rt: &impl Abort,
-    author: &mut Author<J>,
-    other: &mut Session<J, AnyMap>,
-) -> Result<(), Fail> {
-    author.commit().ok_or("third")?;
-    assert!(rt; !other.is_stable(3));
-    author.mark_all().ok_or("marked again")?;
-    assert!(rt; other.is_stable(3));
-    Ok(())
+/// What is asked of an author and of another session.
+#[derive(Clone, Copy)]
+enum Call {
+    Commit,
+    Mark,
+    Note,
+    /// The author's session sees the beginning of the history.
+    SeeStart,
+    /// The author's session is shown the history.
+    Show,
+    Session,
+    Other,
+    /// Whether the other session knows so many commits to be stable.
+    IsStable(u64),
 }
 
-// What is shown is seen, and nothing is forgotten.
-fn shows<'b, J: Naming>(
-    rt: &impl Abort,
+use Call::{Commit, IsStable, Mark, Note, Other, SeeStart, Session as Own, Show};
+
+type Row = (Call, Told);
+
+fn answer<'b, J: Naming>(
+    author: &mut Author<'b, J>,
+    other: &mut Session<'b, J, AnyMap>,
     start: &Front<'b, J, AnyMap>,
-    writer: &Writer<'b, J, AnyMap>,
-    session: &mut Session<'b, J, AnyMap>,
-) {
-    assert!(rt; !start.is_empty());
-    assert_eq!(rt; start.len(), 1);
-    session.see(start);
-    assert_eq!(rt; session.seen(), 5);
-    assert!(rt; writer.show(session).is_ok());
-    assert_eq!(rt; session.seen(), 6);
+    call: Call,
+) -> Told {
+    match call {
+        Commit => author.commit(),
+        Mark => author.mark(),
+        Note => note(&author.writer),
+        SeeStart => {
+            author.session.see(start);
+            told(&author.session)
+        }
+        Show => author.show(),
+        Own => told(&author.session),
+        Other => told(other),
+        IsStable(n) => [number(other.is_stable(n)), 0, 0],
+    }
 }
 
-fn answers<J: Naming>(rt: &impl Abort, book: &Book<AnyMap>, layout: Layout) -> Result<(), Fail>
+// The first row that is answered otherwise, counted from 1, and that answer.
+type Wrong = Option<(usize, Told)>;
+
+fn walk<'b, J: Naming>(
+    author: &mut Author<'b, J>,
+    other: &mut Session<'b, J, AnyMap>,
+    start: &Front<'b, J, AnyMap>,
+    rows: &[Row],
+) -> Wrong {
+    for (number, (call, want)) in rows.iter().enumerate() {
+        let got = answer(author, other, start, *call);
+        if got != *want {
+            return Some((number + 1, got));
+        }
+    }
+    None
+}
+
+// The first row that is answered otherwise. Beside it, how long the beginning of the history is, and the history that a
+// further writer finds before and after the rows.
+fn run<J: Naming>(book: &Book<AnyMap>, layout: Layout, rows: &[Row]) -> Option<(Wrong, [u64; 3])>
     requires book { book.now ≡ J.book }
     requires blocks { layout.blocks ≡ J.blocks }
 {
-    let (mut author, mut other) = Author::<J>::begin(book, layout).ok_or("begun")?;
-    assert!(rt; Author::<J>::begin(book, layout).is_none());
+    let (mut author, mut other) = Author::<J>::begin(book, layout)?;
     let start = author.writer.front();
-    commits(rt, &mut author)?;
-    knows(rt, &author.session, (3, 2, 3));
-    knows(rt, &other, (5, 0, 1));
-    marks(rt, &mut author, &mut other)?;
-    marks_again(rt, &mut author, &mut other)?;
-    let Author {
-        writer,
-        mut session,
-    } = author;
-    shows(rt, &start, &writer, &mut session);
-    Ok(())
+    let before = begin_again::<J>(book, layout);
+    let wrong = walk(&mut author, &mut other, &start, rows);
+    Some((wrong, [start.len(), before, begin_again::<J>(book, layout)]))
 }
 
-// How long the history is that a further writer is refused for.
-fn refused<J: Naming>(book: &Book<AnyMap>, layout: Layout) -> Option<u64>
-    requires book { book.now ≡ J.book }
-    requires blocks { layout.blocks ≡ J.blocks }
-{
-    let begun = Writer::<J, AnyMap>::begin(book, &Zeros { layout });
-    Some(begun.err()?.len())
+// The same with a book of its own.
+fn run_new(rows: &[Row]) -> Option<(Wrong, [u64; 3])> {
+    let book: Book<AnyMap> = Book::open::<()>().ok()?;
+    let layout = Layout::new(600)?;
+    run::<Brand>(&book, layout, rows)
 }
 
-// Who would begin the history again finds a longer one, and has then seen all of it.
-fn refusals<J: Naming>(rt: &impl Abort, book: &Book<AnyMap>, layout: Layout) -> Result<(), Fail>
-    requires book { book.now ≡ J.book }
-    requires blocks { layout.blocks ≡ J.blocks }
-{
-    let (mut author, _other) = Author::<J>::begin(book, layout).ok_or("begun")?;
-    assert_eq!(rt; refused::<J>(book, layout), Some(1));
-    author.commit().ok_or("committed")?;
-    author.mark_all().ok_or("marked")?;
-    assert_eq!(rt; refused::<J>(book, layout), Some(3));
-    Ok(())
+// A mark is known once it is told, and no more than it. What is shown is seen, and nothing is forgotten.
+static ANSWERS: [Row; 16] = [
+    (Commit, [1, 1, 2]),
+    (Commit, [2, 2, 3]),
+    (Own, [3, 2, 3]),
+    (Other, [5, 0, 1]),
+    (IsStable(1), [0, 0, 0]),
+    (Mark, [4, 2, 2]),
+    (IsStable(2), [1, 0, 0]),
+    (IsStable(3), [0, 0, 0]),
+    (Note, [2, 4, 0]),
+    (Commit, [4, 3, 5]),
+    (IsStable(3), [0, 0, 0]),
+    (Mark, [6, 3, 3]),
+    (IsStable(3), [1, 0, 0]),
+    (SeeStart, [3, 3, 5]),
+    (Show, [3, 3, 6]),
+    (Other, [5, 0, 6]),
+];
+
+#[test]
+fn each_call_answers_by_the_history(rt: HostRuntime) {
+    assert_eq!(rt; run_new(&ANSWERS), Some((None, [1, 1, 6])));
+}
+
+static LONGER: [Row; 2] = [(Commit, [1, 1, 2]), (Mark, [3, 1, 1])];
+
+// Who would begin the history again finds it, and has then seen all of it.
+#[test]
+fn a_longer_history_is_refused(rt: HostRuntime) {
+    assert_eq!(rt; run_new(&LONGER), Some((None, [1, 1, 3])));
 }
 
 fn works<'b, J: Naming>(author: Author<'b, J>) -> Session<'b, J, AnyMap> {
     let mut author = author;
     author.commit();
     author.commit();
-    author.mark_all();
+    author.mark();
     author.session
 }
 
@@ -224,46 +277,34 @@ fn waits<'b, J: Naming>(
     session
 }
 
-// One thread commits and marks, the other one observes until it has seen all of it; then they meet.
-fn meets<J: Naming + Send + Sync, H: Abort + Threads + Wait + Sync>(
+// One thread commits and marks, the other one observes until it has seen all of it; then they meet. What the first
+// knows before, what both know then, and whether two commits are known to be stable.
+fn meets<J: Naming + Send + Sync, H: Threads + Wait + Sync>(
     rt: &H,
     book: &Book<AnyMap>,
     layout: Layout,
-) -> Result<(), Fail>
+) -> Option<([Told; 3], bool)>
     requires book { book.now ≡ J.book }
     requires blocks { layout.blocks ≡ J.blocks }
 {
-    let (author, reader) = Author::<J>::begin(book, layout).ok_or("begun")?;
+    let (author, reader) = Author::<J>::begin(book, layout)?;
     let (mut author, mut reader) = join(
         rt,
         || -> Session<J, AnyMap> { works(author) },
         || -> Session<J, AnyMap> { waits(rt, reader, 4) },
     );
-    knows(rt, &author, (3, 2, 3));
+    let before = told(&author);
     author.meet(&mut reader);
-    knows(rt, &author, (3, 2, 4));
-    knows(rt, &reader, (5, 0, 4));
-    assert!(rt; reader.is_stable(2));
-    Ok(())
-}
-
-#[test]
-fn each_call_answers_by_the_history(rt: HostRuntime) -> Result<(), Fail> {
-    let book: Book<AnyMap> = Book::open::<()>()?;
-    let layout = Layout::new(600).ok_or("600 blocks")?;
-    answers::<Brand>(&rt, &book, layout)
-}
-
-#[test]
-fn a_longer_history_is_refused(rt: HostRuntime) -> Result<(), Fail> {
-    let book: Book<AnyMap> = Book::open::<()>()?;
-    let layout = Layout::new(600).ok_or("600 blocks")?;
-    refusals::<Brand>(&rt, &book, layout)
+    Some(([before, told(&author), told(&reader)], reader.is_stable(2)))
 }
 
 #[test]
 fn two_threads_meet(rt: HostRuntime) -> Result<(), Fail> {
     let book: Book<AnyMap> = Book::open::<()>()?;
     let layout = Layout::new(600).ok_or("600 blocks")?;
-    meets::<Brand, _>(&rt, &book, layout)
+    assert_eq!(rt;
+        meets::<Brand, _>(&rt, &book, layout),
+        Some(([[3, 2, 3], [3, 2, 4], [5, 0, 4]], true))
+    );
+    Ok(())
 }

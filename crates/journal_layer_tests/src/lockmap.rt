@@ -1,34 +1,48 @@
 ghost use Rattle.std.specs.Prelude.{◌<◌};
 ghost use Rattle.journal_world.specs.declared.address.TheConstants.{SLOTS};
 
+use crate::runs::{BUSY, Run, told};
 use journal_lockmap::LockMap;
-use journal_world::Refusal;
 use std::sync::Wait;
 use std::sync::atomic::{AtomicBool, AtomicU64, Ordering};
 use std::test::*;
 use std::thread::{Threads, join, yield_now};
 
 // Takes the slot where it is free, and says which it took. It is free again afterwards.
-fn tries<R: Wait>(rt: &R, map: &LockMap, slot: u16) -> Result<u16, Refusal<()>>
+fn tries<R: Wait>(rt: &R, map: &LockMap, slot: u16) -> Run<u64>
     requires { slot < SLOTS }
 {
     let held = map.try_acquire(rt, slot)?;
     let slot = held.slot();
     map.release(rt, held);
-    Ok(slot)
+    Ok(u64::from(slot))
+}
+
+// The slot that is held, what is answered for it and for others meanwhile, and for it once it is free.
+fn hold<R: Wait>(rt: &R, map: &LockMap) -> [u64; 7] {
+    let held = map.acquire(rt, 5);
+    let slot = u64::from(held.slot());
+    let same = told(tries(rt, map, 5));
+    let first = told(tries(rt, map, 0));
+    let below = told(tries(rt, map, 4));
+    let above = told(tries(rt, map, 6));
+    let last = told(tries(rt, map, 256));
+    map.release(rt, held);
+    [
+        slot,
+        same,
+        first,
+        below,
+        above,
+        last,
+        told(tries(rt, map, 5)),
+    ]
 }
 
 #[test]
 fn a_held_slot_is_busy_and_the_others_are_free(rt: HostRuntime) -> Result<(), Fail> {
     let map = LockMap::new::<()>(rt.alloc())?;
-    let held = map.acquire(&rt, 5);
-    assert_eq!(rt; held.slot(), 5);
-    assert_eq!(rt; tries(&rt, &map, 5), Err(Refusal::Busy));
-    for slot in [0, 4, 6, 256] {
-        assert_eq!(rt; tries(&rt, &map, slot), Ok(slot));
-    }
-    map.release(&rt, held);
-    assert_eq!(rt; tries(&rt, &map, 5), Ok(5));
+    assert_eq!(rt; hold(&rt, &map), [5, BUSY, 0, 4, 6, 256, 5]);
     Ok(())
 }
 
@@ -102,12 +116,12 @@ fn waits<R: Wait>(rt: &R, map: &LockMap, flags: &Flags) {
 fn a_release_wakes_who_waits(rt: HostRuntime) -> Result<(), Fail> {
     let map = LockMap::new::<()>(rt.alloc())?;
     let flags = Flags::default();
-    let (_, seen) = join(
+    let ((), (asked, early)) = join(
         &rt,
         || waits(&rt, &map, &flags),
         || holds(&rt, &map, &flags),
     );
-    assert_eq!(rt; seen, (true, false));
-    assert!(rt; flags.taken.load(Ordering::SeqCst));
+    let taken = flags.taken.load(Ordering::SeqCst);
+    assert_eq!(rt; (asked, early, taken), (true, false, true));
     Ok(())
 }

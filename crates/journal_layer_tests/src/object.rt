@@ -1,13 +1,14 @@
 // Values by hand: where numbers, bits and objects lie in a block, and what is refused.
+use crate::runs::{BAD_ADDRESS, BAD_SIZE, Run, Wrong, told};
 use journal_block::Block;
 use journal_object::{load, store};
-use journal_world::{Addr, Layout, Refusal};
+use journal_world::{Addr, Layout};
 use std::alloc::Global;
 use std::test::Fail;
 
 // A block written by each call that writes: a number, a bit set and one cleared, a range, a byte,
 // and all of it as a copy.
-fn written(alloc: Global) -> Result<Block, Refusal<()>> {
+fn written(alloc: Global) -> Run<Block> {
     let mut block = Block::try_new(alloc)?;
     block.put_u64(8, 0x0102_0304_0506_0708);
     block.set_bit(9, true);
@@ -19,99 +20,110 @@ fn written(alloc: Global) -> Result<Block, Refusal<()>> {
     Ok(copy)
 }
 
+// A byte, and 256 where there is none.
+fn byte_at(bytes: &[u8], at: usize) -> u64 {
+    match bytes.get(at) {
+        Some(byte) => u64::from(*byte),
+        None => 256,
+    }
+}
+
+static BYTES: [(usize, u64); 10] = [
+    (0, 0),
+    (1, 2),
+    (2, 0),
+    (8, 8),
+    (9, 7),
+    (15, 1),
+    (16, 0),
+    (4093, 0x80),
+    (4094, 0x55),
+    (4095, 0xaa),
+];
+
+// The first of these bytes that is another in the block.
+fn wrong_byte(block: &Block) -> Wrong {
+    for (at, want) in &BYTES {
+        let got = byte_at(block.as_bytes(), *at);
+        if got != *want {
+            return Some((*at, got));
+        }
+    }
+    None
+}
+
 #[test]
 fn numbers_and_bits_lie_lowest_first(rt: HostRuntime) -> Result<(), Fail> {
     let block = written(rt.alloc())?;
-    for (at, want) in [
-        (0, 0),
-        (1, 2),
-        (2, 0),
-        (8, 8),
-        (9, 7),
-        (15, 1),
-        (16, 0),
-        (4093, 0x80),
-        (4094, 0x55),
-        (4095, 0xaa),
-    ] {
-        assert_eq!(rt; block.as_bytes().get(at).copied(), Some(want), "at {at}");
-    }
-    assert_eq!(rt; block.get_u64(9), 0x0001_0203_0405_0607);
-    assert!(rt; block.bit(9) && !block.bit(10));
+    let read = (block.get_u64(9), block.bit(9), block.bit(10));
+    let read_is = (0x0001_0203_0405_0607, true, false);
+    assert_eq!(rt; (wrong_byte(&block), read), (None, read_is));
     Ok(())
 }
 
-// A block of zeros but for one object: so many bytes, all `fill`.
-fn stored(
-    alloc: Global,
-    layout: &Layout,
-    addr: Addr,
-    size: usize,
-    fill: u8,
-) -> Result<Block, Refusal<()>> {
+// A block of zeros but for an object, which has so many bytes, all the same.
+#[derive(Clone, Copy)]
+struct Object(u64, u32, usize, u8);
+
+// The byte at a place of that block, and in thousands the last one of what is loaded.
+fn stored(alloc: Global, layout: &Layout, object: Object, at: usize) -> Run<u64> {
+    let Object(block, off, size, byte) = object;
+    let addr = Addr { block, off };
     let mut block = Block::try_new(alloc)?;
-    let value = vec![in alloc; fill; size]?;
-    store(layout, &mut block, addr, &value)?;
-    Ok(block)
+    let mut bytes = vec![in alloc; byte; size]?;
+    store(layout, &mut block, addr, &bytes)?;
+    bytes.fill(0);
+    load(layout, &block, addr, &mut bytes)?;
+    let last = byte_at(&bytes, size.wrapping_sub(1));
+    Ok(
+        last.wrapping_mul(1000)
+            .wrapping_add(byte_at(block.as_bytes(), at)),
+    )
 }
 
-// The object at an address, as so many bytes.
-fn loaded(
-    alloc: Global,
-    layout: &Layout,
-    block: &Block,
-    addr: Addr,
-    size: usize,
-) -> Result<Vec<u8>, Refusal<()>> {
-    let mut out = vec![in alloc; 0u8; size]?;
-    load(layout, block, addr, &mut out)?;
-    Ok(out)
+fn wrong_object(alloc: Global, layout: &Layout, rows: &[(Object, usize, u64)]) -> Wrong {
+    for (number, (object, at, want)) in rows.iter().enumerate() {
+        let got = told(stored(alloc, layout, *object, *at));
+        if got != *want {
+            return Some((number + 1, got));
+        }
+    }
+    None
 }
+
+static LIE: [(Object, usize, u64); 8] = [
+    (Object(514, 9, 1, 1), 0, 1_000),
+    (Object(514, 9, 1, 1), 1, 1_002),
+    (Object(514, 9, 1, 1), 2, 1_000),
+    (Object(530, 1024, 128, 7), 127, 7_000),
+    (Object(530, 1024, 128, 7), 128, 7_007),
+    (Object(530, 1024, 128, 7), 255, 7_007),
+    (Object(530, 1024, 128, 7), 256, 7_000),
+    (Object(599, 0, 4096, 7), 4095, 7_007),
+];
 
 #[test]
 fn objects_lie_at_their_bits(rt: HostRuntime) -> Result<(), Fail> {
     let layout = Layout::new(600).ok_or("a disk may have 600 blocks")?;
-    for (number, off, size, fill, at, want) in [
-        (514, 9, 1, 1, 0, 0),
-        (514, 9, 1, 1, 1, 2),
-        (514, 9, 1, 1, 2, 0),
-        (530, 1024, 128, 7, 127, 0),
-        (530, 1024, 128, 7, 128, 7),
-        (530, 1024, 128, 7, 255, 7),
-        (530, 1024, 128, 7, 256, 0),
-        (599, 0, 4096, 7, 4095, 7),
-    ] {
-        let addr = Addr { block: number, off };
-        let block = stored(rt.alloc(), &layout, addr, size, fill)?;
-        assert_eq!(rt; block.as_bytes().get(at).copied(), Some(want), "at {at}");
-        let out = loaded(rt.alloc(), &layout, &block, addr, size)?;
-        assert_eq!(rt; out.last().copied(), Some(fill), "at {at}");
-    }
+    assert_eq!(rt; wrong_object(rt.alloc(), &layout, &LIE), None);
     Ok(())
 }
+
+static REFUSED: [(Object, usize, u64); 9] = [
+    (Object(512, 0, 4096, 1), 0, BAD_ADDRESS),
+    (Object(514, 32768, 1, 1), 0, BAD_ADDRESS),
+    (Object(515, 1000, 128, 1), 0, BAD_ADDRESS),
+    (Object(531, 8, 4096, 1), 0, BAD_ADDRESS),
+    (Object(600, 0, 7, 1), 0, BAD_ADDRESS),
+    (Object(514, 0, 2, 1), 0, BAD_SIZE),
+    (Object(514, 0, 1, 2), 0, BAD_SIZE),
+    (Object(515, 0, 127, 1), 0, BAD_SIZE),
+    (Object(531, 0, 4097, 1), 0, BAD_SIZE),
+];
 
 #[test]
 fn bad_addresses_and_sizes_are_refused(rt: HostRuntime) -> Result<(), Fail> {
     let layout = Layout::new(600).ok_or("a disk may have 600 blocks")?;
-    for (number, off, size, fill, is_valid) in [
-        (512, 0, 4096, 1, false),
-        (514, 32768, 1, 1, false),
-        (515, 1000, 128, 1, false),
-        (531, 8, 4096, 1, false),
-        (600, 0, 7, 1, false),
-        (514, 0, 2, 1, true),
-        (514, 0, 1, 2, true),
-        (515, 0, 127, 1, true),
-        (531, 0, 4097, 1, true),
-    ] {
-        let addr = Addr { block: number, off };
-        let why = if is_valid {
-            Refusal::BadSize
-        } else {
-            Refusal::BadAddress
-        };
-        let refused = stored(rt.alloc(), &layout, addr, size, fill).err();
-        assert_eq!(rt; refused, Some(why), "at {number} {off}");
-    }
+    assert_eq!(rt; wrong_object(rt.alloc(), &layout, &REFUSED), None);
     Ok(())
 }

@@ -1,18 +1,20 @@
 // Rules that are asked by a reader of their own.
+use crate::runs::{DEVICE_FAILED, Run, number, told};
 use journal_world::{Addr, AnyMap, BITMAP, Layout, MapRule, ObjectReader, Refusal, Value};
 use std::alloc::Global;
-use std::process::Abort;
 use std::test::*;
 
-// The map of zeros.
+// A reader of the map of zeros, whose device fails where it is to.
 #[derive(Drop)]
 struct Zeros {
     alloc: Global,
     layout: Layout,
+    fails: bool,
+    failed: bool,
 }
 
 impl ObjectReader for Zeros {
-    ghost use Rattle.std.specs.Prelude.{[], true, false};
+    ghost use Rattle.std.specs.Prelude.{[], true};
 
     type Cause = ();
 
@@ -20,13 +22,17 @@ impl ObjectReader for Zeros {
 
     ghost trusted = { λ zeros. true };
 
-    ghost failed = { λ zeros. false };
+    ghost failed = { λ zeros. zeros.failed };
 
     fn layout(&self) -> Layout {
         self.layout
     }
 
-    fn read(&mut self, addr: Addr) -> Result<Value, Refusal<()>> {
+    fn read(&mut self, addr: Addr) -> Run<Value> {
+        if self.fails {
+            self.failed = true;
+            return Err(Refusal::DeviceFailed(()));
+        }
         match self.layout.kind(addr.block) {
             Some(kind) => Ok(kind.zeros(self.alloc)?),
             None => unreachable!(),
@@ -34,38 +40,10 @@ impl ObjectReader for Zeros {
     }
 }
 
-// A reader whose device fails at the first read.
-#[derive(Drop)]
-struct Broken {
-    layout: Layout,
-    failed: bool,
-}
+/// The first bit is clear.
+pub(crate) struct FirstBitIsClear;
 
-impl ObjectReader for Broken {
-    ghost use Rattle.std.specs.Prelude.{[], true};
-
-    type Cause = ();
-
-    ghost map = { λ broken. record { blocks = broken.layout.blocks; pairs = [] } };
-
-    ghost trusted = { λ broken. true };
-
-    ghost failed = { λ broken. broken.failed };
-
-    fn layout(&self) -> Layout {
-        self.layout
-    }
-
-    fn read(&mut self, _addr: Addr) -> Result<Value, Refusal<()>> {
-        self.failed = true;
-        Err(Refusal::DeviceFailed(()))
-    }
-}
-
-// The first bit is the one that is wanted.
-struct FirstBit;
-
-impl MapRule for FirstBit {
+impl MapRule for FirstBitIsClear {
     ghost use Rattle.std.specs.Prelude.{◌≡◌, ◌∷◌, [], refl};
     ghost use Rattle.std.proofs.Common.{sym, ◌∙◌};
     ghost use Rattle.journal_world.specs.Maps.{value_at};
@@ -83,27 +61,32 @@ impl MapRule for FirstBit {
     }
 }
 
-fn admits<M: MapRule>(rt: &impl Abort, alloc: Global, rule: &M) -> Result<(), Fail> {
-    let layout = Layout::new(600).ok_or("600 blocks")?;
-    let mut reader = Zeros { alloc, layout };
-    assert!(rt; rule.admit(&mut reader)?);
-    Ok(())
+fn admit<M: MapRule>(rule: &M, reader: &mut Zeros) -> Run<u64> {
+    Ok(number(rule.admit(reader)?))
+}
+
+// Whether two rules admit the map of zeros.
+fn admitted(alloc: Global, layout: Layout, fails: bool) -> [u64; 2] {
+    let mut reader = Zeros {
+        alloc,
+        layout,
+        fails,
+        failed: false,
+    };
+    let any = told(admit(&AnyMap, &mut reader));
+    [any, told(admit(&FirstBitIsClear, &mut reader))]
 }
 
 #[test]
 fn rules_admit_the_map_of_zeros(rt: HostRuntime) -> Result<(), Fail> {
-    admits(&rt, rt.alloc(), &AnyMap)?;
-    admits(&rt, rt.alloc(), &FirstBit)
+    let layout = Layout::new(600).ok_or("600 blocks")?;
+    assert_eq!(rt; admitted(rt.alloc(), layout, false), [1, 1]);
+    Ok(())
 }
 
 #[test]
 fn a_failed_read_refuses_the_rule_that_asked_for_it(rt: HostRuntime) -> Result<(), Fail> {
     let layout = Layout::new(600).ok_or("600 blocks")?;
-    let mut reader = Broken {
-        layout,
-        failed: false,
-    };
-    assert_eq!(rt; AnyMap.admit(&mut reader), Ok(true));
-    assert_eq!(rt; FirstBit.admit(&mut reader), Err(Refusal::DeviceFailed(())));
+    assert_eq!(rt; admitted(rt.alloc(), layout, true), [1, DEVICE_FAILED]);
     Ok(())
 }

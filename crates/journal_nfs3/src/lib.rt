@@ -30,6 +30,3 @@ pub use laws::{
 };
 pub use replying::answer;
 pub use results::Verifier;
-
-#[cfg(test)]
-mod tests;

@@ -1,5 +1,5 @@
 pub mod Answers
 pub mod Clients
 pub mod Downs
-pub mod Sizes
 pub mod Transcripts
+pub use Rattle.journal_command.specs.Asks

@@ -4,7 +4,7 @@ ghost use Rattle.journal_disk.specs.Disks.{IsSettled, read_of};
 ghost use Rattle.journal_inode.specs.Nodes.{no_time};
 ghost use Rattle.journal_inode.specs.Formats.{IsFormatted};
 ghost use Rattle.journal_script.specs.Transcripts.{streams, ComesTo, Runs};
-ghost use Rattle.journal_script.specs.Sizes.{IsSize};
+ghost use Rattle.journal_command.specs.Asks.{IsSize};
 
 use crate::console::Console;
 use crate::stop::Stop;

@@ -2,11 +2,13 @@
 use Rattle.std.proofs.Common.{◌≡◌, ◌≢◌, inl, inr, ℕ, List, [], length, Option, Result, Ok, Err, sym, ap, subst, ◌∙◌, arith, get_or}
 use Rattle.std.specs.Prelude.{◌==◌}
 use Rattle.std.proofs.lemmas.Fmt.{decimal_injective}
-use Rattle.jtool.specs.declared.ask.Fault.{Fault}
-use Rattle.jtool.specs.declared.ask.Fault.TheVariants as faults
-use Rattle.journal_script.specs.Sizes.{IsSize}
+use Rattle.journal_command.specs.declared.ask.AskFault.{AskFault}
+use Rattle.journal_command.specs.declared.ask.AskFault.TheVariants as asks_for
+use Rattle.journal_command.specs.Asks.{AsksScript, AsksFormat, AsksServe, IsSize, CannotBegin}
+use Rattle.jtool.specs.declared.fault.Fault.{Fault}
+use Rattle.jtool.specs.declared.fault.Fault.TheVariants as faults
 use Rattle.journal_script.specs.Transcripts.{IsTranscript}
-use Rattle.jtool.specs.Programs.{AsksScript, AsksFormat, AsksServe, CannotBegin, EndsScript, status_of}
+use Rattle.jtool.specs.Programs.{EndsScript, status_of}
 
 -- words that ask for a script ask for nothing else
 pub script_is_no_format : (words : List (List ℕ)) (n : ℕ) (path : List ℕ) (m : ℕ) → AsksScript words n → AsksFormat words path m → ⊥
@@ -20,18 +22,12 @@ script_is_no_service words n path port k asks other =
     absurd (omega (arith, same))
 
 -- words that ask for a script begin one
-pub can_begin : (words : List (List ℕ)) (fault : Fault) → CannotBegin words fault → (n : ℕ) → AsksScript words n → IsSize n → ⊥
-can_begin words faults.Usage none n asks size = none.0 n asks
-can_begin words faults.BadSize (m, inl other, outside) n asks size =
+pub can_begin : (words : List (List ℕ)) (fault : AskFault) → CannotBegin words fault → (n : ℕ) → AsksScript words n → IsSize n → ⊥
+can_begin words asks_for.Usage none n asks size = none.0 n asks
+can_begin words asks_for.BadSize (m, inl other, outside) n asks size =
     let same : m ≡ n = decimal_injective m n (omega (arith, other.0)) (omega (arith, asks.0)) (ap (λ l. get_or l 1 []) (sym other.1 ∙ asks.1)) in
     outside (subst IsSize (sym same) size)
-can_begin words faults.BadSize (m, inr (path, other), outside) n asks size = script_is_no_format words n path m asks other
-can_begin words faults.BadLine none n asks size = none
-can_begin words (faults.BadFile path) none n asks size = none
-can_begin words faults.CannotListen none n asks size = none
-can_begin words (faults.Refused why) none n asks size = none
-can_begin words faults.CannotRead none n asks size = none
-can_begin words faults.CannotWrite none n asks size = none
+can_begin words asks_for.BadSize (m, inr (path, other), outside) n asks size = script_is_no_format words n path m asks other
 
 -- what was said of a script's end, by the status
 pub ends_well : (left held new : Option (List ℕ)) (r : Result (Unit {0}) Fault) (done : Unit {0}) → EndsScript left held new r → r ≡ Ok done → IsTranscript left held new (0 == 2)

@@ -4,16 +4,17 @@
 #![tactic(auto)]
 
 ghost use Rattle.std.specs.Prelude.{◌≡◌, ◌≢◌, ◌≤◌, ◌==◌, ℕ, map, string_bytes, IfErr, IsErrAnd};
-ghost use Rattle.journal_script.specs.Sizes.{IsSize};
+ghost use Rattle.journal_command.specs.Asks.{AsksScript, AsksFor, IsSize};
+ghost use Rattle.journal_command.specs.declared.ask.Ask.{Ask};
 ghost use Rattle.journal_script.specs.Transcripts.{IsTranscript};
-ghost use Rattle.jtool.specs.Programs.{AsksScript, AsksFor, EndsScript, status_of};
-ghost use Rattle.jtool.specs.declared.ask.Ask.{Ask};
+ghost use Rattle.jtool.specs.Programs.{EndsScript, status_of};
 
-mod ask;
+mod fault;
 #[cfg(test)]
 mod tests;
 
-use ask::{Ask, Fault};
+use fault::Fault;
+use journal_command::Ask;
 use journal_service::Service;
 use std::alloc::Global;
 use std::env;
@@ -21,10 +22,14 @@ use std::env::Env;
 use std::fs::{File, Files};
 use std::io::{BufWriter, Read, Write};
 use std::net::{Net, TcpListener, TcpStream};
+use std::os::fd::{AsRawFd, IntoRawFd, RawFd};
 use std::process::ExitCode;
 use std::sync::Wait;
 use std::thread::Threads;
 use std::time::Clock;
+
+// How many standard streams there are, whose numbers are the first ones.
+const STREAMS: RawFd = 3;
 
 /// The program: its words, its three streams, and the status that it answers. That is 1 where memory was refused before
 /// the first line, where input or output failed, where a file or a port is not to be had, or where the service was refused;
@@ -83,7 +88,18 @@ fn obey<
     match Ask::read(words)? {
         Ask::Script { blocks } => answer_script(rt, alloc, blocks, input, output),
         Ask::Format { path, blocks } => format(rt, alloc, path, blocks),
-        Ask::Serve(service) => serve(rt, alloc, service, output),
+        Ask::Serve {
+            path,
+            port,
+            connections,
+        } => {
+            let service = Service {
+                path,
+                port,
+                connections,
+            };
+            serve(rt, alloc, service, output)
+        }
     }
 }
 
@@ -140,6 +156,7 @@ fn serve<
 }
 
 fn main(rt: HostRuntime) -> ExitCode {
+    hold_closed_streams(&rt);
     let faults = &mut rt.stderr();
     let status = match start(&rt, rt.stdout()) {
         Ok((words, mut output)) => run(
@@ -153,6 +170,21 @@ fn main(rt: HostRuntime) -> ExitCode {
         Err(fault) => fault.report(faults),
     };
     ExitCode::from(status)
+}
+
+// Holds the number of each standard stream that is closed by a folder, until the program ends. Else the system gives it to
+// the next file or connection, which what is printed would be written to. To print there fails all the same, since nothing
+// can be written to a folder.
+fn hold_closed_streams<R: Files<File = File>>(rt: &R) {
+    for _ in 0..STREAMS {
+        let Ok(folder) = File::open(rt, "/") else {
+            return;
+        };
+        if folder.as_raw_fd() >= STREAMS {
+            return;
+        }
+        let _number = folder.into_raw_fd();
+    }
 }
 
 // The program's words, and its output with a buffer.

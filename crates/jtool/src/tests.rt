@@ -1,7 +1,6 @@
 // The program from end to end: scripts, and what they are answered.
 mod crashes;
 mod examples;
-mod refusals;
 mod rows;
 mod services;
 mod streams;
@@ -57,10 +56,9 @@ fn run_with<
 
 /// Wants this output of the run, nothing said of faults, and that status.
 fn wants(rt: &impl Abort, run: &Run, script: &[u8], output: &[u8], status: u8) {
-    assert_eq!(rt; run.output.as_slice(), output, "at {script:?}");
     assert_eq!(rt;
-        (run.faults.len(), run.status),
-        (0, status),
+        (run.output.as_slice(), run.faults.len(), run.status),
+        (output, 0, status),
         "at {script:?}"
     );
 }
@@ -75,7 +73,27 @@ fn check<
         + Wait
         + Sync,
 >(rt: &H, alloc: Global, script: &[u8], output: &[u8], status: u8) -> Result<(), Fail> {
-    let run = run_with(rt, alloc, &["script", "600"], script)?;
+    check_on(rt, alloc, "600", script, output, status)
+}
+
+/// The same on a disk of so many blocks.
+fn check_on<
+    H: Abort
+        + Files<File = File>
+        + Net<Listener = TcpListener, Stream = TcpStream>
+        + Clock
+        + Threads
+        + Wait
+        + Sync,
+>(
+    rt: &H,
+    alloc: Global,
+    blocks: &str,
+    script: &[u8],
+    output: &[u8],
+    status: u8,
+) -> Result<(), Fail> {
+    let run = run_with(rt, alloc, &["script", blocks], script)?;
     wants(rt, &run, script, output, status);
     Ok(())
 }
@@ -194,54 +212,97 @@ const BAD_LINES: &[&[u8]] = &[
 #[test]
 fn bad_lines_are_answered_so(rt: HostRuntime) -> Result<(), Fail> {
     for line in BAD_LINES {
-        let mut script = line.to_vec(rt.alloc())?;
-        // A bad line begins no transaction.
-        script.extend_from_slice(b"\ncommit\n")?;
-        check(&rt, rt.alloc(), &script, b"bad line\nno transaction\n", 2)?;
+        is_bad(&rt, rt.alloc(), line)?;
     }
     Ok(())
+}
+
+/// Wants that of the line, and that it begins no transaction.
+fn is_bad<
+    H: Abort
+        + Files<File = File>
+        + Net<Listener = TcpListener, Stream = TcpStream>
+        + Clock
+        + Threads
+        + Wait
+        + Sync,
+>(rt: &H, alloc: Global, line: &[u8]) -> Result<(), Fail> {
+    let script = joined(alloc, &[line, b"\ncommit\n"])?;
+    check(rt, alloc, &script, b"bad line\nno transaction\n", 2)
+}
+
+/// The pieces, one behind the other.
+fn joined(alloc: Global, pieces: &[&[u8]]) -> Result<Vec<u8>, AllocError> {
+    let mut whole = Vec::new(alloc);
+    for piece in pieces {
+        whole.extend_from_slice(piece)?;
+    }
+    Ok(whole)
 }
 
 /// A line that puts 4096 zeros, written with as many bytes as a line may have.
 fn longest_line(alloc: Global) -> Result<Vec<u8>, AllocError> {
     let mut line = b"put 531 0 00+00".to_vec(alloc)?;
-    for _ in 0..3932 {
-        line.extend_from_slice(b"+00*1")?;
-    }
-    line.push(b'+')?;
-    for _ in 0..162 {
-        line.extend_from_slice(b"00")?;
-    }
+    push_often(&mut line, b"+00*1", 3932)?;
+    push_often(&mut line, b"+", 1)?;
+    push_often(&mut line, b"00", 162)?;
     Ok(line)
 }
 
-/// The longest line, one of one byte more, and then one of very many.
-fn put_lines(script: &mut Vec<u8>, longest: &[u8]) -> Result<(), AllocError> {
-    script.extend_from_slice(longest)?;
-    script.extend_from_slice(b"\ncommit\n")?;
-    script.extend_from_slice(longest)?;
-    script.extend_from_slice(b"0\ncommit\n")?;
-    for _ in 0..3 {
-        script.extend_from_slice(longest)?;
+fn push_often(line: &mut Vec<u8>, text: &[u8], count: u64) -> Result<(), AllocError> {
+    for _ in 0..count {
+        line.extend_from_slice(text)?;
     }
-    script.extend_from_slice(b"\nget 531 0\n")?;
-    script.extend_from_slice(longest)
+    Ok(())
+}
+
+/// The longest line, one of one byte more, and then one of very many.
+fn around_longest(alloc: Global, longest: &[u8]) -> Result<Vec<u8>, AllocError> {
+    let pieces = [
+        longest,
+        b"\ncommit\n",
+        longest,
+        b"0\ncommit\n",
+        longest,
+        longest,
+        longest,
+        b"\nget 531 0\n",
+        longest,
+    ];
+    joined(alloc, &pieces)
 }
 
 #[test]
 fn longer_lines_are_bad(rt: HostRuntime) -> Result<(), Fail> {
     let longest = longest_line(rt.alloc())?;
     assert_eq!(&rt; longest.len(), LINE_BYTES);
-    let mut script = Vec::new(rt.alloc());
-    put_lines(&mut script, &longest)?;
+    let script = around_longest(rt.alloc(), &longest)?;
     let answers = b"ok\ncommitted 1\nbad line\nno transaction\nbad line\n= 00*4096\nok\n";
     check(&rt, rt.alloc(), &script, answers, 2)
 }
 
 /// Wants that of a run of these words on no lines.
-fn begins(rt: &impl Abort, run: &Run, words: &[&str], faults: &str, status: u8) {
-    assert_eq!(rt; run.faults.as_slice(), faults.as_bytes(), "at {words:?}");
-    assert_eq!(rt; (run.output.len(), run.status), (0, status), "at {words:?}");
+fn says(rt: &impl Abort, run: &Run, words: &[&str], faults: &str, status: u8) {
+    assert_eq!(rt;
+        (run.faults.as_slice(), run.output.len(), run.status),
+        (faults.as_bytes(), 0, status),
+        "at {words:?}"
+    );
+}
+
+/// Runs these words on no lines, and wants nothing printed but these faults, and that status.
+fn begins<
+    H: Abort
+        + Files<File = File>
+        + Net<Listener = TcpListener, Stream = TcpStream>
+        + Clock
+        + Threads
+        + Wait
+        + Sync,
+>(rt: &H, alloc: Global, words: &[&str], faults: &str, status: u8) -> Result<(), Fail> {
+    let run = run_with(rt, alloc, words, b"")?;
+    says(rt, &run, words, faults, status);
+    Ok(())
 }
 
 #[test]
@@ -283,8 +344,7 @@ fn words_are_checked(rt: HostRuntime) -> Result<(), Fail> {
         (&["script", "33299"], "", 0),
     ];
     for (words, faults, status) in table {
-        let run = run_with(&rt, rt.alloc(), words, b"")?;
-        begins(&rt, &run, words, faults, *status);
+        begins(&rt, rt.alloc(), words, faults, *status)?;
     }
     Ok(())
 }
@@ -296,16 +356,23 @@ const ANSWERS: &[u8] = b"ok\n= 01*128\ncommitted 1\nbad line\n= 01*128\nrefused 
 
 /// What a run ends with whose input or output fails, and one whose lines are all answered.
 fn ended(rt: &impl Abort, status: u8, faults: &[u8], fault: Option<&str>, at: usize) {
-    match fault {
-        Some(fault) => assert_eq!(rt; (status, faults), (1, fault.as_bytes()), "at {at}"),
-        None => assert_eq!(rt; (status, faults.len()), (2, 0), "at {at}"),
-    }
+    let wanted = match fault {
+        Some(_) => 1,
+        None => 2,
+    };
+    assert_eq!(rt;
+        (status, faults),
+        (wanted, fault.unwrap_or("").as_bytes()),
+        "at {at}"
+    );
 }
 
 /// What a run printed: all, unless its input or output failed.
 fn printed(rt: &impl Abort, output: &[u8], has_failed: bool, at: usize) {
-    assert!(rt; ANSWERS.starts_with(output), "at {at}");
-    assert!(rt; has_failed || output.len() == ANSWERS.len(), "at {at}");
+    assert!(rt;
+        ANSWERS.starts_with(output) && (has_failed || output.len() == ANSWERS.len()),
+        "at {at}"
+    );
 }
 
 /// A run whose input fails once it was read so often; whether it did.

@@ -1,8 +1,8 @@
 // Threads that commit beside a logger and an installer.
 use super::*;
-use crate::{Gate, OpenGate, start};
+use crate::{Gate, INSTALLER, LOGGER, start};
 use journal_twophase::{WaitFault, Waited};
-use std::sync::atomic::{AtomicBool, Ordering};
+use std::sync::atomic::{AtomicBool, AtomicU64, Ordering};
 use std::thread::{join, yield_now};
 
 /// What a thread does with the journal.
@@ -120,29 +120,72 @@ fn add<J: Naming, W: Wait>(rt: &W, txn: &mut OpenTxn<MemDisk, J>) -> bool {
     }
 }
 
-/// Commits such a transaction. Answers the receipt's count, or 0.
+/// What was refused has no count.
+fn no_count<C: Drop>(_why: Refusal<C>) -> u64 {
+    0
+}
+
+/// The count of the receipt of a commit that waited and is covered by its mark, or 0.
+fn count_of_stable<'b, J: Naming>(answer: Waited<'b, J, AnyMap>) -> u64 {
+    match answer {
+        Ok((receipt, note)) if receipt.count() <= note.count() => receipt.count(),
+        Ok(_) => 0,
+        Err(WaitFault::Unsure(_receipt, why)) => no_count(why),
+        Err(WaitFault::Refused(why)) => no_count(why),
+    }
+}
+
+/// Commits such a transaction, and may wait until it is stable. Answers the receipt's count, or 0.
 fn commit_one<'b, J: Naming, W: Wait>(
     rt: &W,
     alloc: Global,
     journal: &Open<'b, MemDisk, J>,
     session: &mut Client<'b, J>,
+    has_to_wait: bool,
 ) -> u64 {
     let mut txn = journal.begin(alloc, session);
     let added = add(rt, &mut txn);
-    let count = count_of(txn.commit(rt, session));
+    let count = if has_to_wait {
+        count_of_stable(txn.commit_wait(rt, session))
+    } else {
+        count_of(txn.commit(rt, session))
+    };
     if added { count } else { 0 }
 }
 
-/// What a thread did: the counts of its receipts, and how many commits its session made.
+/// What a thread did: the counts of its receipts, how many commits its session made, and whether it found the counter at
+/// 2000 behind them.
 #[derive(Drop)]
 struct Done {
     counts: Vec<u64>,
     made: u64,
+    is_two_thousand: bool,
+}
+
+/// Whether the counter is 2000, of which the low byte is the first, and zeros are behind it.
+fn is_two_thousand<'b, J: Naming, W: Wait>(
+    rt: &W,
+    alloc: Global,
+    journal: &Open<'b, MemDisk, J>,
+    session: &mut Client<'b, J>,
+) -> bool {
+    let mut txn = journal.begin(alloc, session);
+    let found = txn.read(rt, COUNTER);
+    txn.abort(rt);
+    let mut wanted = [0; 128];
+    wanted[0] = 0xd0;
+    wanted[1] = 0x07;
+    match found {
+        Ok(value) => value.bytes() == wanted.as_slice(),
+        Err(_) => false,
+    }
 }
 
 /// Such commits, 500 of them.
 #[derive(Drop)]
-struct CommitMany;
+struct CommitMany {
+    have_to_wait: bool,
+}
 
 impl Work for CommitMany {
     type Answer = Done;
@@ -157,12 +200,13 @@ impl Work for CommitMany {
         let mut session = client(rt, journal);
         let mut counts = Vec::new(alloc);
         for _ in 0..500 {
-            let count = commit_one(rt, alloc, journal, &mut session);
+            let count = commit_one(rt, alloc, journal, &mut session, self.have_to_wait);
             counts.push(count).ok().expect(rt, "memory");
         }
         Done {
             counts,
             made: session.made(),
+            is_two_thousand: is_two_thousand(rt, alloc, journal, &mut session),
         }
     }
 }
@@ -183,23 +227,32 @@ fn counted(done: &[Done]) -> (bool, u64) {
     (each_once, made)
 }
 
-/// Four threads commit 500 times each. Their counts are 1 to 2000, each once.
+/// Four threads commit 500 times each, and each commit may wait. Their counts are 1 to 2000, each once, and who is the
+/// last finds the counter at 2000.
 pub(super) fn count_once<J: Naming + Send + Sync, H: Abort + Threads + Wait + Sync>(
     rt: &H,
     alloc: Global,
     journal: &Open<MemDisk, J>,
+    have_to_wait: bool,
 ) {
-    let done = beside_daemon(rt, alloc, journal, false, &CommitMany, [1, 2, 3, 4]);
+    let commits = CommitMany { have_to_wait };
+    let done = beside_daemon(rt, alloc, journal, false, &commits, [1, 2, 3, 4]);
     let (each_once, made) = counted(&done);
+    let is_found = done.iter().any(|thread| thread.is_two_thousand);
     assert_eq!(rt;
-        (each_once, made, journal.stat(rt).commits),
-        (true, 2000, 2000)
+        (each_once, made, journal.stat(rt).commits, is_found),
+        (true, 2000, 2000, true)
     );
 }
 
 #[test]
 fn four_threads_count_to_two_thousand(rt: HostRuntime) {
-    try_out(&rt, rt.alloc(), Trial::CountOnce);
+    try_out(&rt, rt.alloc(), Trial::CountOnce(false));
+}
+
+#[test]
+fn four_threads_that_wait_count_to_two_thousand(rt: HostRuntime) {
+    try_out(&rt, rt.alloc(), Trial::CountOnce(true));
 }
 
 /// How a commit that waited ended.
@@ -375,12 +428,42 @@ pub(super) fn all_end_by_the_fault<J: Naming + Send + Sync, H: Abort + Threads +
 
 #[test]
 fn a_fault_at_any_call_ends_each_thread(rt: HostRuntime) {
-    for k in 1..20 {
+    for k in 1..=8 {
         try_out(&rt, rt.alloc(), Trial::AllEndByTheFault(k));
     }
     // The log is crowded after 257 groups of four calls each, and the installer's calls come among those behind.
-    for k in 1028..1048 {
+    for k in 1030..=1036 {
         try_out(&rt, rt.alloc(), Trial::AllEndByTheFault(k));
+    }
+}
+
+/// A gate that holds nobody, and wants that each thread tells its own number and counts its steps from 0.
+#[derive(Default, Drop)]
+struct CountingGate {
+    logged: AtomicU64,
+    installed: AtomicU64,
+    is_wrong: AtomicBool,
+}
+
+impl CountingGate {
+    /// Whether the logger and the installer have both passed, each in order.
+    fn has_counted(&self) -> bool {
+        self.logged.load(Ordering::SeqCst) > 0
+            && self.installed.load(Ordering::SeqCst) > 0
+            && !self.is_wrong.load(Ordering::SeqCst)
+    }
+}
+
+impl Gate for CountingGate {
+    fn pass<W: Wait>(&self, _rt: &W, who: u64, n: u64) {
+        let next = match who {
+            LOGGER => self.logged.fetch_add(1, Ordering::SeqCst),
+            INSTALLER => self.installed.fetch_add(1, Ordering::SeqCst),
+            _nobody => u64::MAX,
+        };
+        if next != n {
+            self.is_wrong.store(true, Ordering::SeqCst);
+        }
     }
 }
 
@@ -404,14 +487,15 @@ pub(super) fn go_round_the_log<J: Naming + Send + Sync, H: Abort + Threads + Wai
     alloc: Global,
     journal: &Open<MemDisk, J>,
 ) {
+    let gate = CountingGate::default();
     let ended = join(
         rt,
-        || start(rt, journal, &OpenGate).is_ok(),
+        || start(rt, journal, &gate).is_ok(),
         || waits_often(rt, alloc, journal),
     );
     let stat = journal.stat(rt);
     assert_eq!(rt; (ended, stat.end), ((true, true), 600));
-    assert!(rt; stat.start > 0);
+    assert!(rt; stat.start > 0 && gate.has_counted());
 }
 
 #[test]

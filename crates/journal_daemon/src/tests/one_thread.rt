@@ -44,17 +44,19 @@ fn commits<'b, J: Naming, H: Abort + Wait>(
     (count, session.made(), session.seen())
 }
 
-/// Overwrites, and gives that up.
+/// Overwrites, and gives that up. Answers how much the session has seen before it begins and then, with nothing read.
 fn forgets<'b, J: Naming, W: Wait>(
     rt: &W,
     alloc: Global,
     journal: &Open<'b, MemDisk, J>,
     session: &mut Client<'b, J>,
-) -> u64 {
+) -> (u64, u64, u64) {
+    let before = session.seen();
     let mut txn = journal.begin(alloc, session);
+    let begun = session.seen();
     let wrote = number_of(txn.overwrite(rt, INODE, &[8; 128]));
     txn.abort(rt);
-    wrote
+    (before, begun, wrote)
 }
 
 /// A later transaction of another session reads what was committed, and not what was given up.
@@ -164,7 +166,7 @@ fn runs<'b, J: Naming, H: Abort + Wait>(rt: &H, alloc: Global, journal: &Open<'b
     lies_home(rt, alloc, journal);
     assert_eq!(rt;
         (committed, forgot, found, other.is_stable(1), other.seen()),
-        ((1, 1, 2), 0, ((0, 128, 7), 2), true, 3)
+        ((1, 1, 2), (1, 2, 0), ((0, 128, 7), 2), true, 3)
     );
     stops(rt, alloc, journal, &mut session);
 }

@@ -6,6 +6,7 @@ use std::fs::{File, Files};
 use std::io;
 use std::io::Write;
 use std::net::{Net, TcpListener, TcpStream};
+use std::process::Abort;
 use std::sync::Wait;
 use std::test::Fail;
 use std::thread::Threads;
@@ -40,11 +41,17 @@ fn run_failing<
         + Sync,
 >(rt: &H, alloc: Global, call: u64) -> io::Result<Run> {
     let mut script = Vec::new(alloc);
+    write_failing(&mut script, call)?;
+    Ok(run_with(rt, alloc, &["script", "600"], &script)?)
+}
+
+/// These lines, behind one by which the so-manyth device call fails.
+fn write_failing(script: &mut Vec<u8>, call: u64) -> io::Result<()> {
     writeln!(script, "fail {call}")?;
     for (line, _) in LINES {
         writeln!(script, "{line}")?;
     }
-    Ok(run_with(rt, alloc, &["script", "600"], &script)?)
+    Ok(())
 }
 
 /// What a line answers once a call failed.
@@ -75,13 +82,24 @@ fn count_faults(run: &Run) -> Option<u64> {
     Some(faults)
 }
 
+/// How many lines have another answer where the so-manyth device call fails.
+fn faults_at<
+    H: Files<File = File>
+        + Net<Listener = TcpListener, Stream = TcpStream>
+        + Clock
+        + Threads
+        + Wait
+        + Sync,
+>(rt: &H, alloc: Global, call: u64) -> Result<u64, Fail> {
+    let run = run_failing(rt, alloc, call)?;
+    Ok(count_faults(&run).ok_or("an answer in place of the fault")?)
+}
+
 #[test]
 fn each_failing_call_is_told_from_then_on(rt: HostRuntime) -> Result<(), Fail> {
     let mut failing: u64 = 0;
     for call in 1..60 {
-        let run = run_failing(&rt, rt.alloc(), call)?;
-        let faults = count_faults(&run).ok_or("an answer in place of the fault")?;
-        if faults == 0 {
+        if faults_at(&rt, rt.alloc(), call)? == 0 {
             break;
         }
         failing = failing.saturating_add(1);
@@ -152,17 +170,48 @@ fn is_after_front(output: &[u8]) -> bool {
     STATES.iter().any(|(n, state)| output.ends_with(state) && floor <= n && n <= commits)
 }
 
+/// Whether the disk had such an image after that call. Wants that it is one of those states.
+fn leaves_front<
+    H: Abort
+        + Files<File = File>
+        + Net<Listener = TcpListener, Stream = TcpStream>
+        + Clock
+        + Threads
+        + Wait
+        + Sync,
+>(rt: &H, alloc: Global, call: u64, index: usize, choice: &str) -> Result<bool, Fail> {
+    let run = run_crashing(rt, alloc, call, choice)?;
+    let images = images_of(&run.output).ok_or("five pending blocks")?;
+    assert!(rt;
+        index >= images || is_after_front(&run.output),
+        "at {call}, {choice}"
+    );
+    Ok(index < images)
+}
+
+/// Crashes to each image that the disk has after that call.
+fn leaves_fronts<
+    H: Abort
+        + Files<File = File>
+        + Net<Listener = TcpListener, Stream = TcpStream>
+        + Clock
+        + Threads
+        + Wait
+        + Sync,
+>(rt: &H, alloc: Global, call: u64) -> Result<(), Fail> {
+    for (index, choice) in CHOICES.iter().enumerate() {
+        if !leaves_front(rt, alloc, call, index, choice)? {
+            break;
+        }
+    }
+    Ok(())
+}
+
 #[test]
 fn a_crash_at_each_call_leaves_a_front(rt: HostRuntime) -> Result<(), Fail> {
     // A read for the first commit, the logger's 5 and 5, the installer's 6; the last call is not made.
     for call in 1..=18 {
-        for (index, choice) in CHOICES.iter().enumerate() {
-            let run = run_crashing(&rt, rt.alloc(), call, choice)?;
-            if index >= images_of(&run.output).ok_or("five pending blocks")? {
-                break;
-            }
-            assert!(&rt; is_after_front(&run.output), "at {call}, {choice}");
-        }
+        leaves_fronts(&rt, rt.alloc(), call)?;
     }
     Ok(())
 }

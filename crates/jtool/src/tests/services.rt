@@ -6,6 +6,7 @@ use std::alloc::{AllocError, Global};
 use std::fs::{File, Files, OpenFile, OpenOptions};
 use std::io::{ErrorKind, Read, Write};
 use std::net::{Ipv4Addr, Net, Shutdown, TcpListener, TcpStream};
+use std::os::fd::AsRawFd;
 use std::path::PathBuf;
 use std::process::Abort;
 use std::rt::Env;
@@ -95,6 +96,10 @@ fn path_of(rt: &(impl Env + AllocGlobal), name: &str) -> Result<PathBuf, Fail> {
     let mut path = env::temp_dir(rt)?;
     path.push(name)?;
     Ok(path)
+}
+
+fn text_of(path: &PathBuf) -> Result<&str, Fail> {
+    Ok(path.as_path().to_str().ok_or("the path is text")?)
 }
 
 /// What a service prints. Its port is told as soon as that is written out.
@@ -190,7 +195,100 @@ fn call_once<R: Net<Listener = TcpListener, Stream = TcpStream> + Clock>(
     exchange(&connect(rt, port)?, alloc, bytes)
 }
 
-/// Serves one connection, which sends these words. Wants that it is served, and answers what came back.
+/// Sends nothing to one connection, part of a record to the next, and calls whose replies it does not hear to a third, which
+/// resets that one. Exchanges the bytes on the fourth.
+fn leave_early<R: Net<Listener = TcpListener, Stream = TcpStream> + Clock>(
+    rt: &R,
+    alloc: Global,
+    port: &AtomicU32,
+    call: &[u8],
+) -> io::Result<Vec<u8>> {
+    drop(connect(rt, port)?);
+    cut_short(&connect(rt, port)?, call)?;
+    stay_deaf(&connect(rt, port)?, call)?;
+    call_once(rt, alloc, port, call)
+}
+
+fn cut_short(mut stream: &TcpStream, call: &[u8]) -> io::Result<()> {
+    stream.write_all(&call[..call.len().min(30)])
+}
+
+fn stay_deaf(mut stream: &TcpStream, call: &[u8]) -> io::Result<()> {
+    for _ in 0..100 {
+        stream.write_all(call)?;
+    }
+    let mut first = [0u8; 1];
+    stream.read_exact(&mut first)
+}
+
+/// The peers of a service.
+#[derive(Clone, Copy)]
+struct Peers {
+    /// How many connections they make, as the words say it, and as the last line does.
+    count: &'static str,
+    last_line: &'static [u8],
+    /// Whether all but the last leave early.
+    leave_early: bool,
+}
+
+const ONE_PEER: Peers = Peers {
+    count: "1",
+    last_line: b"\nserved 1\n",
+    leave_early: false,
+};
+
+const FOUR_PEERS: Peers = Peers {
+    count: "4",
+    last_line: b"\nserved 4\n",
+    leave_early: true,
+};
+
+/// What the last of the peers hears, which sends the bytes.
+fn visit<R: Net<Listener = TcpListener, Stream = TcpStream> + Clock>(
+    rt: &R,
+    alloc: Global,
+    port: &AtomicU32,
+    peers: Peers,
+    bytes: &[u8],
+) -> io::Result<Vec<u8>> {
+    if peers.leave_early {
+        leave_early(rt, alloc, port, bytes)
+    } else {
+        call_once(rt, alloc, port, bytes)
+    }
+}
+
+/// A run of these words beside these peers, and what the last of them heard.
+fn run_beside_peers<
+    H: Files<File = File>
+        + Net<Listener = TcpListener, Stream = TcpStream>
+        + Clock
+        + Threads
+        + Wait
+        + Sync,
+>(rt: &H, alloc: Global, words: &[String], peers: Peers, bytes: &[u8]) -> (Run, Option<Vec<u8>>) {
+    let port = AtomicU32::new(0);
+    thread::scope(thread::scope_env(), rt, |scope| {
+        let heard = scope.spawn(|| visit(rt, alloc, &port, peers, bytes).ok());
+        let run = serve(rt, alloc, words, &port);
+        (run, heard.ok().and_then(|heard| heard.join(rt)))
+    })
+}
+
+/// Wants of a service that it ended well, with this last line.
+fn has_served(rt: &impl Abort, run: &Run, line: &[u8]) {
+    assert_eq!(rt;
+        (run.status, run.faults.len(), run.output.ends_with(line)),
+        (0, 0, true)
+    );
+}
+
+/// The words that ask for a service at a free port.
+fn words_to_serve<'a>(path: &'a str, connections: &'a str) -> [&'a str; 4] {
+    ["serve", path, "0", connections]
+}
+
+/// Serves these peers, of which the last sends these bytes. Wants that all are served, and answers what came back.
 fn calls<
     H: Abort
         + Files<File = File>
@@ -199,18 +297,55 @@ fn calls<
         + Threads
         + Wait
         + Sync,
->(rt: &H, alloc: Global, path: &str, words: &[u32]) -> Result<Vec<u8>, Fail> {
-    let port = AtomicU32::new(0);
-    let asked = words_of(alloc, &["serve", path, "0", "1"])?;
-    let bytes = bytes_of(alloc, words)?;
-    let (run, heard) = thread::scope(thread::scope_env(), rt, |scope| {
-        let peer = scope.spawn(|| call_once(rt, alloc, &port, &bytes).ok());
-        let run = serve(rt, alloc, &asked, &port);
-        (run, peer.ok().and_then(|peer| peer.join(rt)))
-    });
-    assert_eq!(rt; (run.status, run.faults.len()), (0, 0));
-    assert!(rt; run.output.ends_with(b"\nserved 1\n"));
+>(rt: &H, alloc: Global, path: &str, peers: Peers, bytes: &[u8]) -> Result<Vec<u8>, Fail> {
+    let words = words_of(alloc, &words_to_serve(path, peers.count))?;
+    let (run, heard) = run_beside_peers(rt, alloc, &words, peers, bytes);
+    has_served(rt, &run, peers.last_line);
     Ok(heard.ok_or("a reply")?)
+}
+
+/// Serves these peers, of which the last sends this call. Wants a reply that begins so, and has no more bytes exactly where
+/// that is the whole.
+fn is_answered<
+    H: Abort
+        + Files<File = File>
+        + Net<Listener = TcpListener, Stream = TcpStream>
+        + Clock
+        + Threads
+        + Wait
+        + Sync,
+>(
+    rt: &H,
+    alloc: Global,
+    path: &str,
+    peers: Peers,
+    call: &[u32],
+    (reply, is_whole): (&[u32], bool),
+) -> Result<(), Fail> {
+    let call = bytes_of(alloc, call)?;
+    let reply = bytes_of(alloc, reply)?;
+    let heard = calls(rt, alloc, path, peers, &call)?;
+    assert_eq!(rt;
+        (heard.starts_with(&reply), heard.len() == reply.len()),
+        (true, is_whole)
+    );
+    Ok(())
+}
+
+/// Serves no connection, and wants that it ends well.
+fn serves_none<
+    H: Abort
+        + Files<File = File>
+        + Net<Listener = TcpListener, Stream = TcpStream>
+        + Clock
+        + Threads
+        + Wait
+        + Sync,
+>(rt: &H, alloc: Global, path: &str) -> Result<(), Fail> {
+    let run = run_with(rt, alloc, &["serve", path, "0", "0"], b"")?;
+    has_served(rt, &run, b"\nserved 0\n");
+    assert!(rt; port_in(&run.output).is_some());
+    Ok(())
 }
 
 /// Makes a disk of 532 blocks, which has room for one file of the root's, and looks at it.
@@ -223,28 +358,75 @@ fn makes_disk<
         + Wait
         + Sync,
 >(rt: &H, alloc: Global, path: &str) -> Result<(), Fail> {
-    let words = ["format", path, "532"];
-    let made = run_with(rt, alloc, &words, b"")?;
-    begins(rt, &made, &words, "", 0);
+    begins(rt, alloc, &["format", path, "532"], "", 0)?;
     assert_eq!(rt; fs::metadata(rt, path)?.len(), 532 * 4096);
-    let served = run_with(rt, alloc, &["serve", path, "0", "0"], b"")?;
-    assert_eq!(rt; (served.status, served.faults.len()), (0, 0));
-    assert!(rt; port_in(&served.output).is_some());
-    assert!(rt; served.output.ends_with(b"\nserved 0\n"));
-    Ok(())
+    serves_none(rt, alloc, path)
+}
+
+/// Makes a disk, and two files in two services, of which there is room for one.
+fn serves_twice<
+    H: Abort
+        + Files<File = File>
+        + Net<Listener = TcpListener, Stream = TcpStream>
+        + Clock
+        + Threads
+        + Wait
+        + Sync,
+>(rt: &H, alloc: Global, path: &str) -> Result<(), Fail> {
+    makes_disk(rt, alloc, path)?;
+    is_answered(rt, alloc, path, ONE_PEER, CREATE_F002, (MADE, false))?;
+    is_answered(rt, alloc, path, ONE_PEER, CREATE_F003, (NO_SPACE, true))
 }
 
 #[test]
 fn what_was_served_is_there_again(rt: HostRuntime) -> Result<(), Fail> {
     let path = path_of(&rt, "palkhuveg-served-disk")?;
-    let name = path.as_path().to_str().ok_or("the path is text")?;
-    let alloc = rt.alloc();
-    makes_disk(&rt, alloc, name)?;
-    let made = calls(&rt, alloc, name, CREATE_F002)?;
-    assert!(&rt; made.starts_with(&bytes_of(alloc, MADE)?));
-    let refused = calls(&rt, alloc, name, CREATE_F003)?;
-    assert_eq!(&rt; refused.as_slice(), bytes_of(alloc, NO_SPACE)?.as_slice());
-    fs::remove_file(&rt, name)?;
+    let path = text_of(&path)?;
+    serves_twice(&rt, rt.alloc(), path)?;
+    fs::remove_file(&rt, path)?;
+    Ok(())
+}
+
+/// Locks the disk, as who serves it does, and wants that it is refused to who serves it too and to who formats it.
+fn is_refused_to_others<
+    H: Abort
+        + Files<File = File>
+        + Net<Listener = TcpListener, Stream = TcpStream>
+        + Clock
+        + Threads
+        + Wait
+        + Sync,
+>(rt: &H, alloc: Global, path: &str) -> Result<(), Fail> {
+    let file = OpenOptions::new().read(true).write(true).open(rt, path)?;
+    let locked = os::try_lock_range(file.as_raw_fd(), os::RangeLock::Exclusive, 0, 4096);
+    assert_eq!(rt; locked, 0);
+    let faults = format!(in alloc; "cannot use {path}\n")?;
+    begins(rt, alloc, &["serve", path, "0", "0"], &faults, 1)?;
+    begins(rt, alloc, &["format", path, "533"], &faults, 1)
+}
+
+/// Makes a disk and a file on it, which is there after it was refused to others, so that there is no room for a second one.
+fn is_used_by_one<
+    H: Abort
+        + Files<File = File>
+        + Net<Listener = TcpListener, Stream = TcpStream>
+        + Clock
+        + Threads
+        + Wait
+        + Sync,
+>(rt: &H, alloc: Global, path: &str) -> Result<(), Fail> {
+    makes_disk(rt, alloc, path)?;
+    is_answered(rt, alloc, path, ONE_PEER, CREATE_F002, (MADE, false))?;
+    is_refused_to_others(rt, alloc, path)?;
+    is_answered(rt, alloc, path, ONE_PEER, CREATE_F003, (NO_SPACE, true))
+}
+
+#[test]
+fn a_disk_in_use_is_refused(rt: HostRuntime) -> Result<(), Fail> {
+    let path = path_of(&rt, "palkhuveg-disk-in-use")?;
+    let path = text_of(&path)?;
+    is_used_by_one(&rt, rt.alloc(), path)?;
+    fs::remove_file(&rt, path)?;
     Ok(())
 }
 
@@ -264,7 +446,17 @@ fn makes_file<
     Ok(())
 }
 
-/// Wants that of a service of the file to no connection.
+/// Lengths of a file that was a disk of 532 blocks, what a service of it is told, and its status.
+const LENGTHS: &[(u64, &str, u8)] = &[
+    // Bytes behind the last whole block are none of the disk's.
+    (532 * 4096 + 10, "", 0),
+    // The superblock has another number of blocks.
+    (533 * 4096, "refused J8 BadSuper\n", 1),
+    (532 * 4096 - 1, "refused J8 BadSuper\n", 1),
+    (0, "refused J8 BadSuper\n", 1),
+];
+
+/// Wants that of a service of the file to no connection. It prints lines exactly where it ends well.
 fn ends<
     H: Abort
         + Files<File = File>
@@ -275,11 +467,49 @@ fn ends<
         + Sync,
 >(rt: &H, alloc: Global, path: &str, faults: &str, status: u8) -> Result<(), Fail> {
     let run = run_with(rt, alloc, &["serve", path, "0", "0"], b"")?;
-    assert_eq!(rt; run.faults.as_slice(), faults.as_bytes(), "at {path}");
     assert_eq!(rt;
-        (run.output.is_empty(), run.status),
-        (status != 0, status),
+        (run.faults.as_slice(), run.output.is_empty(), run.status),
+        (faults.as_bytes(), status != 0, status),
         "at {path}"
+    );
+    Ok(())
+}
+
+/// Makes a file of each length, and serves it.
+fn ends_by_length<
+    H: Abort
+        + Files<File = File>
+        + Net<Listener = TcpListener, Stream = TcpStream>
+        + Clock
+        + Threads
+        + Wait
+        + Sync,
+>(rt: &H, alloc: Global, path: &str) -> Result<(), Fail> {
+    for (bytes, faults, status) in LENGTHS {
+        makes_file(rt, alloc, path, *bytes)?;
+        ends(rt, alloc, path, faults, *status)?;
+    }
+    Ok(())
+}
+
+/// Wants of a service at the path that there is no file.
+fn has_no_file<
+    H: Abort
+        + Files<File = File>
+        + Net<Listener = TcpListener, Stream = TcpStream>
+        + Clock
+        + Threads
+        + Wait
+        + Sync,
+>(rt: &H, alloc: Global, path: &str) -> Result<(), Fail> {
+    let run = run_with(rt, alloc, &["serve", path, "0", "0"], b"")?;
+    assert_eq!(rt;
+        (
+            run.faults.starts_with(b"cannot use "),
+            run.output.len(),
+            run.status
+        ),
+        (true, 0, 1)
     );
     Ok(())
 }
@@ -287,82 +517,67 @@ fn ends<
 #[test]
 fn a_file_that_is_no_disk_is_refused(rt: HostRuntime) -> Result<(), Fail> {
     let path = path_of(&rt, "palkhuveg-other-disk")?;
-    let name = path.as_path().to_str().ok_or("the path is text")?;
-    let alloc = rt.alloc();
-    // Bytes behind the last whole block are none of the disk's.
-    makes_file(&rt, alloc, name, 532 * 4096 + 10)?;
-    ends(&rt, alloc, name, "", 0)?;
-    // The superblock has another number of blocks.
-    makes_file(&rt, alloc, name, 533 * 4096)?;
-    ends(&rt, alloc, name, "refused J8 BadSuper\n", 1)?;
-    makes_file(&rt, alloc, name, 532 * 4096 - 1)?;
-    ends(&rt, alloc, name, "refused J8 BadSuper\n", 1)?;
-    makes_file(&rt, alloc, name, 0)?;
-    ends(&rt, alloc, name, "refused J8 BadSuper\n", 1)?;
-    fs::remove_file(&rt, name)?;
-    // The folder, and then nothing.
+    let path = text_of(&path)?;
+    ends_by_length(&rt, rt.alloc(), path)?;
+    fs::remove_file(&rt, path)?;
+    has_no_file(&rt, rt.alloc(), path)
+}
+
+#[test]
+fn a_folder_is_no_disk(rt: HostRuntime) -> Result<(), Fail> {
     let folder = env::temp_dir(&rt)?;
-    let folder = folder.as_path().to_str().ok_or("the path is text")?;
-    for no_file in [folder, name] {
-        let run = run_with(&rt, alloc, &["serve", no_file, "0", "0"], b"")?;
-        assert!(&rt; run.faults.starts_with(b"cannot use "));
-        assert_eq!(&rt; (run.output.len(), run.status), (0, 1));
-    }
-    Ok(())
+    let folder = text_of(&folder)?;
+    has_no_file(&rt, rt.alloc(), folder)?;
+    let faults = format!(in rt.alloc(); "cannot use {folder}\n")?;
+    begins(&rt, rt.alloc(), &["format", folder, "532"], &faults, 1)
+}
+
+/// Wants that no service of the file takes this port.
+fn cannot_listen<
+    H: Abort
+        + Files<File = File>
+        + Net<Listener = TcpListener, Stream = TcpStream>
+        + Clock
+        + Threads
+        + Wait
+        + Sync,
+>(rt: &H, alloc: Global, path: &str, port: u16) -> Result<(), Fail> {
+    let port = format!(in alloc; "{port}")?;
+    begins(
+        rt,
+        alloc,
+        &["serve", path, &port, "1"],
+        "cannot listen\n",
+        1,
+    )
+}
+
+/// Makes a disk, and serves it at a port that is in use, and then at another.
+fn finds_port_in_use<
+    H: Abort
+        + Files<File = File>
+        + Net<Listener = TcpListener, Stream = TcpStream>
+        + Clock
+        + Threads
+        + Wait
+        + Sync,
+>(rt: &H, alloc: Global, path: &str) -> Result<(), Fail> {
+    makes_disk(rt, alloc, path)?;
+    let listener = TcpListener::bind(rt, (Ipv4Addr::LOCALHOST, 0))?;
+    cannot_listen(rt, alloc, path, listener.local_addr()?.port())?;
+    ends(rt, alloc, path, "", 0)
 }
 
 #[test]
 fn a_port_in_use_is_told(rt: HostRuntime) -> Result<(), Fail> {
     let path = path_of(&rt, "palkhuveg-unheard-disk")?;
-    let name = path.as_path().to_str().ok_or("the path is text")?;
-    let alloc = rt.alloc();
-    makes_disk(&rt, alloc, name)?;
-    let listener = TcpListener::bind(&rt, (Ipv4Addr::LOCALHOST, 0))?;
-    let mut port = Vec::new(alloc);
-    write!(port, "{}", listener.local_addr()?.port())?;
-    let words = ["serve", name, str::from_utf8(&port)?, "1"];
-    let run = run_with(&rt, alloc, &words, b"")?;
-    begins(&rt, &run, &words, "cannot listen\n", 1);
-    ends(&rt, alloc, name, "", 0)?;
-    fs::remove_file(&rt, name)?;
+    let path = text_of(&path)?;
+    finds_port_in_use(&rt, rt.alloc(), path)?;
+    fs::remove_file(&rt, path)?;
     Ok(())
 }
 
-/// Peers that send nothing, that leave within a record, that leave with replies unread, which resets the connection, and
-/// one that hears its reply.
-fn leave_early<R: Net<Listener = TcpListener, Stream = TcpStream> + Clock>(
-    rt: &R,
-    alloc: Global,
-    port: &AtomicU32,
-    call: &[u8],
-) -> io::Result<Vec<u8>> {
-    drop(connect(rt, port)?);
-    let cut = connect(rt, port)?;
-    (&mut &cut).write_all(&call[..call.len().min(30)])?;
-    drop(cut);
-    let deaf = connect(rt, port)?;
-    for _ in 0..100 {
-        (&mut &deaf).write_all(call)?;
-    }
-    let mut first = [0u8; 1];
-    (&mut &deaf).read_exact(&mut first)?;
-    drop(deaf);
-    exchange(&connect(rt, port)?, alloc, call)
-}
-
-#[test]
-fn connections_count_however_they_end(rt: HostRuntime) -> Result<(), Fail> {
-    let path = path_of(&rt, "palkhuveg-left-disk")?;
-    let name = path.as_path().to_str().ok_or("the path is text")?;
-    makes_disk(&rt, rt.alloc(), name)?;
-    let run = serves_four(&rt, rt.alloc(), name)?;
-    assert_eq!(&rt; (run.status, run.faults.len()), (0, 0));
-    assert!(&rt; run.output.ends_with(b"\nserved 4\n"));
-    fs::remove_file(&rt, name)?;
-    Ok(())
-}
-
-/// Serves these peers. Wants the last one's reply.
+/// Makes a disk, and serves it to four peers.
 fn serves_four<
     H: Abort
         + Files<File = File>
@@ -371,16 +586,16 @@ fn serves_four<
         + Threads
         + Wait
         + Sync,
->(rt: &H, alloc: Global, path: &str) -> Result<Run, Fail> {
-    let port = AtomicU32::new(0);
-    let asked = words_of(alloc, &["serve", path, "0", "4"])?;
-    let call = bytes_of(alloc, NULL)?;
-    let (run, heard) = thread::scope(thread::scope_env(), rt, |scope| {
-        let peer = scope.spawn(|| leave_early(rt, alloc, &port, &call).ok());
-        let run = serve(rt, alloc, &asked, &port);
-        (run, peer.ok().and_then(|peer| peer.join(rt)))
-    });
-    let heard = heard.ok_or("a reply")?;
-    assert_eq!(rt; heard.as_slice(), bytes_of(alloc, NULL_REPLY)?.as_slice());
-    Ok(run)
+>(rt: &H, alloc: Global, path: &str) -> Result<(), Fail> {
+    makes_disk(rt, alloc, path)?;
+    is_answered(rt, alloc, path, FOUR_PEERS, NULL, (NULL_REPLY, true))
+}
+
+#[test]
+fn connections_count_however_they_end(rt: HostRuntime) -> Result<(), Fail> {
+    let path = path_of(&rt, "palkhuveg-left-disk")?;
+    let path = text_of(&path)?;
+    serves_four(&rt, rt.alloc(), path)?;
+    fs::remove_file(&rt, path)?;
+    Ok(())
 }

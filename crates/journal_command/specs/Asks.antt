@@ -1,0 +1,42 @@
+-- What the words of a program ask for.
+use Rattle.std.specs.Prelude.{ℕ, ◌≡◌, ◌⊎◌, ◌<◌, ◌≤◌, ◌^◌, List, [], ◌∷◌, codes}
+use Rattle.std.specs.Fmt.{decimal}
+use Rattle.journal_world.specs.declared.layout.TheConstants.{MIN_BLOCKS, MAX_BLOCKS}
+use Rattle.journal_command.specs.declared.ask.Ask.{Ask}
+use Rattle.journal_command.specs.declared.ask.Ask.TheVariants.{Script, Format, Serve}
+use Rattle.journal_command.specs.declared.ask.AskFault.{AskFault}
+use Rattle.journal_command.specs.declared.ask.AskFault.TheVariants.{Usage, BadSize}
+
+-- the words ask for a script on a disk of so many blocks
+abbrev pub AsksScript : List (List ℕ) → ℕ → Type 0
+AsksScript words n = (n < 2 ^ 32) × (words ≡ codes "script" ∷ decimal n ∷ [])
+
+-- the words ask for a disk of so many blocks in the file at the path
+abbrev pub AsksFormat : List (List ℕ) → List ℕ → ℕ → Type 0
+AsksFormat words path n = (n < 2 ^ 32) × (words ≡ codes "format" ∷ path ∷ decimal n ∷ [])
+
+-- the words ask for the service of the file at the path, at a port, to so many connections
+abbrev pub AsksServe : List (List ℕ) → List ℕ → ℕ → ℕ → Type 0
+AsksServe words path port k = (port < 2 ^ 16) × (k < 2 ^ 32) × (words ≡ codes "serve" ∷ path ∷ decimal port ∷ decimal k ∷ [])
+
+-- a disk may have so many blocks
+abbrev pub IsSize : ℕ → Type 0
+IsSize n = (MIN_BLOCKS ≤ n) × (n ≤ MAX_BLOCKS)
+
+-- the words ask for this, and it can be done
+abbrev pub AsksFor : List (List ℕ) → Ask → Type 0
+AsksFor words (Script blocks) = AsksScript words blocks × IsSize blocks
+AsksFor words (Format path blocks) = AsksFormat words path.now blocks × IsSize blocks
+AsksFor words (Serve path port connections) = AsksServe words path.now port connections
+
+-- the words ask for a disk of so many blocks, in memory or in a file
+abbrev pub MayBeAsked : List (List ℕ) → ℕ → Type 0
+MayBeAsked words n = AsksScript words n ⊎ ((path : List ℕ) × AsksFormat words path n)
+
+-- why nothing begins that the words ask for: they ask for nothing, or for a disk of a size that there is not
+abbrev pub CannotBegin : List (List ℕ) → AskFault → Type 0
+CannotBegin words Usage =
+    ((n : ℕ) → AsksScript words n → ⊥)
+    × ((path : List ℕ) (n : ℕ) → AsksFormat words path n → ⊥)
+    × ((path : List ℕ) (port k : ℕ) → AsksServe words path port k → ⊥)
+CannotBegin words BadSize = (n : ℕ) × MayBeAsked words n × (IsSize n → ⊥)

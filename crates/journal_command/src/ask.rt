@@ -1,0 +1,118 @@
+// What the words of a program ask for.
+ghost use Rattle.std.specs.Prelude.{ℕ, map, string_bytes, IfOk, IfErr, IfSome, IfNone, OnOk, List};
+ghost use Rattle.journal_command.specs.Asks.{AsksScript, AsksFormat, AsksServe, AsksFor, IsSize, MayBeAsked, CannotBegin};
+
+use crate::number::{read_number, read_port};
+use journal_world::Layout;
+use thiserror::Error;
+
+/// What the program is asked to do.
+#[derive(Clone, Copy)]
+pub enum Ask<'w> {
+    /// Answer a script, over a new disk of so many blocks.
+    Script {
+        blocks: u64,
+    },
+    /// Make a disk without files, of so many blocks, in the file at the path.
+    Format {
+        path: &'w str,
+        blocks: u64,
+    },
+    /// Serve the files of the disk in the file at the path, at a port, or at one that is free where that is 0, to so many
+    /// connections.
+    Serve {
+        path: &'w str,
+        port: u16,
+        connections: u64,
+    },
+}
+
+/// Why nothing begins.
+#[derive(Clone, Copy, Debug, PartialEq, Eq, Error)]
+pub enum AskFault {
+    /// The words ask for nothing.
+    #[error("the words ask for nothing")]
+    Usage,
+    /// They ask for a disk of a size that there is not.
+    #[error("no disk has so many blocks")]
+    BadSize,
+}
+
+impl<'w> Ask<'w> {
+    /// What the words ask for.
+    pub fn read(words: &'w [String]) -> Result<Ask<'w>, AskFault>
+        ensures ok { IfOk result (AsksFor (map string_bytes words.now)) }
+        ensures err { IfErr result (CannotBegin (map string_bytes words.now)) }
+    {
+        if let Some(blocks) = script_asked(words) {
+            check_size(words, blocks)?;
+            return Ok(Ask::Script { blocks });
+        }
+        if let Some((path, blocks)) = format_asked(words) {
+            check_size(words, blocks)?;
+            return Ok(Ask::Format { path, blocks });
+        }
+        match serve_asked(words) {
+            Some((path, port, connections)) => Ok(Ask::Serve {
+                path,
+                port,
+                connections,
+            }),
+            None => Err(AskFault::Usage),
+        }
+    }
+}
+
+// How many blocks the words ask for, where they ask for a script.
+fn script_asked(words: &[String]) -> Option<u64>
+    ensures some { IfSome result (AsksScript (map string_bytes words.now)) }
+    ensures none { IfNone result ((n : ℕ) → AsksScript (map string_bytes words.now) n → ⊥) }
+{
+    match words {
+        [what, blocks] if what.as_str() == "script" => {
+            Some(u64::from(read_number(blocks.as_bytes())?))
+        }
+        _ => None,
+    }
+}
+
+// In which file, and of how many blocks the words ask for a disk, where they do.
+fn format_asked(words: &[String]) -> Option<(&str, u64)>
+    ensures some { IfSome result (λ asked. AsksFormat (map string_bytes words.now) asked.0.now asked.1) }
+    ensures none { IfNone result ((path : List ℕ) (n : ℕ) → AsksFormat (map string_bytes words.now) path n → ⊥) }
+{
+    match words {
+        [what, path, blocks] if what.as_str() == "format" => Some((
+            path.as_str(),
+            u64::from(read_number(blocks.as_bytes())?),
+        )),
+        _ => None,
+    }
+}
+
+// Which service the words ask for, where they do.
+fn serve_asked(words: &[String]) -> Option<(&str, u16, u64)>
+    ensures some { IfSome result (λ asked. AsksServe (map string_bytes words.now) asked.0.now asked.1 asked.2) }
+    ensures none { IfNone result ((path : List ℕ) (port k : ℕ) → AsksServe (map string_bytes words.now) path port k → ⊥) }
+{
+    match words {
+        [what, path, port, connections] if what.as_str() == "serve" => Some((
+            path.as_str(),
+            read_port(port.as_bytes())?,
+            u64::from(read_number(connections.as_bytes())?),
+        )),
+        _ => None,
+    }
+}
+
+// Whether a disk may have so many blocks.
+fn check_size(words: &[String], blocks: u64) -> Result<(), AskFault>
+    requires { MayBeAsked (map string_bytes words.now) blocks }
+    ensures ok { OnOk result (IsSize blocks) }
+    ensures err { IfErr result (CannotBegin (map string_bytes words.now)) }
+{
+    match Layout::new(blocks) {
+        Some(_) => Ok(()),
+        None => Err(AskFault::BadSize),
+    }
+}

@@ -1,5 +1,0 @@
-use Rattle.journal_server.proofs.tests.workers.two_connections_are_served_at_once.Given as goal
-
--- the book that was just opened, and the disk's blocks
-abbrev pub ghosts-are_served_at_once : goal.ghosts-are_served_at_once
-ghosts-are_served_at_once g a = record { book = a.book.now; blocks = 600 }

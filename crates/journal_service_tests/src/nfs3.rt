@@ -1,0 +1,8 @@
+mod arguments;
+mod crashes;
+mod headers;
+mod lives;
+mod refusals;
+mod statuses;
+
+pub(crate) use refusals::{Cause, call_while};

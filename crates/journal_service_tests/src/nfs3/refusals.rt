@@ -1,0 +1,111 @@
+// What is answered where the journal refuses: nothing behind the status, one absent part, or two.
+use crate::calls::ask;
+use crate::stores::{Client, Files, Told, Wrong, beside, on_new_disk};
+use crate::stories::{Errand, Story};
+use journal_disk::MemDisk;
+use journal_history::Naming;
+use journal_inode::SoundFiles;
+use journal_twophase::Txn;
+use journal_world::Addr;
+use std::alloc::Global;
+use std::sync::Wait;
+use std::test::*;
+use std::thread::Threads;
+
+const MADE: &str = "
+at 5 0
+CREATE ROOT f002 0 NOTHING = DONE 0 1 FILE 1 LOOKS 0 0 USED AT_5 1 ROOT_WAS 1 ROOT_LOOKS
+";
+
+// The bit of the file's block is held. What needs no bit is answered.
+const HELD: &str = "
+LOOKUP ROOT f003 = DONE 2 0
+";
+
+// The device fails as an inode is read that was not read before, and nothing is answered from then on: IO.
+const FAILED: &str = "
+GETATTR 12 0x4a4e4c31 511 1 = DONE 5
+LOOKUP ROOT f002 = DONE 5 0
+CREATE ROOT f003 0 NOTHING = DONE 5 0 0
+";
+
+// The journal was stopped: SERVERFAULT.
+const STOPPED: &str = "
+GETATTR ROOT = DONE 10006
+LOOKUP ROOT f002 = DONE 10006 0
+CREATE ROOT f003 0 NOTHING = DONE 10006 0 0
+";
+
+// What is the matter as calls are made.
+#[derive(Clone, Copy)]
+pub(crate) enum Cause {
+    // Nobody keeps the log.
+    Log,
+    // A transaction holds the slot of the first bit.
+    Slot,
+    // The next device call fails.
+    Device,
+    // The journal is stopped.
+    Stop,
+}
+
+// Makes a file, and the calls of a table while there is such a cause.
+pub(crate) fn call_while<'b, J: Naming + Send + Sync, H: Threads + Wait + Sync>(
+    rt: &H,
+    alloc: Global,
+    files: &Files<'b, J>,
+    cause: Cause,
+    table: &str,
+) -> Told {
+    beside(rt, alloc, files, Errand::Table(MADE))?;
+    match cause {
+        Cause::Log => {}
+        Cause::Slot => return call_held(rt, alloc, files, table),
+        Cause::Device => files.journal().fail_in(rt, 1),
+        Cause::Stop => files.journal().stop(rt),
+    }
+    ask(rt, alloc, files, table)
+}
+
+// Makes the calls while a transaction holds the slot of the first bit, which is below those of the inodes.
+fn call_held<'b, J: Naming, W: Wait>(
+    rt: &W,
+    alloc: Global,
+    files: &Files<'b, J>,
+    table: &str,
+) -> Told {
+    match files.journal().session(rt) {
+        Ok(mut session) => hold(rt, alloc, files, &mut session, table),
+        Err(_) => Err(Wrong::Refused),
+    }
+}
+
+fn hold<'b, J: Naming, W: Wait>(
+    rt: &W,
+    alloc: Global,
+    files: &Files<'b, J>,
+    session: &mut Client<'b, J>,
+    table: &str,
+) -> Told {
+    let mut txn = files.journal().begin(alloc, session);
+    let is_held = takes(rt, &mut txn);
+    let told = ask(rt, alloc, files, table);
+    txn.abort(rt);
+    if is_held { told } else { Err(Wrong::Refused) }
+}
+
+// Takes the slot of the first bit.
+fn takes<'j, 'b, J: Naming, W: Wait>(
+    rt: &W,
+    txn: &mut Txn<'j, 'b, MemDisk, SoundFiles, J>,
+) -> bool {
+    txn.read(rt, Addr { block: 514, off: 0 }).is_ok()
+}
+
+#[test]
+fn replies_of_what_is_refused(rt: HostRuntime) {
+    let held = on_new_disk(&rt, rt.alloc(), 532, &Story::While(Cause::Slot, HELD));
+    let failed = on_new_disk(&rt, rt.alloc(), 532, &Story::While(Cause::Device, FAILED));
+    let stopped = on_new_disk(&rt, rt.alloc(), 532, &Story::While(Cause::Stop, STOPPED));
+    assert_eq!(rt; (held, failed, stopped), (Ok(()), Ok(()), Ok(())));
+}

@@ -1,0 +1,9 @@
+mod peers;
+mod sockets;
+mod streams;
+mod wire;
+mod workers;
+
+pub(crate) use sockets::{Visit, serve_visit};
+pub(crate) use wire::serve_all;
+pub(crate) use workers::{Team, serve_team};

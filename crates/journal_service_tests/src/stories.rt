@@ -1,0 +1,70 @@
+// What is done with a store that another function owns.
+use crate::calls::{ask, ask_cut};
+use crate::filestore::{fill_all, storm};
+use crate::nfs3::{Cause, call_while};
+use crate::server::{Team, Visit, serve_all, serve_team, serve_visit};
+use crate::stores::{Files, Told, beside};
+use journal_history::Naming;
+use std::alloc::Global;
+use std::net::{Net, TcpListener, TcpStream};
+use std::sync::Wait;
+use std::thread::Threads;
+
+// What is done with a store.
+#[derive(Clone, Copy)]
+pub(crate) enum Story {
+    // The calls of a table.
+    Table(&'static str),
+    // The calls of a table with their arguments cut.
+    Cut(&'static str),
+    // An errand, with who keeps the log beside it.
+    Beside(Errand),
+    // A file is made, and then the calls of a table while there is such a cause.
+    While(Cause, &'static str),
+    // The connections of a table.
+    Connections(&'static str),
+    // Connections over memory that are served side by side.
+    Team(Team),
+    // Connections over TCP.
+    Visit(Visit),
+}
+
+// What is done beside who keeps the log.
+#[derive(Clone, Copy)]
+pub(crate) enum Errand {
+    // The calls of a table.
+    Table(&'static str),
+    // Four threads make files and remove them.
+    Storm,
+    // Files are made until no block is free.
+    Fill,
+}
+
+pub(crate) fn tell<
+    'b,
+    J: Naming + Send + Sync,
+    H: Threads + Wait + Net<Listener = TcpListener, Stream = TcpStream> + Sync,
+>(rt: &H, alloc: Global, files: &Files<'b, J>, story: &Story) -> Told {
+    match *story {
+        Story::Table(table) => ask(rt, alloc, files, table),
+        Story::Cut(table) => ask_cut(rt, alloc, files, table),
+        Story::Beside(errand) => beside(rt, alloc, files, errand),
+        Story::While(cause, table) => call_while(rt, alloc, files, cause, table),
+        Story::Connections(table) => serve_all(rt, alloc, files, table),
+        Story::Team(team) => serve_team(rt, alloc, files, team),
+        Story::Visit(visit) => serve_visit(rt, alloc, files, visit),
+    }
+}
+
+pub(crate) fn run<'b, J: Naming + Send + Sync, H: Threads + Wait + Sync>(
+    rt: &H,
+    alloc: Global,
+    files: &Files<'b, J>,
+    errand: Errand,
+) -> Told {
+    match errand {
+        Errand::Table(table) => ask(rt, alloc, files, table),
+        Errand::Storm => storm(rt, alloc, files),
+        Errand::Fill => fill_all(rt, alloc, files),
+    }
+}
