@@ -66,7 +66,7 @@ fn measure_on<J: Naming + Send + Sync, R: Threads + Wait + Clock + Sync>(
     requires blocks { disk.past.size ≡ J.blocks }
     requires settled { IsSettled disk.past }
 {
-    let files: FileStore<MemDisk, J> = match FileStore::mount(rt, alloc, book, disk) {
+    let files: FileStore<MemDisk, J> = match FileStore::mount(alloc, book, disk) {
         Ok(files) => files,
         Err(Refused { refusal, disk: _ }) => return Err(refused(refusal)),
     };

@@ -1,5 +1,5 @@
 -- What contracts see of a circular log, and what its steps say.
-use Rattle.std.specs.Prelude.{ℕ, ◌≡◌, ◌≢◌, ◌⊎◌, ◌<◌, ◌≤◌, ◌-◌, Bool, false, IsTrue, List, take}
+use Rattle.std.specs.Prelude.{ℕ, ◌≡◌, ◌≢◌, ◌⊎◌, ◌<◌, ◌≤◌, ◌-◌, Bool, false, IsTrue, IsErr, IfErr, OnOk, List, take, Result}
 use Rattle.journal_world.specs.declared.refusal.Refusal.{Refusal}
 use Rattle.journal_world.specs.declared.refusal.Refusal.TheVariants.{NoMemory, DeviceFailed, BadLog}
 use Rattle.journal_block.specs.declared.update.Update.{Update}
@@ -78,6 +78,19 @@ TriesCall event old new = IsTrue old.honest → MayHaveHappened event old.past n
 -- J6, where a call had failed before, or the device failed in this one
 abbrev pub IsFault : Bool → DiskState → DiskState → Refusal Unit → Type 0
 IsFault faulted old new refusal = (refusal ≡ DeviceFailed tt) × (IsTrue faulted ⊎ HasFailed old new)
+
+-- What each step says of its device call: it makes this one and no other, or may have made it where it is refused, by J6
+pub record Steps {A : Type 0} (event : DiskEvent) (result : Result A (Refusal Unit)) (old new : Ring) : Type 0 where
+  pub refusal : IfErr result (IsFault old.faulted old.disk new.disk)
+  -- once a call failed, none is made
+  pub faulted : IsTrue old.faulted → IsErr result × (new ≡ old)
+  pub makes : OnOk result (MakesCall event old.disk new.disk)
+  pub tries : TriesCall event old.disk new.disk
+
+-- The log and the home blocks are as before
+pub record KeepsLog (old new : Ring) : Type 0 where
+  pub log : log_of new ≡ log_of old
+  pub home : SameHome old new
 
 -- why a disk is not opened: J1, J6 where it failed, J7 where as it reads it is not well formed
 abbrev pub IsOpenRefusal : DiskState → DiskState → Refusal Unit → Type 0

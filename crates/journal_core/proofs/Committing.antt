@@ -11,9 +11,8 @@ use Rattle.journal_world.proofs.Prefixes.{IsPrefix-trans}
 use Rattle.journal_world.proofs.SessionCommits.{commits_of-append, length-commits_of-le}
 use Rattle.journal_world.proofs.LongerHistories.{commits_of-commit, after-blocks, at-count}
 use Rattle.journal_block.specs.declared.update.Update.{Update}
-use Rattle.journal_memlog.specs.Logs.{next_position}
 use Rattle.journal_wal.specs.Wal.{WalState, log_steps, Appends}
-use Rattle.journal_objlog.specs.ObjectLogs.{map_now, map_cut, map_logged, Crashes, OnlyReads}
+use Rattle.journal_objlog.specs.ObjectLogs.{base_of, map_now, map_cut, map_logged, Crashes, OnlyReads}
 use Rattle.journal_objlog.specs.Writes.{IsPrepared, fresh_blocks}
 use Rattle.journal_history.specs.Tokens.{SessionState, made, OnlyExtends, Commits, next_transaction as numbered}
 use Rattle.journal_history.specs.Soundness.{IsSound}
@@ -115,9 +114,9 @@ rests_append old updates new appends fine none =
 module _ (blocks : ℕ) (c : CoreState) (kept : IsCore blocks c) (begun : c.history ≢ []) where
   -- the transaction was added, and its writes appended
   pub kept_added : (t : Transaction) (prepared : List Update) (objects : WalState) (history : List Entry) (next : ℕ)
-      → history ≡ c.history ++ commit t ∷ [] → next ≡ max c.next (t.session + 1) → IsPrepared c.objects prepared t.writes
+      → history ≡ c.history ++ commit t ∷ [] → next ≡ max c.next (t.session + 1) → IsPrepared (disk_of c).honest (base_of c.objects) prepared t.writes
       → Appends c.objects prepared objects → Crashes c.objects objects
-      → (IsTrue (disk_of c).honest → (writes : List Pair) → IsPrepared c.objects prepared writes → SameMap (map_now objects) (overwritten (map_now c.objects) writes))
+      → (IsTrue (disk_of c).honest → (writes : List Pair) → IsPrepared (disk_of c).honest (base_of c.objects) prepared writes → SameMap (map_now objects) (overwritten (map_now c.objects) writes))
       → SameMap (map_cut objects) (map_cut c.objects) → SameMap (map_logged objects) (map_logged c.objects)
       → IsCore blocks (record { objects = objects; history = history; cut = c.cut; logged = c.logged; next = next; closed = c.closed })
   kept_added t prepared objects history next added raised ready appends crash now cut logged =
@@ -128,11 +127,11 @@ module _ (blocks : ℕ) (c : CoreState) (kept : IsCore blocks c) (begun : c.hist
 -- a session that has seen more is worn as before
 worn_before : (c : CoreState) (s seen : SessionState) (writes : List Pair) → OnlyExtends s seen → IsWorn c seen writes → IsWorn c s writes
 worn_before c s seen writes extends worn =
-    subst (λ (n : ℕ). (2 ^ 62 ≤ length c.history + 1) ⊎ (2 ^ 62 ≤ n) ⊎ (2 ^ 62 ≤ next_position c.objects.log + fresh_blocks c.objects writes)) extends.number worn
+    subst (λ (n : ℕ). (2 ^ 62 ≤ length c.history + 1) ⊎ (2 ^ 62 ≤ n) ⊎ (2 ^ 62 ≤ (base_of c.objects).next + fresh_blocks (base_of c.objects) writes)) extends.number worn
 
 worn_after : (c : CoreState) (s seen : SessionState) (writes : List Pair) → OnlyExtends s seen → IsWorn c s writes → IsWorn c seen writes
 worn_after c s seen writes extends worn =
-    subst (λ (n : ℕ). (2 ^ 62 ≤ length c.history + 1) ⊎ (2 ^ 62 ≤ n) ⊎ (2 ^ 62 ≤ next_position c.objects.log + fresh_blocks c.objects writes)) (sym extends.number) worn
+    subst (λ (n : ℕ). (2 ^ 62 ≤ length c.history + 1) ⊎ (2 ^ 62 ≤ n) ⊎ (2 ^ 62 ≤ (base_of c.objects).next + fresh_blocks (base_of c.objects) writes)) (sym extends.number) worn
 
 -- nor is more worn or fuller
 can_after : (c : CoreState) (s seen : SessionState) (t : TransactionState) → OnlyExtends s seen → MayCommit c s t → CanPrepare c seen t.writes → CanCommit c s t
@@ -186,7 +185,7 @@ commits_from reads writes s seen after before longer extends was = record {
 
 -- the transaction was added after reads
 pub committed_from : (reads writes : List Pair) (s seen after : SessionState) (old ready new : CoreState) (prepared : List Update) → OnlyExtends s seen
-    → ready ≡ record old { objects = ready.objects } → OnlyReads old.objects ready.objects → IsPrepared ready.objects prepared writes
+    → ready ≡ record old { objects = ready.objects } → OnlyReads old.objects ready.objects → IsPrepared (disk_of ready).honest (base_of ready.objects) prepared writes
     → IsAdded (numbered seen reads writes) prepared seen after ready new → IsCommitted reads writes s after old new
 committed_from reads writes s seen after old ready new prepared extends same readied is_ready added = record {
   committed = subst (λ (h : List Entry). Commits (numbered s reads writes) s after h new.history) (ap (λ (c : CoreState). c.history) same)

@@ -1,7 +1,8 @@
 -- What a step answers and leaves, as one event.
-use Rattle.std.proofs.Common.{◌≡◌, false, IsTrue, Result, Ok, Err, OnOk, OnErr, IfOk, IfErr}
+use Rattle.std.proofs.Common.{◌≡◌, IsTrue, Result, Ok, Err, OnOk, OnErr, IfOk, IfErr}
 use Rattle.journal_world.specs.declared.refusal.Refusal.{Refusal}
-use Rattle.journal_world.specs.declared.step.Step.{Step}
+use Rattle.journal_wal.specs.declared.step.InstallStep.{InstallStep}
+use Rattle.journal_core.specs.declared.step.LogStep.{LogStep}
 use Rattle.journal_world.specs.Maps.{Agrees}
 use Rattle.journal_world.specs.Histories.{is_trusted, latest}
 use Rattle.journal_objlog.specs.ObjectLogs.{OnlyReads}
@@ -14,12 +15,12 @@ use Rattle.journal_core.specs.Commits.{IsCommitted, CanCommit, IsCommitRefusal}
 use Rattle.journal_core.specs.Interleavings.{AnswersCommit, AnswersLog, AnswersInstall}
 
 module _ (old new : CoreState) (crash : Crashes old new) where
-  pub answers_log : (r : Result Step (Refusal Told)) → IfOk r (λ step. LogAnswers old step new)
+  pub answers_log : (r : Result LogStep (Refusal Told)) → IfOk r (λ step. LogAnswers old step new)
       → OnOk r (IsRunning old × IsRunning new) → IfErr r (IsLogRefusal old new) → AnswersLog old r new
   answers_log (Ok step) did running refusal = record { did = did; running = running; crash = crash }
   answers_log (Err why) did running refusal = record { refusal = refusal; crash = crash }
 
-  pub answers_install : (r : Result Step (Refusal Told)) → IfOk r (λ step. InstallAnswers old step new)
+  pub answers_install : (r : Result InstallStep (Refusal Told)) → IfOk r (λ step. InstallAnswers old step new)
       → OnOk r (IsRunning old × IsRunning new) → IfErr r (IsInstallRefusal old new) → AnswersInstall old r new
   answers_install (Ok step) did running refusal = record { did = did; running = running; crash = crash }
   answers_install (Err why) did running refusal = record { refusal = refusal; crash = crash }

@@ -3,7 +3,8 @@
 use Rattle.std.proofs.Common.{◌≡◌, IsTrue, inr, List, [], ◌∷◌, Some, None, Ok, refl}
 use mathlib.Core.List.{IsPrefix}
 use Rattle.journal_world.specs.declared.address.Addr.{Addr}
-use Rattle.journal_world.specs.declared.step.Step.TheVariants.{Moved}
+use Rattle.journal_core.specs.declared.step.LogStep.{LogStep}
+use Rattle.journal_core.specs.declared.step.LogStep.TheVariants.{Cut, Put, Logged, Marked}
 use Rattle.journal_world.specs.Addresses.{Value, slot_of}
 use Rattle.journal_world.specs.Maps.{Map, is_object}
 use Rattle.journal_world.specs.Histories.{opened}
@@ -12,7 +13,6 @@ use Rattle.journal_disk.specs.Disks.{DiskState}
 use Rattle.journal_history.specs.Tokens.{SessionState, next_transaction}
 use Rattle.journal_core.specs.Cores.{CoreState, Crashes, disk_of}
 use Rattle.journal_core.specs.Transactions.{TransactionState, begun, Overwrites}
-use Rattle.journal_core.specs.Steps.{Marks}
 use Rattle.journal_core.specs.Openings.{Begins}
 use Rattle.journal_core.specs.Interleavings.{Event, Answer, Mount, mounted, with_core, with_transaction, with_slot, ended, CommitsTransaction, LogsStep, Joins, IsLeftBetween, HoldsImage, Run}
 use Rattle.journal_core.specs.Interleavings.Event.{joins, begins, takes, overwrites, logs, crashes, opens}
@@ -28,8 +28,8 @@ abbrev pub second : Addr
 second = record { block = 515; off = 1024 }
 
 -- A step of the logger that moved, and left the history
-pub record Moves (old new : CoreState) : Type 0 where
-  pub step : LogsStep old Moved new
+pub record Moves (step : LogStep) (old new : CoreState) : Type 0 where
+  pub did : LogsStep old step new
   pub same : new.history ≡ old.history
 
 -- what the core and the transaction answered, step by step
@@ -57,13 +57,12 @@ pub record Steps (rule : Map → Type 0) (disk : DiskState) (image : List Bytes)
   pub second_object : IsTrue (is_object (opened joined.history).blocks (second, w))
   pub writes_second : Overwrites one second w both
   pub commits_both : CommitsTransaction joined session both at_commit after
-  pub cuts : Moves at_commit cut
-  pub puts_block : Moves cut block
-  pub syncs_block : Moves block synced
-  pub puts_end : Moves synced put
-  pub syncs_end : Moves put logged
-  pub marks_one : LogsStep logged Moved marks
-  pub mark : Marks 1 logged marks
+  pub cuts : Moves Cut at_commit cut
+  pub puts_block : Moves Put cut block
+  pub syncs_block : Moves Put block synced
+  pub puts_end : Moves Put synced put
+  pub syncs_end : Moves Logged put logged
+  pub marks_one : LogsStep logged (Marked 1) marks
   pub crash : Crashes marks last
   pub left : IsLeftBetween (disk_of marks).past (disk_of last).past image
   pub again : DiskState
@@ -94,9 +93,9 @@ module _ (rule : Map → Type 0) (disk : DiskState) (image : List Bytes) (v w : 
   done c = ended (with_core wrote_second c) 0
 
   -- a step of the logger between two others
-  logs_on : (old new : CoreState) → Moves old new → (events : List Event) → (answers : List Answer)
+  logs_on : (step : LogStep) (old new : CoreState) → Moves step old new → (events : List Event) → (answers : List Answer)
       → Run rule (up (done new)) events answers (mounted s.next) → Run rule (up (done old)) (logs ∷ events) (nothing ∷ answers) (mounted s.next)
-  logs_on old new moves events answers run = (up (done new), (Ok Moved, (new, moves.step, moves.same, refl)), run)
+  logs_on step old new moves events answers run = (up (done new), (Ok step, (new, moves.did, moves.same, refl)), run)
 
   pub is_run : Run rule (mounted s.at_first)
       (joins ∷ begins 0 ∷ takes 0 (slot_of first) ∷ overwrites 0 first v ∷ takes 0 (slot_of second) ∷ overwrites 0 second w ∷ finishes 0
@@ -125,13 +124,13 @@ module _ (rule : Map → Type 0) (disk : DiskState) (image : List Bytes) (v w : 
               (
                 up (done s.at_commit),
                 (s.session, (s.after, (s.at_commit, refl, s.commits_both, refl))),
-                logs_on s.at_commit s.cut s.cuts (logs ∷ logs ∷ logs ∷ logs ∷ logs ∷ crashes image ∷ opens ∷ []) (nothing ∷ nothing ∷ nothing ∷ nothing ∷ marked 1 ∷ crashed ∷ reopened ∷ [])
-                    (logs_on s.cut s.block s.puts_block (logs ∷ logs ∷ logs ∷ logs ∷ crashes image ∷ opens ∷ []) (nothing ∷ nothing ∷ nothing ∷ marked 1 ∷ crashed ∷ reopened ∷ [])
-                    (logs_on s.block s.synced s.syncs_block (logs ∷ logs ∷ logs ∷ crashes image ∷ opens ∷ []) (nothing ∷ nothing ∷ marked 1 ∷ crashed ∷ reopened ∷ [])
-                    (logs_on s.synced s.put s.puts_end (logs ∷ logs ∷ crashes image ∷ opens ∷ []) (nothing ∷ marked 1 ∷ crashed ∷ reopened ∷ [])
-                    (logs_on s.put s.logged s.syncs_end (logs ∷ crashes image ∷ opens ∷ []) (marked 1 ∷ crashed ∷ reopened ∷ []) (
+                logs_on Cut s.at_commit s.cut s.cuts (logs ∷ logs ∷ logs ∷ logs ∷ logs ∷ crashes image ∷ opens ∷ []) (nothing ∷ nothing ∷ nothing ∷ nothing ∷ marked 1 ∷ crashed ∷ reopened ∷ [])
+                    (logs_on Put s.cut s.block s.puts_block (logs ∷ logs ∷ logs ∷ logs ∷ crashes image ∷ opens ∷ []) (nothing ∷ nothing ∷ nothing ∷ marked 1 ∷ crashed ∷ reopened ∷ [])
+                    (logs_on Put s.block s.synced s.syncs_block (logs ∷ logs ∷ logs ∷ crashes image ∷ opens ∷ []) (nothing ∷ nothing ∷ marked 1 ∷ crashed ∷ reopened ∷ [])
+                    (logs_on Put s.synced s.put s.puts_end (logs ∷ logs ∷ crashes image ∷ opens ∷ []) (nothing ∷ marked 1 ∷ crashed ∷ reopened ∷ [])
+                    (logs_on Logged s.put s.logged s.syncs_end (logs ∷ crashes image ∷ opens ∷ []) (marked 1 ∷ crashed ∷ reopened ∷ []) (
                       up (done s.marks),
-                      (Moved, (s.marks, s.marks_one, s.mark, refl)),
+                      (s.marks, s.marks_one, refl),
                       (
                         down image,
                         (refl, (s.last, s.crash, s.left, refl)),

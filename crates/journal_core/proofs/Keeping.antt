@@ -14,12 +14,11 @@ use Rattle.journal_world.proofs.Marks.{floor-mark, floor-commit, commits-mark, c
 use Rattle.journal_block.specs.Block.{Bytes}
 use Rattle.journal_disk.specs.Images.{EveryImage}
 use Rattle.journal_disk.specs.Laws.{leaves_also, leaves_none}
-use Rattle.journal_disk.specs.Disks.{DiskState, Keeps, Past}
-use Rattle.journal_disk.specs.Moments.{LeavesOnly}
+use Rattle.journal_disk.specs.Disks.{DiskState, Keeps}
 use Rattle.journal_wal.specs.Wal.{WalState, size_of, log_steps, tail_length}
 use Rattle.journal_objlog.specs.Maps.{OpensAs}
 use Rattle.journal_objlog.specs.CutLaws.{cut_is_now, logged_is_cut}
-use Rattle.journal_objlog.specs.ObjectLogs.{map_now, map_cut, map_logged, MayOpenAs, Crashes as MapCrashes, KeepsMaps, CutsMap, EndsMap, OnlyReads}
+use Rattle.journal_objlog.specs.ObjectLogs.{map_now, map_cut, map_logged, IsCutLogged, MayOpenAs, Crashes as MapCrashes, KeepsMaps, CutsMap, EndsMap}
 use Rattle.journal_core.specs.Tallies.{Pairs, IsTallied}
 use Rattle.journal_core.specs.Steps.{CanMark}
 use Rattle.journal_core.specs.Cores.{CoreState, Leaves, Crashes, IsCore}
@@ -167,7 +166,7 @@ module _ (blocks : ℕ) (c : CoreState) (kept : IsCore blocks c) where
   }
 
   -- commits that wrote nothing are marked
-  pub kept_mark_all : c.history ≢ [] → tail_length c.objects ≡ 0 → c.objects.log.logged ≡ c.objects.log.cut
+  pub kept_mark_all : c.history ≢ [] → tail_length c.objects ≡ 0 → IsCutLogged c.objects
       → IsCore blocks (record c { history = c.history ++ stable (count c.history) ∷ []; cut = count c.history; logged = count c.history })
   kept_mark_all some empty none = record {
     size = kept.size;
@@ -231,7 +230,7 @@ module _ (blocks : ℕ) (c : CoreState) (kept : IsCore blocks c) where
 
 -- what was opened is kept
 pub kept_opened : (blocks : ℕ) (objects : WalState) (m : Map) → size_of objects ≡ blocks → SameMap (map_now objects) m → m.blocks ≡ blocks
-    → objects.log.logged ≡ objects.log.cut → tail_length objects ≡ 0
+    → IsCutLogged objects → tail_length objects ≡ 0
     → (IsTrue (log_disk objects).honest → EveryImage (log_disk objects).past (OpensAs (map_now objects)))
     → IsCore blocks (record { objects = objects; history = opening m (log_disk objects).honest ∷ []; cut = 0; logged = 0; next = 0; closed = false })
 kept_opened blocks objects m size same on_disk none empty images = record {

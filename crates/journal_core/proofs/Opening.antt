@@ -10,7 +10,6 @@ use Rattle.journal_world.specs.Histories.Entry.{opening}
 use Rattle.journal_world.proofs.SameMaps.{SameMap-refl}
 use Rattle.journal_disk.specs.Disks.{DiskState, Keeps, Past, HasFailed}
 use Rattle.journal_disk.specs.Images.{EveryImage}
-use Rattle.journal_circ.specs.Ring.{IsOpenRefusal as CircOpenRefusal}
 use Rattle.journal_wal.specs.Wal.{WalState, IsAtRest as AtRest, size_of, blocks_now, log_steps, install_steps, tail_length}
 use Rattle.journal_objlog.specs.Maps.{OpensAs}
 use Rattle.journal_objlog.specs.MapLaws.{map_of-blocks, map_of-objects}

@@ -1,5 +1,5 @@
 -- Why a read is refused.
-use Rattle.std.proofs.Common.{◌≡◌, ℕ, Bool, false, IsTrue, Result, Ok, Err, OnOk, IfErr, refl, sym, ap, ◌∙◌}
+use Rattle.std.proofs.Common.{◌≡◌, ℕ, Bool, IsTrue, Result, Ok, Err, OnOk, IfErr, refl, sym, ap, ◌∙◌}
 use mathlib.Core.List.{IsPrefix}
 use Rattle.journal_world.specs.declared.address.Addr.{Addr}
 use Rattle.journal_world.specs.declared.refusal.Refusal.{Refusal}

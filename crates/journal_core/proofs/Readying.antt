@@ -1,13 +1,12 @@
 -- Why writes are not made ready, as the core's.
-use Rattle.std.proofs.Common.{◌≡◌, ◌⊎◌, inr, ⊎_elim, ◌<◌, ◌≤◌, ◌+◌, ◌^◌, ◌∷◌, [], ℕ, Bool, ◌&&◌, false, IsTrue, List, length, Result, Ok, Err, IfOk, IfErr, OnOk, refl, sym, ap, subst, ◌∙◌, arith}
+use Rattle.std.proofs.Common.{◌≡◌, ◌⊎◌, inr, ⊎_elim, ◌<◌, ◌≤◌, ◌+◌, ◌^◌, ◌∷◌, [], ℕ, Bool, ◌&&◌, IsTrue, List, length, Result, Ok, Err, IfOk, IfErr, OnOk, refl, sym, ap, subst, ◌∙◌, arith}
 use Rattle.std.proofs.lemmas.Bool.{false≢true, and_parts}
 use Rattle.journal_world.specs.declared.refusal.Refusal.{Refusal}
 use Rattle.journal_world.specs.declared.refusal.Refusal.TheVariants.{NoMemory, BadAddress, BadSize, TooLarge, Busy, DeviceFailed, BadLog, BadSuper, Stale, Stranger, Worn, Full, Closed, Fenced}
 use Rattle.journal_world.specs.Addresses.{is_valid, kind_of}
 use Rattle.journal_world.specs.Maps.{Pair, is_value_at, is_object, are_objects}
-use Rattle.journal_memlog.specs.Logs.{next_position}
 use Rattle.journal_wal.specs.Wal.{WalState, size_of}
-use Rattle.journal_objlog.specs.ObjectLogs.{IsLeft}
+use Rattle.journal_objlog.specs.ObjectLogs.{base_of, IsLeft, is_faulted as is_log_faulted}
 use Rattle.journal_objlog.specs.Writes.{CanPrepare, IsWriteRefusal, IsLateRefusal, IsPrepareRefusal, are_valid, written_blocks, fresh_blocks}
 use Rattle.journal_history.specs.Tokens.{SessionState}
 use Rattle.journal_core.specs.Causes.{Told, raised_of}
@@ -30,7 +29,7 @@ module _ (blocks : ℕ) (c : CoreState) (writes : List Pair) (size : size_of c.o
   objects = subst (λ (n : ℕ). IsTrue (are_objects n writes)) (sym size) given
 
   -- what is known of a refusal but J4
-  early : (new : WalState) (refusal : Refusal Unit) → IsWriteRefusal c.objects writes refusal → (refusal ≡ TooLarge → ⊥) → written_blocks writes ≤ 128
+  early : (new : WalState) (refusal : Refusal Unit) → IsWriteRefusal (is_log_faulted c.objects) (base_of c.objects) writes refusal → (refusal ≡ TooLarge → ⊥) → written_blocks writes ≤ 128
   early new (DeviceFailed cause) why other = absurd (false≢true (sym running.1 ∙ why))
   early new BadAddress why other = absurd (false≢true (sym why.1 ∙ valid_of (size_of c.objects) writes objects))
   early new BadSize why other = absurd (false≢true (sym why.2 ∙ objects))
@@ -47,7 +46,7 @@ module _ (blocks : ℕ) (c : CoreState) (writes : List Pair) (size : size_of c.o
   early new Fenced why other = absurd why
 
   -- where it was not refused by J4, there are few blocks
-  pub few_blocks : {T : Type 0} (new : WalState) (answer : Result T (Refusal Unit)) → OnOk answer (CanPrepare c.objects writes)
+  pub few_blocks : {T : Type 0} (new : WalState) (answer : Result T (Refusal Unit)) → OnOk answer (CanPrepare (base_of c.objects) writes)
       → IfErr answer (IsPrepareRefusal c.objects writes new) → (answer ≡ Err TooLarge → ⊥) → written_blocks writes ≤ 128
   few_blocks new (Ok value) can why other = can.few
   few_blocks new (Err refusal) can why other = ⊎_elim
@@ -56,7 +55,7 @@ module _ (blocks : ℕ) (c : CoreState) (writes : List Pair) (size : size_of c.o
       why
 
   module _ (s : SessionState) (new : WalState) (room : length c.history + 1 < 2 ^ 62) (small : s.number < 2 ^ 62) where
-    first_of : (refusal : Refusal Unit) → IsWriteRefusal c.objects writes refusal → IsPreparingRefusal c s writes (record c { objects = new }) (raised_of refusal)
+    first_of : (refusal : Refusal Unit) → IsWriteRefusal (is_log_faulted c.objects) (base_of c.objects) writes refusal → IsPreparingRefusal c s writes (record c { objects = new }) (raised_of refusal)
     first_of (DeviceFailed cause) why = absurd (false≢true (sym running.1 ∙ why))
     first_of BadAddress why = absurd (false≢true (sym why.1 ∙ valid_of (size_of c.objects) writes objects))
     first_of BadSize why = absurd (false≢true (sym why.2 ∙ objects))
@@ -66,9 +65,9 @@ module _ (blocks : ℕ) (c : CoreState) (writes : List Pair) (size : size_of c.o
       why.2,
       λ worn. ⊎_elim
           (λ (is : 2 ^ 62 ≤ length c.history + 1). absurd (omega (arith, is, room)))
-          (λ (other : (2 ^ 62 ≤ s.number) ⊎ (2 ^ 62 ≤ next_position c.objects.log + fresh_blocks c.objects writes)). ⊎_elim
+          (λ (other : (2 ^ 62 ≤ s.number) ⊎ (2 ^ 62 ≤ (base_of c.objects).next + fresh_blocks (base_of c.objects) writes)). ⊎_elim
           (λ (is : 2 ^ 62 ≤ s.number). absurd (omega (arith, is, small)))
-          (λ (is : 2 ^ 62 ≤ next_position c.objects.log + fresh_blocks c.objects writes). absurd (omega (arith, is, why.3)))
+          (λ (is : 2 ^ 62 ≤ (base_of c.objects).next + fresh_blocks (base_of c.objects) writes). absurd (omega (arith, is, why.3)))
           other)
           worn,
       why.4,
@@ -84,20 +83,20 @@ module _ (blocks : ℕ) (c : CoreState) (writes : List Pair) (size : size_of c.o
     first_of Fenced why = absurd why
 
     -- what may be made ready here, as the core says it
-    pub can_prepare : CanPrepare c.objects writes → CanPrepareWrites c s writes
+    pub can_prepare : CanPrepare (base_of c.objects) writes → CanPrepareWrites c s writes
     can_prepare can = record {
       few = can.few;
       unworn = λ worn. ⊎_elim
           (λ (is : 2 ^ 62 ≤ length c.history + 1). omega (arith, is, room))
-          (λ (other : (2 ^ 62 ≤ s.number) ⊎ (2 ^ 62 ≤ next_position c.objects.log + fresh_blocks c.objects writes)). ⊎_elim
+          (λ (other : (2 ^ 62 ≤ s.number) ⊎ (2 ^ 62 ≤ (base_of c.objects).next + fresh_blocks (base_of c.objects) writes)). ⊎_elim
           (λ (is : 2 ^ 62 ≤ s.number). omega (arith, is, small))
-          (λ (is : 2 ^ 62 ≤ next_position c.objects.log + fresh_blocks c.objects writes). omega (arith, is, can.small))
+          (λ (is : 2 ^ 62 ≤ (base_of c.objects).next + fresh_blocks (base_of c.objects) writes). omega (arith, is, can.small))
           other)
           worn;
       room = λ full. omega (arith, full, can.tail);
     }
 
-    late_of : (refusal : Refusal Unit) → CanPrepare c.objects writes → IsLeft new refusal → IsLateRefusal c.objects new refusal → IsPreparingRefusal c s writes (record c { objects = new }) (raised_of refusal)
+    late_of : (refusal : Refusal Unit) → CanPrepare (base_of c.objects) writes → IsLeft new refusal → IsLateRefusal c.objects new refusal → IsPreparingRefusal c s writes (record c { objects = new }) (raised_of refusal)
     late_of NoMemory can left why = can_prepare can
     late_of (DeviceFailed cause) can left why = record { unexplained = refl; not_closed = running.0; fault = inr (can_prepare can, why); faulted = left; others = refl }
     late_of BadAddress can left why = absurd why

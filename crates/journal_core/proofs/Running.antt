@@ -6,7 +6,9 @@ use Rattle.journal_world.specs.declared.address.Addr.{Addr}
 use Rattle.journal_world.specs.declared.layout.TheConstants.{MIN_BLOCKS}
 use Rattle.journal_world.specs.declared.refusal.Refusal.{Refusal}
 use Rattle.journal_world.specs.declared.refusal.Refusal.TheVariants.{NoMemory, BadAddress, BadSize, TooLarge, Busy, DeviceFailed, BadLog, BadSuper, Stale, Stranger, Worn, Full, Closed, Fenced}
-use Rattle.journal_world.specs.declared.step.Step.{Step}
+use Rattle.journal_wal.specs.declared.step.InstallStep.{InstallStep}
+use Rattle.journal_core.specs.declared.step.LogStep.{LogStep}
+use Rattle.journal_core.specs.declared.step.LogStep.TheVariants.{Marked}
 use Rattle.journal_world.specs.Addresses.{slot_of}
 use Rattle.journal_world.specs.Maps.{Map, Pair, Transaction, SameMap, value_at}
 use Rattle.journal_world.specs.Histories.{Entry, is_trusted, latest, commits_of, at, Follows, IsTrueTo, IsLegal}
@@ -272,7 +274,7 @@ module _ (rule : Map → Type 0) where
   goes-finishes m actor (Some d) crashed new it is at = absurd it
   goes-finishes m actor (Some d) reopened new it is at = absurd it
 
-  log_crash : (old : CoreState) (result : Result Step (Refusal Told)) (new : CoreState) → AnswersLog old result new → Crashes old new
+  log_crash : (old : CoreState) (result : Result LogStep (Refusal Told)) (new : CoreState) → AnswersLog old result new → Crashes old new
   log_crash old (Ok step) new it = it.crash
   log_crash old (Err why) new it = it.crash
 
@@ -281,12 +283,12 @@ module _ (rule : Map → Type 0) where
       let core : CoreState = it.1.0 in
       silent m.core.history (with_core m core) nothing new refl it.1.3 it.1.2 (up_on m core is (log_crash m.core it.0 core it.1.1) it.1.2)
   goes-logs m (marked n) new it is =
-      let core : CoreState = it.1.0 in
-      let step : LogsStep m.core it.0 core = it.1.1 in
-      let marks : Marks n m.core core = it.1.2 in
+      let core : CoreState = it.0 in
+      let step : LogsStep m.core (Marked n) core = it.1 in
+      let marks : Marks n m.core core = step.did.marks in
       let added : core.history ≡ m.core.history ++ stable n ∷ [] = ap (λ (c : CoreState). c.history) marks.marked in
       let follows : Follows m.core.history (stable n) = (is.runs.some, marks.rises, marks.made) in
-      subst (λ (s : Machine). Goes rule m.core.history (marked n) s) (sym it.1.3) (record {
+      subst (λ (s : Machine). Goes rule m.core.history (marked n) s) (sym it.2) (record {
         history = m.core.history ++ stable n ∷ [];
         tells = (follows, tt, refl);
         holds = (added, up_marked m core n is step.crash added (legal_adds m.core.history (stable n) is.runs.legal follows tt));
@@ -313,11 +315,11 @@ refused_install old new (Full cause) why = absurd why
 refused_install old new (Closed cause) why = ap (λ (c : CoreState). c.history) why.same
 refused_install old new Fenced why = absurd why
 
-installs_same : (old : CoreState) (result : Result Step (Refusal Told)) (new : CoreState) → AnswersInstall old result new → new.history ≡ old.history
+installs_same : (old : CoreState) (result : Result InstallStep (Refusal Told)) (new : CoreState) → AnswersInstall old result new → new.history ≡ old.history
 installs_same old (Ok step) new it = ap (λ (c : CoreState). c.history) it.did.1
 installs_same old (Err why) new it = refused_install old new why it.refusal
 
-install_crash : (old : CoreState) (result : Result Step (Refusal Told)) (new : CoreState) → AnswersInstall old result new → Crashes old new
+install_crash : (old : CoreState) (result : Result InstallStep (Refusal Told)) (new : CoreState) → AnswersInstall old result new → Crashes old new
 install_crash old (Ok step) new it = it.crash
 install_crash old (Err why) new it = it.crash
 

@@ -1,5 +1,5 @@
 -- What a commit is, and why one is refused.
-use Rattle.std.specs.Prelude.{ℕ, ◌≡◌, ◌⊎◌, ◌<◌, ◌≤◌, ◌+◌, ◌^◌, max, false, List, length, Some}
+use Rattle.std.specs.Prelude.{ℕ, ◌≡◌, ◌⊎◌, ◌<◌, ◌≤◌, ◌+◌, ◌^◌, max, List, length, Some}
 use mathlib.Core.List.{IsPrefix}
 use Rattle.journal_world.specs.declared.refusal.Refusal.{Refusal}
 use Rattle.journal_world.specs.declared.refusal.Refusal.TheVariants.{NoMemory, TooLarge, DeviceFailed, Stale, Stranger, Worn, Full, Closed}
@@ -7,9 +7,8 @@ use Rattle.journal_world.specs.Maps.{Pair, Transaction}
 use Rattle.journal_world.specs.Histories.{commits_of}
 use Rattle.journal_block.specs.declared.update.Update.{Update}
 use Rattle.journal_block.specs.Updates.{updates_block}
-use Rattle.journal_memlog.specs.Logs.{next_position}
-use Rattle.journal_wal.specs.Wal.{WalState, Appends, tail_length}
-use Rattle.journal_objlog.specs.ObjectLogs.{OnlyReads}
+use Rattle.journal_wal.specs.Wal.{WalState, Appends}
+use Rattle.journal_objlog.specs.ObjectLogs.{base_of, OnlyReads}
 use Rattle.journal_objlog.specs.Writes.{writes_block, written_blocks, fresh_blocks}
 use Rattle.journal_history.specs.Soundness.{IsLonger}
 use Rattle.journal_history.specs.Tokens.{SessionState, made, next_transaction as numbered, Commits}
@@ -45,11 +44,11 @@ IsUnknown c s t cause = ((cause ≡ Some c.history) × IsStrange c s) ⊎ IsMove
 
 -- The history's length, the session's number or a position of the log would reach 2^62
 abbrev pub IsWorn : CoreState → SessionState → List Pair → Type 0
-IsWorn c s writes = (2 ^ 62 ≤ length c.history + 1) ⊎ (2 ^ 62 ≤ s.number) ⊎ (2 ^ 62 ≤ next_position c.objects.log + fresh_blocks c.objects writes)
+IsWorn c s writes = (2 ^ 62 ≤ length c.history + 1) ⊎ (2 ^ 62 ≤ s.number) ⊎ (2 ^ 62 ≤ (base_of c.objects).next + fresh_blocks (base_of c.objects) writes)
 
 -- The log's tail cannot take the blocks that do not stand in it
 abbrev pub IsFull : CoreState → List Pair → Type 0
-IsFull c writes = MAX_TAIL < tail_length c.objects + fresh_blocks c.objects writes
+IsFull c writes = MAX_TAIL < length (base_of c.objects).tail + fresh_blocks (base_of c.objects) writes
 
 -- Nothing that is known before the writes are looked at refuses the session's commit
 pub record MayCommit (c : CoreState) (s : SessionState) (t : TransactionState) : Type 0 where

@@ -4,7 +4,6 @@ use Rattle.std.specs.Prelude.{ℕ, ◌≡◌, ◌⊎◌, ◌==◌, ◌≤◌, tr
 use mathlib.Core.List.{IsPrefix}
 use Rattle.journal_world.specs.declared.address.Addr.{Addr}
 use Rattle.journal_world.specs.declared.refusal.Refusal.{Refusal}
-use Rattle.journal_world.specs.declared.step.Step.{Step}
 use Rattle.journal_world.specs.Addresses.{Value, slot_of}
 use Rattle.journal_world.specs.Maps.{Map, Pair, Transaction, SameMap, Agrees, value_at, is_object}
 use Rattle.journal_world.specs.Histories.{Entry, opened, is_trusted, latest, at, count, floor, Follows, IsTrueTo}
@@ -16,10 +15,13 @@ use Rattle.journal_disk.specs.Moments.{Extends}
 use Rattle.journal_objlog.specs.Maps.{OpensAs}
 use Rattle.journal_objlog.specs.ObjectLogs.{OnlyReads}
 use Rattle.journal_history.specs.Tokens.{SessionState, CommitPlace, next_transaction}
+use Rattle.journal_wal.specs.declared.step.InstallStep.{InstallStep}
+use Rattle.journal_core.specs.declared.step.LogStep.{LogStep}
+use Rattle.journal_core.specs.declared.step.LogStep.TheVariants.{Marked}
 use Rattle.journal_core.specs.Causes.{Told}
 use Rattle.journal_core.specs.Cores.{CoreState, Crashes, IsRunning, disk_of}
 use Rattle.journal_core.specs.Transactions.{TransactionState, FoundState, begun, AreUnmoved, Remembers, Overwrites}
-use Rattle.journal_core.specs.Steps.{Marks, LogAnswers, IsLogRefusal, InstallAnswers, IsInstallRefusal, MayRead, IsReadRefusal, IsBehind, IsMoved, BeginsSession, IsSessionRefusal, Stops}
+use Rattle.journal_core.specs.Steps.{LogAnswers, IsLogRefusal, InstallAnswers, IsInstallRefusal, MayRead, IsReadRefusal, IsBehind, IsMoved, BeginsSession, IsSessionRefusal, Stops}
 use Rattle.journal_core.specs.Commits.{IsCommitted, CanCommit, IsCommitRefusal}
 use Rattle.journal_core.specs.Openings.{Begins}
 
@@ -167,7 +169,7 @@ AnswersCommit old session d (Ok place) new after = CommitsTransaction old sessio
 AnswersCommit old session d (Err why) new after = RefusesCommit old session d why new
 
 -- The logger made a step
-pub record LogsStep (old : CoreState) (step : Step) (new : CoreState) : Type 0 where
+pub record LogsStep (old : CoreState) (step : LogStep) (new : CoreState) : Type 0 where
   pub did : LogAnswers old step new
   pub running : IsRunning old × IsRunning new
   pub crash : Crashes old new
@@ -177,12 +179,12 @@ pub record RefusesLog (old : CoreState) (why : Refusal Told) (new : CoreState) :
   pub refusal : IsLogRefusal old new why
   pub crash : Crashes old new
 
-abbrev pub AnswersLog : CoreState → Result Step (Refusal Told) → CoreState → Type 0
+abbrev pub AnswersLog : CoreState → Result LogStep (Refusal Told) → CoreState → Type 0
 AnswersLog old (Ok step) new = LogsStep old step new
 AnswersLog old (Err why) new = RefusesLog old why new
 
 -- The installer made a step
-pub record InstallsStep (old : CoreState) (step : Step) (new : CoreState) : Type 0 where
+pub record InstallsStep (old : CoreState) (step : InstallStep) (new : CoreState) : Type 0 where
   pub did : InstallAnswers old step new
   pub running : IsRunning old × IsRunning new
   pub crash : Crashes old new
@@ -192,7 +194,7 @@ pub record RefusesInstall (old : CoreState) (why : Refusal Told) (new : CoreStat
   pub refusal : IsInstallRefusal old new why
   pub crash : Crashes old new
 
-abbrev pub AnswersInstall : CoreState → Result Step (Refusal Told) → CoreState → Type 0
+abbrev pub AnswersInstall : CoreState → Result InstallStep (Refusal Told) → CoreState → Type 0
 AnswersInstall old (Ok step) new = InstallsStep old step new
 AnswersInstall old (Err why) new = RefusesInstall old why new
 
@@ -279,10 +281,10 @@ Finishes old actor (Some draft) other new = ⊥
 -- a step of the logger that marks is answered by its mark, and any other leaves the history
 abbrev pub MakesLogStep : Mount → Answer → Machine → Type 0
 MakesLogStep old nothing new =
-    (result : Result Step (Refusal Told)) × ((core : CoreState) × AnswersLog old.core result core
+    (result : Result LogStep (Refusal Told)) × ((core : CoreState) × AnswersLog old.core result core
     × (core.history ≡ old.core.history) × (new ≡ up (with_core old core)))
 MakesLogStep old (marked n) new =
-    (step : Step) × ((core : CoreState) × LogsStep old.core step core × Marks n old.core core × (new ≡ up (with_core old core)))
+    (core : CoreState) × LogsStep old.core (Marked n) core × (new ≡ up (with_core old core))
 MakesLogStep old other new = ⊥
 
 -- The event may be answered so, and then leaves new. One that is not enabled changes nothing
@@ -299,7 +301,7 @@ HappensUp old joins answer new =
     × (new ≡ up (with_core old core))))
 HappensUp old stops answer new = (answer ≡ nothing) × ((core : CoreState) × Stops old.core core × (new ≡ up (with_core old core)))
 HappensUp old installs answer new =
-    (answer ≡ nothing) × ((result : Result Step (Refusal Told)) × ((core : CoreState) × AnswersInstall old.core result core
+    (answer ≡ nothing) × ((result : Result InstallStep (Refusal Told)) × ((core : CoreState) × AnswersInstall old.core result core
     × (new ≡ up (with_core old core))))
 HappensUp old (crashes image) answer new =
     (answer ≡ crashed) × ((core : CoreState) × Crashes old.core core

@@ -1,19 +1,20 @@
 -- What the steps of the core do, and why they are refused.
-use Rattle.std.specs.Prelude.{ℕ, zero, suc, ◌≡◌, ◌⊎◌, ◌<◌, ◌≤◌, ◌+◌, ◌^◌, ◌++◌, ◌∷◌, [], List, IsTrue, true, false, length, Some}
+use Rattle.std.specs.Prelude.{ℕ, ◌≡◌, ◌⊎◌, ◌<◌, ◌≤◌, ◌+◌, ◌^◌, ◌++◌, ◌∷◌, [], List, IsTrue, true, false, length, Some}
 use mathlib.Core.List.{IsPrefix}
 use Rattle.journal_world.specs.declared.address.Addr.{Addr}
 use Rattle.journal_world.specs.declared.refusal.Refusal.{Refusal}
 use Rattle.journal_world.specs.declared.refusal.Refusal.TheVariants.{NoMemory, BadAddress, DeviceFailed, Stale, Stranger, Worn, Closed}
 use Rattle.journal_world.specs.Addresses.{is_valid}
 use Rattle.journal_disk.specs.Disks.{HasFailed}
-use Rattle.journal_world.specs.declared.step.Step.{Step}
-use Rattle.journal_world.specs.declared.step.Step.TheVariants.{Idle, Moved}
 use Rattle.journal_world.specs.Histories.{Entry, count, floor, commits_of}
 use Rattle.journal_world.specs.Histories.Entry.{stable}
 use Rattle.journal_wal.specs.Wal.{log_steps, install_steps, tail_length, free_positions, Cuts, EndsGroup, LogsOn, InstallAnswers as WalInstalls}
-use Rattle.journal_objlog.specs.ObjectLogs.{start_of, end_of}
+use Rattle.journal_objlog.specs.ObjectLogs.{start_of, end_of, IsCutLogged}
 use Rattle.journal_history.specs.Soundness.{IsLonger}
 use Rattle.journal_history.specs.Tokens.{SessionState, made}
+use Rattle.journal_wal.specs.declared.step.InstallStep.{InstallStep}
+use Rattle.journal_core.specs.declared.step.LogStep.{LogStep}
+use Rattle.journal_core.specs.declared.step.LogStep.TheVariants.{Idle, Cut, Put, Logged, Marked}
 use Rattle.journal_core.specs.Causes.{Told, IsUnexplained}
 use Rattle.journal_core.specs.Transactions.{TransactionState, AreUnmoved}
 use Rattle.journal_core.specs.Cores.{CoreState, is_faulted, IsRunning, disk_of, Crashes}
@@ -30,8 +31,9 @@ pub record EndsCycle (old new : CoreState) : Type 0 where
   pub group : EndsGroup old.objects new.objects
   pub others : new ≡ record old { objects = new.objects; logged = old.cut }
 
--- The tail was cut into a group
+-- The tail was cut into a group, once the last one was marked
 pub record CutsGroup (old new : CoreState) : Type 0 where
+  pub marked : old.cut ≤ floor old.history
   pub group : Cuts old.objects new.objects
   pub others : new ≡ record old { objects = new.objects; cut = count old.history }
 
@@ -47,7 +49,7 @@ pub record CanMark (c : CoreState) (n : ℕ) : Type 0 where
   pub made : n ≤ count c.history
   pub fine : is_faulted c ≡ false
   pub steps : log_steps c.objects ≡ 0
-  pub rest : c.objects.log.logged ≡ c.objects.log.cut
+  pub rest : IsCutLogged c.objects
   pub which : (n ≡ c.cut) ⊎ ((n ≡ count c.history) × (tail_length c.objects ≡ 0))
 
 -- A group whose cycle ended is not marked yet
@@ -67,18 +69,19 @@ pub record IsLogIdle (c : CoreState) : Type 0 where
   pub marked : c.cut ≤ floor c.history
   pub tail : ((tail_length c.objects ≡ 0) × (count c.history ≤ floor c.history)) ⊎ (free_positions c.objects < tail_length c.objects)
 
--- What a step of the logger that moved did
-abbrev pub LogMoves : ℕ → CoreState → CoreState → Type 0
-LogMoves zero old new =
-    (Marks old.cut old new × HasLogged old)
-    ⊎ (CutsGroup old new × (old.cut ≤ floor old.history))
-    ⊎ (Marks (count old.history) old new × HasUnmarked old)
-LogMoves (suc zero) old new = EndsCycle old new
-LogMoves (suc (suc left)) old new = GoesOnLogging old new
+-- n commits were marked: those of the group whose cycle ended, or where nothing awaits logging all
+pub record MarksDue (n : ℕ) (old new : CoreState) : Type 0 where
+  pub steps : log_steps old.objects ≡ 0
+  pub marks : Marks n old new
+  pub due : ((n ≡ old.cut) × HasLogged old) ⊎ ((n ≡ count old.history) × HasUnmarked old)
 
-abbrev pub LogAnswers : CoreState → Step → CoreState → Type 0
+-- What a step of the logger answers, and does
+abbrev pub LogAnswers : CoreState → LogStep → CoreState → Type 0
 LogAnswers old Idle new = IsLogIdle old × (new ≡ old)
-LogAnswers old Moved new = LogMoves (log_steps old.objects) old new
+LogAnswers old Cut new = CutsGroup old new
+LogAnswers old Put new = GoesOnLogging old new
+LogAnswers old Logged new = EndsCycle old new
+LogAnswers old (Marked n) new = MarksDue n old new
 
 -- Why steps are refused
 
@@ -114,7 +117,7 @@ IsLogRefusal old new refusal =
     IsRunning old × (log_steps old.objects ≡ 0) × (HasLogged old ⊎ HasUnmarked old) × IsMarkRefusal old new refusal
 
 -- what a step of the installer answers, and does
-abbrev pub InstallAnswers : CoreState → Step → CoreState → Type 0
+abbrev pub InstallAnswers : CoreState → InstallStep → CoreState → Type 0
 InstallAnswers old step new = WalInstalls old.objects step new.objects × (new ≡ record old { objects = new.objects })
 
 abbrev pub IsInstallRefusal : CoreState → CoreState → Refusal Told → Type 0

@@ -4,11 +4,11 @@ ghost use mathlib.Core.List.{IsPrefix};
 ghost use Rattle.journal_world.specs.declared.refusal.Refusal.TheVariants.{TooLarge};
 ghost use Rattle.journal_world.specs.Maps.{Map, Agrees, are_objects, overwritten};
 ghost use Rattle.journal_world.specs.Histories.{is_trusted, commits_of, latest};
-ghost use Rattle.journal_objlog.specs.ObjectLogs.{OnlyReads};
+ghost use Rattle.journal_objlog.specs.ObjectLogs.{OnlyReads, base_of};
 ghost use Rattle.journal_history.specs.Tokens.{made, next_transaction, OnlyExtends, IsReceiptFor};
 ghost use Rattle.journal_history.specs.Soundness.{IsLonger};
-ghost use Rattle.journal_core.specs.Cores.{Crashes, IsRunning};
-ghost use Rattle.journal_objlog.specs.Writes.{IsPrepared};
+ghost use Rattle.journal_core.specs.Cores.{Crashes, IsRunning, disk_of};
+ghost use Rattle.journal_objlog.specs.Writes.{IsReady, IsPrepared};
 ghost use Rattle.journal_core.specs.Transactions.{AreUnmoved};
 ghost use Rattle.journal_core.specs.Commits.{IsCommitted, IsAdded, HasSeen, CanPrepare, CanCommit, ShowsLonger, IsStaleRefusal, IsCommitRefusal, IsAdmissionRefusal, IsPreparingRefusal, IsAddingRefusal};
 ghost use Rattle.journal_core.specs.Interleavings.{AnswersCommit};
@@ -115,7 +115,9 @@ impl<'b, D: BlockDisk, R: MapRule, J: Naming> Core<'b, D, R, J> {
     ) -> Result<Prepared, Refusal<Cause<'b, J, R>>>
         requires objects { IsTrue (are_objects J.blocks writes.now) }
         requires running { IsRunning self.old }
-        ensures prepared { IfOk result (λ prepared. IsPrepared self.new.objects prepared writes.now) }
+        ensures ready { IfOk result (IsReady self.new.objects) }
+        ensures prepared { IfOk result (λ prepared.
+            IsPrepared (disk_of self.new).honest (base_of self.new.objects) prepared writes.now) }
         ensures can { OnOk result (CanPrepare self.old session.now writes.now) }
         ensures room { OnOk result ((length self.old.history + 1 < 2 ^ 62) × (session.now.number < 2 ^ 62)) }
         ensures running { OnOk result (IsRunning self.new) }
@@ -149,7 +151,8 @@ impl<'b, D: BlockDisk, R: MapRule, J: Naming> Core<'b, D, R, J> {
         requires own { length (commits_of session.old.number self.old.history) ≡ made session.old }
         requires room { length self.old.history + 1 < 2 ^ 62 }
         requires small { session.old.number < 2 ^ 62 }
-        requires prepared { IsPrepared self.old.objects prepared transaction.now.writes }
+        requires ready { IsReady self.old.objects prepared }
+        requires prepared { IsPrepared (disk_of self.old).honest (base_of self.old.objects) prepared transaction.now.writes }
         ensures committed { OnOk result (IsAdded (next_transaction session.old transaction.now.reads transaction.now.writes) prepared session.old session.new self.old self.new) }
         ensures receipt { IfOk result (IsReceiptFor (next_transaction session.old transaction.now.reads transaction.now.writes) self.new.history (length self.old.history)) }
         ensures refusal { IfErr result (IsAddingRefusal self.old) }

@@ -8,7 +8,8 @@ use crate::cause::{Cause, raise};
 use crate::state::Core;
 use journal_disk::BlockDisk;
 use journal_history::Naming;
-use journal_world::{MapRule, Refusal, Step};
+use journal_wal::InstallStep;
+use journal_world::{MapRule, Refusal};
 
 impl<'b, D: BlockDisk, R: MapRule, J: Naming> Core<'b, D, R, J> {
     /// Does the next thing of the installer, with at most one device call that changes the disk: writes one
@@ -17,7 +18,7 @@ impl<'b, D: BlockDisk, R: MapRule, J: Naming> Core<'b, D, R, J> {
     ///
     /// Answers J13 `Closed` where the core was stopped, else J6 `DeviceFailed` where the device failed in this call
     /// or before, and J1 `NoMemory` where memory for the list of addresses is refused, at the first of these steps.
-    pub fn install_step(&mut self) -> Result<Step, Refusal<Cause<'b, J, R>>>
+    pub fn install_step(&mut self) -> Result<InstallStep, Refusal<Cause<'b, J, R>>>
         ensures ok { IfOk result (λ step. InstallAnswers self.old step self.new) }
         ensures running { OnOk result (IsRunning self.old × IsRunning self.new) }
         ensures refusal { IfErr result (IsInstallRefusal self.old self.new) }

@@ -16,11 +16,14 @@ mod read;
 mod session;
 mod slot_counts;
 mod state;
+mod step;
 mod tally;
 mod transaction;
 
 pub use cause::Cause;
 pub use journal_objlog::Spares;
+pub use journal_wal::InstallStep;
 pub use law::every_interleaving;
 pub use state::{Core, Stat};
+pub use step::LogStep;
 pub use transaction::{Found, Transaction};

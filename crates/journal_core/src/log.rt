@@ -7,9 +7,11 @@ ghost use Rattle.journal_core.specs.Interleavings.{AnswersLog};
 
 use crate::cause::{Cause, raise};
 use crate::state::{Core, LIMIT};
+use crate::step::LogStep;
 use journal_disk::BlockDisk;
 use journal_history::Naming;
-use journal_world::{MapRule, Refusal, Step};
+use journal_wal::GroupStep;
+use journal_world::{MapRule, Refusal};
 
 impl<'b, D: BlockDisk, R: MapRule, J: Naming> Core<'b, D, R, J> {
     /// Does the next thing of the logger, with at most one device call that changes the disk: the next step of
@@ -19,7 +21,7 @@ impl<'b, D: BlockDisk, R: MapRule, J: Naming> Core<'b, D, R, J> {
     /// Answers J13 `Closed` where the core was stopped, else J6 `DeviceFailed` where the device failed in this call
     /// or before, J9 `Stale` where the history is longer than the core's, and J11 `Worn` where its length would
     /// reach 2^62. Nothing is then marked.
-    pub fn log_step(&mut self) -> Result<Step, Refusal<Cause<'b, J, R>>>
+    pub fn log_step(&mut self) -> Result<LogStep, Refusal<Cause<'b, J, R>>>
         ensures ok { IfOk result (λ step. LogAnswers self.old step self.new) }
         ensures running { OnOk result (IsRunning self.old × IsRunning self.new) }
         ensures refusal { IfErr result (IsLogRefusal self.old self.new) }
@@ -27,32 +29,33 @@ impl<'b, D: BlockDisk, R: MapRule, J: Naming> Core<'b, D, R, J> {
         ensures event { AnswersLog self.old result self.new }
     {
         self.check_running()?;
-        if self.objects.is_logging() {
-            raise(self.objects.log_step())?;
-            if !self.objects.is_logging() {
-                self.logged = self.cut;
-            }
-            return Ok(Step::Moved);
-        }
-        if self.writer.floor() < self.cut {
+        if !self.objects.is_logging() && self.writer.floor() < self.cut {
             return self.mark(self.cut);
         }
-        if let Step::Moved = raise(self.objects.log_step())? {
-            self.cut = self.writer.count();
-            return Ok(Step::Moved);
+        match raise(self.objects.log_step())? {
+            GroupStep::Idle => {}
+            GroupStep::Cut => {
+                self.cut = self.writer.count();
+                return Ok(LogStep::Cut);
+            }
+            GroupStep::Put => return Ok(LogStep::Put),
+            GroupStep::Logged => {
+                self.logged = self.cut;
+                return Ok(LogStep::Logged);
+            }
         }
         let commits = self.writer.count();
         if self.objects.tail_len() == 0 && self.writer.floor() < commits {
             return self.mark(commits);
         }
-        Ok(Step::Idle)
+        Ok(LogStep::Idle)
     }
 
     // Marks that n commits are stable, and tells it.
-    fn mark(&mut self, n: u64) -> Result<Step, Refusal<Cause<'b, J, R>>>
+    fn mark(&mut self, n: u64) -> Result<LogStep, Refusal<Cause<'b, J, R>>>
         requires can { CanMark self.old n }
         ensures ok { OnOk result (Marks n self.old self.new) }
-        ensures moved { IfOk result (λ step. step ≡ Step.Moved) }
+        ensures moved { IfOk result (λ step. step ≡ LogStep.Marked n) }
         ensures refusal { IfErr result (IsMarkRefusal self.old self.new) }
         ensures crash { Crashes self.old self.new }
     {
@@ -65,6 +68,6 @@ impl<'b, D: BlockDisk, R: MapRule, J: Naming> Core<'b, D, R, J> {
         self.writer.tell();
         self.cut = n;
         self.logged = n;
-        Ok(Step::Moved)
+        Ok(LogStep::Marked(n))
     }
 }

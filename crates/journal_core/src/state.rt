@@ -13,7 +13,6 @@ ghost use Rattle.journal_core.specs.Transactions.{IsCount};
 use crate::cause::Cause;
 use crate::slot_counts::SlotCounts;
 use crate::tally::Tally;
-use journal_circ::LOG_POSITIONS;
 use journal_disk::{BlockDisk, MemDisk};
 use journal_history::{Front, Naming, Writer};
 use journal_objlog::ObjectLog;
@@ -106,15 +105,10 @@ impl<'b, D: BlockDisk, R: MapRule, J: Naming> Core<'b, D, R, J> {
     pub fn is_log_idle(&self) -> bool
         ensures { IsRunning self.now → IsTrue result ↔ IsLogIdle self.now }
     {
-        if self.objects.is_logging() || self.writer.floor() < self.cut {
+        if !self.objects.is_log_idle() || self.writer.floor() < self.cut {
             return false;
         }
-        let tail = self.objects.tail_len();
-        if tail == 0 {
-            return self.writer.count() <= self.writer.floor();
-        }
-        let (start, end) = self.objects.bounds();
-        LOG_POSITIONS.saturating_sub(end.saturating_sub(start)) < tail
+        self.objects.tail_len() > 0 || self.writer.count() <= self.writer.floor()
     }
 
     /// How many blocks stand in the log's tail, which a cut empties: at most 255.

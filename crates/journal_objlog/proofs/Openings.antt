@@ -11,7 +11,7 @@ use Rattle.journal_disk.specs.Laws.{leaves_none, leaves_also}
 use Rattle.journal_circ.specs.StandsFor.{StandsFor}
 use Rattle.journal_wal.specs.Wal.{WalState, size_of, blocks_now, blocks_cut, blocks_logged, MayStandFor, Crashes, KeepsBlocks, OnlyReads as LogOnlyReads}
 use Rattle.journal_objlog.specs.Maps.{map_of, OpensAs}
-use Rattle.journal_objlog.specs.ObjectLogs.{map_cut, map_logged, MayOpenAs, KeepsMaps, Crashes as MapCrashes, OnlyReads}
+use Rattle.journal_objlog.specs.ObjectLogs.{map_cut, map_logged, MayOpenAs, KeepsMaps, Crashes as MapCrashes, OnlyReads, disk_of}
 use Rattle.journal_objlog.specs.ReadLaws.{now_read}
 use Rattle.journal_objlog.specs.Soundness.{IsObjectLog}
 use Rattle.journal_objlog.proofs.MapsOfBlocks.{Law, HasObjects-map_of, map_of-same, SameMap-path}
@@ -50,13 +50,13 @@ keeps_maps n old new sound size keeps = record {
 pub may_crash : (n : ℕ) (old new : WalState) → IsObjectLog n old → Crashes old new → MapCrashes old new
 may_crash n old new sound crash = record {
   keeps = crash.keeps;
-  moments = λ honest. leaves_also old.ring.disk.past new.ring.disk.past (MayStandFor old) (MayOpenAs old) (crash.moments honest)
+  moments = λ honest. leaves_also (disk_of old).past (disk_of new).past (MayStandFor old) (MayOpenAs old) (crash.moments honest)
       (λ image. opens_crash old (law_of n old sound) image);
   images = λ honest image is. opens_crash new (subst Law (sym crash.keeps.size) (law_of n old sound)) image (crash.images honest image is);
 }
 
 -- nothing changed but what no map shows
-module _ (old new : WalState) (reads : OnlyReads old new) (honest : IsTrue old.ring.disk.honest) where
+module _ (old new : WalState) (reads : OnlyReads old new) (honest : IsTrue (disk_of old).honest) where
   pub cut_read : map_cut new ≡ map_cut old
   cut_read = ap map_cut reads.same
       ∙ ap (λ (past : Past). map_cut (record old { ring = record old.ring { disk = record old.ring.disk { past = past } } })) (reads.past honest)
@@ -116,8 +116,8 @@ OnlyReads-trans a b c first second = record {
   };
   past = λ honest. second.past (subst IsTrue (sym first.keeps.honest) honest) ∙ first.past honest;
   fault = λ faulted. ⊎_elim
-      (λ was. ⊎_elim (λ before. inl before) (λ failed. inr (failed_before a.ring.disk b.ring.disk c.ring.disk first.keeps second.keeps failed)) (first.fault was))
-      (λ failed. inr (failed_after a.ring.disk b.ring.disk c.ring.disk first.keeps failed))
+      (λ was. ⊎_elim (λ before. inl before) (λ failed. inr (failed_before (disk_of a) (disk_of b) (disk_of c) first.keeps second.keeps failed)) (first.fault was))
+      (λ failed. inr (failed_after (disk_of a) (disk_of b) (disk_of c) first.keeps failed))
       (second.fault faulted);
   stays = λ faulted. second.stays (first.stays faulted);
 }
@@ -126,13 +126,13 @@ OnlyReads-trans a b c first second = record {
 pub crash_read : (n : ℕ) (old new : WalState) → IsObjectLog n old → OnlyReads old new → MapCrashes old new
 crash_read n old new sound reads = record {
   keeps = reads.keeps;
-  moments = λ honest. leaves_none old.ring.disk.past new.ring.disk.past (MayOpenAs old) (reads.past honest) (images honest);
+  moments = λ honest. leaves_none (disk_of old).past (disk_of new).past (MayOpenAs old) (reads.past honest) (images honest);
   images = λ honest image is.
-      let was : IsTrue old.ring.disk.honest = subst IsTrue reads.keeps.honest honest in
+      let was : IsTrue (disk_of old).honest = subst IsTrue reads.keeps.honest honest in
       opens_as_read old new reads was image (subst (λ (past : Past). EveryImage past (MayOpenAs old)) (sym (reads.past was)) (images was) image is);
 }
   where
-    images : IsTrue old.ring.disk.honest → EveryImage old.ring.disk.past (MayOpenAs old)
+    images : IsTrue (disk_of old).honest → EveryImage (disk_of old).past (MayOpenAs old)
     images honest image is = opens_crash old (law_of n old sound) image (sound.images honest image is)
 
 -- what a call says of images after reads
@@ -144,8 +144,8 @@ crash_after a b c reads crash = record {
     failures = omega (arith, reads.keeps.failures, crash.keeps.failures);
   };
   moments = λ honest.
-      subst (λ (past : Past). LeavesOnly past c.ring.disk.past (MayOpenAs a)) (reads.past honest)
-      (leaves_also b.ring.disk.past c.ring.disk.past (MayOpenAs b) (MayOpenAs a) (crash.moments (subst IsTrue (sym reads.keeps.honest) honest))
+      subst (λ (past : Past). LeavesOnly past (disk_of c).past (MayOpenAs a)) (reads.past honest)
+      (leaves_also (disk_of b).past (disk_of c).past (MayOpenAs b) (MayOpenAs a) (crash.moments (subst IsTrue (sym reads.keeps.honest) honest))
       (opens_read a b reads honest));
   images = crash.images;
 }

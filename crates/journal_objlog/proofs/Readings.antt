@@ -5,10 +5,9 @@ use Rattle.journal_world.specs.declared.address.Addr.{Addr}
 use Rattle.journal_world.specs.declared.refusal.Refusal.{Refusal}
 use Rattle.journal_world.specs.declared.refusal.Refusal.TheVariants.{NoMemory, BadAddress, BadSize, TooLarge, Busy, DeviceFailed, BadLog, BadSuper, Stale, Stranger, Worn, Full, Closed, Fenced}
 use Rattle.journal_world.specs.Addresses.{is_valid}
-use Rattle.journal_world.specs.Maps.{value_at}
 use Rattle.journal_world.specs.Refusals.{IsReadingRefusal}
 use Rattle.journal_wal.specs.Wal.{WalState, size_of, blocks_now}
-use Rattle.journal_objlog.specs.ObjectLogs.{map_now, KeepsMaps, Crashes, OnlyReads, IsLeft, IsReadRefusal}
+use Rattle.journal_objlog.specs.ObjectLogs.{map_now, KeepsMaps, Crashes, OnlyReads, IsLeft, IsReadRefusal, disk_of, is_faulted}
 use Rattle.journal_objlog.specs.MapLaws.{map_of-blocks}
 use Rattle.journal_objlog.specs.Reading.{OnlyReadSince}
 use Rattle.journal_objlog.specs.Soundness.{IsObjectLog}
@@ -25,7 +24,7 @@ read_nothing n inside now sound is = record {
 }
 
 -- a further read
-pub read_on : (opened old new : WalState) → OnlyReadSince opened old → OnlyReads old new → (IsTrue old.ring.disk.honest → KeepsMaps old new)
+pub read_on : (opened old new : WalState) → OnlyReadSince opened old → OnlyReads old new → (IsTrue (disk_of old).honest → KeepsMaps old new)
     → Crashes old new → OnlyReadSince opened new
 read_on opened old new read reads maps crash = record {
   only = OnlyReads-trans opened old new read.only reads;
@@ -39,7 +38,7 @@ blocks_read opened old read = map_of-blocks (size_of old) (blocks_now old) ∙ r
 
 -- a read of a valid address is refused for want of memory, or by the device, which then has failed
 pub refusal_read : (opened old new : WalState) → OnlyReadSince opened old → (a : Addr) → IsTrue (is_valid (map_now opened).blocks a)
-    → (refusal : Refusal Unit) → IsReadRefusal old a new refusal → IsLeft new refusal → IsReadingRefusal new.ring.faulted refusal
+    → (refusal : Refusal Unit) → IsReadRefusal old a new refusal → IsLeft new refusal → IsReadingRefusal (is_faulted new) refusal
 refusal_read opened old new read a valid NoMemory is left = tt
 refusal_read opened old new read a valid (DeviceFailed cause) is left = left
 refusal_read opened old new read a valid BadAddress is left =

@@ -4,7 +4,7 @@ use Rattle.journal_world.specs.declared.refusal.Refusal.{Refusal}
 use Rattle.journal_world.specs.declared.refusal.Refusal.TheVariants.{NoMemory, BadAddress, BadSize, TooLarge, Busy, DeviceFailed, BadLog, BadSuper, Stale, Stranger, Worn, Full, Closed, Fenced}
 use Rattle.journal_circ.specs.Ring.{IsFault}
 use Rattle.journal_wal.specs.Wal.{WalState, OnlyReads as LogOnlyReads, Crashes}
-use Rattle.journal_objlog.specs.ObjectLogs.{map_now, map_cut, map_logged, KeepsMaps, Crashes as MapCrashes, OnlyReads}
+use Rattle.journal_objlog.specs.ObjectLogs.{map_now, map_cut, map_logged, KeepsMaps, Crashes as MapCrashes, OnlyReads, disk_of, is_faulted}
 use Rattle.journal_objlog.specs.Writes.{IsLateRefusal}
 use Rattle.journal_objlog.specs.Soundness.{IsObjectLog}
 use Rattle.journal_objlog.specs.Staging.{RefusesLate}
@@ -12,12 +12,12 @@ use Rattle.journal_world.proofs.SameMaps.{SameMap-trans}
 use Rattle.journal_objlog.proofs.Openings.{may_crash, maps_read, crash_read, crash_after, failed_after, OnlyReads-refl, OnlyReads-from}
 
 -- J1, where all before it was reads
-pub refuses_memory : (old new : WalState) → OnlyReads old new → new.ring.faulted ≡ false → MapCrashes old new → RefusesLate old new NoMemory
+pub refuses_memory : (old new : WalState) → OnlyReads old new → is_faulted new ≡ false → MapCrashes old new → RefusesLate old new NoMemory
 refuses_memory old new reads fine crash = record { reason = tt; left = fine; maps = maps_read old new reads; crash = crash }
 
 -- J6 of a call on a log that had no fault
-pub refuses_device : (n : ℕ) (old new : WalState) → IsObjectLog n old → old.ring.faulted ≡ false → (refusal : Refusal Unit)
-    → IsFault old.ring.faulted old.ring.disk new.ring.disk refusal → LogOnlyReads old new → new.ring.faulted ≡ true → Crashes old new
+pub refuses_device : (n : ℕ) (old new : WalState) → IsObjectLog n old → is_faulted old ≡ false → (refusal : Refusal Unit)
+    → IsFault (is_faulted old) (disk_of old) (disk_of new) refusal → LogOnlyReads old new → is_faulted new ≡ true → Crashes old new
     → RefusesLate old new refusal
 refuses_device n old new sound fine refusal fault reads faulted crash = subst (λ (r : Refusal Unit). RefusesLate old new r) (sym fault.0) (record {
   reason = ⊎_elim (λ was. let impossible : ⊥ = cc in absurd impossible) (λ failed. failed) fault.1;
@@ -37,7 +37,7 @@ keeps_trans a b c first second = record {
 module _ (a b c : WalState) (reads : OnlyReads a b) where
   late_after : (refusal : Refusal Unit) → IsLateRefusal b c refusal → IsLateRefusal a c refusal
   late_after NoMemory reason = tt
-  late_after (DeviceFailed cause) reason = failed_after a.ring.disk b.ring.disk c.ring.disk reads.keeps reason
+  late_after (DeviceFailed cause) reason = failed_after (disk_of a) (disk_of b) (disk_of c) reads.keeps reason
   late_after BadAddress reason = absurd reason
   late_after BadSize reason = absurd reason
   late_after TooLarge reason = absurd reason

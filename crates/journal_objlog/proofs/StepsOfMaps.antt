@@ -1,9 +1,7 @@
 -- What steps make of the maps, by what they make of the blocks.
-use Rattle.std.proofs.Common.{◌≡◌, ℕ, zero, suc, Bool, cond, List, IsTrue, Result, Ok, Err, OnErr, IfOk, IfErr, sym, ap, subst, ◌∙◌}
+use Rattle.std.proofs.Common.{◌≡◌, ℕ, Bool, cond, List, IsTrue, Result, Ok, Err, OnErr, IfOk, IfErr, sym, ap, subst, ◌∙◌}
 use Rattle.journal_world.specs.declared.refusal.Refusal.{Refusal}
 use Rattle.journal_world.specs.declared.refusal.Refusal.TheVariants.{NoMemory, BadAddress, BadSize, TooLarge, Busy, DeviceFailed, BadLog, BadSuper, Stale, Stranger, Worn, Full, Closed, Fenced}
-use Rattle.journal_world.specs.declared.step.Step.{Step}
-use Rattle.journal_world.specs.declared.step.Step.TheVariants.{Idle, Moved}
 use Rattle.std.proofs.lemmas.Bool.{and_parts}
 use Rattle.journal_world.specs.declared.address.Addr.{Addr}
 use Rattle.journal_world.specs.Addresses.{Value, kind_of, is_valid}
@@ -12,9 +10,13 @@ use Rattle.journal_block.specs.declared.update.Update.{Update}
 use Rattle.journal_block.specs.Block.{Bytes}
 use Rattle.journal_object.specs.Objects.{object_at}
 use Rattle.journal_block.specs.Updates.{Content, with_updates}
-use Rattle.journal_wal.specs.Wal.{WalState, size_of, blocks_now, blocks_cut, blocks_logged, log_steps, Fails, LogAnswers, LogMoves, InstallAnswers, IsInstallRefusal, SameBlocks, Appends}
+use Rattle.journal_wal.specs.Wal.{WalState, size_of, blocks_now, blocks_cut, blocks_logged, Fails, LogAnswers, InstallAnswers, IsInstallRefusal, SameBlocks, Appends}
 use Rattle.journal_objlog.specs.Maps.{map_of}
-use Rattle.journal_objlog.specs.ObjectLogs.{map_now, map_cut, map_logged, KeepsMaps, LogsMaps, LogMovesMaps}
+use Rattle.journal_objlog.specs.ObjectLogs.{base_of, map_now, map_cut, map_logged, KeepsMaps, LogsMaps, disk_of}
+use Rattle.journal_wal.specs.declared.step.GroupStep.{GroupStep}
+use Rattle.journal_wal.specs.declared.step.GroupStep.TheVariants.{Idle, Cut, Put, Logged}
+use Rattle.journal_wal.specs.declared.step.InstallStep.{InstallStep}
+use Rattle.journal_wal.specs.declared.step.InstallStep.TheVariants.{Idle as InstallIdle, Put as InstallPut, Freed}
 use Rattle.journal_objlog.specs.Writes.{IsPrepared}
 use Rattle.journal_objlog.specs.Soundness.{IsObjectLog}
 use Rattle.journal_world.proofs.SameMaps.{SameMap-refl, SameMap-trans}
@@ -32,31 +34,28 @@ module _ (n : ℕ) (old new : WalState) (sound : IsObjectLog n old) (size : size
   same_map f g same = subst (λ (k : ℕ). SameMap (map_of k f) (map_of (size_of old) g)) (sym size)
       (map_of-same (size_of old) (law_of n old sound) (low_of n old sound) f g same)
 
-  moves_maps : (left : ℕ) → IsTrue old.ring.disk.honest → LogMoves left old new → LogMovesMaps left old new
-  moves_maps zero honest moves = record {
-    now = same_map (blocks_now new) (blocks_now old) moves.now;
-    cut = same_map (blocks_cut new) (blocks_now old) moves.cut;
-    logged = same_map (blocks_logged new) (blocks_logged old) moves.logged;
-  }
-  moves_maps (suc zero) honest moves = record {
-    now = same_map (blocks_now new) (blocks_now old) (moves.now honest);
-    cut = same_map (blocks_cut new) (blocks_cut old) (moves.cut honest);
-    logged = same_map (blocks_logged new) (blocks_cut old) (moves.logged honest);
-  }
-  moves_maps (suc (suc left)) honest moves = keeps_maps n old new sound size (moves.blocks honest)
-
-  pub logs_maps : IsTrue old.ring.disk.honest → (result : Result Step (Refusal Unit)) → IfOk result (λ step. LogAnswers old step new)
+  pub logs_maps : IsTrue (disk_of old).honest → (result : Result GroupStep (Refusal Unit)) → IfOk result (λ step. LogAnswers old step new)
       → IfOk result (λ step. LogsMaps old step new)
   logs_maps honest (Ok Idle) answers = KeepsMaps-path old new answers.1
-  logs_maps honest (Ok Moved) answers = moves_maps (log_steps old) honest answers
+  logs_maps honest (Ok Cut) cuts = record {
+    now = same_map (blocks_now new) (blocks_now old) cuts.now;
+    cut = same_map (blocks_cut new) (blocks_now old) cuts.cut;
+    logged = same_map (blocks_logged new) (blocks_logged old) cuts.logged;
+  }
+  logs_maps honest (Ok Put) puts = keeps_maps n old new sound size (puts.blocks honest)
+  logs_maps honest (Ok Logged) ends = record {
+    now = same_map (blocks_now new) (blocks_now old) (ends.now honest);
+    cut = same_map (blocks_cut new) (blocks_cut old) (ends.cut honest);
+    logged = same_map (blocks_logged new) (blocks_cut old) (ends.logged honest);
+  }
   logs_maps honest (Err refusal) answers = tt
 
-  pub fails_maps : IsTrue old.ring.disk.honest → (result : Result Step (Refusal Unit)) → OnErr result (Fails old new)
+  pub fails_maps : IsTrue (disk_of old).honest → (result : Result GroupStep (Refusal Unit)) → OnErr result (Fails old new)
       → OnErr result (KeepsMaps old new)
   fails_maps honest (Ok step) fails = tt
   fails_maps honest (Err refusal) fails = keeps_maps n old new sound size (fails.blocks honest)
 
-  fault_maps : IsTrue old.ring.disk.honest → (refusal : Refusal Unit) → IsInstallRefusal old new refusal → KeepsMaps old new
+  fault_maps : IsTrue (disk_of old).honest → (refusal : Refusal Unit) → IsInstallRefusal old new refusal → KeepsMaps old new
   fault_maps honest NoMemory fault = KeepsMaps-path old new fault.1
   fault_maps honest (DeviceFailed cause) fault = keeps_maps n old new sound size (fault.1.blocks honest)
   fault_maps honest BadAddress fault = absurd fault
@@ -72,15 +71,16 @@ module _ (n : ℕ) (old new : WalState) (sound : IsObjectLog n old) (size : size
   fault_maps honest (Closed cause) fault = absurd fault
   fault_maps honest Fenced fault = absurd fault
 
-  pub installs_maps : IsTrue old.ring.disk.honest → (result : Result Step (Refusal Unit)) → IfOk result (λ step. InstallAnswers old step new)
+  pub installs_maps : IsTrue (disk_of old).honest → (result : Result InstallStep (Refusal Unit)) → IfOk result (λ step. InstallAnswers old step new)
       → IfErr result (IsInstallRefusal old new) → KeepsMaps old new
-  installs_maps honest (Ok Idle) answers fault = KeepsMaps-path old new answers.1
-  installs_maps honest (Ok Moved) answers fault = keeps_maps n old new sound size (answers.blocks honest)
+  installs_maps honest (Ok InstallIdle) answers fault = KeepsMaps-path old new answers.1
+  installs_maps honest (Ok InstallPut) answers fault = keeps_maps n old new sound size (answers.0.blocks honest)
+  installs_maps honest (Ok (Freed upto)) answers fault = keeps_maps n old new sound size (answers.0.blocks honest)
   installs_maps honest (Err refusal) answers fault = fault_maps honest refusal fault
 
 -- what is prepared overwrites the map now
 pub applied : (n : ℕ) (old new : WalState) (updates : List Update) → IsObjectLog n old → Appends old updates new → (writes : List Pair)
-    → IsTrue old.ring.disk.honest → IsPrepared old updates writes → SameMap (map_now new) (overwritten (map_now old) writes)
+    → IsTrue (disk_of old).honest → IsPrepared (disk_of old).honest (base_of old) updates writes → SameMap (map_now new) (overwritten (map_now old) writes)
 applied n old new updates sound appends writes honest prepared =
     SameMap-trans (map_now new) (map_of (size_of old) (with_updates (blocks_now old) updates)) (overwritten (map_now old) writes)
     (same_map n old new sound (ap size_of appends.log) (blocks_now new) (with_updates (blocks_now old) updates) appends.now)

@@ -1,17 +1,20 @@
 -- What contracts see of an object log: the map now, the two that a crash may leave, and what each call makes of them.
-use Rattle.std.specs.Prelude.{ℕ, zero, suc, ◌≡◌, ◌⊎◌, Bool, true, false, IsTrue, List}
+use Rattle.std.specs.Prelude.{ℕ, ◌≡◌, ◌⊎◌, Bool, true, false, IsTrue, List}
 use Rattle.journal_world.specs.declared.address.Addr.{Addr}
 use Rattle.journal_world.specs.declared.refusal.Refusal.{Refusal}
 use Rattle.journal_world.specs.declared.refusal.Refusal.TheVariants.{NoMemory, BadAddress, DeviceFailed}
-use Rattle.journal_world.specs.declared.step.Step.{Step}
-use Rattle.journal_world.specs.declared.step.Step.TheVariants.{Idle, Moved}
 use Rattle.journal_world.specs.Addresses.{is_valid}
 use Rattle.journal_world.specs.Maps.{Map, SameMap}
+use Rattle.journal_block.specs.declared.update.Update.{Update}
 use Rattle.journal_block.specs.Block.{Bytes}
+use Rattle.journal_block.specs.Updates.{Content}
+use Rattle.journal_memlog.specs.Logs.{next_position, tail_of}
 use Rattle.journal_disk.specs.Disks.{DiskState, Keeps, HasFailed}
 use Rattle.journal_disk.specs.Images.{EveryImage}
 use Rattle.journal_disk.specs.Moments.{LeavesOnly}
-use Rattle.journal_wal.specs.Wal.{WalState, size_of, blocks_now, blocks_cut, blocks_logged, log_steps}
+use Rattle.journal_wal.specs.Wal.{WalState, size_of, blocks_now, blocks_cut, blocks_logged}
+use Rattle.journal_wal.specs.declared.step.GroupStep.{GroupStep}
+use Rattle.journal_wal.specs.declared.step.GroupStep.TheVariants.{Idle, Cut, Put, Logged}
 use Rattle.journal_objlog.specs.Maps.{map_of, OpensAs}
 
 -- a device call failed
@@ -29,6 +32,10 @@ start_of w = w.log.start
 abbrev pub end_of : WalState → ℕ
 end_of w = w.log.logged
 
+-- all that was cut is logged
+abbrev pub IsCutLogged : WalState → Type 0
+IsCutLogged w = w.log.logged ≡ w.log.cut
+
 -- the map with all overwrites
 abbrev pub map_now : WalState → Map
 map_now w = map_of (size_of w) (blocks_now w)
@@ -40,6 +47,20 @@ map_cut w = map_of (size_of w) (blocks_cut w)
 -- the map at the cut of the last group whose cycle ended
 abbrev pub map_logged : WalState → Map
 map_logged w = map_of (size_of w) (blocks_logged w)
+
+-- What overwrites look at: how many blocks there are, what they hold with all updates, the tail, and the position after it
+pub record Base : Type 0 where
+  pub size : ℕ
+  pub content : Content
+  pub tail : List Update
+  pub next : ℕ
+
+abbrev pub base_of : WalState → Base
+base_of w = record { size = size_of w; content = blocks_now w; tail = tail_of w.log; next = next_position w.log }
+
+-- the map that its blocks make
+abbrev pub map_in : Base → Map
+map_in b = map_of b.size b.content
 
 -- What a crash may leave opens as the map of the last group whose cycle ended, or as that of the last cut
 abbrev pub MayOpenAs : WalState → List Bytes → Type 0
@@ -54,9 +75,9 @@ pub record KeepsMaps (old new : WalState) : Type 0 where
 -- What each call says of the disk: at every moment of it an image opens as one of the two maps that a crash might have
 -- left before, and at its end as one of those that it may leave now
 pub record Crashes (old new : WalState) : Type 0 where
-  pub keeps : Keeps old.ring.disk new.ring.disk
-  pub moments : IsTrue old.ring.disk.honest → LeavesOnly old.ring.disk.past new.ring.disk.past (MayOpenAs old)
-  pub images : IsTrue new.ring.disk.honest → EveryImage new.ring.disk.past (MayOpenAs new)
+  pub keeps : Keeps (disk_of old) (disk_of new)
+  pub moments : IsTrue (disk_of old).honest → LeavesOnly (disk_of old).past (disk_of new).past (MayOpenAs old)
+  pub images : IsTrue (disk_of new).honest → EveryImage (disk_of new).past (MayOpenAs new)
 
 -- The disk was read, with or without a fault, and there may be other room in memory: all else is as before, and it is
 -- faulted only where it was or the device failed
@@ -65,27 +86,27 @@ pub record OnlyReads (old new : WalState) : Type 0 where
     ring = record old.ring { disk = new.ring.disk; faulted = new.ring.faulted };
     log = record old.log { room = new.log.room };
   }
-  pub keeps : Keeps old.ring.disk new.ring.disk
-  pub past : IsTrue old.ring.disk.honest → new.ring.disk.past ≡ old.ring.disk.past
-  pub fault : IsTrue new.ring.faulted → IsTrue old.ring.faulted ⊎ HasFailed old.ring.disk new.ring.disk
+  pub keeps : Keeps (disk_of old) (disk_of new)
+  pub past : IsTrue (disk_of old).honest → (disk_of new).past ≡ (disk_of old).past
+  pub fault : IsTrue (is_faulted new) → IsTrue (is_faulted old) ⊎ HasFailed (disk_of old) (disk_of new)
   -- a fault lasts
-  pub stays : IsTrue old.ring.faulted → IsTrue new.ring.faulted
+  pub stays : IsTrue (is_faulted old) → IsTrue (is_faulted new)
 
 -- J6 leaves the log faulted, and no other refusal does
 abbrev pub IsLeft : WalState → Refusal Unit → Type 0
-IsLeft new (DeviceFailed cause) = new.ring.faulted ≡ true
-IsLeft new other = new.ring.faulted ≡ false
+IsLeft new (DeviceFailed cause) = is_faulted new ≡ true
+IsLeft new other = is_faulted new ≡ false
 
 -- Why an object is not looked up: the first of these that holds, then a new J6
 abbrev pub IsLookRefusal : WalState → Addr → WalState → Refusal Unit → Type 0
 IsLookRefusal old addr new (DeviceFailed cause) =
-    IsTrue old.ring.faulted ⊎ (IsTrue (is_valid (size_of old) addr) × HasFailed old.ring.disk new.ring.disk)
-IsLookRefusal old addr new BadAddress = (old.ring.faulted ≡ false) × (is_valid (size_of old) addr ≡ false)
+    IsTrue (is_faulted old) ⊎ (IsTrue (is_valid (size_of old) addr) × HasFailed (disk_of old) (disk_of new))
+IsLookRefusal old addr new BadAddress = (is_faulted old ≡ false) × (is_valid (size_of old) addr ≡ false)
 IsLookRefusal old addr new other = ⊥
 
 -- Why an object is not read: for want of memory too, where it may be looked up
 abbrev pub IsReadRefusal : WalState → Addr → WalState → Refusal Unit → Type 0
-IsReadRefusal old addr new NoMemory = (old.ring.faulted ≡ false) × IsTrue (is_valid (size_of old) addr)
+IsReadRefusal old addr new NoMemory = (is_faulted old ≡ false) × IsTrue (is_valid (size_of old) addr)
 IsReadRefusal old addr new other = IsLookRefusal old addr new other
 
 -- The tail was cut: what a crash may leave from now on is the map now
@@ -100,13 +121,9 @@ pub record EndsMap (old new : WalState) : Type 0 where
   pub cut : SameMap (map_cut new) (map_cut old)
   pub logged : SameMap (map_logged new) (map_cut old)
 
--- What a step of the logger that moves makes of the maps, where so many steps are left of the group in flight
-abbrev pub LogMovesMaps : ℕ → WalState → WalState → Type 0
-LogMovesMaps zero old new = CutsMap old new
-LogMovesMaps (suc zero) old new = EndsMap old new
-LogMovesMaps (suc (suc left)) old new = KeepsMaps old new
-
 -- what a step of the logger makes of the maps
-abbrev pub LogsMaps : WalState → Step → WalState → Type 0
+abbrev pub LogsMaps : WalState → GroupStep → WalState → Type 0
 LogsMaps old Idle new = KeepsMaps old new
-LogsMaps old Moved new = LogMovesMaps (log_steps old) old new
+LogsMaps old Cut new = CutsMap old new
+LogsMaps old Put new = KeepsMaps old new
+LogsMaps old Logged new = EndsMap old new

@@ -1,10 +1,10 @@
 -- How many places writes take.
 use Rattle.std.specs.Prelude.{List}
 use Rattle.journal_world.specs.Maps.{Pair}
-use Rattle.journal_wal.specs.Wal.{WalState}
+use Rattle.journal_objlog.specs.ObjectLogs.{Base}
 use Rattle.journal_objlog.specs.declared.writes.Places.{Places}
 use Rattle.journal_objlog.specs.Writes.{written_blocks, fresh_blocks}
 
 -- the blocks that they are in, and those that do not stand in the tail
-abbrev pub places_of : WalState → List Pair → Places
-places_of w writes = record { blocks = written_blocks writes; fresh = fresh_blocks w writes }
+abbrev pub places_of : Base → List Pair → Places
+places_of b writes = record { blocks = written_blocks writes; fresh = fresh_blocks b writes }

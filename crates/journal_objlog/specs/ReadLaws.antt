@@ -6,16 +6,16 @@ use Rattle.journal_disk.specs.Disks.{Past, read_of}
 use Rattle.journal_disk.specs.Images.{EveryImage}
 use Rattle.journal_wal.specs.Wal.{WalState}
 use Rattle.journal_objlog.specs.Maps.{map_of, OpensAs}
-use Rattle.journal_objlog.specs.ObjectLogs.{map_now, OnlyReads}
+use Rattle.journal_objlog.specs.ObjectLogs.{map_now, OnlyReads, disk_of}
 
-module _ (old new : WalState) (reads : OnlyReads old new) (honest : IsTrue old.ring.disk.honest) where
+module _ (old new : WalState) (reads : OnlyReads old new) (honest : IsTrue (disk_of old).honest) where
   -- the map now is the same
   pub now_read : map_now new ≡ map_now old
   now_read = ap map_now reads.same
       ∙ ap (λ (past : Past). map_of past.size (with_updates (read_of past) old.log.updates)) (reads.past honest)
 
   -- where each image opened as the map now, it does so still
-  pub images_read : EveryImage old.ring.disk.past (OpensAs (map_now old)) → EveryImage new.ring.disk.past (OpensAs (map_now new))
+  pub images_read : EveryImage (disk_of old).past (OpensAs (map_now old)) → EveryImage (disk_of new).past (OpensAs (map_now new))
   images_read images =
       subst (λ (past : Past). EveryImage past (OpensAs (map_now new))) (sym (reads.past honest))
-      (subst (λ (m : Map). EveryImage old.ring.disk.past (OpensAs m)) (sym now_read) images)
+      (subst (λ (m : Map). EveryImage (disk_of old).past (OpensAs m)) (sym now_read) images)

@@ -1,12 +1,12 @@
 -- What reads leave of an object log, whatever order they come in and whatever asks for them.
 use Rattle.std.specs.Prelude.{false, IsTrue, []}
 use Rattle.journal_wal.specs.Wal.{WalState, log_blocks, install_none}
-use Rattle.journal_objlog.specs.ObjectLogs.{KeepsMaps, Crashes, OnlyReads}
+use Rattle.journal_objlog.specs.ObjectLogs.{KeepsMaps, Crashes, OnlyReads, disk_of}
 
 -- The log was only read since this state of it
 pub record OnlyReadSince (opened now : WalState) : Type 0 where
   pub only : OnlyReads opened now
-  pub maps : IsTrue opened.ring.disk.honest → KeepsMaps opened now
+  pub maps : IsTrue (disk_of opened).honest → KeepsMaps opened now
   pub crash : Crashes opened now
 
 -- the log of no disk

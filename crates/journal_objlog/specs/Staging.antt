@@ -1,5 +1,5 @@
 -- What is kept while writes are stored in updates of their blocks, from the last write on.
-use Rattle.std.specs.Prelude.{ℕ, ◌≡◌, ◌⊎◌, ◌≤◌, IsTrue, List, [], ◌∷◌, length, Option, Some, None}
+use Rattle.std.specs.Prelude.{ℕ, ◌≡◌, ◌⊎◌, ◌≤◌, Bool, IsTrue, List, [], ◌∷◌, length, Option, Some, None}
 use Rattle.std.specs.List.{AllByRecursion}
 use Rattle.journal_world.specs.declared.address.Addr.{Addr}
 use Rattle.journal_world.specs.declared.address.Kind.TheVariants.{Block}
@@ -9,11 +9,11 @@ use Rattle.journal_world.specs.Maps.{Pair, overwritten}
 use Rattle.journal_block.specs.declared.update.Update.{Update}
 use Rattle.journal_block.specs.Block.{Bytes}
 use Rattle.journal_block.specs.Updates.{Content, updates_block, with_updates}
-use Rattle.journal_memlog.specs.Logs.{HasDistinctBlocks, tail_of, fresh_count}
-use Rattle.journal_wal.specs.Wal.{WalState, AreHomes, size_of, blocks_now}
+use Rattle.journal_memlog.specs.Logs.{HasDistinctBlocks, fresh_count}
+use Rattle.journal_wal.specs.Wal.{WalState, AreHomes}
 use Rattle.journal_objlog.specs.Maps.{HasObjects}
-use Rattle.journal_objlog.specs.ObjectLogs.{map_now, KeepsMaps, Crashes, IsLeft}
-use Rattle.journal_objlog.specs.Writes.{writes_block, written_blocks, fresh_blocks, IsLateRefusal}
+use Rattle.journal_objlog.specs.ObjectLogs.{Base, map_in, KeepsMaps, Crashes, IsLeft, disk_of}
+use Rattle.journal_objlog.specs.Writes.{writes_block, written_blocks, fresh_among, IsLateRefusal}
 
 -- block b is above none of the writes'
 abbrev pub IsAboveNone : ℕ → List Pair → Type 0
@@ -37,35 +37,35 @@ abbrev pub with_first : List Update → Bytes → List Update
 with_first [] bytes = []
 with_first (u ∷ later) bytes = record u { bytes = bytes } ∷ later
 
--- There is one update for each block that is written
-pub record CoversBlocks (w : WalState) (writes : List Pair) (updates : List Update) : Type 0 where
-  pub homes : AreHomes (size_of w) updates
+-- There is one update for each block that is written, on a disk of n blocks, over this tail
+pub record CoversBlocks (n : ℕ) (tail : List Update) (writes : List Pair) (updates : List Update) : Type 0 where
+  pub homes : AreHomes n updates
   pub distinct : HasDistinctBlocks updates
   pub first : first_update updates ≡ first_block writes
   pub named : (b : ℕ) → updates_block updates b ≡ writes_block writes b
   pub number : length updates ≡ written_blocks writes
-  pub fresh : fresh_count (tail_of w.log) updates ≡ fresh_blocks w writes
+  pub fresh : fresh_count tail updates ≡ fresh_among tail writes
 
--- These writes are stored
-pub record IsStaged (w : WalState) (writes : List Pair) (updates : List Update) : Type 0 where
-  pub blocks : CoversBlocks w writes updates
-  pub objects : IsTrue w.ring.disk.honest → HasObjects (with_updates (blocks_now w) updates) (overwritten (map_now w) writes)
+-- These writes are stored. That their objects are is owed where what was read is what the blocks hold
+pub record IsStaged (honest : Bool) (b : Base) (writes : List Pair) (updates : List Update) : Type 0 where
+  pub blocks : CoversBlocks b.size b.tail writes updates
+  pub objects : IsTrue honest → HasObjects (with_updates b.content updates) (overwritten (map_in b) writes)
 
 -- In blocks that have the objects of the stored writes, the address's block is the first update, unless all of it is to be overwritten
-pub record IsOpenIn (w : WalState) (writes : List Pair) (a : Addr) (updates : List Update) : Type 0 where
+pub record IsOpenIn (b : Base) (writes : List Pair) (a : Addr) (updates : List Update) : Type 0 where
   pub content : Content
-  pub objects : HasObjects content (overwritten (map_now w) writes)
-  pub here : (kind_of (size_of w) a.block ≡ Some Block) ⊎ (first_bytes updates ≡ content a.block)
-  pub others : (b : ℕ) → (b ≡ a.block → ⊥) → with_updates (blocks_now w) updates b ≡ content b
+  pub objects : HasObjects content (overwritten (map_in b) writes)
+  pub here : (kind_of b.size a.block ≡ Some Block) ⊎ (first_bytes updates ≡ content a.block)
+  pub others : (c : ℕ) → (c ≡ a.block → ⊥) → with_updates b.content updates c ≡ content c
 
 -- These writes are stored, and one of the address may be next
-pub record IsOpen (w : WalState) (writes : List Pair) (a : Addr) (updates : List Update) : Type 0 where
-  pub blocks : CoversBlocks w ((a, []) ∷ writes) updates
-  pub bytes : IsTrue w.ring.disk.honest → IsOpenIn w writes a updates
+pub record IsOpen (honest : Bool) (b : Base) (writes : List Pair) (a : Addr) (updates : List Update) : Type 0 where
+  pub blocks : CoversBlocks b.size b.tail ((a, []) ∷ writes) updates
+  pub bytes : IsTrue honest → IsOpenIn b writes a updates
 
 -- What a refusal for want of memory, or by the device, is and leaves
 pub record RefusesLate (old new : WalState) (refusal : Refusal Unit) : Type 0 where
   pub reason : IsLateRefusal old new refusal
   pub left : IsLeft new refusal
-  pub maps : IsTrue old.ring.disk.honest → KeepsMaps old new
+  pub maps : IsTrue (disk_of old).honest → KeepsMaps old new
   pub crash : Crashes old new

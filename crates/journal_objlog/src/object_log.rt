@@ -4,9 +4,9 @@ ghost use Rattle.journal_disk.specs.Disks.{Keeps, IsSettled};
 ghost use Rattle.journal_disk.specs.Images.{EveryImage, reading};
 ghost use Rattle.journal_circ.specs.Log.{IsWellFormed};
 ghost use Rattle.journal_circ.specs.Ring.{IsOpenRefusal};
-ghost use Rattle.journal_wal.specs.Wal.{IsAtRest, HasBoundsIn, log_steps, tail_length, size_of};
+ghost use Rattle.journal_wal.specs.Wal.{IsAtRest, IsLogIdle, HasBoundsIn, log_steps, tail_length, size_of};
 ghost use Rattle.journal_objlog.specs.Maps.{OpensAs};
-ghost use Rattle.journal_objlog.specs.ObjectLogs.{map_now};
+ghost use Rattle.journal_objlog.specs.ObjectLogs.{map_now, IsCutLogged, disk_of, is_faulted};
 ghost use Rattle.journal_wal.specs.declared.append.TheConstants.{MAX_TAIL};
 
 use journal_block::Block;
@@ -51,10 +51,10 @@ impl<D: BlockDisk> ObjectLog<D> {
         ensures refusal { IfErr result (λ refused.
             IsOpenRefusal (D.state disk) (D.state refused.disk) refused.refusal) }
         ensures keeps { MatchResult result
-            (λ log. Keeps (D.state disk) log.ring.disk)
+            (λ log. Keeps (D.state disk) (disk_of log))
             (λ refused. Keeps (D.state disk) (D.state refused.disk)) }
         ensures same { IsTrue (D.state disk).honest → MatchResult result
-            (λ log. log.ring.disk.past ≡ (D.state disk).past)
+            (λ log. (disk_of log).past ≡ (D.state disk).past)
             (λ refused. (D.state refused.disk).past ≡ (D.state disk).past) }
         ensures well_formed { IsTrue (D.state disk).honest → IfOk result (λ _. IsWellFormed (reading (D.state disk).past)) }
         ensures opened { IfOk result IsAtRest }
@@ -63,7 +63,7 @@ impl<D: BlockDisk> ObjectLog<D> {
         ensures blocks { IfOk result (λ log. (map_now log).blocks ≡ layout.blocks) }
         // Each image opens as the map now.
         ensures images { IsTrue (D.state disk).honest → IfOk result (λ log.
-            EveryImage log.ring.disk.past (OpensAs (map_now log))) }
+            EveryImage (disk_of log).past (OpensAs (map_now log))) }
     {
         objects_law();
         let spare = match Block::try_new(alloc) {
@@ -96,10 +96,17 @@ impl<D: BlockDisk> ObjectLog<D> {
     /// Whether a group is in flight.
     pub fn is_logging(&self) -> bool
         ensures group { IsTrue result ↔ (self.now.log.logged < self.now.log.cut) }
-        ensures steps { self.now.ring.faulted ≡ false → IsTrue result → 0 < log_steps self.now }
-        ensures rest { IsTrue result ⊎ ((log_steps self.now ≡ 0) × (self.now.log.logged ≡ self.now.log.cut)) }
+        ensures steps { is_faulted self.now ≡ false → IsTrue result → 0 < log_steps self.now }
+        ensures rest { IsTrue result ⊎ ((log_steps self.now ≡ 0) × IsCutLogged self.now) }
     {
         self.wal.is_logging()
+    }
+
+    /// Whether the logger has nothing to do: no group is in flight, and the tail is empty or has no place in the log.
+    pub fn is_log_idle(&self) -> bool
+        ensures { is_faulted self.now ≡ false → IsTrue result ↔ IsLogIdle self.now }
+    {
+        self.wal.is_log_idle()
     }
 
     /// How many blocks stand in the tail, at most 255.
@@ -112,21 +119,21 @@ impl<D: BlockDisk> ObjectLog<D> {
 
     /// Whether the device failed, so that each read, overwrite and step answers J6.
     pub fn is_faulted(&self) -> bool
-        ensures { result ≡ self.now.ring.faulted }
+        ensures { result ≡ is_faulted self.now }
     {
         self.wal.is_faulted()
     }
 
     /// The disk, lent.
     pub fn disk(&self) -> &D
-        ensures { D.state result.now ≡ self.now.ring.disk }
+        ensures { D.state result.now ≡ disk_of self.now }
     {
         self.wal.disk()
     }
 
     /// Gives the disk up, as it is.
     pub fn into_disk(self) -> D
-        ensures { D.state result ≡ self.ring.disk }
+        ensures { D.state result ≡ disk_of self }
     {
         let ObjectLog {
             alloc: _,

@@ -1,8 +1,8 @@
 // Overwriting the map: all that may fail comes first, and then nothing can.
-ghost use Rattle.std.specs.Prelude.{◌≡◌, IsTrue, IsErr, OnOk, IfOk, IfErr, List};
+ghost use Rattle.std.specs.Prelude.{◌≡◌, false, IsTrue, IsErr, OnOk, IfOk, IfErr, List};
 ghost use Rattle.journal_world.specs.Maps.{Pair, SameMap, overwritten};
 ghost use Rattle.journal_wal.specs.Wal.{Appends};
-ghost use Rattle.journal_objlog.specs.ObjectLogs.{map_now, map_cut, map_logged, KeepsMaps, Crashes, OnlyReads, IsLeft};
+ghost use Rattle.journal_objlog.specs.ObjectLogs.{base_of, map_now, map_cut, map_logged, KeepsMaps, Crashes, OnlyReads, IsLeft, disk_of, is_faulted};
 ghost use Rattle.journal_objlog.specs.Places.{places_of};
 ghost use Rattle.journal_objlog.specs.Writes.{CanPrepare, IsWriteRefusal, IsPrepareRefusal, IsReady, IsPrepared};
 
@@ -46,13 +46,16 @@ impl<D: BlockDisk> ObjectLog<D> {
         writes: &Objects,
         spares: &mut Spares,
     ) -> Result<Prepared, Refusal<()>>
-        ensures prepared { IfOk result (λ prepared. IsPrepared self.new prepared writes.now) }
-        ensures ok { OnOk result (CanPrepare self.old writes.now) }
+        ensures ready { IfOk result (IsReady self.new) }
+        ensures prepared { IfOk result (λ prepared.
+            IsPrepared (disk_of self.new).honest (base_of self.new) prepared writes.now) }
+        ensures fine { OnOk result (is_faulted self.old ≡ false) }
+        ensures ok { OnOk result (CanPrepare (base_of self.old) writes.now) }
         ensures refusal { IfErr result (IsPrepareRefusal self.old writes.now self.new) }
-        ensures faulted { IsTrue self.old.ring.faulted → IsErr result × (self.new ≡ self.old) }
+        ensures faulted { IsTrue (is_faulted self.old) → IsErr result × (self.new ≡ self.old) }
         ensures reads { OnlyReads self.old self.new }
         ensures left { IfErr result (IsLeft self.new) }
-        ensures maps { IsTrue self.old.ring.disk.honest → KeepsMaps self.old self.new }
+        ensures maps { IsTrue (disk_of self.old).honest → KeepsMaps self.old self.new }
         ensures crash { Crashes self.old self.new }
     {
         let places = self.check(writes)?;
@@ -66,7 +69,7 @@ impl<D: BlockDisk> ObjectLog<D> {
     pub fn apply(&mut self, prepared: Prepared)
         requires { IsReady self.old prepared }
         ensures log { Appends self.old prepared self.new }
-        ensures map { IsTrue self.old.ring.disk.honest → (writes : List Pair) → IsPrepared self.old prepared writes
+        ensures map { IsTrue (disk_of self.old).honest → (writes : List Pair) → IsPrepared (disk_of self.old).honest (base_of self.old) prepared writes
             → SameMap (map_now self.new) (overwritten (map_now self.old) writes) }
         ensures cut { SameMap (map_cut self.new) (map_cut self.old) }
         ensures logged { SameMap (map_logged self.new) (map_logged self.old) }
@@ -78,9 +81,10 @@ impl<D: BlockDisk> ObjectLog<D> {
     // Refuses what asks for neither memory nor the device: J6 of an earlier fault, J2, J3, J4, J11 and J12. Tells
     // how many places the writes take.
     fn check(&self, writes: &Objects) -> Result<Places, Refusal<()>>
-        ensures ok { OnOk result (CanPrepare self.now writes.now) }
-        ensures places { IfOk result (λ places. places ≡ places_of self.now writes.now) }
-        ensures refusal { IfErr result (IsWriteRefusal self.now writes.now) }
+        ensures fine { OnOk result (is_faulted self.now ≡ false) }
+        ensures ok { OnOk result (CanPrepare (base_of self.now) writes.now) }
+        ensures places { IfOk result (λ places. places ≡ places_of (base_of self.now) writes.now) }
+        ensures refusal { IfErr result (IsWriteRefusal (is_faulted self.now) (base_of self.now) writes.now) }
         ensures crash { Crashes self.now self.now }
     {
         if self.wal.is_faulted() {

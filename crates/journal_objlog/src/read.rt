@@ -4,7 +4,7 @@ ghost use Rattle.journal_world.specs.Addresses.{is_valid};
 ghost use Rattle.journal_object.specs.Objects.{object_at, size_at};
 ghost use Rattle.journal_wal.specs.Wal.{size_of};
 ghost use Rattle.journal_world.specs.Maps.{value_at, is_object};
-ghost use Rattle.journal_objlog.specs.ObjectLogs.{map_now, KeepsMaps, Crashes, OnlyReads, IsLeft, IsLookRefusal, IsReadRefusal};
+ghost use Rattle.journal_objlog.specs.ObjectLogs.{map_now, KeepsMaps, Crashes, OnlyReads, IsLeft, IsLookRefusal, IsReadRefusal, disk_of, is_faulted};
 
 use crate::object_log::ObjectLog;
 use journal_block::Block;
@@ -21,14 +21,14 @@ impl<D: BlockDisk> ObjectLog<D> {
     /// J6 where the device fails in this call. The maps and what lies on the disk are as they were, whatever it
     /// answers.
     pub fn read(&mut self, addr: Addr) -> Result<Value, Refusal<()>>
-        ensures value { IsTrue self.old.ring.disk.honest → IfOk result (λ value. value ≡ value_at (map_now self.old) addr) }
+        ensures value { IsTrue (disk_of self.old).honest → IfOk result (λ value. value ≡ value_at (map_now self.old) addr) }
         ensures object { IfOk result (λ value. IsTrue (is_object (map_now self.old).blocks (addr, value))) }
-        ensures fine { OnOk result ((self.old.ring.faulted ≡ false) × (self.new.ring.faulted ≡ false)) }
+        ensures fine { OnOk result ((is_faulted self.old ≡ false) × (is_faulted self.new ≡ false)) }
         ensures refusal { IfErr result (IsReadRefusal self.old addr self.new) }
-        ensures faulted { IsTrue self.old.ring.faulted → IsErr result × (self.new ≡ self.old) }
+        ensures faulted { IsTrue (is_faulted self.old) → IsErr result × (self.new ≡ self.old) }
         ensures reads { OnlyReads self.old self.new }
         ensures left { IfErr result (IsLeft self.new) }
-        ensures maps { IsTrue self.old.ring.disk.honest → KeepsMaps self.old self.new }
+        ensures maps { IsTrue (disk_of self.old).honest → KeepsMaps self.old self.new }
         ensures crash { Crashes self.old self.new }
     {
         let mut bytes = self.room_for(addr)?;
@@ -40,7 +40,7 @@ impl<D: BlockDisk> ObjectLog<D> {
     // then by J1.
     fn room_for(&self, addr: Addr) -> Result<Vec<u8>, Refusal<()>>
         ensures size { IfOk result (λ bytes. length bytes.items ≡ size_at (size_of self.now) addr) }
-        ensures fine { OnOk result (self.now.ring.faulted ≡ false) }
+        ensures fine { OnOk result (is_faulted self.now ≡ false) }
         ensures refusal { IfErr result (IsReadRefusal self.now addr self.now) }
         ensures left { IfErr result (IsLeft self.now) }
         ensures crash { Crashes self.now self.now }
@@ -65,14 +65,14 @@ impl<D: BlockDisk> ObjectLog<D> {
     /// what lies on the disk are as they were, whatever it answers.
     pub fn read_into(&mut self, addr: Addr, into: &mut [u8]) -> Result<(), Refusal<()>>
         requires size { IsTrue (is_valid (size_of self.old) addr) → length into.old ≡ size_at (size_of self.old) addr }
-        ensures value { IsTrue self.old.ring.disk.honest → OnOk result (into.new ≡ value_at (map_now self.old) addr) }
+        ensures value { IsTrue (disk_of self.old).honest → OnOk result (into.new ≡ value_at (map_now self.old) addr) }
         ensures object { OnOk result (IsTrue (is_object (map_now self.old).blocks (addr, into.new))) }
-        ensures fine { OnOk result ((self.old.ring.faulted ≡ false) × (self.new.ring.faulted ≡ false)) }
+        ensures fine { OnOk result ((is_faulted self.old ≡ false) × (is_faulted self.new ≡ false)) }
         ensures refusal { IfErr result (IsLookRefusal self.old addr self.new) }
-        ensures faulted { IsTrue self.old.ring.faulted → IsErr result × (self.new ≡ self.old) }
+        ensures faulted { IsTrue (is_faulted self.old) → IsErr result × (self.new ≡ self.old) }
         ensures reads { OnlyReads self.old self.new }
         ensures left { IfErr result (IsLeft self.new) }
-        ensures maps { IsTrue self.old.ring.disk.honest → KeepsMaps self.old self.new }
+        ensures maps { IsTrue (disk_of self.old).honest → KeepsMaps self.old self.new }
         ensures crash { Crashes self.old self.new }
     {
         if self.wal.is_faulted() {

@@ -1,7 +1,7 @@
 // Asking a rule about the map now.
 ghost use Rattle.std.specs.Prelude.{◌≡◌, ◌↔◌, false, IsTrue, IsErr, OnOk, IfOk, IfErr};
 ghost use Rattle.journal_world.specs.Refusals.{IsReadingRefusal};
-ghost use Rattle.journal_objlog.specs.ObjectLogs.{map_now, KeepsMaps, Crashes, OnlyReads, IsLeft};
+ghost use Rattle.journal_objlog.specs.ObjectLogs.{map_now, KeepsMaps, Crashes, OnlyReads, IsLeft, disk_of, is_faulted};
 ghost use Rattle.journal_objlog.specs.Reading.{OnlyReadSince};
 
 use crate::object_log::ObjectLog;
@@ -45,9 +45,9 @@ impl<D: BlockDisk, O: Opening> ObjectReader for MapReader<D, O> {
 
     ghost map = { λ _. map_now O.log };
 
-    ghost trusted = { λ _. O.log.ring.disk.honest };
+    ghost trusted = { λ _. (disk_of O.log).honest };
 
-    ghost failed = { λ r. r.ring.faulted };
+    ghost failed = { λ r. is_faulted r };
 
     fn layout(&self) -> Layout {
         self.log.layout()
@@ -65,14 +65,14 @@ impl<D: BlockDisk> ObjectLog<D> {
     /// nowhere else. It is refused otherwise where the rule refuses for want of memory (J1). The maps and what
     /// lies on the disk are as they were, whatever it answers.
     pub fn admitted_by<R: MapRule>(self, rule: &R) -> (ObjectLog<D>, Result<bool, Refusal<()>>)
-        ensures admitted { IsTrue self.ring.disk.honest →
+        ensures admitted { IsTrue (disk_of self).honest →
             IfOk result.1 (λ admitted. IsTrue admitted ↔ R.statement (map_now self)) }
-        ensures refusal { IfErr result.1 (IsReadingRefusal result.0.ring.faulted) }
-        ensures faulted { IsTrue self.ring.faulted → IsErr result.1 × (result.0 ≡ self) }
-        ensures fine { OnOk result.1 ((self.ring.faulted ≡ false) × (result.0.ring.faulted ≡ false)) }
+        ensures refusal { IfErr result.1 (IsReadingRefusal (is_faulted result.0)) }
+        ensures faulted { IsTrue (is_faulted self) → IsErr result.1 × (result.0 ≡ self) }
+        ensures fine { OnOk result.1 ((is_faulted self ≡ false) × (is_faulted result.0 ≡ false)) }
         ensures reads { OnlyReads self result.0 }
         ensures left { IfErr result.1 (IsLeft result.0) }
-        ensures maps { IsTrue self.ring.disk.honest → KeepsMaps self result.0 }
+        ensures maps { IsTrue (disk_of self).honest → KeepsMaps self result.0 }
         ensures crash { Crashes self result.0 }
     {
         if self.wal.is_faulted() {
@@ -99,9 +99,9 @@ fn read_by<O: Opening, D: BlockDisk, R: MapRule>(
     rule: &R,
 ) -> (ObjectLog<D>, Result<bool, Refusal<()>>)
     requires { log ≡ O.log }
-    ensures admitted { IsTrue O.log.ring.disk.honest →
+    ensures admitted { IsTrue (disk_of O.log).honest →
         IfOk result.1 (λ admitted. IsTrue admitted ↔ R.statement (map_now O.log)) }
-    ensures refusal { IfErr result.1 (IsReadingRefusal result.0.ring.faulted) }
+    ensures refusal { IfErr result.1 (IsReadingRefusal (is_faulted result.0)) }
     ensures read { OnlyReadSince O.log result.0 }
 {
     log.untouched();

@@ -6,7 +6,7 @@ ghost use Rattle.journal_world.specs.Maps.{Pair, is_object, are_objects};
 ghost use Rattle.journal_world.specs.Orders.{HasAscendingBlocks};
 ghost use Rattle.journal_object.specs.Objects.{ChangesOnly};
 ghost use Rattle.journal_wal.specs.Wal.{size_of, blocks_now};
-ghost use Rattle.journal_objlog.specs.ObjectLogs.{Crashes, OnlyReads};
+ghost use Rattle.journal_objlog.specs.ObjectLogs.{Crashes, OnlyReads, base_of, disk_of, is_faulted};
 ghost use Rattle.journal_objlog.specs.Staging.{IsAboveNone, IsStaged, IsOpen, RefusesLate, first_update, first_bytes, with_first};
 
 use crate::object_log::ObjectLog;
@@ -92,10 +92,10 @@ impl<D: BlockDisk> ObjectLog<D> {
         writes: &Objects,
         spares: &mut Spares,
     ) -> Result<Vec<Update>, Refusal<()>>
-        requires fine { self.old.ring.faulted ≡ false }
+        requires fine { is_faulted self.old ≡ false }
         requires objects { IsTrue (are_objects (size_of self.old) writes.now) }
-        ensures staged { IfOk result (λ updates. IsStaged self.new writes.now updates.items) }
-        ensures fine { OnOk result (self.new.ring.faulted ≡ false) }
+        ensures staged { IfOk result (λ updates. IsStaged (disk_of self.new).honest (base_of self.new) writes.now updates.items) }
+        ensures fine { OnOk result (is_faulted self.new ≡ false) }
         ensures reads { OnlyReads self.old self.new }
         ensures refusal { IfErr result (RefusesLate self.old self.new) }
     {
@@ -116,10 +116,10 @@ impl<D: BlockDisk> ObjectLog<D> {
         addr: Addr,
     ) -> Result<(), Refusal<()>>
         requires valid { IsTrue (is_valid (size_of self.old) addr) }
-        requires fine { self.old.ring.faulted ≡ false }
-        ensures opened { OnOk result ((writes : List Pair) → IsStaged self.old writes updates.old
-            → HasAscendingBlocks writes → IsAboveNone addr.block writes → IsOpen self.new writes addr updates.new) }
-        ensures fine { OnOk result (self.new.ring.faulted ≡ false) }
+        requires fine { is_faulted self.old ≡ false }
+        ensures opened { OnOk result ((writes : List Pair) → IsStaged (disk_of self.old).honest (base_of self.old) writes updates.old
+            → HasAscendingBlocks writes → IsAboveNone addr.block writes → IsOpen (disk_of self.new).honest (base_of self.new) writes addr updates.new) }
+        ensures fine { OnOk result (is_faulted self.new ≡ false) }
         ensures reads { OnlyReads self.old self.new }
         ensures refusal { IfErr result (RefusesLate self.old self.new) }
     {
@@ -138,12 +138,12 @@ impl<D: BlockDisk> ObjectLog<D> {
     // The block of an address that is to be overwritten. Where all of it is, it is not read.
     fn block_before(&mut self, spares: &mut Spares, addr: Addr) -> Result<Block, Refusal<()>>
         requires valid { IsTrue (is_valid (size_of self.old) addr) }
-        requires fine { self.old.ring.faulted ≡ false }
+        requires fine { is_faulted self.old ≡ false }
         ensures crash { Crashes self.old self.new }
         ensures low { MIN_BLOCKS ≤ size_of self.old }
-        ensures block { IsTrue self.old.ring.disk.honest → IfOk result (λ block.
+        ensures block { IsTrue (disk_of self.old).honest → IfOk result (λ block.
             (kind_of (size_of self.old) addr.block ≡ Some Kind.Block) ⊎ (block ≡ blocks_now self.old addr.block)) }
-        ensures fine { OnOk result (self.new.ring.faulted ≡ false) }
+        ensures fine { OnOk result (is_faulted self.new ≡ false) }
         ensures reads { OnlyReads self.old self.new }
         ensures refusal { IfErr result (RefusesLate self.old self.new) }
     {

@@ -2,11 +2,12 @@
 ghost use Rattle.std.specs.Prelude.{◌≡◌, IsTrue, IsErr, OnOk, OnErr, IfOk, IfErr, true, false};
 ghost use Rattle.journal_circ.specs.Ring.{IsFault};
 ghost use Rattle.journal_wal.specs.Wal.{LogAnswers, InstallAnswers, IsInstallRefusal, TriesDueCall, TriesAhead, log_call};
-ghost use Rattle.journal_objlog.specs.ObjectLogs.{KeepsMaps, LogsMaps, Crashes};
+ghost use Rattle.journal_objlog.specs.ObjectLogs.{KeepsMaps, LogsMaps, Crashes, disk_of, is_faulted};
 
 use crate::object_log::ObjectLog;
 use journal_disk::BlockDisk;
-use journal_world::{Refusal, Step};
+use journal_wal::{GroupStep, InstallStep};
+use journal_world::Refusal;
 
 impl<D: BlockDisk> ObjectLog<D> {
     /// Does the next thing of the logger: cuts the whole tail into a group, writes one of its log blocks,
@@ -18,16 +19,16 @@ impl<D: BlockDisk> ObjectLog<D> {
     ///
     /// Answers J6 `DeviceFailed`, and nothing else, where the device failed in this call or before. The maps
     /// are then as they were.
-    pub fn log_step(&mut self) -> Result<Step, Refusal<()>>
-        ensures refusal { IfErr result (IsFault self.old.ring.faulted self.old.ring.disk self.new.ring.disk) }
-        ensures faulted { IsTrue self.old.ring.faulted → IsErr result × (self.new ≡ self.old) }
-        ensures fine { OnOk result ((self.old.ring.faulted ≡ false) × (self.new.ring.faulted ≡ false)) }
+    pub fn log_step(&mut self) -> Result<GroupStep, Refusal<()>>
+        ensures refusal { IfErr result (IsFault (is_faulted self.old) (disk_of self.old) (disk_of self.new)) }
+        ensures faulted { IsTrue (is_faulted self.old) → IsErr result × (self.new ≡ self.old) }
+        ensures fine { OnOk result ((is_faulted self.old ≡ false) × (is_faulted self.new ≡ false)) }
         ensures ok { IfOk result (λ step. LogAnswers self.old step self.new) }
-        ensures maps { IsTrue self.old.ring.disk.honest → IfOk result (λ step. LogsMaps self.old step self.new) }
-        ensures err { OnErr result (self.new.ring.faulted ≡ true) }
+        ensures maps { IsTrue (disk_of self.old).honest → IfOk result (λ step. LogsMaps self.old step self.new) }
+        ensures err { OnErr result (is_faulted self.new ≡ true) }
         ensures err_log { OnErr result (self.new.log ≡ self.old.log) }
-        ensures tries { OnErr result (TriesDueCall (log_call self.old) self.old.ring.disk self.new.ring.disk) }
-        ensures err_maps { IsTrue self.old.ring.disk.honest → OnErr result (KeepsMaps self.old self.new) }
+        ensures tries { OnErr result (TriesDueCall (log_call self.old) (disk_of self.old) (disk_of self.new)) }
+        ensures err_maps { IsTrue (disk_of self.old).honest → OnErr result (KeepsMaps self.old self.new) }
         ensures crash { Crashes self.old self.new }
     {
         self.wal.log_step()
@@ -40,13 +41,13 @@ impl<D: BlockDisk> ObjectLog<D> {
     ///
     /// Answers J6 `DeviceFailed` where the device failed in this call or before, and J1 `NoMemory` where memory
     /// for the list of addresses is refused, at the first of these steps; the log is then as it was.
-    pub fn install_step(&mut self) -> Result<Step, Refusal<()>>
+    pub fn install_step(&mut self) -> Result<InstallStep, Refusal<()>>
         ensures refusal { IfErr result (IsInstallRefusal self.old self.new) }
-        ensures faulted { IsTrue self.old.ring.faulted → IsErr result × (self.new ≡ self.old) }
-        ensures fine { OnOk result ((self.old.ring.faulted ≡ false) × (self.new.ring.faulted ≡ false)) }
+        ensures faulted { IsTrue (is_faulted self.old) → IsErr result × (self.new ≡ self.old) }
+        ensures fine { OnOk result ((is_faulted self.old ≡ false) × (is_faulted self.new ≡ false)) }
         ensures ok { IfOk result (λ step. InstallAnswers self.old step self.new) }
         ensures tries { OnErr result (TriesAhead self.old self.new) }
-        ensures maps { IsTrue self.old.ring.disk.honest → KeepsMaps self.old self.new }
+        ensures maps { IsTrue (disk_of self.old).honest → KeepsMaps self.old self.new }
         ensures crash { Crashes self.old self.new }
     {
         self.wal.install_step()

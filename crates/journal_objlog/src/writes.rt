@@ -3,6 +3,7 @@ ghost use Rattle.std.specs.Prelude.{◌≡◌, ◌≤◌, ◌↔◌, IsTrue, Som
 ghost use Rattle.journal_world.specs.Addresses.{is_valid};
 ghost use Rattle.journal_world.specs.Maps.{is_object, are_objects};
 ghost use Rattle.journal_wal.specs.Wal.{size_of};
+ghost use Rattle.journal_objlog.specs.ObjectLogs.{base_of};
 ghost use Rattle.journal_objlog.specs.Writes.{are_valid, written_blocks, fresh_blocks};
 
 use crate::object_log::ObjectLog;
@@ -47,7 +48,7 @@ impl<D: BlockDisk> ObjectLog<D> {
     pub(crate) fn count_blocks(&self, writes: &Objects) -> Places
         requires { IsTrue (are_objects (size_of self.now) writes.now) }
         ensures blocks { result.blocks ≡ written_blocks writes.now }
-        ensures fresh { result.fresh ≡ fresh_blocks self.now writes.now }
+        ensures fresh { result.fresh ≡ fresh_blocks (base_of self.now) writes.now }
         ensures fewer { result.fresh ≤ result.blocks }
     {
         let mut blocks = 0;

@@ -38,7 +38,11 @@ impl<'j, 'b, D: BlockDisk, R: MapRule, J: Naming> Txn<'j, 'b, D, R, J> {
         ensures refusal { IfErr result (IsCommitRefusal (core_of self.entry) session.old) }
         ensures session { OnErr result (OnlyExtends session.old session.new) }
     {
-        let answer = self.commit_with_slots(rt, session);
+        let journal = self.journal;
+        let mut spares = self.transaction.spares(self.alloc);
+        let answer = journal
+            .core
+            .commit(rt, session, &self.transaction, &mut spares);
         self.abort(rt);
         answer
     }
@@ -58,7 +62,11 @@ impl<'j, 'b, D: BlockDisk, R: MapRule, J: Naming> Txn<'j, 'b, D, R, J> {
         ensures refusal { IfErr result (IsTryRefusal (core_of self.entry) session.old) }
         ensures session { OnErr result (OnlyExtends session.old session.new) }
     {
-        let answer = self.try_with_slots(rt, session);
+        let journal = self.journal;
+        let mut spares = self.transaction.spares(self.alloc);
+        let answer = journal
+            .core
+            .try_commit(rt, session, &self.transaction, &mut spares);
         self.abort(rt);
         answer
     }
@@ -88,43 +96,5 @@ impl<'j, 'b, D: BlockDisk, R: MapRule, J: Naming> Txn<'j, 'b, D, R, J> {
         } = self;
         let mut spares = transaction.spares(alloc);
         journal.core.commit_wait(rt, session, &transaction, &mut spares, &journal.slots, held)
-    }
-
-    // Commits it, with its slots held.
-    fn commit_with_slots<W: Wait>(
-        &self,
-        rt: &W,
-        session: &mut Session<'b, J, R>,
-    ) -> Result<Receipt<'b, J, R>, Why<'b, J, R>>
-        requires rule { (m : Map) → m.blocks ≡ J.blocks → R.statement m → Agrees m self.now.reads
-            → R.statement (overwritten m self.now.writes) }
-        ensures committed { IfOk result (IsCommitted R.statement J.blocks self.now.began (core_of self.now) session.old session.new) }
-        ensures refusal { IfErr result (IsCommitRefusal (core_of self.now) session.old) }
-        ensures session { OnErr result (OnlyExtends session.old session.new) }
-    {
-        let journal = self.journal;
-        let mut spares = self.transaction.spares(self.alloc);
-        journal
-            .core
-            .commit(rt, session, &self.transaction, &mut spares)
-    }
-
-    // Commits it without waiting for room, with its slots held.
-    fn try_with_slots<W: Wait>(
-        &self,
-        rt: &W,
-        session: &mut Session<'b, J, R>,
-    ) -> Result<Receipt<'b, J, R>, Why<'b, J, R>>
-        requires rule { (m : Map) → m.blocks ≡ J.blocks → R.statement m → Agrees m self.now.reads
-            → R.statement (overwritten m self.now.writes) }
-        ensures committed { IfOk result (IsCommitted R.statement J.blocks self.now.began (core_of self.now) session.old session.new) }
-        ensures refusal { IfErr result (IsTryRefusal (core_of self.now) session.old) }
-        ensures session { OnErr result (OnlyExtends session.old session.new) }
-    {
-        let journal = self.journal;
-        let mut spares = self.transaction.spares(self.alloc);
-        journal
-            .core
-            .try_commit(rt, session, &self.transaction, &mut spares)
     }
 }

@@ -14,7 +14,7 @@ ghost use Rattle.journal_twophase.specs.Transactions.{begun};
 use crate::shared::{SharedCore, Why};
 use crate::txn::Txn;
 use journal_block::Block;
-use journal_core::{Cause, Stat};
+use journal_core::{Cause, InstallStep, LogStep, Stat};
 use journal_disk::{BlockDisk, MemDisk};
 use journal_history::{Book, Front, Naming, Receipt, Session, StableNote};
 use journal_lockmap::LockMap;
@@ -137,7 +137,7 @@ impl<'b, D: BlockDisk, R: MapRule, J: Naming> Journal<'b, D, R, J> {
     pub fn log_step<W: Wait>(&self, rt: &W) -> Result<Step, Why<'b, J, R>>
         ensures { IfErr result IsLogRefusal }
     {
-        self.core.log_step(rt)
+        Ok(log_moved(self.core.log_step(rt)?))
     }
 
     /// Does the next thing of the logger as `log_step` does, but first waits until all threads have gone on that a mark
@@ -148,7 +148,7 @@ impl<'b, D: BlockDisk, R: MapRule, J: Naming> Journal<'b, D, R, J> {
     pub fn log_gathered<W: Wait>(&self, rt: &W) -> Result<Step, Why<'b, J, R>>
         ensures { IfErr result IsLogRefusal }
     {
-        self.core.log_gathered(rt)
+        Ok(log_moved(self.core.log_gathered(rt)?))
     }
 
     /// Does the next thing of the installer, as `Core::install_step` says, with at most one device call that
@@ -159,7 +159,7 @@ impl<'b, D: BlockDisk, R: MapRule, J: Naming> Journal<'b, D, R, J> {
     pub fn install_step<W: Wait>(&self, rt: &W) -> Result<Step, Why<'b, J, R>>
         ensures { IfErr result IsInstallRefusal }
     {
-        self.core.install_step(rt)
+        Ok(install_moved(self.core.install_step(rt)?))
     }
 
     /// The numbers of commits and of marks, and where the log on the disk lies.
@@ -217,7 +217,7 @@ impl<'b, D: BlockDisk, R: MapRule, J: Naming> Journal<'b, D, R, J> {
     pub fn install_where_crowded<W: Wait>(&self, rt: &W) -> Result<Step, Why<'b, J, R>>
         ensures { IfErr result IsInstallRefusal }
     {
-        self.core.install_where_crowded(rt)
+        Ok(install_moved(self.core.install_where_crowded(rt)?))
     }
 
     /// Waits until `log_step` has something to do or is refused for good: a commit was made, positions of a full log
@@ -305,5 +305,21 @@ impl<'b, R: MapRule, J: Naming> Journal<'b, MemDisk, R, J> {
     /// Makes the k-th device call from now on fail.
     pub fn fail_in<W: Wait>(&self, rt: &W, k: u64) {
         self.core.fail_in(rt, k);
+    }
+}
+
+// Whether the logger did anything.
+fn log_moved(step: LogStep) -> Step {
+    match step {
+        LogStep::Idle => Step::Idle,
+        _ => Step::Moved,
+    }
+}
+
+// Whether the installer did anything.
+fn install_moved(step: InstallStep) -> Step {
+    match step {
+        InstallStep::Idle => Step::Idle,
+        _ => Step::Moved,
     }
 }

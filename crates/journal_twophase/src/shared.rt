@@ -19,10 +19,10 @@ ghost use Rattle.journal_twophase.specs.Commits.{IsCommitted, IsTryRefusal, IsCo
 
 use crate::sleepers::Sleepers;
 use journal_block::Block;
-use journal_core::{Cause, Core, Found, Spares, Stat, Transaction};
+use journal_core::{Cause, Core, Found, InstallStep, LogStep, Spares, Stat, Transaction};
 use journal_disk::{BlockDisk, MemDisk};
 use journal_history::{Book, Front, Naming, Receipt, Session};
-use journal_world::{Addr, MapRule, Refusal, Refused, Step};
+use journal_world::{Addr, MapRule, Refusal, Refused};
 use std::alloc::Global;
 use std::sync::{Condvar, Mutex, MutexGuard, Wait};
 
@@ -59,13 +59,6 @@ pub(crate) struct SharedCore<'b, D: BlockDisk, R: MapRule, J: Naming> {
     pub(crate) gathered: Condvar,
     // The installer waits for a crowded log.
     installing: Condvar,
-}
-
-// What a step may have changed that others wait for.
-#[derive(Clone, Copy, Drop)]
-struct Progress {
-    stat: Stat,
-    tail: u64,
 }
 
 impl<'b, D: BlockDisk, R: MapRule, J: Naming> SharedCore<'b, D, R, J> {
@@ -235,7 +228,7 @@ impl<'b, D: BlockDisk, R: MapRule, J: Naming> SharedCore<'b, D, R, J> {
     }
 
     // Does the next thing of the logger.
-    pub(crate) fn log_step<W: Wait>(&self, rt: &W) -> Result<Step, Why<'b, J, R>>
+    pub(crate) fn log_step<W: Wait>(&self, rt: &W) -> Result<LogStep, Why<'b, J, R>>
         ensures { IfErr result IsLogRefusal }
     {
         self.log_in(self.shared.lock(rt))
@@ -243,7 +236,7 @@ impl<'b, D: BlockDisk, R: MapRule, J: Naming> SharedCore<'b, D, R, J> {
 
     // Does the next thing of the logger once all have gone on that a mark woke. Else the first of them that commits again
     // would have a group for itself, and the others would wait for the next.
-    pub(crate) fn log_gathered<W: Wait>(&self, rt: &W) -> Result<Step, Why<'b, J, R>>
+    pub(crate) fn log_gathered<W: Wait>(&self, rt: &W) -> Result<LogStep, Why<'b, J, R>>
         ensures { IfErr result IsLogRefusal }
     {
         self.log_in(self.lock_gathered(rt))
@@ -263,45 +256,44 @@ impl<'b, D: BlockDisk, R: MapRule, J: Naming> SharedCore<'b, D, R, J> {
     }
 
     // Does the next thing of the logger, with the lock held at first.
-    fn log_in(&self, shared: MutexGuard<'_, Shared<'b, D, R, J>>) -> Result<Step, Why<'b, J, R>>
+    fn log_in(&self, shared: MutexGuard<'_, Shared<'b, D, R, J>>) -> Result<LogStep, Why<'b, J, R>>
         ensures { IfErr result IsLogRefusal }
     {
-        let (answer, before, after) = {
+        let (answer, crowded) = {
             let mut shared = shared;
-            let before = progress_of(&shared.core);
             let answer = shared.core.log_step();
-            let after = progress_of(&shared.core);
-            if before.stat.floor < after.stat.floor {
+            if matches!(answer, Ok(LogStep::Marked(_))) {
                 shared.sleepers.wake();
             }
-            (answer, before, after)
+            (answer, is_crowded(&shared.core))
         };
-        self.tell_of_step(&answer, before, after);
+        self.tell_of_log(&answer, crowded);
         answer
     }
 
     // Does the next thing of the installer.
-    pub(crate) fn install_step<W: Wait>(&self, rt: &W) -> Result<Step, Why<'b, J, R>>
+    pub(crate) fn install_step<W: Wait>(&self, rt: &W) -> Result<InstallStep, Why<'b, J, R>>
         ensures { IfErr result IsInstallRefusal }
     {
-        let (answer, before, after) = {
-            let mut shared = self.shared.lock(rt);
-            let before = progress_of(&shared.core);
-            let answer = shared.core.install_step();
-            (answer, before, progress_of(&shared.core))
-        };
-        self.tell_of_step(&answer, before, after);
+        let answer = self.shared.lock(rt).core.install_step();
+        if matches!(answer, Ok(InstallStep::Freed(_))) {
+            self.logging.notify_all();
+        }
+        self.tell_of_fault(&answer);
         answer
     }
 
     // Does the next thing of the installer where the log is crowded, and is idle otherwise.
-    pub(crate) fn install_where_crowded<W: Wait>(&self, rt: &W) -> Result<Step, Why<'b, J, R>>
+    pub(crate) fn install_where_crowded<W: Wait>(
+        &self,
+        rt: &W,
+    ) -> Result<InstallStep, Why<'b, J, R>>
         ensures { IfErr result IsInstallRefusal }
     {
         if self.has_install_work(rt) {
             return self.install_step(rt);
         }
-        Ok(Step::Idle)
+        Ok(InstallStep::Idle)
     }
 
     // Whether the log is crowded, or a step would be refused.
@@ -338,28 +330,14 @@ impl<'b, D: BlockDisk, R: MapRule, J: Naming> SharedCore<'b, D, R, J> {
         self.wake_all();
     }
 
-    // Wakes those for whom a step made something, and all where it can be followed by no other.
-    fn tell_of_step(
-        &self,
-        answer: &Result<Step, Why<'b, J, R>>,
-        before: Progress,
-        after: Progress,
-    ) {
-        if matches!(answer, Err(Refusal::Stale(_))) {
-            self.wake_all();
-        }
-        self.tell_of_fault(answer);
-        if before.stat.floor < after.stat.floor {
-            self.marked.notify_all();
-        }
-        if after.tail < before.tail {
-            self.room.notify_all();
-        }
-        if before.stat.start < after.stat.start {
-            self.logging.notify_all();
-        }
-        if before.stat.end < after.stat.end && is_crowded(after.stat) {
-            self.installing.notify_all();
+    // Wakes those for whom a step of the logger made something, and all where it can be followed by no other.
+    fn tell_of_log(&self, answer: &Result<LogStep, Why<'b, J, R>>, crowded: bool) {
+        match answer {
+            Ok(LogStep::Cut) => self.room.notify_all(),
+            Ok(LogStep::Marked(_)) => self.marked.notify_all(),
+            Ok(LogStep::Logged) if crowded => self.installing.notify_all(),
+            Err(Refusal::Stale(_)) => self.wake_all(),
+            _ => self.tell_of_fault(answer),
         }
     }
 
@@ -468,16 +446,9 @@ impl<'b, R: MapRule, J: Naming> SharedCore<'b, MemDisk, R, J> {
     }
 }
 
-// What a step may change that others wait for, as it is now.
-fn progress_of<'b, D: BlockDisk, R: MapRule, J: Naming>(core: &Core<'b, D, R, J>) -> Progress {
-    Progress {
-        stat: core.stat(),
-        tail: core.tail_len(),
-    }
-}
-
 // Whether the log is so full that positions are to be freed.
-fn is_crowded(stat: Stat) -> bool {
+fn is_crowded<'b, D: BlockDisk, R: MapRule, J: Naming>(core: &Core<'b, D, R, J>) -> bool {
+    let stat = core.stat();
     stat.end.saturating_sub(stat.start) > CROWDED
 }
 
@@ -488,7 +459,7 @@ fn may_log<'b, D: BlockDisk, R: MapRule, J: Naming>(core: &Core<'b, D, R, J>) ->
 
 // Whether the log is crowded, or the installer would be refused.
 fn may_install<'b, D: BlockDisk, R: MapRule, J: Naming>(core: &Core<'b, D, R, J>) -> bool {
-    core.check_running().is_err() || is_crowded(core.stat())
+    core.check_running().is_err() || is_crowded(core)
 }
 
 // Commits in one step of the core.

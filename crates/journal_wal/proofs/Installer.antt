@@ -14,9 +14,10 @@ use Rattle.journal_block.specs.Updates.{updated, updates_block}
 use Rattle.journal_block.specs.UpdateLaws.{updated-append, updated-unnamed}
 use Rattle.journal_disk.specs.Disks.{write, DiskState}
 use Rattle.journal_disk.specs.Images.{EveryImage}
-use Rattle.journal_circ.specs.Ring.{Ring, log_of, home_of, Crashes, SameHome, SameHomeBut, IsLogged, IsInstalled, MakesCall}
+use Rattle.journal_circ.specs.Ring.{Ring, log_of, home_of, Crashes, KeepsLog, SameHome, SameHomeBut, IsLogged, IsInstalled, MakesCall}
 use Rattle.journal_memlog.specs.Logs.{LogState, next_position, trimmed}
-use Rattle.journal_wal.specs.Wal.{WalState, planned, IsPlanOf, MakesDueCall, install_call, after_call, Logging, log_blocks, log_end, log_sync, log_spent, Installing, install_none, install_homes, install_start, install_sync, install_spent, Fails, KeepsBlocks, MayStandFor, size_of, blocks_now, blocks_at, SameBlocks, Installs, InstallMoves, install_steps_by, log_steps_by}
+use Rattle.journal_wal.specs.Wal.{WalState, planned, IsPlanOf, MakesDueCall, install_call, after_call, Logging, log_blocks, log_end, log_sync, log_spent, Installing, install_none, install_homes, install_start, install_sync, install_spent, Fails, KeepsBlocks, MayStandFor, size_of, blocks_now, blocks_at, SameBlocks, Installs, InstallMoves, install_steps_by, log_steps_by, InstallAnswers, install_steps}
+use Rattle.journal_wal.specs.declared.step.InstallStep.TheVariants.{Freed}
 use Rattle.journal_wal.specs.States.{updates_to, IsInLog, IsHomeOf, PutsHomes, AreTied, IsWal, IsLogging, IsInstalling}
 use Rattle.journal_wal.proofs.Lists.{updates_block-longer}
 use Rattle.journal_wal.proofs.Crashes.{images_of, moments_of, ring_updates}
@@ -183,40 +184,38 @@ module _ (ring now : Ring) (log : LogState) (logging : Logging) where
 
   -- the barrier after the home blocks
   pub homes_synced : (upto : ℕ) (phase : Installing) → IsWal (at ring phase) → PutsHomes ring log upto []
-      → Crashes ring.extent.coming ring now → (IsTrue ring.disk.honest → log_of now ≡ log_of ring)
-      → (IsTrue ring.disk.honest → SameHome ring now)
+      → Crashes ring.extent.coming ring now → (IsTrue ring.disk.honest → KeepsLog ring now)
       → now ≡ record ring { disk = now.disk; extent = record ring.extent { homes = true } }
       → Leaves (at ring phase) (at now (install_start upto))
       × (IsTrue ring.disk.honest → KeepsBlocks (at ring phase) (at now (install_start upto)))
-  homes_synced upto phase is puts steps log_is home is_now = (
-    called phase (install_start upto) is steps (same_by ring.extent.freed true ring.faulted is_now (λ was. was)) log_is (
+  homes_synced upto phase is puts steps same is_now = (
+    called phase (install_start upto) is steps (same_by ring.extent.freed true ring.faulted is_now (λ was. was)) (λ honest. (same honest).log) (
       record {
         idle = ap (λ (r : Ring). r.extent.freed) is_now ∙ puts.idle ∙ sym (ap (λ (r : Ring). r.extent.start) is_now);
         position = puts.position;
         done = λ honest c home_c lt.
             let was : IsTrue ring.disk.honest = subst IsTrue steps.keeps.honest honest in
-            let at_home : home_of now c ≡ home_of ring c = home was c home_c (omega (arith, lt, steps.keeps.size)) in
+            let at_home : home_of now c ≡ home_of ring c = (same was).home c home_c (omega (arith, lt, steps.keeps.size)) in
             ap (updated (updates_to log upto) c) at_home
             ∙ puts.done was c home_c (omega (arith, lt, steps.keeps.size)) refl
             ∙ sym at_home;
       },
       ap (λ (r : Ring). r.extent.homes) is_now,
     ),
-    λ honest. keeps_homes (at ring phase) (at now (install_start upto)) refl (home honest),
+    λ honest. keeps_homes (at ring phase) (at now (install_start upto)) refl ((same honest).home),
   )
 
   -- a call of a cycle that changes no home block, and failed
   pub installer_failed : (phase : Installing) → IsWal (at ring phase)
-      → Crashes ring.extent.coming ring now → (IsTrue ring.disk.honest → log_of now ≡ log_of ring)
-      → (IsTrue ring.disk.honest → SameHome ring now) → (freed : ℕ)
+      → Crashes ring.extent.coming ring now → (IsTrue ring.disk.honest → KeepsLog ring now) → (freed : ℕ)
       → now ≡ record ring { disk = now.disk; extent = record ring.extent { freed = freed }; faulted = true }
       → Leaves (at ring phase) (at now install_spent) × Fails (at ring phase) (at now install_spent)
-  installer_failed phase is steps log_is home freed is_now = (
-    called phase install_spent is steps (same_by freed ring.extent.homes true is_now (λ _. refl)) log_is (ap (λ (r : Ring). r.faulted) is_now),
+  installer_failed phase is steps same freed is_now = (
+    called phase install_spent is steps (same_by freed ring.extent.homes true is_now (λ _. refl)) (λ honest. (same honest).log) (ap (λ (r : Ring). r.faulted) is_now),
     record {
       faulted = ap (λ (r : Ring). r.faulted) is_now;
       log = refl;
-      blocks = λ honest. keeps_homes (at ring phase) (at now install_spent) refl (home honest);
+      blocks = λ honest. keeps_homes (at ring phase) (at now install_spent) refl ((same honest).home);
     },
   )
 
@@ -229,23 +228,22 @@ module _ (ring now : Ring) (log : LogState) (logging : Logging) where
 
   -- the write of block 1
   pub start_written : (upto : ℕ) → IsWal (at ring (install_start upto))
-      → Crashes ring.extent.coming ring now → (IsTrue ring.disk.honest → log_of now ≡ log_of ring)
-      → (IsTrue ring.disk.honest → SameHome ring now)
+      → Crashes ring.extent.coming ring now → (IsTrue ring.disk.honest → KeepsLog ring now)
       → now ≡ record ring { disk = now.disk; extent = record ring.extent { freed = upto } }
       → Leaves (at ring (install_start upto)) (at now (install_sync upto))
       × (IsTrue ring.disk.honest → KeepsBlocks (at ring (install_start upto)) (at now (install_sync upto)))
-  start_written upto is steps log_is home is_now = (
-    called (install_start upto) (install_sync upto) is steps (same_by upto ring.extent.homes ring.faulted is_now (λ was. was)) log_is (record {
+  start_written upto is steps same is_now = (
+    called (install_start upto) (install_sync upto) is steps (same_by upto ring.extent.homes ring.faulted is_now (λ was. was)) (λ honest. (same honest).log) (record {
       idle = ap (λ (r : Ring). r.extent.freed) is_now;
       position = is.installing.0.position;
       done = λ honest c home_c lt.
           let was : IsTrue ring.disk.honest = subst IsTrue steps.keeps.honest honest in
-          let at_home : home_of now c ≡ home_of ring c = home was c home_c (omega (arith, lt, steps.keeps.size)) in
+          let at_home : home_of now c ≡ home_of ring c = (same was).home c home_c (omega (arith, lt, steps.keeps.size)) in
           ap (updated (updates_to log upto) c) at_home
           ∙ is.installing.0.done was c home_c (omega (arith, lt, steps.keeps.size))
           ∙ sym at_home;
     }),
-    λ honest. keeps_homes (at ring (install_start upto)) (at now (install_sync upto)) refl (home honest),
+    λ honest. keeps_homes (at ring (install_start upto)) (at now (install_sync upto)) refl ((same honest).home),
   )
 
 -- the barrier after block 1: the positions are free
@@ -373,17 +371,20 @@ pub installs_on : (ring now : Ring) (log : LogState) (logging : Logging) (before
     → MakesDueCall (install_call log before) ring.disk now.disk → after ≡ after_call before
     → (IsTrue ring.disk.honest → KeepsBlocks (record { ring = ring; log = log; logging = logging; installing = before })
     (record { ring = now; log = log; logging = logging; installing = after }))
-    → Installs (record { ring = ring; log = log; logging = logging; installing = before })
-    (record { ring = now; log = log; logging = logging; installing = after })
-installs_on ring now log logging before after left next was is call is_next blocks = record {
-  ahead = before;
-  is_ahead = record { begins = λ none_left. absurd (omega (arith, was, none_left)); goes_on = λ some. refl };
-  call = call;
-  next = is_next;
-  blocks = blocks;
-  logging = λ i. log_steps_by logging (log.cut - log.logged) (log.cut - next i);
-  moves = subst (λ (n : ℕ). InstallMoves n old new) (sym was) (record { steps = omega (arith, was, is); log = refl });
-}
+    → let new : WalState = record { ring = now; log = log; logging = logging; installing = after } in
+    Installs (record { ring = ring; log = log; logging = logging; installing = before }) new × (0 < install_steps new)
+installs_on ring now log logging before after left next was is call is_next blocks = (
+  record {
+    ahead = before;
+    is_ahead = record { begins = λ none_left. absurd (omega (arith, was, none_left)); goes_on = λ some. refl };
+    call = call;
+    next = is_next;
+    blocks = blocks;
+    logging = λ i. log_steps_by logging (log.cut - log.logged) (log.cut - next i);
+    moves = subst (λ (n : ℕ). InstallMoves n old new) (sym was) (record { steps = omega (arith, was, is); log = refl });
+  },
+  omega (arith, is),
+)
   where
     old : WalState
     old = record { ring = ring; log = log; logging = logging; installing = before }
@@ -396,17 +397,20 @@ pub installs_freed : (ring now : Ring) (log : LogState) (logging : Logging) (upt
     → MakesDueCall (install_call log (install_sync upto)) ring.disk now.disk
     → (IsTrue ring.disk.honest → KeepsBlocks (record { ring = ring; log = log; logging = logging; installing = install_sync upto })
     (record { ring = now; log = trimmed log upto; logging = logging; installing = install_none }))
-    → Installs (record { ring = ring; log = log; logging = logging; installing = install_sync upto })
+    → InstallAnswers (record { ring = ring; log = log; logging = logging; installing = install_sync upto }) (Freed upto)
     (record { ring = now; log = trimmed log upto; logging = logging; installing = install_none })
-installs_freed ring now log logging upto next position call blocks = record {
-  ahead = install_sync upto;
-  is_ahead = record { begins = λ none_left. absurd (omega (arith, none_left)); goes_on = λ some. refl };
-  call = call;
-  next = refl;
-  blocks = blocks;
-  logging = λ i. log_steps_by logging (log.cut - log.logged) (log.cut - next i);
-  moves = record { steps = refl; upto = upto; upto_is = refl; above = position.above; below = position.below; log = refl };
-}
+installs_freed ring now log logging upto next position call blocks = (
+  record {
+    ahead = install_sync upto;
+    is_ahead = record { begins = λ none_left. absurd (omega (arith, none_left)); goes_on = λ some. refl };
+    call = call;
+    next = refl;
+    blocks = blocks;
+    logging = λ i. log_steps_by logging (log.cut - log.logged) (log.cut - next i);
+    moves = record { steps = refl; upto = upto; upto_is = refl; above = position.above; below = position.below; log = refl };
+  },
+  refl,
+)
 
 -- what is logged is planned
 pub plan_made : (w : WalState) → IsWal w → w.installing ≡ install_none → (plan : List (ℕ × ℕ))

@@ -12,9 +12,9 @@ use Rattle.std.proofs.lemmas.Option.{get_or_from_slice_get, slice_get_within}
 use Rattle.journal_block.specs.declared.update.Update.{Update}
 use Rattle.journal_disk.specs.Images.{EveryImage}
 use Rattle.journal_circ.specs.Log.{log_block, with_address, with_end}
-use Rattle.journal_circ.specs.Ring.{Ring, log_of, home_of, Crashes as RingCrashes, SameHome, MakesCall}
+use Rattle.journal_circ.specs.Ring.{Ring, log_of, home_of, Crashes as RingCrashes, KeepsLog, SameHome, MakesCall}
 use Rattle.journal_memlog.specs.Logs.{LogState, next_position, tail_of}
-use Rattle.journal_wal.specs.Wal.{WalState, Logging, log_blocks, log_end, log_sync, log_spent, Installing, Crashes, Fails, LogMoves, log_steps, log_steps_by, log_call, log_call_by, bytes_at, MakesDueCall, MayStandFor, size_of, blocks_at, AreHomes, tail_length, free_positions}
+use Rattle.journal_wal.specs.Wal.{WalState, Logging, log_blocks, log_end, log_sync, log_spent, Installing, Crashes, Fails, Cuts, LogsOn, EndsGroup, log_steps, log_steps_by, log_call, log_call_by, bytes_at, MakesDueCall, MayStandFor, size_of, blocks_at, AreHomes, tail_length, free_positions}
 use Rattle.journal_wal.specs.States.{updates_to, AreTied, IsWal, IsLogging, IsInstalling}
 use Rattle.journal_wal.proofs.Crashes.{images_of, moments_of}
 use Rattle.journal_wal.proofs.Frames.{keeps_homes, KeepsInstalling, installing_stays, tied_by, keeps_installing}
@@ -120,18 +120,19 @@ module _ (ring now : Ring) (log : LogState) (installing : Installing) where
       → (IsTrue ring.disk.honest → log_of now ≡ log_of ring ++ u ∷ []) → (IsTrue ring.disk.honest → SameHome ring now)
       → now ≡ record ring { disk = now.disk; header = with_address ring.header ring.next u.block; next = ring.next + 1 }
       → MakesCall (write (log_block ring.next) u.bytes) ring.disk now.disk
-      → Leaves (at ring log_blocks) (at now log_blocks) × LogMoves (log_steps (at ring log_blocks)) (at ring log_blocks) (at now log_blocks)
+      → Leaves (at ring log_blocks) (at now log_blocks) × LogsOn (at ring log_blocks) (at now log_blocks)
   block_logged u is group left found steps log_is home is_now happened = (
     stepped (at ring log_blocks) now log_blocks installing ring.extent.coming is steps is.tied.coming tied same
         (k.coming ∙ is.logging ∙ sym k.end)
         (installing_stays ring now log log keeps installing is.installing),
-    subst (λ (n : ℕ). LogMoves n (at ring log_blocks) (at now log_blocks)) (sym before) (record {
+    record {
       steps = omega (arith, before, after, k.next);
+      left = omega (arith, after);
       log = refl;
       blocks = λ honest. keeps_homes (at ring log_blocks) (at now log_blocks) refl (home honest);
       call = subst (λ (call : Option DiskEvent). MakesDueCall call ring.disk now.disk) (sym (call_block u group left found)) happened;
       installing = refl;
-    }),
+    },
   )
     where
       k : Kept (ring.next + 1) ring.extent.coming
@@ -164,85 +165,87 @@ module _ (ring now : Ring) (log : LogState) (installing : Installing) where
   failed : (phase : Logging) (coming : ℕ) → IsWal (at ring phase) → RingCrashes coming ring now
       → (coming ≡ log.logged) ⊎ ((coming ≡ log.cut) × (ring.next ≡ log.cut)) → Kept ring.next coming → now.faulted ≡ true
       → (now.extent.coming ≡ log.logged) ⊎ ((now.extent.coming ≡ log.cut) × (now.next ≡ log.cut))
-      → (IsTrue ring.disk.honest → log_of now ≡ log_of ring) → (IsTrue ring.disk.honest → SameHome ring now)
+      → (IsTrue ring.disk.honest → KeepsLog ring now)
       → Leaves (at ring phase) (at now log_spent) × Fails (at ring phase) (at now log_spent)
-  failed phase coming is steps coming_is k faulted coming_now log_is home = (
+  failed phase coming is steps coming_is k faulted coming_now same = (
     stepped (at ring phase) now log_spent installing coming is steps coming_is
         (tied_by ring now log is.tied steps.keeps.size k.start k.end (omega (arith, k.next)) (omega (arith, k.next, is.tied.next_to_cut)) coming_now)
-        (λ honest. log_is honest ∙ is.log honest ∙ (λ i. take (sym k.next i - log.start) log.updates))
+        (λ honest. (same honest).log ∙ is.log honest ∙ (λ i. take (sym k.next i - log.start) log.updates))
         faulted
-        (installing_stays ring now log log (keeps_installing ring now log steps.keeps k.start k.freed k.homes (λ was. faulted) home) installing is.installing),
-    record { faulted = faulted; log = refl; blocks = λ honest. keeps_homes (at ring phase) (at now log_spent) refl (home honest) },
+        (installing_stays ring now log log (keeps_installing ring now log steps.keeps k.start k.freed k.homes (λ was. faulted) (λ honest. (same honest).home)) installing is.installing),
+    record { faulted = faulted; log = refl; blocks = λ honest. keeps_homes (at ring phase) (at now log_spent) refl (same honest).home },
   )
 
   -- a call that changes no mark
   pub call_failed : (phase : Logging) → IsWal (at ring phase) → RingCrashes ring.extent.coming ring now
-      → (IsTrue ring.disk.honest → log_of now ≡ log_of ring) → (IsTrue ring.disk.honest → SameHome ring now)
+      → (IsTrue ring.disk.honest → KeepsLog ring now)
       → now ≡ record ring { disk = now.disk; faulted = true }
       → Leaves (at ring phase) (at now log_spent) × Fails (at ring phase) (at now log_spent)
-  call_failed phase is steps log_is home is_now =
+  call_failed phase is steps same is_now =
       failed phase ring.extent.coming is steps is.tied.coming (kept ring.header ring.next ring.extent.coming ring.extent.stable true is_now (λ _. refl)) (ap (λ (r : Ring). r.faulted) is_now)
       (subst (λ (r : Ring). (r.extent.coming ≡ log.logged) ⊎ ((r.extent.coming ≡ log.cut) × (r.next ≡ log.cut))) (sym is_now) is.tied.coming)
-      log_is home
+      same
 
   -- the write of block 0
   pub end_failed : IsWal (at ring log_end) → RingCrashes ring.next ring now
-      → (IsTrue ring.disk.honest → log_of now ≡ log_of ring) → (IsTrue ring.disk.honest → SameHome ring now)
+      → (IsTrue ring.disk.honest → KeepsLog ring now)
       → now ≡ record ring { disk = now.disk; header = with_end ring.header ring.next; extent = record ring.extent { coming = ring.next }; faulted = true }
       → Leaves (at ring log_end) (at now log_spent) × Fails (at ring log_end) (at now log_spent)
-  end_failed is steps log_is home is_now =
+  end_failed is steps same is_now =
       failed log_end ring.next is steps (inr (is.logging.2, is.logging.2)) (kept (with_end ring.header ring.next) ring.next ring.next ring.extent.stable true is_now (λ _. refl)) (ap (λ (r : Ring). r.faulted) is_now)
       (inr (ap (λ (r : Ring). r.extent.coming) is_now ∙ is.logging.2, ap (λ (r : Ring). r.next) is_now ∙ is.logging.2))
-      log_is home
+      same
 
   -- the barrier after the log blocks
   pub blocks_synced : IsWal (at ring log_blocks) → log.logged < log.cut → ring.next ≡ log.cut
       → RingCrashes ring.extent.coming ring now
-      → (IsTrue ring.disk.honest → log_of now ≡ log_of ring) → (IsTrue ring.disk.honest → SameHome ring now)
+      → (IsTrue ring.disk.honest → KeepsLog ring now)
       → now ≡ record ring { disk = now.disk; extent = record ring.extent { stable = ring.next } } → MakesCall barrier ring.disk now.disk
-      → Leaves (at ring log_blocks) (at now log_end) × LogMoves (log_steps (at ring log_blocks)) (at ring log_blocks) (at now log_end)
-  blocks_synced is group all steps log_is home is_now happened = (
+      → Leaves (at ring log_blocks) (at now log_end) × LogsOn (at ring log_blocks) (at now log_end)
+  blocks_synced is group all steps same is_now happened = (
     stepped (at ring log_blocks) now log_end installing ring.extent.coming is steps is.tied.coming
         (tied_by ring now log is.tied steps.keeps.size k.start k.end (omega (arith, k.next)) (omega (arith, k.next, all))
         (inl (k.coming ∙ is.logging ∙ is.tied.end)))
-        (λ honest. log_is honest ∙ is.log honest ∙ (λ i. take (sym k.next i - log.start) log.updates))
+        (λ honest. (same honest).log ∙ is.log honest ∙ (λ i. take (sym k.next i - log.start) log.updates))
         (k.coming ∙ is.logging ∙ sym k.end, ap (λ (r : Ring). r.extent.stable) is_now ∙ sym k.next, k.next ∙ all, group)
         (installing_stays ring now log log keeps installing is.installing),
-    subst (λ (n : ℕ). LogMoves n (at ring log_blocks) (at now log_end)) (sym before) (record {
+    record {
       steps = omega (arith, before);
+      left = omega arith;
       log = refl;
-      blocks = λ honest. keeps_homes (at ring log_blocks) (at now log_end) refl (home honest);
+      blocks = λ honest. keeps_homes (at ring log_blocks) (at now log_end) refl (same honest).home;
       call = subst (λ (call : Option DiskEvent). MakesDueCall call ring.disk now.disk) (sym (call_barrier group all)) happened;
       installing = refl;
-    }),
+    },
   )
     where
       k : Kept ring.next ring.extent.coming
       k = kept ring.header ring.next ring.extent.coming ring.next ring.faulted is_now (λ was. was)
 
       keeps : KeepsInstalling ring now log log
-      keeps = keeps_installing ring now log steps.keeps k.start k.freed k.homes k.faulted home
+      keeps = keeps_installing ring now log steps.keeps k.start k.freed k.homes k.faulted (λ honest. (same honest).home)
 
       before : log_steps (at ring log_blocks) ≡ 3
       before = steps_in_group (log.cut - log.logged) (log.cut - ring.next) (omega (arith, group)) ∙ omega (arith, all)
 
   -- the write of block 0
   pub end_written : IsWal (at ring log_end) → RingCrashes ring.next ring now
-      → (IsTrue ring.disk.honest → log_of now ≡ log_of ring) → (IsTrue ring.disk.honest → SameHome ring now)
+      → (IsTrue ring.disk.honest → KeepsLog ring now)
       → now ≡ record ring { disk = now.disk; header = with_end ring.header ring.next; extent = record ring.extent { coming = ring.next } }
       → MakesCall (write 0 (with_end ring.header ring.next)) ring.disk now.disk
-      → Leaves (at ring log_end) (at now log_sync) × LogMoves (log_steps (at ring log_end)) (at ring log_end) (at now log_sync)
-  end_written is steps log_is home is_now happened = (
+      → Leaves (at ring log_end) (at now log_sync) × LogsOn (at ring log_end) (at now log_sync)
+  end_written is steps same is_now happened = (
     stepped (at ring log_end) now log_sync installing ring.next is steps (inr (is.logging.2, is.logging.2))
         (tied_by ring now log is.tied steps.keeps.size k.start k.end (omega (arith, k.next)) (omega (arith, k.next, is.tied.next_to_cut))
         (inr (k.coming ∙ is.logging.2, k.next ∙ is.logging.2)))
-        (λ honest. log_is honest ∙ is.log honest ∙ (λ i. take (sym k.next i - log.start) log.updates))
+        (λ honest. (same honest).log ∙ is.log honest ∙ (λ i. take (sym k.next i - log.start) log.updates))
         (k.coming ∙ is.logging.2, k.next ∙ is.logging.2, is.logging.3)
         (installing_stays ring now log log keeps installing is.installing),
     record {
       steps = refl;
+      left = omega arith;
       log = refl;
-      blocks = λ honest. keeps_homes (at ring log_end) (at now log_sync) refl (home honest);
+      blocks = λ honest. keeps_homes (at ring log_end) (at now log_sync) refl (same honest).home;
       call = subst (λ (call : Option DiskEvent). MakesDueCall call ring.disk now.disk) (sym (call_end is.logging.2)) happened;
       installing = refl;
     },
@@ -252,16 +255,16 @@ module _ (ring now : Ring) (log : LogState) (installing : Installing) where
       k = kept (with_end ring.header ring.next) ring.next ring.next ring.extent.stable ring.faulted is_now (λ was. was)
 
       keeps : KeepsInstalling ring now log log
-      keeps = keeps_installing ring now log steps.keeps k.start k.freed k.homes k.faulted home
+      keeps = keeps_installing ring now log steps.keeps k.start k.freed k.homes k.faulted (λ honest. (same honest).home)
 
   -- the barrier after block 0
   pub group_ended : (later : LogState) → IsWal (at ring log_sync) → RingCrashes ring.extent.coming ring now
-      → (IsTrue ring.disk.honest → log_of now ≡ log_of ring) → (IsTrue ring.disk.honest → SameHome ring now)
+      → (IsTrue ring.disk.honest → KeepsLog ring now)
       → now ≡ record ring { disk = now.disk; extent = record ring.extent { end = ring.extent.coming } }
       → later ≡ record log { logged = now.extent.end } → MakesCall barrier ring.disk now.disk
       → Leaves (at ring log_sync) (record { ring = now; log = later; logging = log_blocks; installing = installing })
-      × LogMoves (log_steps (at ring log_sync)) (at ring log_sync) (record { ring = now; log = later; logging = log_blocks; installing = installing })
-  group_ended later is steps log_is home is_now later_is happened = (
+      × EndsGroup (at ring log_sync) (record { ring = now; log = later; logging = log_blocks; installing = installing })
+  group_ended later is steps keeps_log is_now later_is happened = (
     record {
       sound = record {
         tied = tied;
@@ -277,11 +280,12 @@ module _ (ring now : Ring) (log : LogState) (installing : Installing) where
       };
     },
     record {
+      last = refl;
       steps = λ i. log_steps_by log_blocks (none i) (later.cut - now.next);
       end = later_is ∙ (λ i. record log { logged = end_is i });
-      now = λ honest b home_b lt. λ i. updated (later_is i).updates b (home honest b home_b lt i);
-      cut = λ honest b home_b lt. λ i. updated (updates_to (later_is i) (later_is i).cut) b (home honest b home_b lt i);
-      logged = λ honest b home_b lt. (λ i. updated (updates_to (later_is i) (later_is i).logged) b (home honest b home_b lt i))
+      now = λ honest b home_b lt. λ i. updated (later_is i).updates b ((keeps_log honest).home b home_b lt i);
+      cut = λ honest b home_b lt. λ i. updated (updates_to (later_is i) (later_is i).cut) b ((keeps_log honest).home b home_b lt i);
+      logged = λ honest b home_b lt. (λ i. updated (updates_to (later_is i) (later_is i).logged) b ((keeps_log honest).home b home_b lt i))
           ∙ (λ i. updated (updates_to log (end_is i)) b (home_of ring b));
       call = happened;
       installing = refl;
@@ -326,7 +330,7 @@ module _ (ring now : Ring) (log : LogState) (installing : Installing) where
       }
 
       same : IsTrue ring.disk.honest → log_of now ≡ take (now.next - later.start) later.updates
-      same honest = log_is honest ∙ is.log honest
+      same honest = (keeps_log honest).log ∙ is.log honest
           ∙ (λ i. take (sym next i - (sym later_is i).start) (sym later_is i).updates)
 
       images : IsTrue now.disk.honest → EveryImage now.disk.past (MayStandFor new)
@@ -340,7 +344,7 @@ module _ (ring now : Ring) (log : LogState) (installing : Installing) where
         freed = ap (λ (r : Ring). r.extent.freed) is_now;
         homes = ap (λ (r : Ring). r.extent.homes) is_now;
         faulted = subst IsTrue (sym (ap (λ (r : Ring). r.faulted) is_now));
-        home = home;
+        home = λ honest. (keeps_log honest).home;
         first = ap (λ (l : LogState). l.start) later_is;
         logged = omega (arith, logged_is, is.logging.2);
         updates = λ upto le. λ i. take (upto - (later_is i).start) (later_is i).updates;
@@ -348,7 +352,7 @@ module _ (ring now : Ring) (log : LogState) (installing : Installing) where
 
 -- a cut: no device call
 cut_whole : (w : WalState) → IsWal w → w.logging ≡ log_blocks → w.log.logged ≡ w.log.cut → 0 < tail_length w → tail_length w ≤ free_positions w
-    → let new : WalState = record w { log = record w.log { cut = next_position w.log } } in Leaves w new × LogMoves (log_steps w) w new
+    → let new : WalState = record w { log = record w.log { cut = next_position w.log } } in Leaves w new × Cuts w new
 cut_whole w is phase rest some fits = (
   record {
     sound = record {
@@ -364,7 +368,8 @@ cut_whole w is phase rest some fits = (
       images = images;
     };
   },
-  subst (λ (n : ℕ). LogMoves n w new) (sym before) (record {
+  record {
+    rest = λ i. log_steps_by (phase i) (none i) (w.log.cut - w.ring.next);
     disk = refl;
     fits = (some, fits);
     steps = (λ i. log_steps_by (phase i) (next_position w.log - w.log.logged) (next_position w.log - w.ring.next))
@@ -375,7 +380,7 @@ cut_whole w is phase rest some fits = (
     cut = λ b home lt. ap (λ (us : List Update). updated us b (home_of w.ring b)) (take_all (next_position w.log - w.log.start) w.log.updates (omega arith));
     logged = λ b home lt. refl;
     installing = refl;
-  }),
+  },
 )
   where
     new : WalState
@@ -387,8 +392,8 @@ cut_whole w is phase rest some fits = (
     tail : tail_length w ≡ length w.log.updates - (w.log.cut - w.log.start)
     tail = length-drop (w.log.cut - w.log.start) w.log.updates
 
-    before : log_steps w ≡ 0
-    before = let none : w.log.cut - w.log.logged ≡ 0 = omega (arith, rest) in (λ i. log_steps_by (phase i) (none i) (w.log.cut - w.ring.next))
+    none : w.log.cut - w.log.logged ≡ 0
+    none = omega (arith, rest)
 
     tied : AreTied w.ring new.log
     tied = record {
@@ -415,6 +420,6 @@ cut_whole w is phase rest some fits = (
 
 pub group_cut : (w : WalState) (later : LogState) → IsWal w → w.logging ≡ log_blocks → w.log.logged ≡ w.log.cut
     → later ≡ record w.log { cut = next_position w.log } → 0 < tail_length w → tail_length w ≤ free_positions w
-    → Leaves w (record w { log = later }) × LogMoves (log_steps w) w (record w { log = later })
+    → Leaves w (record w { log = later }) × Cuts w (record w { log = later })
 group_cut w later is phase rest later_is some fits =
-    subst (λ (l : LogState). Leaves w (record w { log = l }) × LogMoves (log_steps w) w (record w { log = l })) (sym later_is) (cut_whole w is phase rest some fits)
+    subst (λ (l : LogState). Leaves w (record w { log = l }) × Cuts w (record w { log = l })) (sym later_is) (cut_whole w is phase rest some fits)

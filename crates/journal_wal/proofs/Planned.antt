@@ -1,6 +1,9 @@
 -- The first step of an installing: its plan, and its first home block.
-use Rattle.std.proofs.Common.{◌≡◌, ◌<◌, ◌+◌, ℕ, zero, suc, IsTrue, refl, sym, ap, subst, ◌∙◌, arith}
-use Rattle.journal_wal.specs.Wal.{WalState, IsAhead, MakesDueCall, install_call, after_call, log_steps, Installing, Crashes, KeepsBlocks, Plans, Installs, InstallMoves, BeginsInstall, InstallsOn, install_steps, distinct_blocks, logged_updates}
+use Rattle.std.proofs.Common.{◌≡◌, ◌<◌, ◌+◌, ℕ, zero, suc, IsTrue, Result, Ok, Err, IfOk, refl, sym, ap, subst, ◌∙◌, arith}
+use Rattle.journal_wal.specs.Wal.{WalState, IsAhead, MakesDueCall, install_call, after_call, log_steps, Installing, Crashes, KeepsBlocks, Plans, Installs, InstallMoves, BeginsInstall, InstallsOn, install_steps, install_steps_by, install_sync, InstallAnswers, distinct_blocks, logged_updates}
+use Rattle.journal_wal.specs.declared.step.InstallStep.{InstallStep}
+use Rattle.journal_wal.specs.declared.step.InstallStep.TheVariants.{Idle, Put, Freed}
+use Rattle.journal_world.specs.declared.refusal.Refusal.{Refusal}
 
 -- a plan is no part of what a crash may leave, and none of the blocks
 keeps_planned : (old new : WalState) (installing : Installing) → KeepsBlocks (record old { installing = installing }) new → KeepsBlocks old new
@@ -40,7 +43,7 @@ began old mid new left same installs many some steps =
     let on : InstallsOn mid new = subst (λ (n : ℕ). InstallMoves n mid new) many installs.moves in
     record { some = some; steps = on.steps ∙ steps; log = on.log ∙ ap (λ (w : WalState). w.log) same }
 
-pub installs_planned : (old mid new : WalState) → Plans old mid → Installs mid new → Installs old new
+installs_planned : (old mid new : WalState) → Plans old mid → Installs mid new → Installs old new
 installs_planned old mid new plans installs = by_steps (install_steps old) refl
   where
     by_steps : (n : ℕ) → install_steps old ≡ n → Installs old new
@@ -51,3 +54,15 @@ installs_planned old mid new plans installs = by_steps (install_steps old) refl
         (subst (λ (m : ℕ). InstallMoves m old new) (sym none_yet)
         (began old mid new (distinct_blocks (logged_updates old) + 1) plans.same installs many begun.0 begun.1))
     by_steps (suc n) some = subst (λ (w : WalState). Installs w new) (plans.stays (omega (arith, some))) installs
+
+-- the same by what is answered
+pub answers_planned : (old mid new : WalState) → Plans old mid → (r : Result InstallStep (Refusal Unit))
+    → IfOk r (λ step. InstallAnswers mid step new) → IfOk r (λ step. InstallAnswers old step new)
+answers_planned old mid new plans (Ok Idle) ok = absurd (omega (arith, plans.some, ok.0.steps))
+answers_planned old mid new plans (Ok Put) ok = (installs_planned old mid new plans ok.0, ok.1)
+answers_planned old mid new plans (Ok (Freed upto)) ok = (installs_planned old mid new plans ok.0, by_steps (install_steps old) refl)
+  where
+    by_steps : (n : ℕ) → install_steps old ≡ n → old.installing ≡ install_sync upto
+    by_steps zero none_yet = absurd (omega (arith, (plans.begun none_yet).1, ap install_steps_by ok.1))
+    by_steps (suc n) some = sym (ap (λ (w : WalState). w.installing) (plans.stays (omega (arith, some)))) ∙ ok.1
+answers_planned old mid new plans (Err refusal) ok = tt

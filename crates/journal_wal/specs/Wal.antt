@@ -7,8 +7,6 @@ use Rattle.std.specs.BTreeMap.{is_at}
 use Rattle.std.specs.Ordering.{nat_cmp}
 use Rattle.journal_world.specs.declared.refusal.Refusal.{Refusal}
 use Rattle.journal_world.specs.declared.refusal.Refusal.TheVariants.{NoMemory, DeviceFailed}
-use Rattle.journal_world.specs.declared.step.Step.{Step}
-use Rattle.journal_world.specs.declared.step.Step.TheVariants.{Idle, Moved}
 use Rattle.journal_block.specs.declared.update.Update.{Update}
 use Rattle.journal_block.specs.Block.{Bytes}
 use Rattle.journal_block.specs.Updates.{Content, updated, with_updates, updates_block}
@@ -21,6 +19,10 @@ use Rattle.journal_circ.specs.Ring.{Ring, home_of, MakesCall, TriesCall}
 use Rattle.journal_memlog.specs.Logs.{LogState, tail_of, absorbed, appended, trimmed, CanTake}
 use Rattle.journal_circ.specs.declared.layout.TheConstants.{FIRST_HOME, LOG_POSITIONS}
 use Rattle.journal_wal.specs.declared.append.TheConstants.{MAX_TAIL, MAX_UPDATES}
+use Rattle.journal_wal.specs.declared.step.GroupStep.{GroupStep}
+use Rattle.journal_wal.specs.declared.step.GroupStep.TheVariants.{Idle, Cut, Put, Logged}
+use Rattle.journal_wal.specs.declared.step.InstallStep.{InstallStep}
+use Rattle.journal_wal.specs.declared.step.InstallStep.TheVariants.{Idle as InstallIdle, Put as InstallPut, Freed}
 
 -- What the logger does next
 pub data Logging : Type 0 where
@@ -209,6 +211,7 @@ pub record Fails (old new : WalState) : Type 0 where
 
 -- The tail was cut into a group, without a device call
 pub record Cuts (old new : WalState) : Type 0 where
+  pub rest : log_steps old ≡ 0
   pub disk : new.ring ≡ old.ring
   pub fits : (0 < tail_length old) × (tail_length old ≤ free_positions old)
   pub steps : log_steps new ≡ tail_length old + 3
@@ -218,9 +221,10 @@ pub record Cuts (old new : WalState) : Type 0 where
   pub logged : SameBlocks (size_of old) (blocks_logged new) (blocks_logged old)
   pub installing : new.installing ≡ old.installing
 
--- A step of the group in flight was made
+-- A step of the group in flight was made, and its cycle goes on
 pub record LogsOn (old new : WalState) : Type 0 where
   pub steps : log_steps new + 1 ≡ log_steps old
+  pub left : 0 < log_steps new
   pub log : new.log ≡ old.log
   pub blocks : IsTrue old.ring.disk.honest → KeepsBlocks old new
   pub call : MakesDueCall (log_call old) old.ring.disk new.ring.disk
@@ -228,6 +232,7 @@ pub record LogsOn (old new : WalState) : Type 0 where
 
 -- The cycle of the group in flight ended
 pub record EndsGroup (old new : WalState) : Type 0 where
+  pub last : log_steps old ≡ 1
   pub steps : log_steps new ≡ 0
   pub end : new.log ≡ record old.log { logged = old.log.cut }
   pub now : IsTrue old.ring.disk.honest → SameBlocks (size_of old) (blocks_now new) (blocks_now old)
@@ -236,21 +241,17 @@ pub record EndsGroup (old new : WalState) : Type 0 where
   pub call : MakesDueCall (log_call old) old.ring.disk new.ring.disk
   pub installing : new.installing ≡ old.installing
 
--- What a step of the logger that moves does, where so many steps are left of the group in flight
-abbrev pub LogMoves : ℕ → WalState → WalState → Type 0
-LogMoves zero old new = Cuts old new
-LogMoves (suc zero) old new = EndsGroup old new
-LogMoves (suc (suc left)) old new = LogsOn old new
-
 -- The logger has nothing to do: no group is in flight, and the tail is empty or has no place in the log
 pub record IsLogIdle (w : WalState) : Type 0 where
   pub steps : log_steps w ≡ 0
   pub tail : (tail_length w ≡ 0) ⊎ (free_positions w < tail_length w)
 
 -- what a step of the logger answers, and does
-abbrev pub LogAnswers : WalState → Step → WalState → Type 0
+abbrev pub LogAnswers : WalState → GroupStep → WalState → Type 0
 LogAnswers old Idle new = IsLogIdle old × (new ≡ old)
-LogAnswers old Moved new = LogMoves (log_steps old) old new
+LogAnswers old Cut new = Cuts old new
+LogAnswers old Put new = LogsOn old new
+LogAnswers old Logged new = EndsGroup old new
 
 -- how many distinct blocks the updates are of
 abbrev pub distinct_blocks : List Update → ℕ
@@ -346,9 +347,10 @@ IsInstallRefusal old new (DeviceFailed cause) = (IsTrue old.ring.faulted ⊎ Has
 IsInstallRefusal old new other = ⊥
 
 -- what a step of the installer answers, and does
-abbrev pub InstallAnswers : WalState → Step → WalState → Type 0
-InstallAnswers old Idle new = IsInstallIdle old × (new ≡ old)
-InstallAnswers old Moved new = Installs old new
+abbrev pub InstallAnswers : WalState → InstallStep → WalState → Type 0
+InstallAnswers old InstallIdle new = IsInstallIdle old × (new ≡ old)
+InstallAnswers old InstallPut new = Installs old new × (0 < install_steps new)
+InstallAnswers old (Freed upto) new = Installs old new × (old.installing ≡ install_sync upto)
 
 -- The log begins and ends where an image of the disk tells
 pub record HasBoundsIn (image : List Bytes) (w : WalState) : Type 0 where

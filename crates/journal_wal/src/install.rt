@@ -6,11 +6,12 @@ ghost use Rattle.journal_wal.specs.Wal.{Crashes, Fails, InstallAnswers, Installs
 
 use crate::disk_log::Installer;
 use crate::plan::Plan;
+use crate::step::InstallStep;
 use crate::wal::Wal;
 use journal_circ::{Freed, HomesPut};
 use journal_disk::BlockDisk;
 use journal_memlog::MemLog;
-use journal_world::{Refusal, Step};
+use journal_world::Refusal;
 use std::mem;
 
 impl<D: BlockDisk> Wal<D> {
@@ -21,7 +22,7 @@ impl<D: BlockDisk> Wal<D> {
     ///
     /// Answers J6 `DeviceFailed` where the device failed in this call or before, and J1 `NoMemory` where memory
     /// for the list of addresses is refused, at the first of these steps; the log is then as it was.
-    pub fn install_step(&mut self) -> Result<Step, Refusal<()>>
+    pub fn install_step(&mut self) -> Result<InstallStep, Refusal<()>>
         ensures refusal { IfErr result (IsInstallRefusal self.old self.new) }
         ensures faulted { IsTrue self.old.ring.faulted → IsErr result × (self.new ≡ self.old) }
         ensures fine { OnOk result ((self.old.ring.faulted ≡ false) × (self.new.ring.faulted ≡ false)) }
@@ -33,11 +34,10 @@ impl<D: BlockDisk> Wal<D> {
             return Err(Refusal::DeviceFailed(()));
         }
         if self.is_install_idle() {
-            return Ok(Step::Idle);
+            return Ok(InstallStep::Idle);
         }
         self.plan()?;
-        self.install_on()?;
-        Ok(Step::Moved)
+        self.install_on()
     }
 
     // Whether nothing is being installed, and nothing is to be.
@@ -76,18 +76,19 @@ impl<D: BlockDisk> Wal<D> {
     }
 
     // The next step of an installing that began.
-    fn install_on(&mut self) -> Result<(), Refusal<()>>
+    fn install_on(&mut self) -> Result<InstallStep, Refusal<()>>
         requires fine { self.old.ring.faulted ≡ false }
         requires some { 0 < install_steps self.old }
         ensures refusal { IfErr result (IsFault self.old.ring.faulted self.old.ring.disk self.new.ring.disk) }
         ensures fine { OnOk result (self.new.ring.faulted ≡ false) }
-        ensures ok { OnOk result (Installs self.old self.new) }
+        ensures ok { IfOk result (λ step. InstallAnswers self.old step self.new) }
         ensures err { OnErr result (Fails self.old self.new) }
         ensures tries { OnErr result
             (TriesDueCall (install_call self.old.log self.old.installing) self.old.ring.disk self.new.ring.disk) }
         ensures crash { Crashes self.old self.new }
     {
         let circ = &mut self.on_disk.circ;
+        let mut step = InstallStep::Put;
         let next = match mem::replace(&mut self.on_disk.installer, Installer::Spent) {
             Installer::Homes(state, mut plan) => match plan.next() {
                 Some((block, position)) => {
@@ -101,12 +102,13 @@ impl<D: BlockDisk> Wal<D> {
             }
             Installer::StartPut(state, upto) => {
                 let freed = circ.sync_start(state)?;
+                step = InstallStep::Freed(upto);
                 Installer::Resting(free(&mut self.memory, freed, upto))
             }
             Installer::Resting(_) | Installer::Spent => return Err(Refusal::DeviceFailed(())),
         };
         self.on_disk.installer = next;
-        Ok(())
+        Ok(step)
     }
 }
 

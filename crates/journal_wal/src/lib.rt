@@ -15,7 +15,9 @@ mod install;
 mod log;
 mod open;
 mod plan;
+mod step;
 mod wal;
 
 pub use append::{MAX_TAIL, MAX_UPDATES};
+pub use step::{GroupStep, InstallStep};
 pub use wal::Wal;

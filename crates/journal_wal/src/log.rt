@@ -4,10 +4,10 @@ ghost use Rattle.journal_circ.specs.Ring.{IsFault};
 ghost use Rattle.journal_wal.specs.Wal.{Crashes, Fails, LogAnswers, TriesDueCall, log_blocks, log_call};
 
 use crate::disk_log::Logger;
+use crate::step::GroupStep;
 use crate::wal::Wal;
-use journal_circ::LOG_POSITIONS;
 use journal_disk::BlockDisk;
-use journal_world::{Refusal, Step};
+use journal_world::Refusal;
 use std::mem;
 
 impl<D: BlockDisk> Wal<D> {
@@ -16,7 +16,7 @@ impl<D: BlockDisk> Wal<D> {
     /// idle where no group is in flight and the tail is empty or has no place in the log.
     ///
     /// Answers J6 `DeviceFailed`, and nothing else, where the device failed in this call or before.
-    pub fn log_step(&mut self) -> Result<Step, Refusal<()>>
+    pub fn log_step(&mut self) -> Result<GroupStep, Refusal<()>>
         ensures refusal { IfErr result (IsFault self.old.ring.faulted self.old.ring.disk self.new.ring.disk) }
         ensures faulted { IsTrue self.old.ring.faulted → IsErr result × (self.new ≡ self.old) }
         ensures fine { OnOk result ((self.old.ring.faulted ≡ false) × (self.new.ring.faulted ≡ false)) }
@@ -30,6 +30,7 @@ impl<D: BlockDisk> Wal<D> {
         }
         let bounds = self.memory.bounds();
         let circ = &mut self.on_disk.circ;
+        let mut step = GroupStep::Put;
         let next = match mem::replace(&mut self.on_disk.logger, Logger::Spent) {
             Logger::Blocks(state) if circ.next() < bounds.cut => {
                 let update = self.memory.at(circ.next());
@@ -46,28 +47,26 @@ impl<D: BlockDisk> Wal<D> {
             Logger::EndPut(state) => {
                 let state = circ.sync_end(state)?;
                 self.memory.logged(circ.end());
+                step = GroupStep::Logged;
                 Logger::Blocks(state)
             }
             Logger::Spent => return Err(Refusal::DeviceFailed(())),
         };
         self.on_disk.logger = next;
-        Ok(Step::Moved)
+        Ok(step)
     }
 
     // Cuts the tail, where it has a block and the log has a position for each.
-    fn cut(&mut self) -> Step
+    fn cut(&mut self) -> GroupStep
         requires rest { self.old.log.logged ≡ self.old.log.cut }
         requires phase { self.old.logging ≡ log_blocks }
         ensures step { LogAnswers self.old result self.new }
         ensures crash { Crashes self.old self.new }
     {
-        let bounds = self.memory.bounds();
-        let used = bounds.logged - bounds.start;
-        let tail = self.memory.tail_len();
-        if tail == 0 || tail > LOG_POSITIONS - used {
-            return Step::Idle;
+        if !self.tail_fits() {
+            return GroupStep::Idle;
         }
         self.memory.cut();
-        Step::Moved
+        GroupStep::Cut
     }
 }

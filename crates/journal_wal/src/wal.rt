@@ -2,11 +2,12 @@
 ghost use Rattle.std.specs.Prelude.{ℕ, ◌≡◌, ◌≤◌, ◌<◌, ◌↔◌, ◌⊎◌, true, false, is_some, IsTrue, OnOk, OnErr, IsErr, IfErr, IfSome};
 ghost use Rattle.journal_block.specs.Updates.{updates_block};
 ghost use Rattle.journal_circ.specs.Ring.{IsFault};
-ghost use Rattle.journal_wal.specs.Wal.{OnlyReads, Crashes, size_of, tail_length, blocks_now, log_steps};
+ghost use Rattle.journal_wal.specs.Wal.{OnlyReads, Crashes, IsLogIdle, size_of, tail_length, free_positions, blocks_now, log_steps};
 ghost use Rattle.journal_wal.specs.declared.append.TheConstants.{MAX_TAIL};
 
 use crate::disk_log::DiskLog;
 use journal_block::Block;
+use journal_circ::LOG_POSITIONS;
 use journal_disk::{BlockDisk, MemDisk};
 use journal_memlog::MemLog;
 use journal_world::Refusal;
@@ -85,6 +86,22 @@ impl<D: BlockDisk> Wal<D> {
         ensures few { result ≤ MAX_TAIL }
     {
         self.memory.tail_len()
+    }
+
+    // Whether the tail has a block, and the log a position for each.
+    pub(crate) fn tail_fits(&self) -> bool
+        ensures { IsTrue result ↔ ((0 < tail_length self.now) × (tail_length self.now ≤ free_positions self.now)) }
+    {
+        let bounds = self.memory.bounds();
+        let tail = self.memory.tail_len();
+        0 < tail && tail <= LOG_POSITIONS - (bounds.logged - bounds.start)
+    }
+
+    /// Whether the logger has nothing to do: no group is in flight, and the tail is empty or has no place in the log.
+    pub fn is_log_idle(&self) -> bool
+        ensures { self.now.ring.faulted ≡ false → IsTrue result ↔ IsLogIdle self.now }
+    {
+        !self.is_logging() && !self.tail_fits()
     }
 
     /// The block with all updates, lent, where it is in memory.

@@ -1,8 +1,8 @@
 // The logger's cycle: a group of updates is put, and then becomes part of the log at once.
-ghost use Rattle.std.specs.Prelude.{ℕ, ◌≡◌, ◌⊎◌, ◌<◌, ◌≤◌, ◌+◌, ◌^◌, [], ◌∷◌, ◌++◌, true, IsTrue, OnOk, OnErr, IfErr, IsErr, MatchResult};
+ghost use Rattle.std.specs.Prelude.{ℕ, ◌≡◌, ◌⊎◌, ◌<◌, ◌≤◌, ◌+◌, ◌^◌, [], ◌∷◌, ◌++◌, true, IsTrue, OnOk, OnErr, MatchResult};
 ghost use Rattle.journal_disk.specs.Disks.{write, barrier};
 ghost use Rattle.journal_circ.specs.Log.{log_block, with_address, with_end};
-ghost use Rattle.journal_circ.specs.Ring.{log_of, Crashes, SameHome, IsFault, MakesCall, TriesCall};
+ghost use Rattle.journal_circ.specs.Ring.{log_of, Crashes, Steps, KeepsLog, SameHome};
 ghost use Rattle.journal_circ.specs.declared.layout.TheConstants.{FIRST_HOME, LOG_POSITIONS};
 
 use crate::Circ;
@@ -38,12 +38,8 @@ impl<D: BlockDisk> Circ<D> {
         requires small { self.old.next + 1 < 2 ^ 62 }
         requires home { FIRST_HOME ≤ address }
         requires on_disk { address < self.old.disk.past.size }
-        ensures refusal { IfErr result (IsFault self.old.faulted self.old.disk self.new.disk) }
-        ensures faulted { IsTrue self.old.faulted → IsErr result × (self.new ≡ self.old) }
+        ensures step { Steps (write (log_block self.old.next) from.now) result self.old self.new }
         ensures crash { Crashes self.old.extent.coming self.old self.new }
-        ensures makes { OnOk result
-            (MakesCall (write (log_block self.old.next) from.now) self.old.disk self.new.disk) }
-        ensures tries { TriesCall (write (log_block self.old.next) from.now) self.old.disk self.new.disk }
         ensures log { IsTrue self.old.disk.honest → MatchResult result
             (λ _. log_of self.new ≡ log_of self.old ++ record { block = address; bytes = from.now } ∷ [])
             (λ _. log_of self.new ≡ log_of self.old) }
@@ -65,13 +61,9 @@ impl<D: BlockDisk> Circ<D> {
     ///
     /// Answers J6, and nothing else, where the device failed in this call or before.
     pub fn sync_slots(&mut self, _state: LogBlocksPut) -> Result<LogBlocksSynced, Refusal<()>>
-        ensures refusal { IfErr result (IsFault self.old.faulted self.old.disk self.new.disk) }
-        ensures faulted { IsTrue self.old.faulted → IsErr result × (self.new ≡ self.old) }
+        ensures step { Steps barrier result self.old self.new }
         ensures crash { Crashes self.old.extent.coming self.old self.new }
-        ensures makes { OnOk result (MakesCall barrier self.old.disk self.new.disk) }
-        ensures tries { TriesCall barrier self.old.disk self.new.disk }
-        ensures log { IsTrue self.old.disk.honest → log_of self.new ≡ log_of self.old }
-        ensures home { IsTrue self.old.disk.honest → SameHome self.old self.new }
+        ensures log { IsTrue self.old.disk.honest → KeepsLog self.old self.new }
         ensures ok { OnOk result (self.new ≡ record self.old {
           disk = self.new.disk;
           extent = record self.old.extent { stable = self.old.next };
@@ -91,14 +83,9 @@ impl<D: BlockDisk> Circ<D> {
     pub fn put_end(&mut self, _state: LogBlocksSynced) -> Result<EndPut, Refusal<()>>
         requires synced { self.old.extent.stable ≡ self.old.next }
         requires one { self.old.extent.coming ≡ self.old.extent.end }
-        ensures refusal { IfErr result (IsFault self.old.faulted self.old.disk self.new.disk) }
-        ensures faulted { IsTrue self.old.faulted → IsErr result × (self.new ≡ self.old) }
+        ensures step { Steps (write 0 (with_end self.old.header self.old.next)) result self.old self.new }
         ensures crash { Crashes self.old.next self.old self.new }
-        ensures makes { OnOk result
-            (MakesCall (write 0 (with_end self.old.header self.old.next)) self.old.disk self.new.disk) }
-        ensures tries { TriesCall (write 0 (with_end self.old.header self.old.next)) self.old.disk self.new.disk }
-        ensures log { IsTrue self.old.disk.honest → log_of self.new ≡ log_of self.old }
-        ensures home { IsTrue self.old.disk.honest → SameHome self.old self.new }
+        ensures log { IsTrue self.old.disk.honest → KeepsLog self.old self.new }
         ensures ok { OnOk result (self.new ≡ record self.old {
           disk = self.new.disk;
           header = with_end self.old.header self.old.next;
@@ -122,13 +109,9 @@ impl<D: BlockDisk> Circ<D> {
     ///
     /// Answers J6, and nothing else, where the device failed in this call or before.
     pub fn sync_end(&mut self, _state: EndPut) -> Result<LogBlocksPut, Refusal<()>>
-        ensures refusal { IfErr result (IsFault self.old.faulted self.old.disk self.new.disk) }
-        ensures faulted { IsTrue self.old.faulted → IsErr result × (self.new ≡ self.old) }
+        ensures step { Steps barrier result self.old self.new }
         ensures crash { Crashes self.old.extent.coming self.old self.new }
-        ensures makes { OnOk result (MakesCall barrier self.old.disk self.new.disk) }
-        ensures tries { TriesCall barrier self.old.disk self.new.disk }
-        ensures log { IsTrue self.old.disk.honest → log_of self.new ≡ log_of self.old }
-        ensures home { IsTrue self.old.disk.honest → SameHome self.old self.new }
+        ensures log { IsTrue self.old.disk.honest → KeepsLog self.old self.new }
         ensures ok { OnOk result (self.new ≡ record self.old {
           disk = self.new.disk;
           extent = record self.old.extent { end = self.old.extent.coming };

@@ -1,11 +1,12 @@
 use Rattle.std.proofs.Common.{ℕ, max, ◌<◌, ◌+◌, ◌^◌, IsTrue, List, length, refl, sym, ap, subst, ◌∙◌}
 use Rattle.journal_world.specs.Maps.{Agrees}
 use Rattle.journal_world.specs.Histories.{Entry, is_trusted, latest}
+use Rattle.journal_objlog.specs.ObjectLogs.{base_of}
 use Rattle.journal_objlog.specs.Writes.{IsPrepared}
 use Rattle.journal_history.specs.Tokens.{next_transaction}
 use Rattle.journal_core.specs.Transactions.{TransactionState}
 use Rattle.journal_core.specs.SlotCounts.{CountsWrites}
-use Rattle.journal_core.specs.Cores.{CoreState, IsCore}
+use Rattle.journal_core.specs.Cores.{CoreState, IsCore, disk_of}
 use Rattle.journal_core.proofs.Keeping.{crashes_seen}
 use Rattle.journal_core.proofs.Stepping.{crashes_step}
 use Rattle.journal_core.proofs.Committing.{ruled_then, few_commits, kept_added}
@@ -36,7 +37,7 @@ invariant_of-self-2 g c =
     let t = next_transaction c.args.session.now c.args.transaction.now.reads c.args.transaction.now.writes in (
       kept_added g.J.Naming.blocks (record { objects = c.self.inside.objects; history = c.self.inside.writer; cut = c.self.inside.cut; logged = c.self.inside.logged; next = c.self.inside.next; closed = c.self.inside.closed }) c.self.invariant.0 c.len-len.ensures.begun
           t c.args.prepared c.apply.new.self c.commit.new.self c.max-self-inside.result c.in-Ok.ensures.committed.added (c.max-self-inside.ensures ∙ ap (λ (n : ℕ). max c.self.inside.next (n + 1)) c.number-number.ensures)
-          (subst (λ (s : CoreState). IsPrepared s.objects c.args.prepared c.args.transaction.now.writes) (sym c.self.view_is) c.requires.prepared)
+          (subst (λ (s : CoreState). IsPrepared (disk_of s).honest (base_of s.objects) c.args.prepared c.args.transaction.now.writes) (sym c.self.view_is) c.requires.prepared)
           c.apply.ensures.log c.apply.ensures.crash c.apply.ensures.map c.apply.ensures.cut c.apply.ensures.logged,
       keeps_commit c.self.inside.tally c.reserve.new.self c.count_one.new.self c.self.inside.slots c.count_writes.new.self c.self.inside.writer c.commit.new.self t c.number-number.result
           c.in-Ok.ensures.committed.added c.number-number.ensures c.reserve.ensures.same c.count_one.ensures

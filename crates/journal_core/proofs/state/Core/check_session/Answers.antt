@@ -1,4 +1,4 @@
-use Rattle.std.proofs.Common.{◌≡◌, List, length, Some, ap, sym, subst, ◌∙◌, arith, rules, refl}
+use Rattle.std.proofs.Common.{◌≡◌, List, length, Some, ap, sym, subst, ◌∙◌, arith, refl}
 use mathlib.Core.List.{IsPrefix}
 use Rattle.journal_world.specs.Histories.{Entry}
 use Rattle.journal_world.proofs.Prefixes.{IsPrefix-whole, IsPrefix-trans}

@@ -1,4 +1,4 @@
-use Rattle.std.proofs.Common.{◌≡◌, false, length, refl, sym, subst, rules}
+use Rattle.std.proofs.Common.{◌≡◌, length, sym, subst, rules}
 use Rattle.journal_world.specs.declared.refusal.Refusal.{Refusal}
 use Rattle.journal_world.specs.Histories.{commits_of}
 use Rattle.journal_objlog.proofs.Openings.{OnlyReads-refl}

@@ -1,6 +1,3 @@
-use Rattle.std.proofs.Common.{IsTrue}
-use Rattle.journal_world.specs.Addresses.{Value}
-use Rattle.journal_world.specs.Maps.{is_object}
 use Rattle.journal_core.proofs.Keeping.{kept_on}
 use Rattle.journal_core.proofs.Stepping.{rests_call, crashes_step}
 use Rattle.journal_core.proofs.state.Core.fetch.Goals as goal

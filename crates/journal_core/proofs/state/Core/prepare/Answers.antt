@@ -1,4 +1,4 @@
-use Rattle.std.proofs.Common.{inl, inr, length, IfErr, ap, sym, subst, ◌∙◌, arith}
+use Rattle.std.proofs.Common.{inl, inr, length, IfErr, ap, sym, subst, arith}
 use Rattle.std.proofs.lemmas.Bool.{false≢true}
 use Rattle.journal_core.specs.Cores.{CoreState, IsRunning}
 use Rattle.journal_core.specs.Commits.{IsPreparingRefusal}

@@ -1,7 +1,7 @@
 use Rattle.std.proofs.Common.{◌≡◌, false, sym, subst, ◌∙◌}
 use Rattle.journal_world.specs.declared.refusal.Refusal.{Refusal}
 use Rattle.journal_wal.specs.Wal.{WalState}
-use Rattle.journal_objlog.specs.ObjectLogs.{Crashes}
+use Rattle.journal_objlog.specs.ObjectLogs.{Crashes, is_faulted}
 use Rattle.journal_objlog.specs.Staging.{RefusesLate}
 use Rattle.journal_objlog.proofs.Openings.{may_crash, OnlyReads-refl}
 use Rattle.journal_objlog.proofs.Refusing.{refuses_memory, refuses_device, if_err, still}
@@ -28,7 +28,7 @@ returns-in_err-read-clause-refusal g c =
     (λ (e : Refusal Unit) is. subst (λ (r : Refusal Unit). RefusesLate c.args.self.now c.read.new.self r) (sym is)
     (subst (λ (w : WalState). RefusesLate w c.read.new.self c.in_err-read.field-0.0) c.self.view_is
     (refuses_device c.self.inside.layout.blocks c.self.inside.wal c.read.new.self c.self.invariant
-    (subst (λ (w : WalState). w.ring.faulted ≡ false) (sym c.self.view_is) c.requires.fine)
+    (subst (λ (w : WalState). is_faulted w ≡ false) (sym c.self.view_is) c.requires.fine)
     c.in_err-read.field-0.0 c.in_err-read.ensures.refusal c.read.ensures.reads c.in_err-read.ensures.err c.read.ensures.crash)))
 
 pub returns-clause-crash : goal.returns-clause-crash

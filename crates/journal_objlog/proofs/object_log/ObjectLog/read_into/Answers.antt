@@ -1,7 +1,7 @@
 use Rattle.std.proofs.Common.{◌≡◌, ℕ, IsTrue, sym, ap, subst, ◌∙◌}
 use Rattle.journal_world.specs.Maps.{value_at, is_object}
 use Rattle.journal_wal.specs.Wal.{WalState, size_of, blocks_now}
-use Rattle.journal_objlog.specs.ObjectLogs.{map_now, KeepsMaps, Crashes}
+use Rattle.journal_objlog.specs.ObjectLogs.{map_now, KeepsMaps, Crashes, disk_of}
 use Rattle.journal_objlog.specs.MapLaws.{map_of-blocks}
 use Rattle.journal_objlog.proofs.Openings.{may_crash, maps_read, OnlyReads-from}
 use Rattle.journal_objlog.proofs.Refusing.{still}
@@ -33,7 +33,7 @@ pub returns-in_err-read-clause-maps : goal.returns-in_err-read-clause-maps
 returns-in_err-read-clause-maps g c = λ honest.
     subst (λ (w : WalState). KeepsMaps w c.read.new.self) c.self.view_is
     (maps_read c.self.inside.wal c.read.new.self (OnlyReads-from c.self.inside.wal c.read.new.self c.read.ensures.reads)
-    (subst (λ (w : WalState). IsTrue w.ring.disk.honest) (sym c.self.view_is) honest))
+    (subst (λ (w : WalState). IsTrue (disk_of w).honest) (sym c.self.view_is) honest))
 
 pub returns-in_err-read-clause-crash : goal.returns-in_err-read-clause-crash
 returns-in_err-read-clause-crash g c =
@@ -45,7 +45,7 @@ returns-clause-value g c = λ honest.
     subst (λ (w : WalState). c.load_object-2.new.into ≡ value_at (map_now w) c.args.addr) c.self.view_is
     (read_value c.self.inside.layout.blocks c.self.inside.wal c.self.invariant c.args.addr c.read.new.into c.load_object-2.new.into
     c.load_object-2.ensures.object c.load_object-2.ensures.value
-    (c.in_ok-read.ensures.value (subst (λ (w : WalState). IsTrue w.ring.disk.honest) (sym c.self.view_is) honest)))
+    (c.in_ok-read.ensures.value (subst (λ (w : WalState). IsTrue (disk_of w).honest) (sym c.self.view_is) honest)))
 
 pub returns-clause-object : goal.returns-clause-object
 returns-clause-object g c =
@@ -57,7 +57,7 @@ pub returns-clause-maps : goal.returns-clause-maps
 returns-clause-maps g c = λ honest.
     subst (λ (w : WalState). KeepsMaps w c.read.new.self) c.self.view_is
     (maps_read c.self.inside.wal c.read.new.self (OnlyReads-from c.self.inside.wal c.read.new.self c.read.ensures.reads)
-    (subst (λ (w : WalState). IsTrue w.ring.disk.honest) (sym c.self.view_is) honest))
+    (subst (λ (w : WalState). IsTrue (disk_of w).honest) (sym c.self.view_is) honest))
 
 pub returns-clause-crash : goal.returns-clause-crash
 returns-clause-crash g c =

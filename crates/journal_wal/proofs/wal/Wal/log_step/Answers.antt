@@ -1,7 +1,8 @@
 use Rattle.std.proofs.Common.{◌≡◌, ◌-◌, ℕ, Some, sym, ap, subst, ◌∙◌, arith}
 use Rattle.std.specs.List.{slice_get}
 use Rattle.journal_memlog.specs.declared.bounds.Bounds.{Bounds}
-use Rattle.journal_wal.specs.Wal.{WalState, log_blocks, log_end, log_sync, log_spent, Crashes, Fails, LogMoves, log_steps}
+use Rattle.journal_wal.specs.Wal.{WalState, log_blocks, log_end, log_sync, log_spent, Crashes, Fails, LogAnswers}
+use Rattle.journal_wal.specs.declared.step.GroupStep.{GroupStep}
 use Rattle.journal_wal.specs.States.{logging_of, installing_of}
 use Rattle.journal_wal.proofs.Homes.{home_at}
 use Rattle.journal_wal.proofs.Phases.{of_parts, in_logging, logged_from, put_failed, on_err}
@@ -25,14 +26,14 @@ put_slot-requires-clause-on_disk g c =
 abbrev Failed : WalState → WalState → Type 0
 Failed old new = Leaves old new × Fails old new
 
-abbrev Moved_on : WalState → WalState → Type 0
-Moved_on old new = Leaves old new × LogMoves (log_steps old) old new
+abbrev Moved_on : GroupStep → WalState → WalState → Type 0
+Moved_on step old new = Leaves old new × LogAnswers old step new
 
 put_slot_fails : (g : Over) (c : In_err-put_slot-in-Blocks g) → Failed c.args.self.now (of_parts c.put_slot.new.self c.self.inside.memory (logging_of c.replace.new.dest) (installing_of c.self.inside.on_disk.installer))
 put_slot_fails g c = logged_from Failed c.args.self.now c.self.inside.on_disk.circ c.put_slot.new.self c.self.inside.memory c.self.inside.memory (logging_of c.self.inside.on_disk.logger) log_blocks (logging_of c.replace.new.dest) log_spent (installing_of c.self.inside.on_disk.installer)
     c.self.view_is (ap logging_of (sym c.in-Blocks.ensures.value)) (ap logging_of c.in-Blocks.ensures.after)
     (call_failed c.self.inside.on_disk.circ c.put_slot.new.self c.self.inside.memory (installing_of c.self.inside.on_disk.installer) log_blocks (in_logging c.self.inside.on_disk.circ c.self.inside.memory (logging_of c.self.inside.on_disk.logger) log_blocks (installing_of c.self.inside.on_disk.installer) (ap logging_of (sym c.in-Blocks.ensures.value)) c.self.invariant)
-    c.put_slot.ensures.crash c.in_err-put_slot-in-Blocks.ensures.log c.in_err-put_slot-in-Blocks.ensures.home c.in_err-put_slot-in-Blocks.ensures.err)
+    c.put_slot.ensures.crash (λ honest. record { log = c.in_err-put_slot-in-Blocks.ensures.log honest; home = c.in_err-put_slot-in-Blocks.ensures.home honest }) c.in_err-put_slot-in-Blocks.ensures.err)
 
 pub invariant_of-self : goal.invariant_of-self
 invariant_of-self g c = (put_slot_fails g (goal.at.invariant_of-self g c).In_err-put_slot-in-Blocks).0.sound
@@ -47,7 +48,7 @@ sync_slots_fails : (g : Over) (c : In_err-sync_slots-in-Blocks-2 g) → Failed c
 sync_slots_fails g c = logged_from Failed c.args.self.now c.self.inside.on_disk.circ c.sync_slots.new.self c.self.inside.memory c.self.inside.memory (logging_of c.self.inside.on_disk.logger) log_blocks (logging_of c.replace.new.dest) log_spent (installing_of c.self.inside.on_disk.installer)
     c.self.view_is (ap logging_of (sym c.in-Blocks-2.ensures.value)) (ap logging_of c.in-Blocks-2.ensures.after)
     (call_failed c.self.inside.on_disk.circ c.sync_slots.new.self c.self.inside.memory (installing_of c.self.inside.on_disk.installer) log_blocks (in_logging c.self.inside.on_disk.circ c.self.inside.memory (logging_of c.self.inside.on_disk.logger) log_blocks (installing_of c.self.inside.on_disk.installer) (ap logging_of (sym c.in-Blocks-2.ensures.value)) c.self.invariant)
-    c.sync_slots.ensures.crash c.in_err-sync_slots-in-Blocks-2.ensures.log c.in_err-sync_slots-in-Blocks-2.ensures.home c.in_err-sync_slots-in-Blocks-2.ensures.err)
+    c.sync_slots.ensures.crash c.in_err-sync_slots-in-Blocks-2.ensures.log c.in_err-sync_slots-in-Blocks-2.ensures.err)
 
 pub invariant_of-self-in_err-sync_slots-in-Blocks-2 : goal.invariant_of-self-in_err-sync_slots-in-Blocks-2
 invariant_of-self-in_err-sync_slots-in-Blocks-2 g c = (sync_slots_fails g (goal.at.invariant_of-self-in_err-sync_slots-in-Blocks-2 g c).In_err-sync_slots-in-Blocks-2).0.sound
@@ -62,7 +63,7 @@ put_end_fails : (g : Over) (c : In_err-put_end-in-Synced g) → Failed c.args.se
 put_end_fails g c = logged_from Failed c.args.self.now c.self.inside.on_disk.circ c.put_end.new.self c.self.inside.memory c.self.inside.memory (logging_of c.self.inside.on_disk.logger) log_end (logging_of c.replace.new.dest) log_spent (installing_of c.self.inside.on_disk.installer)
     c.self.view_is (ap logging_of (sym c.in-Synced.ensures.value)) (ap logging_of c.in-Synced.ensures.after)
     (end_failed c.self.inside.on_disk.circ c.put_end.new.self c.self.inside.memory (installing_of c.self.inside.on_disk.installer) (in_logging c.self.inside.on_disk.circ c.self.inside.memory (logging_of c.self.inside.on_disk.logger) log_end (installing_of c.self.inside.on_disk.installer) (ap logging_of (sym c.in-Synced.ensures.value)) c.self.invariant)
-    c.put_end.ensures.crash c.in_err-put_end-in-Synced.ensures.log c.in_err-put_end-in-Synced.ensures.home (put_failed (sym c.is_faulted.ensures ∙ c.if-is_faulted.false) c.in_err-put_end-in-Synced.ensures.err))
+    c.put_end.ensures.crash c.in_err-put_end-in-Synced.ensures.log (put_failed (sym c.is_faulted.ensures ∙ c.if-is_faulted.false) c.in_err-put_end-in-Synced.ensures.err))
 
 pub invariant_of-self-in_err-put_end-in-Synced : goal.invariant_of-self-in_err-put_end-in-Synced
 invariant_of-self-in_err-put_end-in-Synced g c = (put_end_fails g (goal.at.invariant_of-self-in_err-put_end-in-Synced g c).In_err-put_end-in-Synced).0.sound
@@ -77,7 +78,7 @@ sync_end_fails : (g : Over) (c : In_err-state-in-EndPut g) → Failed c.args.sel
 sync_end_fails g c = logged_from Failed c.args.self.now c.self.inside.on_disk.circ c.sync_end.new.self c.self.inside.memory c.self.inside.memory (logging_of c.self.inside.on_disk.logger) log_sync (logging_of c.replace.new.dest) log_spent (installing_of c.self.inside.on_disk.installer)
     c.self.view_is (ap logging_of (sym c.in-EndPut.ensures.value)) (ap logging_of c.in-EndPut.ensures.after)
     (call_failed c.self.inside.on_disk.circ c.sync_end.new.self c.self.inside.memory (installing_of c.self.inside.on_disk.installer) log_sync (in_logging c.self.inside.on_disk.circ c.self.inside.memory (logging_of c.self.inside.on_disk.logger) log_sync (installing_of c.self.inside.on_disk.installer) (ap logging_of (sym c.in-EndPut.ensures.value)) c.self.invariant)
-    c.sync_end.ensures.crash c.in_err-state-in-EndPut.ensures.log c.in_err-state-in-EndPut.ensures.home c.in_err-state-in-EndPut.ensures.err)
+    c.sync_end.ensures.crash c.in_err-state-in-EndPut.ensures.log c.in_err-state-in-EndPut.ensures.err)
 
 pub invariant_of-self-in_err-state-in-EndPut : goal.invariant_of-self-in_err-state-in-EndPut
 invariant_of-self-in_err-state-in-EndPut g c = (sync_end_fails g (goal.at.invariant_of-self-in_err-state-in-EndPut g c).In_err-state-in-EndPut).0.sound
@@ -88,24 +89,27 @@ returns-in_err-state-in-EndPut-clause-crash g c = (sync_end_fails g (goal.at.ret
 pub returns-in_err-state-in-EndPut-clause-err : goal.returns-in_err-state-in-EndPut-clause-err
 returns-in_err-state-in-EndPut-clause-err g c = on_err c.from_residual-in_err-state-in-EndPut.result (sync_end_fails g (goal.at.returns-in_err-state-in-EndPut-clause-err g c).In_err-state-in-EndPut).1
 
-clauses_ok_and_crash : (g : Over) (c : Joined-replace g) → let s = c.match-replace.self-inside in Moved_on c.args.self.now (of_parts s.on_disk.circ s.memory (logging_of c.match-replace.next) (installing_of s.on_disk.installer))
+by_step : {old new : WalState} {given step : GroupStep} → given ≡ step → Moved_on step old new → Moved_on given old new
+by_step {old} {new} is = subst (λ (s : GroupStep). Moved_on s old new) (sym is)
+
+clauses_ok_and_crash : (g : Over) (c : Joined-replace g) → let s = c.match-replace.self-inside in Moved_on c.match-replace.step c.args.self.now (of_parts s.on_disk.circ s.memory (logging_of c.match-replace.next) (installing_of s.on_disk.installer))
 clauses_ok_and_crash g c = elim c.match-replace.branch [
   | in-Blocks+in_ok-put_slot-in-Blocks w ↦
-      subst (λ s. Moved_on c.args.self.now (of_parts s.on_disk.circ s.memory (logging_of c.match-replace.next) (installing_of s.on_disk.installer))) (sym w.self-inside-is)
-      (logged_from Moved_on c.args.self.now c.self.inside.on_disk.circ w.put_slot.new.self c.self.inside.memory c.self.inside.memory (logging_of c.self.inside.on_disk.logger) log_blocks (logging_of c.match-replace.next) log_blocks (installing_of c.self.inside.on_disk.installer) c.self.view_is (ap logging_of (sym w.in-Blocks.ensures.value)) (ap logging_of w.next-is)
-      (block_logged c.self.inside.on_disk.circ w.put_slot.new.self c.self.inside.memory (installing_of c.self.inside.on_disk.installer) w.at-update.result.now (in_logging c.self.inside.on_disk.circ c.self.inside.memory (logging_of c.self.inside.on_disk.logger) log_blocks (installing_of c.self.inside.on_disk.installer) (ap logging_of (sym w.in-Blocks.ensures.value)) c.self.invariant) (omega (arith, w.if-next-bounds.true, w.next.ensures, ap (λ (b : Bounds). b.cut) c.bounds-bounds.ensures.bounds, c.self.invariant.tied.end_to_next, c.self.invariant.tied.next_to_cut)) (omega (arith, w.if-next-bounds.true, w.next.ensures, ap (λ (b : Bounds). b.cut) c.bounds-bounds.ensures.bounds)) (subst (λ (n : ℕ). slice_get c.self.inside.memory.updates (n - c.self.inside.memory.start) ≡ Some w.at-update.result.now) w.next-in-Blocks.ensures w.at-update.ensures) w.put_slot.ensures.crash w.in_ok-put_slot-in-Blocks.ensures.log w.in_ok-put_slot-in-Blocks.ensures.home w.in_ok-put_slot-in-Blocks.ensures.ok w.in_ok-put_slot-in-Blocks.ensures.makes))
+      subst (λ s. Moved_on c.match-replace.step c.args.self.now (of_parts s.on_disk.circ s.memory (logging_of c.match-replace.next) (installing_of s.on_disk.installer))) (sym w.self-inside-is)
+      (logged_from (Moved_on c.match-replace.step) c.args.self.now c.self.inside.on_disk.circ w.put_slot.new.self c.self.inside.memory c.self.inside.memory (logging_of c.self.inside.on_disk.logger) log_blocks (logging_of c.match-replace.next) log_blocks (installing_of c.self.inside.on_disk.installer) c.self.view_is (ap logging_of (sym w.in-Blocks.ensures.value)) (ap logging_of w.next-is)
+      (by_step w.step-is (block_logged c.self.inside.on_disk.circ w.put_slot.new.self c.self.inside.memory (installing_of c.self.inside.on_disk.installer) w.at-update.result.now (in_logging c.self.inside.on_disk.circ c.self.inside.memory (logging_of c.self.inside.on_disk.logger) log_blocks (installing_of c.self.inside.on_disk.installer) (ap logging_of (sym w.in-Blocks.ensures.value)) c.self.invariant) (omega (arith, w.if-next-bounds.true, w.next.ensures, ap (λ (b : Bounds). b.cut) c.bounds-bounds.ensures.bounds, c.self.invariant.tied.end_to_next, c.self.invariant.tied.next_to_cut)) (omega (arith, w.if-next-bounds.true, w.next.ensures, ap (λ (b : Bounds). b.cut) c.bounds-bounds.ensures.bounds)) (subst (λ (n : ℕ). slice_get c.self.inside.memory.updates (n - c.self.inside.memory.start) ≡ Some w.at-update.result.now) w.next-in-Blocks.ensures w.at-update.ensures) w.put_slot.ensures.crash w.in_ok-put_slot-in-Blocks.ensures.log w.in_ok-put_slot-in-Blocks.ensures.home w.in_ok-put_slot-in-Blocks.ensures.ok w.in_ok-put_slot-in-Blocks.ensures.step.makes)))
   | in-Blocks-2+in_ok-sync_slots-in-Blocks-2 w ↦
-      subst (λ s. Moved_on c.args.self.now (of_parts s.on_disk.circ s.memory (logging_of c.match-replace.next) (installing_of s.on_disk.installer))) (sym w.self-inside-is)
-      (logged_from Moved_on c.args.self.now c.self.inside.on_disk.circ w.sync_slots.new.self c.self.inside.memory c.self.inside.memory (logging_of c.self.inside.on_disk.logger) log_blocks (logging_of c.match-replace.next) log_end (installing_of c.self.inside.on_disk.installer) c.self.view_is (ap logging_of (sym w.in-Blocks-2.ensures.value)) (ap logging_of w.next-is)
-      (blocks_synced c.self.inside.on_disk.circ w.sync_slots.new.self c.self.inside.memory (installing_of c.self.inside.on_disk.installer) (in_logging c.self.inside.on_disk.circ c.self.inside.memory (logging_of c.self.inside.on_disk.logger) log_blocks (installing_of c.self.inside.on_disk.installer) (ap logging_of (sym w.in-Blocks-2.ensures.value)) c.self.invariant) (omega (arith, w.if-bounds.true, ap (λ (b : Bounds). b.logged) c.bounds-bounds.ensures.bounds, ap (λ (b : Bounds). b.cut) c.bounds-bounds.ensures.bounds)) (omega (arith, w.if-next-bounds.false, w.next.ensures, ap (λ (b : Bounds). b.cut) c.bounds-bounds.ensures.bounds, c.self.invariant.tied.end_to_next, c.self.invariant.tied.next_to_cut)) w.sync_slots.ensures.crash w.in_ok-sync_slots-in-Blocks-2.ensures.log w.in_ok-sync_slots-in-Blocks-2.ensures.home w.in_ok-sync_slots-in-Blocks-2.ensures.ok w.in_ok-sync_slots-in-Blocks-2.ensures.makes))
+      subst (λ s. Moved_on c.match-replace.step c.args.self.now (of_parts s.on_disk.circ s.memory (logging_of c.match-replace.next) (installing_of s.on_disk.installer))) (sym w.self-inside-is)
+      (logged_from (Moved_on c.match-replace.step) c.args.self.now c.self.inside.on_disk.circ w.sync_slots.new.self c.self.inside.memory c.self.inside.memory (logging_of c.self.inside.on_disk.logger) log_blocks (logging_of c.match-replace.next) log_end (installing_of c.self.inside.on_disk.installer) c.self.view_is (ap logging_of (sym w.in-Blocks-2.ensures.value)) (ap logging_of w.next-is)
+      (by_step w.step-is (blocks_synced c.self.inside.on_disk.circ w.sync_slots.new.self c.self.inside.memory (installing_of c.self.inside.on_disk.installer) (in_logging c.self.inside.on_disk.circ c.self.inside.memory (logging_of c.self.inside.on_disk.logger) log_blocks (installing_of c.self.inside.on_disk.installer) (ap logging_of (sym w.in-Blocks-2.ensures.value)) c.self.invariant) (omega (arith, w.if-bounds.true, ap (λ (b : Bounds). b.logged) c.bounds-bounds.ensures.bounds, ap (λ (b : Bounds). b.cut) c.bounds-bounds.ensures.bounds)) (omega (arith, w.if-next-bounds.false, w.next.ensures, ap (λ (b : Bounds). b.cut) c.bounds-bounds.ensures.bounds, c.self.invariant.tied.end_to_next, c.self.invariant.tied.next_to_cut)) w.sync_slots.ensures.crash w.in_ok-sync_slots-in-Blocks-2.ensures.log w.in_ok-sync_slots-in-Blocks-2.ensures.ok w.in_ok-sync_slots-in-Blocks-2.ensures.step.makes)))
   | in-Synced+in_ok-put_end-in-Synced w ↦
-      subst (λ s. Moved_on c.args.self.now (of_parts s.on_disk.circ s.memory (logging_of c.match-replace.next) (installing_of s.on_disk.installer))) (sym w.self-inside-is)
-      (logged_from Moved_on c.args.self.now c.self.inside.on_disk.circ w.put_end.new.self c.self.inside.memory c.self.inside.memory (logging_of c.self.inside.on_disk.logger) log_end (logging_of c.match-replace.next) log_sync (installing_of c.self.inside.on_disk.installer) c.self.view_is (ap logging_of (sym w.in-Synced.ensures.value)) (ap logging_of w.next-is)
-      (end_written c.self.inside.on_disk.circ w.put_end.new.self c.self.inside.memory (installing_of c.self.inside.on_disk.installer) (in_logging c.self.inside.on_disk.circ c.self.inside.memory (logging_of c.self.inside.on_disk.logger) log_end (installing_of c.self.inside.on_disk.installer) (ap logging_of (sym w.in-Synced.ensures.value)) c.self.invariant) w.put_end.ensures.crash w.in_ok-put_end-in-Synced.ensures.log w.in_ok-put_end-in-Synced.ensures.home w.in_ok-put_end-in-Synced.ensures.ok w.in_ok-put_end-in-Synced.ensures.makes))
+      subst (λ s. Moved_on c.match-replace.step c.args.self.now (of_parts s.on_disk.circ s.memory (logging_of c.match-replace.next) (installing_of s.on_disk.installer))) (sym w.self-inside-is)
+      (logged_from (Moved_on c.match-replace.step) c.args.self.now c.self.inside.on_disk.circ w.put_end.new.self c.self.inside.memory c.self.inside.memory (logging_of c.self.inside.on_disk.logger) log_end (logging_of c.match-replace.next) log_sync (installing_of c.self.inside.on_disk.installer) c.self.view_is (ap logging_of (sym w.in-Synced.ensures.value)) (ap logging_of w.next-is)
+      (by_step w.step-is (end_written c.self.inside.on_disk.circ w.put_end.new.self c.self.inside.memory (installing_of c.self.inside.on_disk.installer) (in_logging c.self.inside.on_disk.circ c.self.inside.memory (logging_of c.self.inside.on_disk.logger) log_end (installing_of c.self.inside.on_disk.installer) (ap logging_of (sym w.in-Synced.ensures.value)) c.self.invariant) w.put_end.ensures.crash w.in_ok-put_end-in-Synced.ensures.log w.in_ok-put_end-in-Synced.ensures.ok w.in_ok-put_end-in-Synced.ensures.step.makes)))
   | in-EndPut+in_ok-state-in-EndPut w ↦
-      subst (λ s. Moved_on c.args.self.now (of_parts s.on_disk.circ s.memory (logging_of c.match-replace.next) (installing_of s.on_disk.installer))) (sym w.self-inside-is)
-      (logged_from Moved_on c.args.self.now c.self.inside.on_disk.circ w.sync_end.new.self c.self.inside.memory w.logged.new.self (logging_of c.self.inside.on_disk.logger) log_sync (logging_of c.match-replace.next) log_blocks (installing_of c.self.inside.on_disk.installer) c.self.view_is (ap logging_of (sym w.in-EndPut.ensures.value)) (ap logging_of w.next-is)
-      (group_ended c.self.inside.on_disk.circ w.sync_end.new.self c.self.inside.memory (installing_of c.self.inside.on_disk.installer) w.logged.new.self (in_logging c.self.inside.on_disk.circ c.self.inside.memory (logging_of c.self.inside.on_disk.logger) log_sync (installing_of c.self.inside.on_disk.installer) (ap logging_of (sym w.in-EndPut.ensures.value)) c.self.invariant) w.sync_end.ensures.crash w.in_ok-state-in-EndPut.ensures.log w.in_ok-state-in-EndPut.ensures.home w.in_ok-state-in-EndPut.ensures.ok (w.logged.ensures.log ∙ (λ i. record c.self.inside.memory { logged = w.end.ensures.end i })) w.in_ok-state-in-EndPut.ensures.makes))
+      subst (λ s. Moved_on c.match-replace.step c.args.self.now (of_parts s.on_disk.circ s.memory (logging_of c.match-replace.next) (installing_of s.on_disk.installer))) (sym w.self-inside-is)
+      (logged_from (Moved_on c.match-replace.step) c.args.self.now c.self.inside.on_disk.circ w.sync_end.new.self c.self.inside.memory w.logged.new.self (logging_of c.self.inside.on_disk.logger) log_sync (logging_of c.match-replace.next) log_blocks (installing_of c.self.inside.on_disk.installer) c.self.view_is (ap logging_of (sym w.in-EndPut.ensures.value)) (ap logging_of w.next-is)
+      (by_step w.step-is (group_ended c.self.inside.on_disk.circ w.sync_end.new.self c.self.inside.memory (installing_of c.self.inside.on_disk.installer) w.logged.new.self (in_logging c.self.inside.on_disk.circ c.self.inside.memory (logging_of c.self.inside.on_disk.logger) log_sync (installing_of c.self.inside.on_disk.installer) (ap logging_of (sym w.in-EndPut.ensures.value)) c.self.invariant) w.sync_end.ensures.crash w.in_ok-state-in-EndPut.ensures.log w.in_ok-state-in-EndPut.ensures.ok (w.logged.ensures.log ∙ (λ i. record c.self.inside.memory { logged = w.end.ensures.end i })) w.in_ok-state-in-EndPut.ensures.step.makes)))
 ]
 
 pub invariant_of-self-2 : goal.invariant_of-self-2

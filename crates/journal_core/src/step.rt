@@ -1,0 +1,16 @@
+// What a step of the logger did.
+
+/// What a step of the logger did.
+#[derive(Clone, Copy, Debug, PartialEq, Eq)]
+pub enum LogStep {
+    /// There was nothing to do.
+    Idle,
+    /// The log's tail was cut into a group.
+    Cut,
+    /// A step of the group in flight was made, and its cycle goes on.
+    Put,
+    /// The cycle of the group in flight ended: it is logged.
+    Logged,
+    /// It was marked that so many commits are stable.
+    Marked(u64),
+}

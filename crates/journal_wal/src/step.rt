@@ -1,0 +1,25 @@
+// What a step did.
+
+/// What a step of the logger did.
+#[derive(Clone, Copy, Debug, PartialEq, Eq)]
+pub enum GroupStep {
+    /// There was nothing to do.
+    Idle,
+    /// The tail was cut into a group.
+    Cut,
+    /// A step of the group in flight was made, and its cycle goes on.
+    Put,
+    /// The cycle of the group in flight ended: it is logged.
+    Logged,
+}
+
+/// What a step of the installer did.
+#[derive(Clone, Copy, Debug, PartialEq, Eq)]
+pub enum InstallStep {
+    /// There was nothing to do.
+    Idle,
+    /// A step of an installing was made, and its cycle goes on.
+    Put,
+    /// The positions before this one are free.
+    Freed(u64),
+}
