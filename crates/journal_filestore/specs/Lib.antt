@@ -3,4 +3,3 @@ pub mod Operations
 pub mod Handles
 pub mod Doing
 pub mod Done
-pub mod Mounts

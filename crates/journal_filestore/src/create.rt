@@ -16,11 +16,11 @@ ghost use Rattle.journal_filestore.specs.Operations.Reply.{made};
 use crate::find::{Place, find};
 use crate::name::number_of;
 use crate::objects::{read_bit, read_node, write_bit, write_block, write_node};
-use crate::operation::Operation;
+use crate::operation::{GivenUp, Operation};
 use crate::reply::{attributes_of, root_attributes};
 use crate::set_file::{is_no_time, is_too_big, set_file, time_after};
 use crate::space::Space;
-use crate::store::{Answer, FileFault, FileTxn, Why};
+use crate::store::{Answer, FileFault, FileTxn};
 use crate::{FileStore, Found, Handle, How, Settings, Status};
 use journal_alloc::Alloc;
 use journal_disk::BlockDisk;
@@ -57,7 +57,7 @@ impl<'a, J: Naming> Operation<J> for Create<'a> {
         rt: &W,
         txn: &mut FileTxn<'j, 'b, D, J>,
         space: &mut Space,
-    ) -> Result<Answer<Found>, Why<'b, J>> {
+    ) -> Result<Answer<Found>, GivenUp<'b, J>> {
         let root = match find(rt, txn, self.directory)? {
             Place::Gone => return Ok(Err(Status::Stale)),
             Place::Regular(_) => return Ok(Err(Status::NotDirectory)),
@@ -102,7 +102,7 @@ impl<'a> Create<'a> {
         file: FileNode,
         settings: Settings,
         is_guarded: bool,
-    ) -> Result<Answer<Found>, Why<'b, J>>
+    ) -> Result<Answer<Found>, GivenUp<'b, J>>
         requires number { is_file_number number ≡ true }
         requires fits { Fits (File file) }
         requires timed { is_no_time settings.mtime ≡ false }
@@ -131,7 +131,7 @@ impl<'a> Create<'a> {
         number: u32,
         last: u32,
         settings: Settings,
-    ) -> Result<Answer<Found>, Why<'b, J>>
+    ) -> Result<Answer<Found>, GivenUp<'b, J>>
         requires number { is_file_number number ≡ true }
         requires timed { is_no_time settings.mtime ≡ false }
         requires unread { (k : ℕ) → k < BLOCK_BITS → IsNotYetRead txn.old (bit k) }

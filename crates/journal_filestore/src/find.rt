@@ -6,7 +6,8 @@ ghost use Rattle.journal_filestore.specs.Handles.{IsAt, IsPlace, place_of};
 
 use crate::Handle;
 use crate::objects::read_node;
-use crate::store::{FileTxn, Why};
+use crate::operation::GivenUp;
+use crate::store::FileTxn;
 use journal_disk::BlockDisk;
 use journal_history::Naming;
 use journal_inode::{FileNode, Node, Time};
@@ -28,7 +29,7 @@ pub(crate) fn find<'j, 'b, D: BlockDisk, J: Naming, W: Wait>(
     rt: &W,
     txn: &mut FileTxn<'j, 'b, D, J>,
     handle: Handle,
-) -> Result<Place, Why<'b, J>>
+) -> Result<Place, GivenUp<'b, J>>
     requires reads { txn.old.reads ≡ [] }
     requires writes { txn.old.writes ≡ [] }
     ensures told { IfOk result (λ place. LearnsThat J.blocks txn.old txn.new (λ m. IsAt handle.number handle.generation m place)) }

@@ -7,10 +7,10 @@ ghost use Rattle.journal_filestore.specs.Operations.Call.{getattr};
 ghost use Rattle.journal_filestore.specs.Operations.Reply.{got};
 
 use crate::find::{Place, find};
-use crate::operation::Operation;
+use crate::operation::{GivenUp, Operation};
 use crate::reply::{attributes_of, root_attributes};
 use crate::space::Space;
-use crate::store::{Answer, FileFault, FileTxn, Why};
+use crate::store::{Answer, FileFault, FileTxn};
 use crate::{Attributes, FileStore, Handle, Status};
 use journal_disk::BlockDisk;
 use journal_history::{Naming, Session};
@@ -39,7 +39,7 @@ impl<J: Naming> Operation<J> for GetAttr {
         rt: &W,
         txn: &mut FileTxn<'j, 'b, D, J>,
         _space: &mut Space,
-    ) -> Result<Answer<Attributes>, Why<'b, J>> {
+    ) -> Result<Answer<Attributes>, GivenUp<'b, J>> {
         match find(rt, txn, self.handle)? {
             Place::Gone => Ok(Err(Status::Stale)),
             Place::Directory(mtime) => Ok(Ok(root_attributes(mtime))),

@@ -9,10 +9,10 @@ ghost use Rattle.journal_filestore.specs.Operations.Reply.{found};
 use crate::find::{Place, find};
 use crate::name::number_of;
 use crate::objects::read_node;
-use crate::operation::Operation;
+use crate::operation::{GivenUp, Operation};
 use crate::reply::{attributes_of, root_attributes};
 use crate::space::Space;
-use crate::store::{Answer, FileFault, FileTxn, Why};
+use crate::store::{Answer, FileFault, FileTxn};
 use crate::{FileStore, Found, Handle, Status};
 use journal_disk::BlockDisk;
 use journal_history::{Naming, Session};
@@ -42,7 +42,7 @@ impl<'a, J: Naming> Operation<J> for Lookup<'a> {
         rt: &W,
         txn: &mut FileTxn<'j, 'b, D, J>,
         _space: &mut Space,
-    ) -> Result<Answer<Found>, Why<'b, J>> {
+    ) -> Result<Answer<Found>, GivenUp<'b, J>> {
         let root = match find(rt, txn, self.directory)? {
             Place::Gone => return Ok(Err(Status::Stale)),
             Place::Regular(_) => return Ok(Err(Status::NotDirectory)),

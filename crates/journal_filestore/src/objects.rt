@@ -4,6 +4,8 @@ ghost use Rattle.std.specs.Prelude.{ℕ, ◌≡◌, ◌<◌, ◌≤◌, ◌+◌,
 ghost use Rattle.journal_world.specs.declared.address.Kind.TheVariants.{Bit};
 ghost use Rattle.journal_world.specs.declared.layout.TheConstants.{FIRST_DATA, BLOCK_BITS};
 ghost use Rattle.journal_world.specs.Addresses.{is_value_of};
+ghost use Rattle.journal_world.specs.Maps.{is_object};
+ghost use Rattle.journal_twophase.specs.Transactions.{holding, ReadsValue, Overwrites};
 ghost use Rattle.journal_inode.specs.declared.place.TheConstants.{INODES};
 ghost use Rattle.journal_inode.specs.Places.{object};
 ghost use Rattle.journal_inode.specs.Places.Object.{bit, inode, block};
@@ -11,19 +13,51 @@ ghost use Rattle.journal_inode.specs.Nodes.{inode_bytes, Fits};
 ghost use Rattle.journal_inode.specs.Sound.{node_at};
 ghost use Rattle.journal_filestore.specs.Doing.{LearnsThat, WritesObject, IsNotYetRead, ReadsOnly};
 
-use crate::store::{FileTxn, Why};
+use crate::operation::{AttemptFault, GivenUp};
+use crate::store::FileTxn;
 use journal_disk::BlockDisk;
 use journal_history::Naming;
 use journal_inode::{Node, bit_addr, block_addr, inode_addr};
-use journal_world::{BLOCK_BITS, FIRST_DATA, Refusal, Value};
+use journal_world::{Addr, BLOCK_BITS, FIRST_DATA, Refusal, Value};
 use std::sync::Wait;
+
+// Reads an address, as `Txn::read` does.
+fn read<'j, 'b, D: BlockDisk, J: Naming, W: Wait>(
+    rt: &W,
+    txn: &mut FileTxn<'j, 'b, D, J>,
+    addr: Addr,
+) -> Result<Value, GivenUp<'b, J>>
+    ensures reads { IfOk result (λ value. ReadsValue (holding txn.old addr) addr value txn.new) }
+    ensures object { IfOk result (λ value. IsTrue (is_object J.blocks (addr, value))) }
+{
+    match txn.read(rt, addr) {
+        Ok(value) => Ok(value),
+        Err(refusal) => Err(AttemptFault::at(addr, refusal)),
+    }
+}
+
+// Overwrites an address, as `Txn::overwrite` does.
+fn overwrite<'j, 'b, D: BlockDisk, J: Naming, W: Wait>(
+    rt: &W,
+    txn: &mut FileTxn<'j, 'b, D, J>,
+    addr: Addr,
+    bytes: &[u8],
+) -> Result<(), GivenUp<'b, J>>
+    ensures overwrites { OnOk result (Overwrites (holding txn.old addr) addr bytes.now txn.new) }
+    ensures object { OnOk result (IsTrue (is_object J.blocks (addr, bytes.now))) }
+{
+    match txn.overwrite(rt, addr, bytes) {
+        Ok(()) => Ok(()),
+        Err(refusal) => Err(AttemptFault::at(addr, refusal)),
+    }
+}
 
 // Reads an inode.
 pub(crate) fn read_node<'j, 'b, D: BlockDisk, J: Naming, W: Wait>(
     rt: &W,
     txn: &mut FileTxn<'j, 'b, D, J>,
     number: u32,
-) -> Result<Node, Why<'b, J>>
+) -> Result<Node, GivenUp<'b, J>>
     requires number { number < INODES }
     requires unread { IsNotYetRead txn.old (inode number) }
     requires writes { txn.old.writes ≡ [] }
@@ -31,7 +65,7 @@ pub(crate) fn read_node<'j, 'b, D: BlockDisk, J: Naming, W: Wait>(
     ensures reads { OnOk result (ReadsOnly txn.old txn.new (inode number)) }
     ensures fits { IfOk result Fits }
 {
-    let value = txn.read(rt, inode_addr(number))?;
+    let value = read(rt, txn, inode_addr(number))?;
     Ok(Node::read(value.bytes()))
 }
 
@@ -40,7 +74,7 @@ pub(crate) fn read_block<'j, 'b, D: BlockDisk, J: Naming, W: Wait>(
     rt: &W,
     txn: &mut FileTxn<'j, 'b, D, J>,
     number: u64,
-) -> Result<Value, Why<'b, J>>
+) -> Result<Value, GivenUp<'b, J>>
     requires unread { FIRST_DATA ≤ number → IsNotYetRead txn.old (block number) }
     requires writes { txn.old.writes ≡ [] }
     ensures told { IfOk result (λ value. LearnsThat J.blocks txn.old txn.new (λ m. object m (block number) ≡ value)) }
@@ -48,9 +82,9 @@ pub(crate) fn read_block<'j, 'b, D: BlockDisk, J: Naming, W: Wait>(
     ensures data_block { OnOk result (FIRST_DATA ≤ number) }
 {
     if number < FIRST_DATA {
-        return Err(Refusal::BadAddress);
+        return Err(AttemptFault::Refused(Refusal::BadAddress));
     }
-    txn.read(rt, block_addr(number))
+    read(rt, txn, block_addr(number))
 }
 
 // Reads the bit of a data block: whether it is set.
@@ -58,7 +92,7 @@ pub(crate) fn read_bit<'j, 'b, D: BlockDisk, J: Naming, W: Wait>(
     rt: &W,
     txn: &mut FileTxn<'j, 'b, D, J>,
     number: u64,
-) -> Result<bool, Why<'b, J>>
+) -> Result<bool, GivenUp<'b, J>>
     requires unread { (k : ℕ) → k < BLOCK_BITS → IsNotYetRead txn.old (bit k) }
     requires writes { txn.old.writes ≡ [] }
     ensures told { IfOk result (λ is_set. LearnsThat J.blocks txn.old txn.new
@@ -66,9 +100,9 @@ pub(crate) fn read_bit<'j, 'b, D: BlockDisk, J: Naming, W: Wait>(
     ensures data_block { OnOk result (FIRST_DATA ≤ number) }
 {
     if !has_bit(number) {
-        return Err(Refusal::BadAddress);
+        return Err(AttemptFault::Refused(Refusal::BadAddress));
     }
-    let value = txn.read(rt, bit_addr(number))?;
+    let value = read(rt, txn, bit_addr(number))?;
     Ok(is_one(value.bytes()))
 }
 
@@ -78,11 +112,11 @@ pub(crate) fn write_node<'j, 'b, D: BlockDisk, J: Naming, W: Wait>(
     txn: &mut FileTxn<'j, 'b, D, J>,
     number: u32,
     node: &Node,
-) -> Result<(), Why<'b, J>>
+) -> Result<(), GivenUp<'b, J>>
     requires { number < INODES }
     ensures { OnOk result (WritesObject J.blocks txn.old txn.new (inode number) (inode_bytes node.now)) }
 {
-    txn.overwrite(rt, inode_addr(number), &node.bytes())
+    overwrite(rt, txn, inode_addr(number), &node.bytes())
 }
 
 // Overwrites a data block.
@@ -91,13 +125,13 @@ pub(crate) fn write_block<'j, 'b, D: BlockDisk, J: Naming, W: Wait>(
     txn: &mut FileTxn<'j, 'b, D, J>,
     number: u64,
     bytes: &[u8],
-) -> Result<(), Why<'b, J>>
+) -> Result<(), GivenUp<'b, J>>
     ensures { OnOk result (WritesObject J.blocks txn.old txn.new (block number) bytes.now) }
 {
     if number < FIRST_DATA {
-        return Err(Refusal::BadAddress);
+        return Err(AttemptFault::Refused(Refusal::BadAddress));
     }
-    txn.overwrite(rt, block_addr(number), bytes)
+    overwrite(rt, txn, block_addr(number), bytes)
 }
 
 // Overwrites the bit of a data block.
@@ -106,13 +140,13 @@ pub(crate) fn write_bit<'j, 'b, D: BlockDisk, J: Naming, W: Wait>(
     txn: &mut FileTxn<'j, 'b, D, J>,
     number: u64,
     is_set: bool,
-) -> Result<(), Why<'b, J>>
+) -> Result<(), GivenUp<'b, J>>
     ensures { OnOk result (WritesObject J.blocks txn.old txn.new (bit (number - FIRST_DATA)) ((if is_set then 1 else 0) ∷ [])) }
 {
     if !has_bit(number) {
-        return Err(Refusal::BadAddress);
+        return Err(AttemptFault::Refused(Refusal::BadAddress));
     }
-    txn.overwrite(rt, bit_addr(number), &[u8::from(is_set)])
+    overwrite(rt, txn, bit_addr(number), &[u8::from(is_set)])
 }
 
 // Whether a bit of the bitmap may belong to the block.
@@ -123,7 +157,7 @@ fn has_bit(number: u64) -> bool
 }
 
 // Whether a bit's value is 1.
-pub(crate) fn is_one(bytes: &[u8]) -> bool
+fn is_one(bytes: &[u8]) -> bool
     requires { IsTrue (is_value_of Bit bytes.now) }
     ensures { bytes.now ≡ (if result then 1 else 0) ∷ [] }
 {

@@ -1,14 +1,46 @@
-// An operation on files, as one transaction.
+// An operation on files, as one transaction, and why an attempt at it is given up.
 ghost use Rattle.std.specs.Prelude.{◌≡◌, [], Bool, IfOk, Result};
 ghost use Rattle.journal_filestore.specs.declared.status.Status.{Status};
 ghost use Rattle.journal_filestore.specs.Files.{Files};
 ghost use Rattle.journal_filestore.specs.Doing.{Does};
 
 use crate::space::Space;
-use crate::store::{Answer, FileTxn, Why};
+use crate::store::{Answer, FileTxn};
+use journal_core::Cause;
 use journal_disk::BlockDisk;
 use journal_history::Naming;
+use journal_inode::SoundFiles;
+use journal_world::{Addr, Refusal};
+use std::alloc::AllocError;
 use std::sync::Wait;
+
+// Why an attempt is given up.
+#[derive(Debug, Drop)]
+pub enum AttemptFault<C> {
+    // Another holds the slot of this address, below one that the attempt holds.
+    Held(Addr),
+    // The journal refuses.
+    Refused(Refusal<C>),
+}
+
+// Why an attempt at an operation on files is given up.
+pub(crate) type GivenUp<'b, J> = AttemptFault<Cause<'b, J, SoundFiles>>;
+
+impl<C> AttemptFault<C> {
+    // What a call that asked for the address was refused by.
+    pub(crate) fn at(addr: Addr, refusal: Refusal<C>) -> AttemptFault<C> {
+        match refusal {
+            Refusal::Busy => AttemptFault::Held(addr),
+            refusal => AttemptFault::Refused(refusal),
+        }
+    }
+}
+
+impl<C> From<AllocError> for AttemptFault<C> {
+    fn from(_error: AllocError) -> AttemptFault<C> {
+        AttemptFault::Refused(Refusal::NoMemory)
+    }
+}
 
 // An operation: what one attempt at it reads and overwrites, and which case it then answers.
 pub(crate) trait Operation<J: Naming> {
@@ -24,13 +56,13 @@ pub(crate) trait Operation<J: Naming> {
         ensures { result ≡ is_waiting self.now };
 
     // One attempt. Its transaction, which has done nothing yet, is then to be committed, or where the attempt is
-    // refused to be aborted.
+    // given up to be aborted.
     fn attempt<'j, 'b, D: BlockDisk, W: Wait>(
         &self,
         rt: &W,
         txn: &mut FileTxn<'j, 'b, D, J>,
         space: &mut Space,
-    ) -> Result<Answer<Self::Reply>, Why<'b, J>>
+    ) -> Result<Answer<Self::Reply>, GivenUp<'b, J>>
         requires reads { txn.old.reads ≡ [] }
         requires writes { txn.old.writes ≡ [] }
         ensures does { IfOk result (Does J.blocks (case self.now) txn.new.reads txn.new.writes) };

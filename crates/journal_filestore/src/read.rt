@@ -8,10 +8,10 @@ ghost use Rattle.journal_filestore.specs.Operations.Reply.{bytes_read};
 
 use crate::find::{Place, find};
 use crate::objects::read_block;
-use crate::operation::Operation;
+use crate::operation::{AttemptFault, GivenUp, Operation};
 use crate::reply::attributes_of;
 use crate::space::Space;
-use crate::store::{Answer, FileFault, FileTxn, Why};
+use crate::store::{Answer, FileFault, FileTxn};
 use crate::{FileStore, Handle, Portion, Status};
 use journal_disk::BlockDisk;
 use journal_history::{Naming, Session};
@@ -45,7 +45,7 @@ impl<J: Naming> Operation<J> for Read {
         rt: &W,
         txn: &mut FileTxn<'j, 'b, D, J>,
         _space: &mut Space,
-    ) -> Result<Answer<Portion>, Why<'b, J>> {
+    ) -> Result<Answer<Portion>, GivenUp<'b, J>> {
         let file = match find(rt, txn, self.handle)? {
             Place::Gone => return Ok(Err(Status::Stale)),
             Place::Directory(_) => return Ok(Err(Status::Invalid)),
@@ -61,7 +61,7 @@ impl<J: Naming> Operation<J> for Read {
         let block = read_block(rt, txn, file.block)?;
         let end = self.offset + length;
         if end > FILE_BYTES {
-            return Err(Refusal::BadAddress);
+            return Err(AttemptFault::Refused(Refusal::BadAddress));
         }
         let is_end = end >= file.size;
         Ok(Ok(Portion::new(read, block, self.offset as usize, end as usize, is_end)))

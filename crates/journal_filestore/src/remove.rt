@@ -9,10 +9,10 @@ ghost use Rattle.journal_filestore.specs.Operations.Reply.{removed};
 use crate::find::{Place, find};
 use crate::name::number_of;
 use crate::objects::{read_node, write_bit, write_node};
-use crate::operation::Operation;
+use crate::operation::{GivenUp, Operation};
 use crate::reply::root_attributes;
 use crate::space::Space;
-use crate::store::{Answer, FileFault, FileTxn, Why};
+use crate::store::{Answer, FileFault, FileTxn};
 use crate::{Attributes, FileStore, Handle, Status};
 use journal_disk::BlockDisk;
 use journal_history::{Naming, Session};
@@ -42,7 +42,7 @@ impl<'a, J: Naming> Operation<J> for Remove<'a> {
         rt: &W,
         txn: &mut FileTxn<'j, 'b, D, J>,
         space: &mut Space,
-    ) -> Result<Answer<Attributes>, Why<'b, J>> {
+    ) -> Result<Answer<Attributes>, GivenUp<'b, J>> {
         let root = match find(rt, txn, self.directory)? {
             Place::Gone => return Ok(Err(Status::Stale)),
             Place::Regular(_) => return Ok(Err(Status::NotDirectory)),

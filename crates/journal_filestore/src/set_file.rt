@@ -12,7 +12,8 @@ ghost use Rattle.journal_filestore.specs.Handles.{time_of, data_of, set_node};
 ghost use Rattle.journal_filestore.specs.Operations.{is_no_time, is_too_big, time_after, with_settings};
 
 use crate::objects::{read_block, write_block, write_node};
-use crate::store::{FileTxn, Why};
+use crate::operation::GivenUp;
+use crate::store::FileTxn;
 use crate::{NewTime, Settings};
 use journal_disk::BlockDisk;
 use journal_history::Naming;
@@ -29,7 +30,7 @@ pub(crate) fn set_file<'j, 'b, D: BlockDisk, J: Naming, W: Wait>(
     file: FileNode,
     settings: Settings,
     now: Moment,
-) -> Result<FileNode, Why<'b, J>>
+) -> Result<FileNode, GivenUp<'b, J>>
     requires number { number < INODES }
     requires fits { Fits (File file) }
     requires small { is_too_big settings.size ≡ false }

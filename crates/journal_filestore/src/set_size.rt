@@ -7,11 +7,11 @@ ghost use Rattle.journal_filestore.specs.Operations.Call.{setattr};
 ghost use Rattle.journal_filestore.specs.Operations.Reply.{set};
 
 use crate::find::{Place, find};
-use crate::operation::Operation;
+use crate::operation::{GivenUp, Operation};
 use crate::reply::{attributes_of, root_attributes};
 use crate::set_file::{is_no_time, is_too_big, set_file};
 use crate::space::Space;
-use crate::store::{Answer, FileFault, FileTxn, Why};
+use crate::store::{Answer, FileFault, FileTxn};
 use crate::{Changed, FileStore, Handle, Settings, Status};
 use journal_disk::BlockDisk;
 use journal_history::{Naming, Session};
@@ -44,7 +44,7 @@ impl<J: Naming> Operation<J> for SetSize {
         rt: &W,
         txn: &mut FileTxn<'j, 'b, D, J>,
         _space: &mut Space,
-    ) -> Result<Answer<Changed>, Why<'b, J>> {
+    ) -> Result<Answer<Changed>, GivenUp<'b, J>> {
         let file = match find(rt, txn, self.handle)? {
             Place::Gone => return Ok(Err(Status::Stale)),
             Place::Directory(mtime) => return Ok(self.root_set(mtime)),

@@ -1,18 +1,17 @@
 // The store: its journal, and the numbers of its free blocks.
-ghost use Rattle.std.specs.Prelude.{◌≡◌, IsTrue, IfOk, OnOk, IfErr};
+ghost use Rattle.std.specs.Prelude.{◌≡◌, IsTrue, IfOk, OnOk, IfErr, OnErr};
 ghost use Rattle.journal_world.specs.Maps.{Map, Agrees, overwritten};
 ghost use Rattle.journal_world.specs.Histories.{is_trusted};
 ghost use Rattle.journal_disk.specs.Disks.{IsSettled};
 ghost use Rattle.journal_disk.specs.Images.{EveryImage};
 ghost use Rattle.journal_history.specs.Tokens.{OnlyExtends};
 ghost use Rattle.journal_core.specs.Cores.{Leaves};
+ghost use Rattle.journal_core.specs.Openings.{IsOpenRefusal, OnlyReadsDisk};
 ghost use Rattle.journal_inode.specs.Sound.{HasSoundFiles};
 ghost use Rattle.journal_twophase.specs.Journals.{BeginsWith, IsCloseRefusal};
 ghost use Rattle.journal_filestore.specs.Done.{IsAnswered, IsEndOf};
-ghost use Rattle.journal_filestore.specs.Mounts.{IsMountRefusal};
 
-use crate::mount::free_blocks;
-use crate::operation::Operation;
+use crate::operation::{AttemptFault, Operation};
 use crate::space::Space;
 use crate::{Fault, Status};
 use journal_alloc::Alloc;
@@ -21,7 +20,7 @@ use journal_disk::BlockDisk;
 use journal_history::{Book, Naming, Session};
 use journal_inode::SoundFiles;
 use journal_twophase::{Journal, Txn, WaitFault};
-use journal_world::{Refusal, Refused};
+use journal_world::{Addr, FIRST_DATA, Refusal, Refused};
 use std::alloc::Global;
 use std::marker::Model;
 use std::sync::{Mutex, Wait};
@@ -31,6 +30,9 @@ pub type Answer<A> = Result<A, Status>;
 
 /// Why an operation on files has no answer.
 pub type FileFault<'b, J> = Fault<Cause<'b, J, SoundFiles>>;
+
+// What an operation comes to.
+type Outcome<'b, J, A> = Result<Answer<A>, FileFault<'b, J>>;
 
 /// Why the journal below refuses.
 pub(crate) type Why<'b, J> = Refusal<Cause<'b, J, SoundFiles>>;
@@ -59,14 +61,12 @@ impl<'b, D: BlockDisk, J: Naming> Model for FileStore<'b, D, J> {
 }
 
 impl<'b, D: BlockDisk, J: Naming> FileStore<'b, D, J> {
-    /// Mounts a disk on which nothing is pending: opens its journal under the rule of sound files, and reads which
+    /// Mounts a disk on which nothing is pending: opens its journal under the rule of sound files, which tells which
     /// of its blocks are free.
     ///
-    /// It is refused as `Journal::open` is, with nothing written: J8 `BadSuper` where the disk's files are not sound.
-    /// J1 `NoMemory`, J6 `DeviceFailed`, J9 `Stale`, J10 `Stranger`, J11 `Worn` and J13 `Closed` may come after that too, while the
-    /// bits are read. Each refusal hands the disk back.
-    pub fn mount<W: Wait>(
-        rt: &W,
+    /// It is refused as `Journal::open` is: J8 `BadSuper` where the disk's files are not sound. A refusal hands the disk
+    /// back, with nothing written.
+    pub fn mount(
         alloc: Global,
         book: &'b Book<SoundFiles>,
         disk: D,
@@ -75,21 +75,20 @@ impl<'b, D: BlockDisk, J: Naming> FileStore<'b, D, J> {
         requires blocks { (D.state disk).past.size ≡ J.blocks }
         requires settled { IsTrue (D.state disk).honest → IsSettled (D.state disk).past }
         ensures begun { IfOk result (λ store. BeginsWith HasSoundFiles (D.state disk) store.start) }
-        ensures refusal { IfErr result (λ refused. IsMountRefusal (D.state disk) (D.state refused.disk) refused.refusal) }
+        ensures refusal { IfErr result (λ refused. IsOpenRefusal HasSoundFiles (D.state disk) (D.state refused.disk) refused.refusal) }
+        ensures left { IfErr result (λ refused. OnlyReadsDisk (D.state disk) (D.state refused.disk)) }
     {
-        let blocks = disk.size();
-        let journal = Journal::open(alloc, book, disk, &SoundFiles::new(alloc))?;
-        match free_blocks(rt, alloc, &journal, blocks) {
-            Ok(free) => Ok(FileStore {
-                alloc,
-                journal,
-                free: Mutex::new(free),
-            }),
-            Err(refusal) => Err(Refused {
-                refusal,
-                disk: journal.into_disk(),
-            }),
-        }
+        let rule = SoundFiles::new(alloc);
+        let journal = Journal::open(alloc, book, disk, &rule)?;
+        let out = match rule.into_owners() {
+            Some(owners) => owners,
+            None => Vec::new(alloc),
+        };
+        Ok(FileStore {
+            alloc,
+            journal,
+            free: Mutex::new(Alloc::new(FIRST_DATA, out)),
+        })
     }
 
     /// The journal, for sessions, and for the steps of the logger and the installer.
@@ -123,7 +122,8 @@ impl<'b, D: BlockDisk, J: Naming> FileStore<'b, D, J> {
     }
 
     // Attempts an operation until it is answered, or refused by another number than J5, or refused by J5 once more
-    // after the last retry.
+    // after the last retry. Before each retry it waits for the slot that was held, so that it is refused by J5 only
+    // where others took slots in between each time.
     pub(crate) fn run<O: Operation<J>, W: Wait>(
         &self,
         rt: &W,
@@ -134,39 +134,62 @@ impl<'b, D: BlockDisk, J: Naming> FileStore<'b, D, J> {
     {
         for _ in 0..RETRIES {
             match self.once(rt, session, operation) {
-                Err(Fault::Refused(Refusal::Busy)) => {}
-                answer => return answer,
+                Ok(outcome) => return outcome,
+                Err(held) => self.await_slot(rt, session, held),
             }
         }
-        self.once(rt, session, operation)
+        match self.once(rt, session, operation) {
+            Ok(outcome) => outcome,
+            Err(_held) => Err(Fault::Refused(Refusal::Busy)),
+        }
     }
 
-    // One attempt: committed, or undone.
+    // Waits until nobody holds the slot of the address, by a transaction that only reads it: it holds no other slot,
+    // so it waits for this one. What refuses the read refuses the next attempt too.
+    fn await_slot<W: Wait>(&self, rt: &W, session: &mut Session<'b, J, SoundFiles>, held: Addr)
+        ensures { OnlyExtends session.old session.new }
+    {
+        let mut txn = self.journal.begin(self.alloc, session);
+        let _answer = txn.read(rt, held);
+        txn.abort(rt);
+    }
+
+    // One attempt: committed, or undone. Where another holds a slot that it needs, the address of that slot.
     fn once<O: Operation<J>, W: Wait>(
         &self,
         rt: &W,
         session: &mut Session<'b, J, SoundFiles>,
         operation: &O,
-    ) -> Result<Answer<O::Reply>, FileFault<'b, J>>
-        ensures { IsAnswered (O.is_waiting operation.now) (O.case operation.now) session.old session.new result }
+    ) -> Result<Outcome<'b, J, O::Reply>, Addr>
+        ensures answered { IfOk result (IsAnswered (O.is_waiting operation.now) (O.case operation.now) session.old session.new) }
+        ensures held { OnErr result (OnlyExtends session.old session.new) }
     {
         let mut space = Space::new();
         let mut txn = self.journal.begin(self.alloc, session);
         let answer = match operation.attempt(rt, &mut txn, &mut space) {
             Ok(answer) => answer,
-            Err(why) => {
-                txn.abort(rt);
-                space.undone(rt, &self.free);
-                return Err(Fault::Refused(why));
+            Err(AttemptFault::Held(addr)) => {
+                self.undo(rt, txn, space);
+                return Err(addr);
+            }
+            Err(AttemptFault::Refused(why)) => {
+                self.undo(rt, txn, space);
+                return Ok(Err(Fault::Refused(why)));
             }
         };
         let waits = is_awaited(operation.waits(), &answer);
         let ended = end(rt, session, txn, waits);
         self.settle(rt, space, &ended);
         match ended {
-            Ok(()) => Ok(answer),
-            Err(fault) => Err(fault),
+            Ok(()) => Ok(Ok(answer)),
+            Err(fault) => Ok(Err(fault)),
         }
+    }
+
+    // Gives an attempt up, with its slots and with what it took.
+    fn undo<'j, W: Wait>(&self, rt: &W, txn: FileTxn<'j, 'b, D, J>, space: Space) {
+        txn.abort(rt);
+        space.undone(rt, &self.free);
     }
 
     // Gives back what a commit freed, or what an attempt took that came to nothing.

@@ -12,10 +12,10 @@ ghost use Rattle.journal_filestore.specs.Operations.Reply.{wrote};
 
 use crate::find::{Place, find};
 use crate::objects::{read_block, write_block, write_node};
-use crate::operation::Operation;
+use crate::operation::{GivenUp, Operation};
 use crate::reply::attributes_of;
 use crate::space::Space;
-use crate::store::{Answer, FileFault, FileTxn, Why};
+use crate::store::{Answer, FileFault, FileTxn};
 use crate::{Changed, FileStore, Handle, Stability, Status};
 use journal_disk::BlockDisk;
 use journal_history::{Naming, Session};
@@ -50,7 +50,7 @@ impl<'a, J: Naming> Operation<J> for Write<'a> {
         rt: &W,
         txn: &mut FileTxn<'j, 'b, D, J>,
         _space: &mut Space,
-    ) -> Result<Answer<Changed>, Why<'b, J>> {
+    ) -> Result<Answer<Changed>, GivenUp<'b, J>> {
         let file = match find(rt, txn, self.handle)? {
             Place::Gone => return Ok(Err(Status::Stale)),
             Place::Directory(_) => return Ok(Err(Status::Invalid)),
@@ -92,7 +92,7 @@ fn put_data<'j, 'b, D: BlockDisk, J: Naming, W: Wait>(
     number: u64,
     offset: usize,
     bytes: &[u8],
-) -> Result<(), Why<'b, J>>
+) -> Result<(), GivenUp<'b, J>>
     requires room { offset + length bytes.now ≤ FILE_BYTES }
     requires unread { FIRST_DATA ≤ number → IsNotYetRead txn.old (block number) }
     requires writes { txn.old.writes ≡ [] }

@@ -12,20 +12,37 @@ use journal_world::{
     Addr, BLOCK_BITS, FIRST_DATA, MAX_NANOS, MapRule, ObjectReader, Refusal, SUPERBLOCK,
 };
 use std::alloc::Global;
+use std::sync::OnceLock;
 
 /// The rule of sound files: the superblock is the disk's, each inode is in its place, each file is sound, no
 /// two files have one block, and the bitmap says which data blocks are taken.
 ///
-/// It keeps an allocator, for the table of the blocks that files have.
-#[derive(Clone, Copy, Debug)]
+/// It keeps an allocator, for the table of the blocks that files have, and the first such table that it made.
+#[derive(Drop)]
 pub struct SoundFiles {
     alloc: Global,
+    owners: OnceLock<Vec<bool>>,
 }
 
 impl SoundFiles {
     /// The rule, with the allocator that `admit` takes memory from.
     pub fn new(alloc: Global) -> SoundFiles {
-        SoundFiles { alloc }
+        SoundFiles {
+            alloc,
+            owners: OnceLock::new(),
+        }
+    }
+
+    /// The table that `admit` made of the first map whose inodes were sound: for each data block, whether a file has it.
+    /// It is a hint, of which nothing is promised.
+    pub fn into_owners(self) -> Option<Vec<bool>> {
+        let SoundFiles { alloc: _, owners } = self;
+        owners.into_inner()
+    }
+
+    // Keeps the table, if it is the first.
+    fn keep(&self, owners: Vec<bool>) {
+        let _is_first = self.owners.try_set(owners).is_ok();
     }
 }
 
@@ -43,7 +60,11 @@ impl MapRule for SoundFiles {
         }
         match owners(reader, self.alloc)? {
             None => Ok(false),
-            Some(owners) => are_bits_sound(reader, &owners),
+            Some(owners) => {
+                let answer = are_bits_sound(reader, &owners);
+                self.keep(owners);
+                answer
+            }
         }
     }
 }

@@ -1,10 +1,6 @@
--- What waits and is answered OK is marked, with all that was seen before.
-use Rattle.std.proofs.Common.{◌≡◌, ℕ, suc, zero, ◌+◌, ◌≤◌, Bool, true, false, IsTrue, List, [], ◌∷◌, ◌++◌, length, take, Option, Some, None, Result, Ok, Err, OnOk, refl, sym, ap, subst, ◌∙◌, arith}
-use Rattle.std.specs.Prelude.{slice_get}
+-- What waits and is answered OK is marked.
+use Rattle.std.proofs.Common.{◌≡◌, ℕ, Bool, true, IsTrue, List, Option, Some, None, Result, Ok, Err, refl, ap, subst, ◌∙◌}
 use Rattle.std.specs.Result.{is_ok}
-use Rattle.journal_world.specs.Maps.{Transaction}
-use Rattle.journal_world.specs.Histories.{Entry, count, floor}
-use Rattle.journal_world.specs.Histories.Entry.{opening, commit, stable}
 use Rattle.journal_history.specs.Tokens.{SessionState}
 use Rattle.journal_core.specs.Causes.{Told}
 use Rattle.journal_inode.specs.declared.node.Time.{Time}
@@ -15,48 +11,31 @@ use Rattle.journal_filestore.specs.Files.{Files}
 use Rattle.journal_filestore.specs.Done.{IsDone, IsAnswered}
 use Rattle.journal_nfs3.specs.declared.results.NfsError.{NfsError}
 use Rattle.journal_nfs3.specs.Arguments.{Operation, Null, GetAttributes, SetAttributes, Lookup, Read, Write, Create, Remove, Commit}
-use Rattle.journal_nfs3.specs.Handles.{FileHandle, handle_in}
+use Rattle.journal_nfs3.specs.Handles.{FileHandle}
 use Rattle.journal_nfs3.specs.Results.{Results}
 use Rattle.journal_nfs3.specs.Profile.{outcome_of, change_of, unchanged_of, no_change, write_of, create_of, commit_of}
-use Rattle.journal_nfs3.specs.Served.{told, waits, TellsOutcome, Performs, Serves, has_to_wait, is_accepted}
+use Rattle.journal_nfs3.specs.Served.{told, waits, TellsOutcome, Performs, Serves, has_to_wait, is_accepted, CommitsOnceAt, IsMarked}
 
-has_commit : (history : List Entry) (p : ℕ) (t : Transaction) → slice_get history p ≡ Some (commit t) → 1 ≤ count (take (suc p) history)
-has_commit [] p t e = absurd cc
-has_commit (commit u ∷ history) p t e = omega arith
-has_commit (opening m trusted ∷ history) zero t e = absurd cc
-has_commit (stable n ∷ history) zero t e = absurd cc
-has_commit (opening m trusted ∷ history) (suc p) t e = has_commit history p t e
-has_commit (stable n ∷ history) (suc p) t e = has_commit history p t e
+-- the session has one more commit, and has seen a mark of it
+abbrev HasMarked : SessionState → SessionState → Type 0
+HasMarked old new = (place : ℕ) × CommitsOnceAt old new place × IsMarked new.seen place
 
--- a commit behind some entries is one more than theirs
-one_more : (seen more : List Entry) (p : ℕ) (t : Transaction) → slice_get (seen ++ more) p ≡ Some (commit t) → length seen ≤ p → count seen + 1 ≤ count (take (suc p) (seen ++ more))
-one_more [] more p t e le = has_commit more p t e
-one_more (x ∷ seen) more zero t e le = absurd (omega (arith, le))
-one_more (commit u ∷ seen) more (suc p) t e le = omega (arith, one_more seen more p t e (omega (arith, le)))
-one_more (opening m trusted ∷ seen) more (suc p) t e le = one_more seen more p t e (omega (arith, le))
-one_more (stable n ∷ seen) more (suc p) t e le = one_more seen more p t e (omega (arith, le))
-
-done_marked : {A : Type 0} (w : Bool) (case : Files → Result A Status → Files → Type 0) (old new : SessionState) (v : A) → IsTrue w → IsDone w case old new (Ok v) → count old.seen + 1 ≤ floor new.seen
+done_marked : {A : Type 0} (w : Bool) (case : Files → Result A Status → Files → Type 0) (old new : SessionState) (v : A) → IsTrue w → IsDone w case old new (Ok v) → HasMarked old new
 done_marked w case old new v wt d =
     let m = d.made in
-    let is : old.seen ++ m.extends.0 ≡ new.seen = m.extends.1 in
-    let more = one_more old.seen m.extends.0 d.place m.made (ap (λ (h : List Entry). slice_get h d.place) is ∙ m.stands) m.later in
-    let there : count old.seen + 1 ≤ count (take (suc d.place) new.seen) = subst (λ (h : List Entry). count old.seen + 1 ≤ count (take (suc d.place) h)) is more in
-    let next : suc d.place ≡ d.place + 1 = omega arith in
-    let at : count old.seen + 1 ≤ count (take (d.place + 1) new.seen) = subst (λ (n : ℕ). count old.seen + 1 ≤ count (take n new.seen)) next there in
-    omega (arith, at, d.stable wt)
+    (d.place, record { made = m.made; stands = m.stands; later = m.later; one_more = m.one_more }, d.stable wt)
 
-answer_marked : {A : Type 0} (w : Bool) (case : Files → Result A Status → Files → Type 0) (old new : SessionState) (answer : Result (Result A Status) (Fault Told)) → IsTrue w → IsAnswered w case old new answer → IsTrue (is_ok (told answer)) → count old.seen + 1 ≤ floor new.seen
+answer_marked : {A : Type 0} (w : Bool) (case : Files → Result A Status → Files → Type 0) (old new : SessionState) (answer : Result (Result A Status) (Fault Told)) → IsTrue w → IsAnswered w case old new answer → IsTrue (is_ok (told answer)) → HasMarked old new
 answer_marked w case old new (Ok (Ok v)) wt d ok = done_marked w case old new v wt d
 answer_marked w case old new (Ok (Err why)) wt d ok = absurd (cc ok)
 answer_marked w case old new (Err (Refused why)) wt d ok = absurd (cc ok)
 answer_marked w case old new (Err (Unsure why)) wt d ok = absurd (cc ok)
 
-tells_marked : {A : Type 0} (handle : Option FileHandle) (w : Bool) (case : FileHandle → Files → Result A Status → Files → Type 0) (old new : SessionState) (outcome : Result A NfsError) → IsTrue w → TellsOutcome handle w case old new outcome → IsTrue (is_ok outcome) → count old.seen + 1 ≤ floor new.seen
+tells_marked : {A : Type 0} (handle : Option FileHandle) (w : Bool) (case : FileHandle → Files → Result A Status → Files → Type 0) (old new : SessionState) (outcome : Result A NfsError) → IsTrue w → TellsOutcome handle w case old new outcome → IsTrue (is_ok outcome) → HasMarked old new
 tells_marked None w case old new outcome wt h ok = absurd (cc (subst (λ (o : Result _ NfsError). IsTrue (is_ok o)) h.0 ok))
 tells_marked (Some handle) w case old new outcome wt h ok = answer_marked w (case handle) old new h.0 wt h.1 (subst (λ (o : Result _ NfsError). IsTrue (is_ok o)) h.2 ok)
 
-performs_marked : {A : Type 0} (handle : Option FileHandle) (w : Bool) (case : FileHandle → Files → Result A Status → Files → Type 0) (as_results : Result A NfsError → Results) (old new : SessionState) (r : Results) → ((o : Result A NfsError) → is_accepted (as_results o) ≡ is_ok o) → IsTrue w → IsTrue (is_accepted r) → Performs handle w case as_results old r new → count old.seen + 1 ≤ floor new.seen
+performs_marked : {A : Type 0} (handle : Option FileHandle) (w : Bool) (case : FileHandle → Files → Result A Status → Files → Type 0) (as_results : Result A NfsError → Results) (old new : SessionState) (r : Results) → ((o : Result A NfsError) → is_accepted (as_results o) ≡ is_ok o) → IsTrue w → IsTrue (is_accepted r) → Performs handle w case as_results old r new → HasMarked old new
 performs_marked handle w case as_results old new r same wt accepted h =
     tells_marked handle w case old new h.0 wt h.1 (subst IsTrue (ap is_accepted h.2 ∙ same h.0) accepted)
 
@@ -64,7 +43,7 @@ same_ok : {A B C : Type 0} (view : A → B) (nothing : C) (o : Result A NfsError
 same_ok view nothing (Ok v) = refl
 same_ok view nothing (Err why) = refl
 
-pub serves_marked : (verifier : List ℕ) (now : Time) (operation : Operation) (old new : SessionState) (r : Results) → IsTrue (has_to_wait operation) → IsTrue (is_accepted r) → Serves verifier now operation old r new → count old.seen + 1 ≤ floor new.seen
+pub serves_marked : (verifier : List ℕ) (now : Time) (operation : Operation) (old new : SessionState) (r : Results) → IsTrue (has_to_wait operation) → IsTrue (is_accepted r) → Serves verifier now operation old r new → HasMarked old new
 serves_marked verifier now Null old new r wt ok h = absurd (cc wt)
 serves_marked verifier now (GetAttributes k) old new r wt ok h = absurd (cc wt)
 serves_marked verifier now (Lookup e) old new r wt ok h = absurd (cc wt)

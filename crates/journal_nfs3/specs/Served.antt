@@ -1,8 +1,11 @@
 -- What an operation does, and what it answers.
-use Rattle.std.specs.Prelude.{ℕ, ◌≡◌, Bool, true, false, List, Option, Some, None, Result, Ok, Err}
+use Rattle.std.specs.Prelude.{ℕ, ◌≡◌, ◌≤◌, ◌+◌, Bool, true, false, List, [], ◌∷◌, ◌++◌, length, take, slice_get, Option, Some, None, Result, Ok, Err}
 use Rattle.std.specs.Result.{is_ok}
 use Rattle.journal_world.specs.declared.refusal.Refusal.{Refusal}
 use Rattle.journal_world.specs.declared.refusal.Refusal.TheVariants.{Busy, DeviceFailed}
+use Rattle.journal_world.specs.Maps.{Transaction}
+use Rattle.journal_world.specs.Histories.{Entry, commits_of, count, floor}
+use Rattle.journal_world.specs.Histories.Entry.{commit}
 use Rattle.journal_history.specs.Tokens.{SessionState}
 use Rattle.journal_core.specs.Causes.{Told}
 use Rattle.journal_inode.specs.declared.node.Time.{Time}
@@ -131,3 +134,14 @@ is_accepted (Write r) = is_ok r
 is_accepted (Create r) = is_ok r
 is_accepted (Remove r) = is_ok r
 is_accepted (Commit r) = is_ok r
+
+-- The session has one more commit, which stands at this place in what it has then seen, after all that it had seen
+pub record CommitsOnceAt (old new : SessionState) (place : ℕ) : Type 0 where
+  pub made : Transaction
+  pub stands : slice_get new.seen place ≡ Some (commit made)
+  pub later : length old.seen ≤ place
+  pub one_more : commits_of new.number new.mine ≡ commits_of old.number old.mine ++ made ∷ []
+
+-- a mark of the history covers the commits up to this place
+abbrev pub IsMarked : List Entry → ℕ → Type 0
+IsMarked history place = count (take (place + 1) history) ≤ floor history

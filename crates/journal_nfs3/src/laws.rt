@@ -1,6 +1,5 @@
 // What holds of all arguments and results.
-ghost use Rattle.std.specs.Prelude.{◌≡◌, ◌↔◌, ◌+◌, ◌≤◌, ℕ, List, IsTrue, Option, Some, Ok, Err};
-ghost use Rattle.journal_world.specs.Histories.{count, floor};
+ghost use Rattle.std.specs.Prelude.{◌≡◌, ◌↔◌, ℕ, List, IsTrue, Option, Some, Ok, Err};
 ghost use Rattle.journal_history.specs.Tokens.{SessionState};
 ghost use Rattle.journal_inode.specs.declared.node.Time.{Time};
 ghost use Rattle.journal_xdr.specs.Items.{IsGrammar};
@@ -11,7 +10,7 @@ ghost use Rattle.journal_nfs3.specs.Whole.{IsSpelling};
 ghost use Rattle.journal_nfs3.specs.Handles.{FileHandle, used_handle, handle_in};
 ghost use Rattle.journal_nfs3.specs.Calls.{called};
 ghost use Rattle.journal_nfs3.specs.Results.{Results, results};
-ghost use Rattle.journal_nfs3.specs.Served.{Serves, has_to_wait, is_accepted};
+ghost use Rattle.journal_nfs3.specs.Served.{Serves, has_to_wait, is_accepted, CommitsOnceAt, IsMarked};
 
 /// A procedure's arguments are an item: what is read is spelled so, and what is spelled so is read
 /// (RFC 1813, section 3.3). An operation is run exactly where the arguments are its spelling, and they are
@@ -37,11 +36,11 @@ pub fn handles_are_spellings()
         → (handle_in bytes ≡ Some handle) ↔ IsSpelling used_handle bytes handle }
 {}
 
-/// Where an operation that waits until it is stable is answered OK, the session has seen a mark of more
-/// commits than it had seen before: of all those, and of the operation's own. So it is of COMMIT (RFC 1813,
-/// section 3.3.21), SETATTR, CREATE, REMOVE, and WRITE with DATA_SYNC or FILE_SYNC.
+/// Where an operation that waits until it is stable is answered OK, the session has one more commit, and has seen a
+/// mark that covers it, at its place, and all commits before it. So it is of COMMIT (RFC 1813, section 3.3.21),
+/// SETATTR, CREATE, REMOVE, and WRITE with DATA_SYNC or FILE_SYNC.
 pub fn answers_that_wait_are_stable()
     ensures { (verifier : List ℕ) (now : Time) (operation : Operation) (old new : SessionState) (r : Results)
         → IsTrue (has_to_wait operation) → IsTrue (is_accepted r) → Serves verifier now operation old r new
-        → count old.seen + 1 ≤ floor new.seen }
+        → (place : ℕ) × CommitsOnceAt old new place × IsMarked new.seen place }
 {}

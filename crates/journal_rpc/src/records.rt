@@ -193,13 +193,9 @@ impl Records {
         } else if left == 0 {
             self.end_fragment(last)?;
         } else {
-            // All that may come of the record gets room at once, so that no byte is copied again.
-            let room = if last {
-                left
-            } else {
-                RECORD_BYTES - self.begun.len()
-            };
-            self.begun.reserve(room)?;
+            // All of the fragment gets room at once. What may come behind it gets none yet, so that a record of many small
+            // fragments takes no more memory than it has bytes.
+            self.begun.reserve(left)?;
             self.part = Part::Body { last, left };
         }
         Ok(())

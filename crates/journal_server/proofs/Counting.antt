@@ -29,8 +29,8 @@ counts_front answers [] bad behind old new text h none = ap (λ (c : Option Mess
 counts_front answers (r ∷ rs) bad behind old new text h none =
     ap (λ (c : Option Message). counted c (answered_of (rs ++ bad ∷ behind))) h.1 ∙ one_longer (answered_of (rs ++ bad ∷ behind)) rs r (counts_front answers rs bad behind h.2.0 new h.2.2 h.2.4 none)
 
-pub counts_more : (a b : List (List ℕ)) (n new : ℕ) → GrowsBy 0 (length a) n → GrowsBy n (length b) new → GrowsBy 0 (length (a ++ b)) new
-counts_more a b n new h k lt =
+pub counts_more : (a b : List (List ℕ)) (old n new : ℕ) → GrowsBy old (length a) n → GrowsBy n (length b) new → GrowsBy old (length (a ++ b)) new
+counts_more a b old n new h k lt =
     let l = length-append a b in
     let e = h (omega (arith, l, lt)) in
     let f = k (omega (arith, l, lt, e)) in

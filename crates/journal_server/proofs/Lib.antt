@@ -4,3 +4,4 @@ pub mod Counting
 pub mod Serving
 pub mod Staying
 pub mod Steps
+pub mod Turns

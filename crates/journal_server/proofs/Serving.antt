@@ -70,7 +70,7 @@ module _ {S : Type 0} (answers : Message → S → S → List ℕ → Type 0) (f
         replied = all_then answers h.answered fed.records start mid now h.text e.text h.replied e.replied;
         is = whole f ∙ ap (λ (rs : List (List ℕ)). record fed { records = rs }) (sym (append-nil (h.answered ++ fed.records))) ∙ ap (behind (h.answered ++ fed.records)) (sym e.rest);
         none = ap (λ (s : Stream). s.records) e.rest;
-        counts = counts_more h.answered fed.records n m h.counts e.counts;
+        counts = counts_more h.answered fed.records 0 n m h.counts e.counts;
         short = λ long. short (sym (ap (λ (s : Stream). s.part) e.rest) ∙ long);
       }
 
@@ -95,7 +95,7 @@ module _ {S : Type 0} (answers : Message → S → S → List ℕ → Type 0) (f
         read = Consumes-trans from left left2 h.input piece h.read c;
         wrote = Appends-trans before held holds h.text e.text h.wrote e.sent;
         replied = all_output rs text (h.input ++ piece) records all;
-        count = counts_fit (length rs) _ m count (counts_more h.answered fed.records n m h.counts e.counts);
+        count = counts_fit (length rs) _ m count (counts_more h.answered fed.records 0 n m h.counts e.counts);
         ended = inl (ap (λ (s : Stream). s.part) (whole f) ∙ long);
       }
 
@@ -115,7 +115,7 @@ module _ {S : Type 0} (answers : Message → S → S → List ℕ → Type 0) (f
         read = Consumes-trans from left left2 h.input piece h.read c;
         wrote = Appends-trans before held holds h.text e.text h.wrote e.sent;
         replied = subst (λ (rs : List (List ℕ)). RepliesUpToBad answers rs start now text) (sym records) (subst (λ (t : List ℕ). RepliesUpToBad answers (front ++ e.bad ∷ e.behind) start now t) (append-nil text) stopped);
-        count = counts_fit (length front) _ m count (counts_more h.answered e.answered n m h.counts e.counts);
+        count = counts_fit (length front) _ m count (counts_more h.answered e.answered 0 n m h.counts e.counts);
         ended = inr (front, e.bad, e.behind, records, e.no_call);
       }
 

@@ -1,6 +1,8 @@
 -- What was seen before some replies is seen after them, with its marks.
+use Rattle.std.specs.Prelude.{slice_get, take}
+use Rattle.std.proofs.lemmas.Option.{slice_get_within}
 use Rattle.std.proofs.Common.{◌≡◌, ℕ, ◌+◌, ◌≤◌, Bool, IsTrue, List, [], ◌∷◌, ◌++◌, Option, Some, None, Result, Ok, Err, refl, sym, ap, subst, ◌∙◌, append_assoc, arith}
-use Rattle.std.proofs.lemmas.List.{append-nil}
+use Rattle.std.proofs.lemmas.List.{append-nil, take-append-le}
 use mathlib.Core.List.{IsPrefix}
 use Rattle.journal_world.specs.Histories.{Entry, count, floor}
 use Rattle.journal_world.proofs.Marks.{floor-append-le}
@@ -18,10 +20,10 @@ use Rattle.journal_nfs3.specs.Arguments.{Operation, Null, GetAttributes, SetAttr
 use Rattle.journal_nfs3.specs.Handles.{FileHandle}
 use Rattle.journal_nfs3.specs.Results.{Results}
 use Rattle.journal_nfs3.specs.Calls.{asks}
-use Rattle.journal_nfs3.specs.Served.{TellsOutcome, Performs, Serves, has_to_wait, is_accepted}
-use Rattle.journal_nfs3.specs.Answers.{ServesCall, Answers}
+use Rattle.journal_nfs3.specs.Served.{TellsOutcome, Performs, Serves, has_to_wait, is_accepted, CommitsOnceAt, IsMarked}
+use Rattle.journal_nfs3.specs.Answers.{ServesCall}
 use Rattle.journal_nfs3.proofs.Marked.{serves_marked}
-use Rattle.journal_server.specs.Output.{IsReply, IsRepliedUnlessBad, IsRepliedThen, RepliesUpToBad, AllReplies}
+use Rattle.journal_server.specs.Output.{IsReply, IsRepliedUnlessBad, RepliesUpToBad, AllReplies}
 use Rattle.journal_server.proofs.Answering.{then_replies}
 
 abbrev Grows : SessionState → SessionState → Type 0
@@ -80,20 +82,26 @@ replies_grow tells verifier records old new text h =
     let p = all_grow tells verifier records old new text h in
     (p, floor_grows old new p)
 
-call_marked : (verifier : List ℕ) (now : Time) (asked : Result Operation CallRefused) (operation : Operation) (r : Results) (old new : SessionState) (outcome : Result Results CallRefused) → asked ≡ Ok operation → outcome ≡ Ok r → IsTrue (has_to_wait operation) → IsTrue (is_accepted r) → ServesCall verifier now asked old outcome new → count old.seen + 1 ≤ floor new.seen
+call_marked : (verifier : List ℕ) (now : Time) (asked : Result Operation CallRefused) (operation : Operation) (r : Results) (old new : SessionState) (outcome : Result Results CallRefused) → asked ≡ Ok operation → outcome ≡ Ok r → IsTrue (has_to_wait operation) → IsTrue (is_accepted r) → ServesCall verifier now asked old outcome new → (place : ℕ) × CommitsOnceAt old new place × IsMarked new.seen place
 call_marked verifier now (Err why) operation r old new outcome e f wt ok h = absurd cc
 call_marked verifier now (Ok o) operation r old new outcome e f wt ok h =
     let same : o ≡ operation = cc in
     let results : h.0 ≡ r = cc in
     serves_marked verifier now o old new h.0 (subst (λ (p : Operation). IsTrue (has_to_wait p)) (sym same) wt) (subst (λ (q : Results). IsTrue (is_accepted q)) (sym results) ok) h.2
 
+-- what was covered by a mark is covered still
+marked_later : (front whole : List Entry) (place : ℕ) (e : Entry) → IsPrefix front whole → floor front ≤ floor whole → slice_get front place ≡ Some e → IsMarked front place → IsMarked whole place
+marked_later front whole place e p grows there marked =
+    let same : take (place + 1) whole ≡ take (place + 1) front = ap (take (place + 1)) (sym p.1) ∙ take-append-le (place + 1) front p.0 (omega (arith, slice_get_within front place e there)) in
+    subst (λ (h : List Entry). count h ≤ floor whole) (sym same) (omega (arith, marked, grows))
+
 pub stays_stable : (tells : Time → Type 0) (verifier : List ℕ) (call : Message) (operation : Operation) (r : Results) (old mid new : SessionState) (reply : List ℕ) (behind : List (List ℕ)) (more : List ℕ)
     → (replied : IsReply tells verifier call old mid reply) → asks call.asked ≡ Ok operation → replied.answers.outcome ≡ Ok r → IsTrue (has_to_wait operation) → IsTrue (is_accepted r)
-    → RepliesUpToBad (IsReply tells verifier) behind mid new more → count old.seen + 1 ≤ floor new.seen
+    → RepliesUpToBad (IsReply tells verifier) behind mid new more → (place : ℕ) × CommitsOnceAt old mid place × IsMarked new.seen place
 stays_stable tells verifier call operation r old mid new reply behind more replied e f wt ok h =
     let now = call_marked verifier replied.moment (asks call.asked) operation r old mid replied.answers.outcome e f wt ok replied.answers.comes in
-    let later = (replies_grow tells verifier behind mid new more h).1 in
-    omega (arith, now, later)
+    let grown = replies_grow tells verifier behind mid new more h in
+    (now.0, now.1, marked_later mid.seen new.seen now.0 _ grown.0 grown.1 now.1.stands now.2)
 
 pub all_are_replies : {S : Type 0} (answers : Message → S → S → List ℕ → Type 0) (records : List (List ℕ)) (old new : S) (text : List ℕ) → AllReplies answers records old new text → RepliesUpToBad answers records old new text
 all_are_replies answers records old new text h =

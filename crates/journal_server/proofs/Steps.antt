@@ -1,6 +1,7 @@
 -- Each step keeps the rule of the line.
-use Rattle.std.proofs.Common.{◌≡◌, ◌≢◌, Option, Some, IfSome, ℕ, zero, suc, Bool, true, false, ◌⊎◌, ◌+◌, ◌-◌, ◌<◌, ◌≤◌, ◌==◌, List, [], ◌∷◌, ◌++◌, length, set, sym, refl, ap, ◌∙◌, subst, ⊎_elim, if◌then◌else◌, arith}
+use Rattle.std.proofs.Common.{◌≡◌, ◌≢◌, Option, Some, IfSome, ℕ, zero, suc, Bool, true, false, ◌+◌, ◌-◌, ◌<◌, ◌≤◌, ◌==◌, List, [], ◌∷◌, ◌++◌, length, set, sym, refl, ap, ◌∙◌, subst, ⊎_elim, if◌then◌else◌, arith}
 use Rattle.std.proofs.lemmas.Bool.Decides.{nat_tests}
+use Rattle.std.specs.Prelude.{nat_lt, Result, Ok, Err, IfOk}
 use mathlib.Core.Option.{some, some-injective, some-ne-none}
 use lib.ListN.{get_elem?}
 use Rattle.crossbeam_channel.specs.Fifo.{Pushes, Pops, Forks, Merges, Learns}
@@ -8,7 +9,7 @@ use Rattle.atomic_table.proofs.Lists.{at_set, at_snoc}
 use Rattle.journal_server.specs.declared.line.Hand.{Hand}
 use Rattle.journal_server.specs.declared.line.Job.{Job}
 use Rattle.journal_server.specs.declared.line.Job.TheVariants.{Serve, Stop}
-use Rattle.journal_server.specs.Lines.{hand, both, below, outcome_numbers, HasEachOnce, numbers, times, total, IdleIsEmpty, IsBalanced}
+use Rattle.journal_server.specs.Lines.{hand, both, below, numbers_by, HasEachOnce, numbers, times, total, IdleIsEmpty, IsBalanced}
 
 -- the total after a change of one pass
 total_set : (f : Hand → ℕ) (views : List Hand) (port : ℕ) (v w : Hand) → get_elem? views port ≡ some v → total f (set views port w) + f v ≡ total f views + f w
@@ -144,13 +145,17 @@ begins T = (refl, (λ k. refl), idle_set (hand 5 [] [] ∷ []) 0 (hand 5 [] []) 
   only zero u e none = let s : 5 ≡ u.parts = ap (λ (y : Hand). y.parts) (some-injective (hand 5 [] []) u e) in absurd (omega arith)
   only (suc j) u e none = absurd (some-ne-none u (sym e))
 
-pub numbers_snoc : {O : Type 0} (os : List (ℕ × O)) (n : ℕ) (o : O) → outcome_numbers (os ++ (n, o) ∷ []) ≡ outcome_numbers os ++ n ∷ []
-numbers_snoc [] n o = refl
-numbers_snoc (p ∷ os) n o = ap (λ l. p.0 ∷ l) (numbers_snoc os n o)
+pub numbers_of_append : {N : Type 0} (about : N → ℕ) (ns ms : List N) → numbers_by about (ns ++ ms) ≡ numbers_by about ns ++ numbers_by about ms
+numbers_of_append about [] ms = refl
+numbers_of_append about (n ∷ ns) ms = ap (λ l. about n ∷ l) (numbers_of_append about ns ms)
 
-pub numbers_of_append : {O : Type 0} (os ps : List (ℕ × O)) → outcome_numbers (os ++ ps) ≡ outcome_numbers os ++ outcome_numbers ps
-numbers_of_append [] ps = refl
-numbers_of_append (p ∷ os) ps = ap (λ l. p.0 ∷ l) (numbers_of_append os ps)
+pub numbers_count : {N : Type 0} (about : N → ℕ) (ns : List N) → length (numbers_by about ns) ≡ length ns
+numbers_count about [] = refl
+numbers_count about (n ∷ ns) = let s = numbers_count about ns in omega arith
+
+-- a note more, of one more that was taken
+pub noted : {N : Type 0} (about : N → ℕ) (ns : List N) (n : N) (k : ℕ) (taken : List ℕ) → about n ≡ k → taken ≡ numbers_by about ns → taken ++ k ∷ [] ≡ numbers_by about (ns ++ n ∷ [])
+noted about ns n k taken is same = ap (λ l. l ++ k ∷ []) same ∙ ap (λ (j : ℕ). numbers_by about ns ++ j ∷ []) (sym is) ∙ sym (numbers_of_append about ns (n ∷ []))
 
 -- ---- each number once
 
@@ -202,11 +207,85 @@ below_given numbers given old new counted each =
     let same : each.0 ≡ new - old = omega (arith, is) in
     subst (HasEachOnce numbers) same each.2
 
+-- the same of what may be refused
+pub all_below_given : {A N : Type 0} (items : A → List N) (about : N → ℕ) (E : Type 0) (all : Result A E) (given : Option ℕ) (old new : ℕ) → IfSome given (λ n. new ≡ old + n)
+    → IfOk all (λ ns. (n : ℕ) × (given ≡ Some n) × HasEachOnce (numbers_by about (items ns)) n) → IfOk all (λ ns. HasEachOnce (numbers_by about (items ns)) (new - old))
+all_below_given items about E (Ok ns) given old new counted each = below_given (numbers_by about (items ns)) given old new counted each
+all_below_given items about E (Err e) given old new counted each = tt
+
 -- a worker's work was taken in
-pub took_in : {O : Type 0} (mine other new : Hand) (os ps all : List (ℕ × O)) → new ≡ both mine other → other.taken ≡ outcome_numbers ps → all ≡ os ++ ps → mine.taken ≡ outcome_numbers os → new.taken ≡ outcome_numbers all
-took_in mine other new os ps all is whole moved same =
-    ap (λ (h : Hand). h.taken) is ∙ ap (λ l. l ++ other.taken) same ∙ ap (λ l. outcome_numbers os ++ l) whole ∙ sym (numbers_of_append os ps) ∙ ap outcome_numbers (sym moved)
+pub took_in : {N : Type 0} (about : N → ℕ) (mine other new : Hand) (ns ms all : List N) → new ≡ both mine other → other.taken ≡ numbers_by about ms → all ≡ ns ++ ms → mine.taken ≡ numbers_by about ns → new.taken ≡ numbers_by about all
+took_in about mine other new ns ms all is whole moved same =
+    ap (λ (h : Hand). h.taken) is ∙ ap (λ l. l ++ other.taken) same ∙ ap (λ l. numbers_by about ns ++ l) whole ∙ sym (numbers_of_append about ns ms) ∙ ap (numbers_by about) (sym moved)
 
 -- all work was taken in, and nothing is left
 pub settled : (put done taken numbers : List ℕ) → done ≡ put → taken ≡ numbers → ((x : ℕ) → times x done ≡ times x taken) → (x : ℕ) → times x numbers ≡ times x put
 settled put done taken numbers p t even x = ap (times x) (sym t) ∙ sym (even x) ∙ ap (times x) p
+
+-- ---- how many numbers there are, where each stands once
+
+-- how often the numbers below n stand in the list, together
+abbrev sum_below : ℕ → List ℕ → ℕ
+sum_below zero xs = 0
+sum_below (suc n) xs = sum_below n xs + times n xs
+
+sum_none : (n : ℕ) → sum_below n [] ≡ 0
+sum_none zero = refl
+sum_none (suc n) = let s = sum_none n in omega arith
+
+sum_cons : (n y : ℕ) (ys : List ℕ) → sum_below n (y ∷ ys) ≡ sum_below n (y ∷ []) + sum_below n ys
+sum_cons zero y ys = refl
+sum_cons (suc n) y ys = let s = sum_cons n y ys in omega (arith, times_append n (y ∷ []) ys)
+
+sum_outside : (n y : ℕ) → n ≤ y → sum_below n (y ∷ []) ≡ 0
+sum_outside zero y le = refl
+sum_outside (suc n) y le =
+    let s = sum_outside n y (omega (arith, le)) in
+    let t = none_is n y (λ e. absurd (omega (arith, le, e))) in
+    omega (arith, s, t)
+
+sum_inside : (n y : ℕ) → y < n → sum_below n (y ∷ []) ≡ 1
+sum_inside zero y lt = absurd (omega (arith, lt))
+sum_inside (suc n) y lt = of (λ less. sum_inside n y less) (y == n) refl
+  where
+    of : (y < n → sum_below n (y ∷ []) ≡ 1) → (b : Bool) → (y == n) ≡ b → sum_below n (y ∷ []) + times n (y ∷ []) ≡ 1
+    of rest true is =
+        let e : y ≡ n = grind (arith, nat_tests, is) in
+        let s = sum_outside n y (omega (arith, e)) in
+        let t : times n (y ∷ []) ≡ 1 = subst (λ (k : ℕ). times n (k ∷ []) ≡ 1) (sym e) (one_is n) in
+        omega (arith, s, t)
+    of rest false is =
+        let apart : y ≢ n = grind (arith, nat_tests, is) in
+        let s = rest (omega (arith, lt, apart)) in
+        let t = none_is n y apart in
+        omega (arith, s, t)
+
+sum_each : (n : ℕ) (xs : List ℕ) → ((x : ℕ) → x < n → times x xs ≡ 1) → sum_below n xs ≡ n
+sum_each zero xs h = refl
+sum_each (suc n) xs h =
+    let s = sum_each n xs (λ x lt. h x (omega (arith, lt))) in
+    let t = h n (omega arith) in
+    omega (arith, s, t)
+
+sum_all : (n : ℕ) (xs : List ℕ) → ((x : ℕ) → n ≤ x → times x xs ≡ 0) → sum_below n xs ≡ length xs
+sum_all n [] h = sum_none n
+sum_all n (y ∷ ys) h =
+    let s = sum_all n ys (λ x le. let z = h x le in omega (arith, z, times_append x (y ∷ []) ys)) in
+    omega (arith, s, sum_cons n y ys, sum_inside n y (of (nat_lt y n) refl))
+  where
+    of : (b : Bool) → nat_lt y n ≡ b → y < n
+    of true is = grind (arith, nat_tests, is)
+    of false is =
+        let le : n ≤ y = grind (arith, nat_tests, is) in
+        let z = h y le in
+        absurd (omega (arith, z, times_append y (y ∷ []) ys, one_is y))
+
+-- there are n of them
+pub each_counts : (numbers : List ℕ) (n : ℕ) → HasEachOnce numbers n → length numbers ≡ n
+each_counts numbers n each = let s = sum_each n numbers each.0 in let t = sum_all n numbers each.1 in omega (arith, s, t)
+
+-- as many notes as connections
+pub notes_count : {A N E : Type 0} (items : A → List N) (about : N → ℕ) (all : Result A E) (ns : A) (n : ℕ) → all ≡ Ok ns → IfOk all (λ ms. HasEachOnce (numbers_by about (items ms)) n) → length (items ns) ≡ n
+notes_count {A} {N} {E} items about all ns n is each =
+    let sound : HasEachOnce (numbers_by about (items ns)) n = subst (λ (r : Result A E). IfOk r (λ ms. HasEachOnce (numbers_by about (items ms)) n)) is each in
+    sym (numbers_count about (items ns)) ∙ each_counts (numbers_by about (items ns)) n sound

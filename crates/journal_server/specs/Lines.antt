@@ -21,10 +21,14 @@ times x (y ∷ ys) = (if y == x then 1 else 0) + times x ys
 abbrev pub HasEachOnce : List ℕ → ℕ → Type 0
 HasEachOnce numbers n = ((x : ℕ) → x < n → times x numbers ≡ 1) × ((x : ℕ) → n ≤ x → times x numbers ≡ 0)
 
+-- the numbers of the connections that some notes are about
+abbrev pub numbers_by : {N : Type 0} → (N → ℕ) → List N → List ℕ
+numbers_by about [] = []
+numbers_by about (n ∷ ns) = about n ∷ numbers_by about ns
+
 -- the numbers of some outcomes
 abbrev pub outcome_numbers : {O : Type 0} → List (ℕ × O) → List ℕ
-outcome_numbers [] = []
-outcome_numbers (o ∷ os) = o.0 ∷ outcome_numbers os
+outcome_numbers os = numbers_by (λ o. o.0) os
 
 -- the numbers below n
 abbrev pub below : ℕ → List ℕ
@@ -71,12 +75,12 @@ IsFresh is_seat pass = is_seat pass × (view pass ≡ hand 1 [] [])
 abbrev pub ArePasses : {T : Type 0} → (Pass (Job T) Hand → Type 0) → Passes T → Type 0
 ArePasses is_seat p = IsFresh is_seat p.first × IsFresh is_seat p.second × IsFresh is_seat p.third × IsFresh is_seat p.fourth × IsFresh is_seat p.own
 
--- What a worker gives back: it has put nothing, and there is an outcome for each connection that it took, unless memory was refused
-abbrev pub IsWork : {T : Type 0} → (Pass (Job T) Hand → Type 0) → Work T → Type 0
-IsWork is_seat w = is_seat w.pass × ((view w.pass).parts ≡ 1) × ((view w.pass).put ≡ []) × (w.is_whole ≡ true → (view w.pass).taken ≡ outcome_numbers w.outcomes.items)
+-- What a worker gives back: it has put nothing, and there is a note of each connection that it took, unless memory was refused
+abbrev pub IsWork : {T N : Type 0} → (Pass (Job T) Hand → Type 0) → (N → ℕ) → Work T N → Type 0
+IsWork is_seat about w = is_seat w.pass × ((view w.pass).parts ≡ 1) × ((view w.pass).put ≡ []) × (w.is_whole ≡ true → (view w.pass).taken ≡ numbers_by about w.notes.items)
 
 -- What all threads give back: the pass of who put the connections, which took none, and the work of each worker
-abbrev pub IsTeam : {T : Type 0} → (Pass (Job T) Hand → Type 0) → Team T → Type 0
-IsTeam is_seat team =
+abbrev pub IsTeam : {T N : Type 0} → (Pass (Job T) Hand → Type 0) → (N → ℕ) → Team T N → Type 0
+IsTeam is_seat about team =
     is_seat team.pass × ((view team.pass).parts ≡ 1) × ((view team.pass).taken ≡ [])
-    × IsWork is_seat team.first × IsWork is_seat team.second × IsWork is_seat team.third × IsWork is_seat team.fourth
+    × IsWork is_seat about team.first × IsWork is_seat about team.second × IsWork is_seat about team.third × IsWork is_seat about team.fourth

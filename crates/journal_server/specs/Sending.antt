@@ -1,8 +1,10 @@
 -- Records that were answered, and replies that were sent.
-use Rattle.std.specs.Prelude.{◌≡◌, ℕ, ◌+◌, ◌<◌, ◌^◌, List, [], ◌∷◌, ◌++◌, length, Option, None}
+use Rattle.std.specs.Prelude.{◌≡◌, ◌≢◌, ℕ, ◌+◌, ◌<◌, ◌^◌, List, [], ◌∷◌, ◌++◌, length, Option, None}
 use Rattle.std.specs.Io.KnownBytes.{Appends}
 use Rattle.journal_rpc.specs.Calls.{Message, message}
 use Rattle.journal_rpc.specs.Stream.{Stream}
+use Rattle.journal_server.specs.declared.replying.Turn.{Turn}
+use Rattle.journal_server.specs.declared.replying.Turn.TheVariants as turns
 use Rattle.journal_server.specs.Output.{AllReplies}
 
 -- known bytes grow by a front of these
@@ -36,6 +38,22 @@ pub record Stopped {S : Type 0} (answers : Message → S → S → List ℕ → 
   pub is : holds ≡ held ++ text
   pub counts : GrowsBy count (length answered) counted
 
+-- a front of the records that waited was answered, one at least, and the others wait
+pub record Filled {S : Type 0} (answers : Message → S → S → List ℕ → Type 0) (old new : Stream) (before now : S) (held holds : List ℕ) (count counted : ℕ) : Type 0 where
+  pub text : List ℕ
+  pub answered : List (List ℕ)
+  pub replied : AllReplies answers answered before now text
+  pub is : holds ≡ held ++ text
+  pub some : answered ≢ []
+  pub rest : old ≡ record new { records = answered ++ new.records }
+  pub counts : GrowsBy count (length answered) counted
+
+-- what has come of the records that waited, by how the turn ends
+abbrev pub EndsTurn : {S : Type 0} → (Message → S → S → List ℕ → Type 0) → Turn → Stream → Stream → S → S → List ℕ → List ℕ → ℕ → ℕ → Type 0
+EndsTurn answers turns.Emptied old new before now held holds count counted = Emptied answers old new before now held holds count counted
+EndsTurn answers turns.Filled old new before now held holds count counted = Filled answers old new before now held holds count counted
+EndsTurn answers turns.Stopped old new before now held holds count counted = Stopped answers old before now held holds count counted
+
 -- memory was refused for a reply, or behind it: a front was answered
 pub record Lost {S : Type 0} (answers : Message → S → S → List ℕ → Type 0) (old : Stream) (before now : S) : Type 0 where
   pub text : List ℕ
@@ -43,6 +61,15 @@ pub record Lost {S : Type 0} (answers : Message → S → S → List ℕ → Typ
   pub behind : List (List ℕ)
   pub records : old.records ≡ answered ++ behind
   pub replied : AllReplies answers answered before now text
+
+-- a front of the records that waited was answered, and the replies sent
+pub record SentSome {S : Type 0} (answers : Message → S → S → List ℕ → Type 0) (old new : Stream) (before now : S) (held holds : Option (List ℕ)) (count counted : ℕ) : Type 0 where
+  pub text : List ℕ
+  pub answered : List (List ℕ)
+  pub replied : AllReplies answers answered before now text
+  pub sent : Appends held holds text
+  pub rest : old ≡ record new { records = answered ++ new.records }
+  pub counts : GrowsBy count (length answered) counted
 
 -- the waiting records were answered, and the replies sent
 pub record Sent {S : Type 0} (answers : Message → S → S → List ℕ → Type 0) (old new : Stream) (before now : S) (held holds : Option (List ℕ)) (count counted : ℕ) : Type 0 where

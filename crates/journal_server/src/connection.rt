@@ -57,8 +57,9 @@ pub enum ConnFault {
 /// Answers the calls that the reader gives, in order, up to the first bad record, each at the clock's moment behind the
 /// gate, which it passes as `number` with the count of the calls before it. The replies go to the writer.
 ///
-/// It reads at most 16 KiB at once. The replies to all calls that are complete then go out with one write. It may wait for
-/// the peer, and for the journal.
+/// It reads at most 16 KiB at once. The replies to all calls that are complete then go out before it reads on: with one
+/// write, or, where they come to 64 KiB, with one before further calls are answered. It may wait for the peer, and for the
+/// journal.
 ///
 /// Where it gives up, some of the records that it read were answered, from the first on, and their replies were
 /// written up to some byte: a call whose reply could not be written was done.

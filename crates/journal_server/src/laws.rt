@@ -1,21 +1,21 @@
 // What holds of all that is written to a connection.
-ghost use Rattle.std.specs.Prelude.{◌≡◌, ◌+◌, ◌≤◌, ℕ, List, IsTrue, Ok};
+ghost use Rattle.std.specs.Prelude.{◌≡◌, ◌≤◌, ℕ, List, IsTrue, Ok};
 ghost use mathlib.Core.List.{IsPrefix};
-ghost use Rattle.journal_world.specs.Histories.{count, floor};
+ghost use Rattle.journal_world.specs.Histories.{floor};
 ghost use Rattle.journal_history.specs.Tokens.{SessionState};
 ghost use Rattle.journal_rpc.specs.Calls.{Message};
 ghost use Rattle.journal_nfs3.specs.Arguments.{Operation};
 ghost use Rattle.journal_nfs3.specs.Results.{Results};
 ghost use Rattle.journal_nfs3.specs.Calls.{asks};
-ghost use Rattle.journal_nfs3.specs.Served.{has_to_wait, is_accepted};
+ghost use Rattle.journal_nfs3.specs.Served.{has_to_wait, is_accepted, CommitsOnceAt, IsMarked};
 ghost use Rattle.journal_server.specs.Output.{IsReply, RepliesUpToBad, AllReplies};
 
 use crate::service::Clock;
 
 /// What the session had seen before the replies of a connection it has seen after them, with each mark. So where an
-/// operation that waits until it is stable was answered OK, there is a mark of its commit, and of all commits that the
-/// session had seen before, whenever `serve` returns: also where it gave up behind that reply, since a front of the
-/// records that were all replied is a connection's output too.
+/// operation that waits until it is stable was answered OK, a mark covers its commit, at its place, and all commits
+/// before it, whenever `serve` returns: also where it gave up behind that reply, since a front of the records that
+/// were all replied is a connection's output too.
 ///
 /// COMMIT, SETATTR, CREATE, REMOVE, and WRITE with DATA_SYNC or FILE_SYNC wait so (RFC 1813, sections 3.3.7 and 3.3.21).
 pub fn what_was_stable_stays_stable<C: Clock>(clock: &C)
@@ -27,7 +27,7 @@ pub fn what_was_stable_stays_stable<C: Clock>(clock: &C)
         → (replied : IsReply (C.tells clock.now) verifier call old mid reply) → asks call.asked ≡ Ok operation → replied.answers.outcome ≡ Ok r
         → IsTrue (has_to_wait operation) → IsTrue (is_accepted r)
         → RepliesUpToBad (IsReply (C.tells clock.now) verifier) behind mid new more
-        → count old.seen + 1 ≤ floor new.seen }
+        → (place : ℕ) × CommitsOnceAt old mid place × IsMarked new.seen place }
     ensures front { (verifier : List ℕ) (records : List (List ℕ)) (old new : SessionState) (text : List ℕ)
         → AllReplies (IsReply (C.tells clock.now) verifier) records old new text → RepliesUpToBad (IsReply (C.tells clock.now) verifier) records old new text }
 {

@@ -1,13 +1,15 @@
 //! Connections of the file service: calls come in, and their replies go out.
 //!
 //! `serve` answers the calls of one connection, over any reader and any writer. It reads pieces into one buffer, answers
-//! the records that are complete, in order, and sends all their replies with one write, before it reads on. So a client
-//! that sends many calls without waiting gets its replies together, and no reply waits for a further call.
+//! the records that are complete, in order, and sends all their replies, before it reads on: with one write, or one for
+//! each 64 KiB of them. So a client that sends many calls without waiting gets its replies together, no reply waits for a
+//! further call, and few are kept for a client that reads none.
 //! `specs/Output.antt` says which text belongs to which input, and `specs/Connections.antt` when a connection ends.
 //!
 //! `run_workers` hands connections to four threads, by a queue that holds sixteen. A worker serves one connection at a
-//! time, so a peer that is slow or dead holds back its own worker alone. `Source` and `Connection` are what it takes
-//! connections from; `Listening` takes them from a TCP port.
+//! time, so a peer that is slow or dead holds back its own worker alone. `serve_all` does the same, and keeps nothing of a
+//! connection that has ended. `Source` and `Connection` are what they take connections from; `Listening` takes them from a
+//! TCP port, and its connections fail where a peer is silent for long, or for some seconds while another one waits.
 #![tactic(auto)]
 
 mod connection;
@@ -25,8 +27,5 @@ pub use connection::{ConnFault, End, Served, serve};
 pub use laws::what_was_stable_stays_stable;
 pub use service::Clock;
 pub use source::{Connection, Source};
-pub use tcp::Listening;
-pub use workers::{Outcome, run_workers};
-
-#[cfg(test)]
-mod tests;
+pub use tcp::{Crowd, Listening, Peer};
+pub use workers::{Outcome, run_workers, serve_all};

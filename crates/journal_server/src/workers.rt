@@ -2,7 +2,7 @@
 ghost use Rattle.std.specs.Prelude.{◌≡◌, ◌-◌, ◌<◌, ◌+◌, ◌++◌, [], ℕ, true, Some, Ok, IfOk, IfErr, OnOk, IfSome};
 ghost use Rattle.crossbeam_channel.specs.Claims.{view, IsSeatAt};
 ghost use Rattle.crossbeam_channel.specs.Ends.{sends_on, receives_on};
-ghost use Rattle.journal_server.specs.Lines.{hand, both, below, outcome_numbers, times, HasEachOnce, IsFresh, IsWork, IsTeam, ArePasses};
+ghost use Rattle.journal_server.specs.Lines.{hand, both, below, numbers_by, outcome_numbers, times, HasEachOnce, IsFresh, IsWork, IsTeam, ArePasses};
 ghost use Rattle.std.specs.Option.{ForSome};
 ghost use Rattle.journal_core.specs.Causes.{IsUnexplained};
 ghost use Rattle.journal_server.specs.Refusals.{IsWorkersRefusal};
@@ -22,6 +22,7 @@ use journal_inode::SoundFiles;
 use journal_nfs3::Verifier;
 use journal_world::Refusal;
 use std::alloc::{AllocError, Global};
+use std::snapshot::Snapshot;
 use std::sync::{Mutex, Wait};
 use std::thread;
 use std::thread::{Promise, Threads};
@@ -31,6 +32,43 @@ const WAITING: usize = 16;
 
 /// How a connection ended: served to its end, or given up.
 pub type Outcome = Result<Served, ConnFault>;
+
+// What a worker keeps of a connection that it has served.
+trait Note {
+    ghost use Rattle.std.specs.Prelude.{◌≡◌, ℕ};
+
+    // The number of the connection.
+    ghost about: { Self → ℕ };
+
+    // The note of a connection with this number, which ended so.
+    fn of(number: u64, outcome: Outcome) -> Self
+        ensures { about result ≡ number };
+}
+
+// All that is known of it.
+impl Note for (u64, Outcome) {
+    ghost about = { λ note. note.0 };
+
+    fn of(number: u64, outcome: Outcome) -> Self {
+        (number, outcome)
+    }
+}
+
+// That it was served, which takes no memory.
+#[derive(Drop)]
+struct Tick {
+    number: Snapshot<u64>,
+}
+
+impl Note for Tick {
+    ghost about = { λ tick. tick.number.value };
+
+    fn of(number: u64, _outcome: Outcome) -> Self {
+        Tick {
+            number: Snapshot::of(&number),
+        }
+    }
+}
 
 // What serves the connections that workers take, under their numbers. `None` says that one could not be begun.
 trait Serve<S> {
@@ -68,20 +106,37 @@ impl<'s, 'b, D: BlockDisk, J: Naming, C: Clock, G: Gate> Drop for Workshop<'s, '
 }
 
 impl<'s, 'b, D: BlockDisk, J: Naming, C: Clock, G: Gate> Workshop<'s, 'b, D, J, C, G> {
-    // What the workers' outcomes come to: J11 where a session was refused.
-    fn end<H: Wait>(
+    fn new(
+        alloc: Global,
+        files: &'s FileStore<'b, D, J>,
+        clock: &'s C,
+        verifier: Verifier,
+        gate: &'s G,
+    ) -> Self {
+        Workshop {
+            alloc,
+            files,
+            clock,
+            verifier,
+            gate,
+            refused: Mutex::new(Refused { cause: None }),
+        }
+    }
+
+    // What the workers' notes come to: J11 where a session was refused.
+    fn end<N: Drop, H: Wait>(
         self,
         rt: &H,
-        outcomes: Result<Vec<(u64, Outcome)>, AllocError>,
-    ) -> Result<Vec<(u64, Outcome)>, Refusal<Cause<'b, J, SoundFiles>>>
-        ensures ok { IfOk result (λ all. outcomes ≡ Ok all) }
+        notes: Result<Vec<N>, AllocError>,
+    ) -> Result<Vec<N>, Refusal<Cause<'b, J, SoundFiles>>>
+        ensures ok { IfOk result (λ all. notes ≡ Ok all) }
         ensures refusal { IfErr result IsWorkersRefusal }
     {
         if let Some(cause) = self.refused.lock(rt).cause.take() {
             return Err(Refusal::Worn(cause));
         }
-        match outcomes {
-            Ok(outcomes) => Ok(outcomes),
+        match notes {
+            Ok(notes) => Ok(notes),
             Err(_) => Err(Refusal::NoMemory),
         }
     }
@@ -90,6 +145,7 @@ impl<'s, 'b, D: BlockDisk, J: Naming, C: Clock, G: Gate> Workshop<'s, 'b, D, J, 
 impl<'s, 'b, D: BlockDisk, J: Naming, C: Clock, G: Gate, S: Connection + Drop> Serve<S>
     for Workshop<'s, 'b, D, J, C, G> {
     fn serve<H: Wait>(&self, rt: &H, number: u64, connection: S) -> Option<Outcome> {
+        connection.begin();
         let (files, clock, gate) = (self.files, self.clock, self.gate);
         let mut session = match files.journal().session(rt) {
             Ok(session) => session,
@@ -117,34 +173,34 @@ impl<'s, 'b, D: BlockDisk, J: Naming, C: Clock, G: Gate, S: Connection + Drop> S
     }
 }
 
-// What a worker gives back: its pass, its outcomes, and whether each connection that it took has one.
+// What a worker gives back: its pass, its notes, and whether there is one of each connection that it took.
 #[derive(Drop)]
-struct Work<S: Drop> {
+struct Work<S: Drop, N: Drop> {
     pass: Pass<Job<S>, Hand>,
-    outcomes: Vec<(u64, Outcome)>,
+    notes: Vec<N>,
     is_whole: bool,
 }
 
-// Serves connections until it takes a stop. Where memory for an outcome is refused it goes on serving, so that nobody
-// waits for room in the queue for ever.
-#[tactic(auto, using(crate::proofs::Steps::numbers_snoc))]
-fn work_on<S: Drop, K: Serve<S>, H: Wait>(
+// Serves connections until it takes a stop. Where memory for a note is refused it goes on serving, so that nobody waits
+// for room in the queue for ever.
+#[tactic(auto, using(crate::proofs::Steps::noted))]
+fn work_on<S: Drop, K: Serve<S>, N: Note + Drop, H: Wait>(
     rt: &H,
     alloc: Global,
     shop: &K,
     line: &LineReceiver<S>,
     mut pass: Pass<Job<S>, Hand>,
-) -> Work<S>
+) -> Work<S, N>
     requires { IsFresh (IsSeatAt (receives_on line.now)) pass }
-    ensures work { IsWork (IsSeatAt (receives_on line.now)) result }
+    ensures work { IsWork (IsSeatAt (receives_on line.now)) N.about result }
 {
-    let mut outcomes = Vec::new(alloc);
+    let mut notes = Vec::new(alloc);
     let mut is_whole = true;
     for _ in rt.forever() {
-        let has_room = outcomes.reserve(1).is_ok();
+        let has_room = notes.reserve(1).is_ok();
         match line.recv_as::<Takes, H>(rt, &mut pass) {
             Ok(Job::Serve(number, connection)) => match shop.serve(rt, number, connection) {
-                Some(outcome) if has_room => outcomes.push_reserved((number, outcome)),
+                Some(outcome) if has_room => notes.push_reserved(N::of(number, outcome)),
                 _ => is_whole = false,
             },
             Ok(Job::Stop) | Err(_) => break,
@@ -152,7 +208,7 @@ fn work_on<S: Drop, K: Serve<S>, H: Wait>(
     }
     Work {
         pass,
-        outcomes,
+        notes,
         is_whole,
     }
 }
@@ -166,12 +222,12 @@ impl<'l, S: Drop> Drop for Works<'l, S> {
     }
 }
 
-impl<'l, S: Drop> Promise<Work<S>> for Works<'l, S> {
+impl<'l, S: Drop, N: Note + Drop> Promise<Work<S, N>> for Works<'l, S> {
     ghost use Rattle.crossbeam_channel.specs.Claims.{IsSeatAt};
     ghost use Rattle.crossbeam_channel.specs.Ends.{receives_on};
     ghost use Rattle.journal_server.specs.Lines.{IsWork};
 
-    ghost kept_by = { λ p work. IsWork (IsSeatAt (receives_on p.0.now)) work };
+    ghost kept_by = { λ p work. IsWork (IsSeatAt (receives_on p.0.now)) N.about work };
 }
 
 // Puts the connections of the source into the queue, each under its number, where the workers are made. Answers how many
@@ -250,30 +306,30 @@ fn absorb<S: Drop>(line: &LineSender<S>, pass: &mut Pass<Job<S>, Hand>, other: P
     line.absorb::<Cut>(pass, other);
 }
 
-// Takes in a worker's work: what its pass has done, and its outcomes. It is refused where memory was refused to the
+// Takes in a worker's work: what its pass has done, and its notes. It is refused where memory was refused to the
 // worker, or is now.
-fn take_in<S: Drop>(
+fn take_in<S: Drop, N: Note + Drop>(
     line: &LineSender<S>,
     pass: &mut Pass<Job<S>, Hand>,
-    outcomes: &mut Vec<(u64, Outcome)>,
-    work: Work<S>,
+    notes: &mut Vec<N>,
+    work: Work<S, N>,
 ) -> Result<(), AllocError>
-    requires { IsSeatAt (sends_on line.now) pass.old × (0 < (view pass.old).parts) × IsWork (IsSeatAt (sends_on line.now)) work }
+    requires { IsSeatAt (sends_on line.now) pass.old × (0 < (view pass.old).parts) × IsWork (IsSeatAt (sends_on line.now)) N.about work }
     ensures seat { IsSeatAt (sends_on line.now) pass.new }
     ensures part { ((view pass.new).parts ≡ (view pass.old).parts + 1) × ((view pass.new).put ≡ (view pass.old).put) }
-    ensures taken { (view pass.old).taken ≡ outcome_numbers outcomes.old.items
-        → OnOk result ((view pass.new).taken ≡ outcome_numbers outcomes.new.items) }
+    ensures taken { (view pass.old).taken ≡ numbers_by N.about notes.old.items
+        → OnOk result ((view pass.new).taken ≡ numbers_by N.about notes.new.items) }
 {
     let Work {
         pass: other,
-        outcomes: mut others,
+        notes: mut others,
         is_whole,
     } = work;
     absorb(line, pass, other);
     if !is_whole {
         return Err(AllocError);
     }
-    outcomes.append(&mut others)?;
+    notes.append(&mut others)?;
     Ok(())
 }
 
@@ -291,12 +347,12 @@ fn is_drained<S: Drop, H: Wait>(
 
 // What all threads give back: who handed the connections out, and the four workers.
 #[derive(Drop)]
-struct Team<S: Drop> {
+struct Team<S: Drop, N: Drop> {
     pass: Pass<Job<S>, Hand>,
-    first: Work<S>,
-    second: Work<S>,
-    third: Work<S>,
-    fourth: Work<S>,
+    first: Work<S, N>,
+    second: Work<S, N>,
+    third: Work<S, N>,
+    fourth: Work<S, N>,
 }
 
 /// Serves all connections of the source, by four workers in threads of their own, and returns when each has ended, with
@@ -333,40 +389,73 @@ where
     ensures numbered { IfOk result.0 (λ outcomes. HasEachOnce (outcome_numbers outcomes.items) (I.given result.1 - I.given source)) }
     ensures refusal { IfErr result.0 IsWorkersRefusal }
 {
-    let shop = Workshop {
-        alloc,
-        files,
-        clock,
-        verifier,
-        gate,
-        refused: Mutex::new(Refused { cause: None }),
-    };
+    let shop = Workshop::new(alloc, files, clock, verifier, gate);
     let Ended {
-        outcomes,
+        notes,
         source,
         shop,
-    } = run_crew(rt, alloc, source, shop);
-    (shop.end(rt, outcomes), source)
+    } = run_crew::<I, Workshop<'s, 'b, D, J, C, G>, (u64, Outcome), H>(rt, alloc, source, shop);
+    (shop.end(rt, notes), source)
 }
 
-// What comes of the workers: their outcomes, where none was refused, the source, and what they shared.
-struct Ended<I, K> {
-    outcomes: Result<Vec<(u64, Outcome)>, AllocError>,
+/// Serves all connections of the source as `run_workers` does, and forgets how each ended: what it keeps of a connection
+/// takes no memory, however many there are.
+///
+/// Answers how many there were, each served once, or what `run_workers` is refused by.
+pub fn serve_all<
+    's,
+    'b,
+    I: Source + Drop,
+    D: BlockDisk + Send,
+    J: Naming + Send + Sync,
+    C: Clock + Sync,
+    G: Gate + Sync,
+    H: Threads + Wait + Sync,
+>(
+    rt: &H,
+    alloc: Global,
+    source: I,
+    files: &'s FileStore<'b, D, J>,
+    clock: &'s C,
+    verifier: Verifier,
+    gate: &'s G,
+) -> (Result<u64, Refusal<Cause<'b, J, SoundFiles>>>, I)
+where
+    I::Connection: Drop + Send,
+    // Each connection that the source gave was served, and no more.
+    ensures served { IfOk result.0 (λ served. served ≡ I.given result.1 - I.given source) }
+    ensures refusal { IfErr result.0 IsWorkersRefusal }
+{
+    let shop = Workshop::new(alloc, files, clock, verifier, gate);
+    let Ended {
+        notes,
+        source,
+        shop,
+    } = run_crew::<I, Workshop<'s, 'b, D, J, C, G>, Tick, H>(rt, alloc, source, shop);
+    match shop.end(rt, notes) {
+        Ok(ticks) => (Ok(ticks.len() as u64), source),
+        Err(why) => (Err(why), source),
+    }
+}
+
+// What comes of the workers: their notes, where none was refused, the source, and what they shared.
+struct Ended<I, K, N> {
+    notes: Result<Vec<N>, AllocError>,
     source: I,
     shop: K,
 }
 
 // Serves the connections of the source by four workers. It is refused where a thread or memory was, or where a connection
 // could not be begun.
-fn run_crew<I: Source + Drop, K: Serve<I::Connection> + Sync, H: Threads + Wait + Sync>(
-    rt: &H,
-    alloc: Global,
-    source: I,
-    shop: K,
-) -> Ended<I, K>
+fn run_crew<
+    I: Source + Drop,
+    K: Serve<I::Connection> + Sync,
+    N: Note + Drop + Send,
+    H: Threads + Wait + Sync,
+>(rt: &H, alloc: Global, source: I, shop: K) -> Ended<I, K, N>
 where
     I::Connection: Drop + Send,
-    ensures { IfOk result.outcomes (λ outcomes. HasEachOnce (outcome_numbers outcomes.items) (I.given result.source - I.given source)) }
+    ensures { IfOk result.notes (λ notes. HasEachOnce (numbers_by N.about notes.items) (I.given result.source - I.given source)) }
 {
     let Ok((sender, receiver, mut pass)) = bounded_with::<
         Job<I::Connection>,
@@ -375,7 +464,7 @@ where
         Global,
     >(alloc, WAITING) else {
         return Ended {
-            outcomes: Err(AllocError),
+            notes: Err(AllocError),
             source,
             shop,
         };
@@ -387,9 +476,9 @@ where
         fourth: cut(&sender, &mut pass),
         own: pass,
     };
-    let (outcomes, source) = in_threads(rt, alloc, source, &shop, &sender, &receiver, passes);
+    let (notes, source) = in_threads(rt, alloc, source, &shop, &sender, &receiver, passes);
     Ended {
-        outcomes,
+        notes,
         source,
         shop,
     }
@@ -406,7 +495,13 @@ struct Passes<S: Drop> {
 }
 
 // Runs the workers, and hands the connections out to them.
-fn in_threads<'s, I: Source + Drop, K: Serve<I::Connection> + Sync, H: Threads + Wait + Sync>(
+fn in_threads<
+    's,
+    I: Source + Drop,
+    K: Serve<I::Connection> + Sync,
+    N: Note + Drop + Send,
+    H: Threads + Wait + Sync,
+>(
     rt: &'s H,
     alloc: Global,
     source: I,
@@ -414,21 +509,21 @@ fn in_threads<'s, I: Source + Drop, K: Serve<I::Connection> + Sync, H: Threads +
     sender: &'s LineSender<I::Connection>,
     line: &'s LineReceiver<I::Connection>,
     passes: Passes<I::Connection>,
-) -> (Result<Vec<(u64, Outcome)>, AllocError>, I)
+) -> (Result<Vec<N>, AllocError>, I)
 where
     I::Connection: Drop + Send,
     requires passes { ArePasses (IsSeatAt (sends_on sender.now)) passes }
     requires same { receives_on line.now ≡ sends_on sender.now }
-    ensures { IfOk result.0 (λ outcomes. HasEachOnce (outcome_numbers outcomes.items) (I.given result.1 - I.given source)) }
+    ensures { IfOk result.0 (λ notes. HasEachOnce (numbers_by N.about notes.items) (I.given result.1 - I.given source)) }
 {
     thread::scope(
         thread::scope_env(),
         rt,
-        |scope| -> (Result<Vec<(u64, Outcome)>, AllocError>, I)
+        |scope| -> (Result<Vec<N>, AllocError>, I)
             requires { IsFresh (IsSeatAt (sends_on sender.now)) passes.first × IsFresh (IsSeatAt (sends_on sender.now)) passes.second
                 × IsFresh (IsSeatAt (sends_on sender.now)) passes.third × IsFresh (IsSeatAt (sends_on sender.now)) passes.fourth
                 × IsFresh (IsSeatAt (sends_on sender.now)) passes.own × (receives_on line.now ≡ sends_on sender.now) }
-            ensures { IfOk result.0 (λ outcomes. HasEachOnce (outcome_numbers outcomes.items) (I.given result.1 - I.given source)) }
+            ensures { IfOk result.0 (λ notes. HasEachOnce (numbers_by N.about notes.items) (I.given result.1 - I.given source)) }
         {
             let Passes {
                 first,
@@ -449,7 +544,7 @@ where
             let are_made = first.is_ok() && second.is_ok() && third.is_ok() && fourth.is_ok();
             let given = hand_out(rt, are_made, &mut source, sender, &mut pass);
             stop_all(rt, sender, &mut pass);
-            let outcomes = match (first, second, third, fourth) {
+            let notes = match (first, second, third, fourth) {
                 (Ok(first), Ok(second), Ok(third), Ok(fourth)) => {
                     let team = Team {
                         pass,
@@ -462,25 +557,25 @@ where
                 }
                 _ => Err(AllocError),
             };
-            (outcomes, source)
+            (notes, source)
         },
     )
 }
 
-// The outcomes of all workers, where so many connections were put. It is refused where one could not be, where a worker
-// was refused, or where memory is now.
-fn gather<S: Drop, H: Wait>(
+// The notes of all workers, where so many connections were put. It is refused where one could not be, where a worker was
+// refused, or where memory is now.
+fn gather<S: Drop, N: Note + Drop, H: Wait>(
     rt: &H,
     alloc: Global,
     sender: &LineSender<S>,
     receiver: &LineReceiver<S>,
-    team: Team<S>,
+    team: Team<S, N>,
     given: Option<u64>,
-) -> Result<Vec<(u64, Outcome)>, AllocError>
+) -> Result<Vec<N>, AllocError>
     requires same { receives_on receiver.now ≡ sends_on sender.now }
-    requires team { IsTeam (IsSeatAt (sends_on sender.now)) team }
+    requires team { IsTeam (IsSeatAt (sends_on sender.now)) N.about team }
     requires put { IfSome given (λ n. (view team.pass).put ≡ below n) }
-    ensures { IfOk result (λ outcomes. (n : ℕ) × (given ≡ Some n) × HasEachOnce (outcome_numbers outcomes.items) n) }
+    ensures { IfOk result (λ notes. (n : ℕ) × (given ≡ Some n) × HasEachOnce (numbers_by N.about notes.items) n) }
 {
     let Team {
         mut pass,
@@ -492,13 +587,13 @@ fn gather<S: Drop, H: Wait>(
     let Some(_count) = given else {
         return Err(AllocError);
     };
-    let mut outcomes = Vec::new(alloc);
-    take_in(sender, &mut pass, &mut outcomes, first)?;
-    take_in(sender, &mut pass, &mut outcomes, second)?;
-    take_in(sender, &mut pass, &mut outcomes, third)?;
-    take_in(sender, &mut pass, &mut outcomes, fourth)?;
+    let mut notes = Vec::new(alloc);
+    take_in(sender, &mut pass, &mut notes, first)?;
+    take_in(sender, &mut pass, &mut notes, second)?;
+    take_in(sender, &mut pass, &mut notes, third)?;
+    take_in(sender, &mut pass, &mut notes, fourth)?;
     if !is_drained(rt, receiver, &mut pass) {
         return Err(AllocError);
     }
-    Ok(outcomes)
+    Ok(notes)
 }

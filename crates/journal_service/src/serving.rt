@@ -11,7 +11,7 @@ use journal_filestore::FileStore;
 use journal_history::{Book, Naming};
 use journal_inode::SoundFiles;
 use journal_nfs3::Verifier;
-use journal_server::{Listening, run_workers};
+use journal_server::{Crowd, Listening, serve_all};
 use journal_world::{Refusal, Refused};
 use std::alloc::Global;
 use std::fs::{File, Files};
@@ -49,6 +49,8 @@ pub fn serve<
     let book: Book<SoundFiles> = Book::open::<()>().unwrap();
     let mut disk = mount::<Brand, R, O>(rt, alloc, &book, disk, service, output)?;
     file::sync(&mut disk)?;
+    // Whoever reads the line may use the file at once.
+    drop(disk);
     print_line(output, "served", service.connections)
 }
 
@@ -69,7 +71,7 @@ fn mount<
     requires blocks { disk.size ≡ J.blocks }
 {
     let moment = clock::now(rt);
-    let files: FileStore<FileDisk, J> = match FileStore::mount(rt, alloc, book, disk) {
+    let files: FileStore<FileDisk, J> = match FileStore::mount(alloc, book, disk) {
         Ok(files) => files,
         Err(Refused { refusal, .. }) => return Err(ServiceFault::refused(refusal)),
     };
@@ -133,13 +135,14 @@ fn listen<
         return Err(ServiceFault::CannotListen);
     };
     print_line(output, "listening", u64::from(there.port()))?;
-    let source = Listening::new(&listener, service.connections);
+    let crowd = Crowd::new();
+    let source = Listening::new(listener, service.connections, &crowd);
     let clock = WallClock(rt);
-    let (outcomes, source) = run_workers(rt, alloc, source, files, &clock, verifier, &OpenGate);
+    let (served, source) = serve_all(rt, alloc, source, files, &clock, verifier, &OpenGate);
     if source.has_failed() {
         return Err(ServiceFault::CannotListen);
     }
-    match outcomes {
+    match served {
         Ok(_) => Ok(()),
         Err(why) => Err(ServiceFault::refused(why)),
     }

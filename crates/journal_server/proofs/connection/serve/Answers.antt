@@ -1,4 +1,3 @@
-use Rattle.journal_server.specs.Output.{IsReply}
 use Rattle.journal_server.proofs.Serving.{tells_replies, tells_count, tells_end, tells_beginning, exchanges_nothing}
 use Rattle.journal_server.proofs.connection.serve.Goals as goal
 

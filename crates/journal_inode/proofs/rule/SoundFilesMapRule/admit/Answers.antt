@@ -12,4 +12,4 @@ pub returns-in-Some-clause-admitted : goal.returns-in-Some-clause-admitted
 returns-in-Some-clause-admitted g c =
     some_admitted (λ v. v.items) _ _ _ _ _ _ _ _ _ _ _ c.has_superblock.ensures.same_map c.owners.ensures.same_map c.has_superblock.ensures.same_trust c.owners.ensures.same_trust
     c.in_ok-has_superblock.ensures.sound c.if-not-branch.false c.in_ok-owners.ensures.sound c.in-Some.is c.in_ok-owners.ensures.whole
-    c.are_bits_sound.ensures.sound c.deref.ensures.value
+    c.are_bits_sound-answer.ensures.sound c.deref.ensures.value
