@@ -1,0 +1,133 @@
+// The journal, and the threads that use it.
+ghost use Rattle.std.specs.Prelude.{◌≡◌};
+
+use crate::counter::{add_one, look};
+use journal_daemon::{OpenGate, start};
+use journal_disk::FileDisk;
+use journal_history::{Book, Naming, Session};
+use journal_twophase::{Journal, Why};
+use journal_world::AnyMap;
+use std::alloc::Global;
+use std::marker::Brand;
+use std::sync::Wait;
+use std::thread::{Threads, join};
+
+/// The journal refused. A server tells by the refusal what to do; this program ends.
+#[derive(Clone, Copy, Debug)]
+pub struct Refused;
+
+type Counters<'b, J> = Journal<'b, FileDisk, AnyMap, J>;
+
+/// Opens a journal over the disk, adds 1 so often in each of four threads, and gives the disk up. What the counter was
+/// before, and what it is then, all of it stable.
+pub fn count_in<R: Threads + Wait + Sync>(
+    rt: &R,
+    alloc: Global,
+    disk: FileDisk,
+    times: u32,
+) -> Result<(u64, u64), Refused> {
+    // The book has the history of one journal. The brand names both, so that no receipt of another is taken for one of its.
+    match Book::<AnyMap>::open::<()>() {
+        Ok(book) => count_in_book::<Brand, _>(rt, alloc, &book, disk, times),
+        Err(_) => Err(Refused),
+    }
+}
+
+fn count_in_book<J: Naming + Send + Sync, R: Threads + Wait + Sync>(
+    rt: &R,
+    alloc: Global,
+    book: &Book<AnyMap>,
+    disk: FileDisk,
+    times: u32,
+) -> Result<(u64, u64), Refused>
+    requires book { book.now ≡ J.book }
+    requires blocks { disk.size ≡ J.blocks }
+{
+    let journal: Counters<J> = match Journal::open(alloc, book, disk, &AnyMap) {
+        Ok(journal) => journal,
+        Err(_) => return Err(Refused),
+    };
+    let counted = count_on(rt, alloc, &journal, times);
+    let _disk = journal.into_disk();
+    counted
+}
+
+// Counts beside the logger and the installer, which make commits stable. They end once the journal is stopped.
+fn count_on<J: Naming + Send + Sync, R: Threads + Wait + Sync>(
+    rt: &R,
+    alloc: Global,
+    journal: &Counters<J>,
+    times: u32,
+) -> Result<(u64, u64), Refused> {
+    let count = || {
+        let counted = count(rt, alloc, journal, times);
+        journal.stop(rt);
+        counted
+    };
+    let (started, counted) = join(rt, || start(rt, journal, &OpenGate).is_ok(), count);
+    if started { counted } else { Err(Refused) }
+}
+
+fn count<J: Naming + Send + Sync, R: Threads + Wait + Sync>(
+    rt: &R,
+    alloc: Global,
+    journal: &Counters<J>,
+    times: u32,
+) -> Result<(u64, u64), Refused> {
+    let before = found(rt, alloc, journal)?;
+    let ((one, two), (three, four)) = join(
+        rt,
+        || in_two(rt, alloc, journal, times),
+        || in_two(rt, alloc, journal, times),
+    );
+    if one && two && three && four {
+        return Ok((before, found(rt, alloc, journal)?));
+    }
+    Err(Refused)
+}
+
+fn in_two<J: Naming + Send + Sync, R: Threads + Wait + Sync>(
+    rt: &R,
+    alloc: Global,
+    journal: &Counters<J>,
+    times: u32,
+) -> (bool, bool) {
+    join(
+        rt,
+        || add_often(rt, alloc, journal, times),
+        || add_often(rt, alloc, journal, times),
+    )
+}
+
+// Adds 1 so often in a session of this thread's, and waits until all of it is stable.
+fn add_often<J: Naming, W: Wait>(rt: &W, alloc: Global, journal: &Counters<J>, times: u32) -> bool {
+    match journal.session(rt) {
+        Ok(mut session) => {
+            add_all(rt, alloc, journal, &mut session, times)
+                && journal.flush(rt, &mut session).is_ok()
+        }
+        Err(_) => false,
+    }
+}
+
+// One `flush` behind many commits waits once. A commit that is to be stable by itself is made by `Txn::commit_wait`.
+fn add_all<'b, J: Naming, W: Wait>(
+    rt: &W,
+    alloc: Global,
+    journal: &Counters<'b, J>,
+    session: &mut Session<'b, J, AnyMap>,
+    times: u32,
+) -> bool {
+    (0..times).all(|_| add_one(rt, alloc, journal, session).is_ok())
+}
+
+// What the counter is.
+fn found<J: Naming, W: Wait>(rt: &W, alloc: Global, journal: &Counters<J>) -> Result<u64, Refused> {
+    let Ok(mut session) = journal.session(rt) else {
+        return Err(Refused);
+    };
+    match look(rt, alloc, journal, &mut session) {
+        Ok(counter) => Ok(counter),
+        Err(_) => Err(Refused),
+    }
+}

@@ -1,0 +1,73 @@
+//! A program over the journal: a counter in a file, to which four threads add, each in transactions of its own.
+//!
+//! It is what an author of a server starts from. A disk in a file, locked against other programs (`file`); a journal over it,
+//! with the logger and the installer beside the threads that commit (`journal`); a session and transactions for each
+//! thread (`counter`). It prints what the counter was and what it is, and once more what it is after the disk was given
+//! up and opened again.
+#![tactic(auto)]
+
+mod counter;
+mod file;
+mod journal;
+
+use journal::{Refused, count_in};
+use std::alloc::Global;
+use std::env::Env;
+use std::fs::{File, Files};
+use std::io::Write;
+use std::process::ExitCode;
+use std::sync::Wait;
+use std::thread::Threads;
+use std::{env, io};
+
+/// How often each of the four threads adds 1.
+const TIMES: u32 = 25;
+
+/// Adds to the counter in the file at the path, and then opens it again and looks.
+fn run<R: Files<File = File> + Threads + Wait + Sync, O: Write>(
+    rt: &R,
+    alloc: Global,
+    path: &str,
+    output: &mut O,
+) -> io::Result<()> {
+    let (before, after) = count(rt, alloc, path, TIMES)?;
+    writeln!(output, "counted from {before} to {after}")?;
+    let (found, _) = count(rt, alloc, path, 0)?;
+    writeln!(output, "found {found} on opening it again")
+}
+
+/// Opens the disk, and adds 1 so often in each of four threads. What the counter was, and what it is.
+fn count<R: Files<File = File> + Threads + Wait + Sync>(
+    rt: &R,
+    alloc: Global,
+    path: &str,
+    times: u32,
+) -> io::Result<(u64, u64)> {
+    let disk = file::open_or_make(rt, path)?;
+    match count_in(rt, alloc, disk, times) {
+        Ok(counted) => Ok(counted),
+        Err(Refused) => Err(io::Error::from(io::ErrorKind::Other)),
+    }
+}
+
+/// Does that where the program was given one word, the path.
+fn start<R: Env + AllocGlobal + Files<File = File> + Threads + Wait + Sync, O: Write>(
+    rt: &R,
+    output: &mut O,
+) -> io::Result<()> {
+    let words: Vec<String> = env::args(rt)?.skip(1).collect(rt.alloc())?;
+    match words.as_slice() {
+        [path] => run(rt, rt.alloc(), path.as_str(), output),
+        _ => Err(io::Error::from(io::ErrorKind::InvalidInput)),
+    }
+}
+
+fn main(rt: HostRuntime) -> ExitCode {
+    match start(&rt, &mut rt.stdout()) {
+        Ok(()) => ExitCode::from(0),
+        Err(error) => {
+            let _ = writeln!(rt.stderr(), "{error}");
+            ExitCode::from(1)
+        }
+    }
+}
