@@ -28,8 +28,8 @@ same_marks ring log later cut logged log_end is = (is.0, is.1, is.2 ∙ sym cut,
 same_marks ring log later cut logged log_sync is = (is.0 ∙ sym cut, is.1 ∙ sym cut, omega (arith, is.2, cut, logged))
 same_marks ring log later cut logged log_spent is = is
 
-module _ (w : WalState) (updates : List Update) (is : IsWal w) (room : HasRoom w updates)
-    (homes : AreHomes (size_of w) updates) where
+module _ (w : WalState) (updates : List Update) (is : IsWal w) (can : CanTake w.log updates)
+    (few : length (absorbed (tail_of w.log) updates) ≤ 255) (homes : AreHomes (size_of w) updates) where
   abbrev pub new : WalState
   new = record w { log = appended w.log updates }
 
@@ -64,8 +64,8 @@ module _ (w : WalState) (updates : List Update) (is : IsWal w) (room : HasRoom w
     next_to_cut = is.tied.next_to_cut;
     cut_to_last = omega (arith, from, width, length-append (head_of w.log) tail);
     fits = is.tied.fits;
-    small = room.room.below;
-    tail = omega (arith, room.tail, ap (λ (us : List Update). length us) (tail_of-appended w.log updates from is.tied.cut_to_last));
+    small = can.below;
+    tail = omega (arith, few, ap (λ (us : List Update). length us) (tail_of-appended w.log updates from is.tied.cut_to_last));
     blocks = All-appended (λ (u : Update). (513 ≤ u.block) × (u.block < w.log.blocks)) w.log updates is.tied.blocks
         (subst (λ (n : ℕ). AreHomes n updates) is.tied.size homes);
     coming = is.tied.coming;

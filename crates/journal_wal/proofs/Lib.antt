@@ -10,3 +10,5 @@ pub mod Homes
 pub mod Planned
 pub mod Opening
 pub mod Reading
+pub mod Grouping
+pub mod Scanning

@@ -10,13 +10,19 @@ use Rattle.journal_disk.specs.Images.{IsImage}
 use Rattle.journal_disk.specs.Laws.{leaves_none}
 use Rattle.journal_circ.specs.StandsFor.{StandsFor}
 use Rattle.journal_circ.specs.Ring.{Ring}
-use Rattle.journal_wal.specs.Wal.{WalState, Crashes, MayStandFor, blocks_now}
+use Rattle.journal_wal.specs.Wal.{WalState, Crashes, MayStandFor, blocks_now, blocks_at}
 use Rattle.journal_wal.specs.States.{IsWal, updates_to}
 
 pub read_home : {E : Type 0} (w : WalState) (b : ℕ) (bytes : Bytes) (result : Result Unit E) → updates_block w.log.updates b ≡ false
     → OnOk result (bytes ≡ home_of w.ring b) → OnOk result (bytes ≡ blocks_now w b)
 read_home w b bytes (Ok unit) unnamed is = is ∙ sym (updated-unnamed w.log.updates b (home_of w.ring b) unnamed)
 read_home w b bytes (Err error) unnamed is = tt
+
+-- no update of the log, up to a position, is of the block
+pub read_home_at : {E : Type 0} (w : WalState) (to b : ℕ) (bytes : Bytes) (result : Result Unit E) → updates_block (updates_to w.log to) b ≡ false
+    → OnOk result (bytes ≡ home_of w.ring b) → OnOk result (bytes ≡ blocks_at w to b)
+read_home_at w to b bytes (Ok unit) unnamed is = is ∙ sym (updated-unnamed (updates_to w.log to) b (home_of w.ring b) unnamed)
+read_home_at w to b bytes (Err error) unnamed is = tt
 
 -- a read leaves what a crash may leave
 pub read_crashes : (w : WalState) (now : Ring) → IsWal w → Keeps w.ring.disk now.disk

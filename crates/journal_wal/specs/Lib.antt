@@ -2,3 +2,4 @@ pub mod Wal
 pub mod States
 pub mod Recovery
 pub mod Rooms
+pub mod Groups

@@ -16,7 +16,7 @@ pub const MAX_UPDATES: usize = 128;
 /// How many blocks the tail may have.
 pub const MAX_TAIL: u64 = 255;
 // Positions stay below this.
-const MAX_POSITION: u64 = 1 << 62;
+pub(crate) const MAX_POSITION: u64 = 1 << 62;
 
 impl<D: BlockDisk> Wal<D> {
     /// Appends the updates to the tail, all or none. No two of them are of one block.

@@ -11,8 +11,10 @@
 
 mod append;
 mod disk_log;
+mod group;
 mod install;
 mod log;
+mod logged;
 mod open;
 mod plan;
 mod step;

@@ -1,0 +1,57 @@
+// What is logged of a block.
+ghost use Rattle.std.specs.Prelude.{ℕ, ◌≡◌, ◌<◌, is_some, IsTrue, IsErr, OnOk, OnErr, IfErr, IfSome, false, true};
+ghost use Rattle.journal_block.specs.Block.{Bytes};
+ghost use Rattle.journal_block.specs.Updates.{updated, updates_block};
+ghost use Rattle.journal_circ.specs.Ring.{IsFault};
+ghost use Rattle.journal_wal.specs.Wal.{OnlyReads, Crashes, size_of, blocks_logged};
+ghost use Rattle.journal_wal.specs.States.{updates_to};
+
+use crate::wal::Wal;
+use journal_block::Block;
+use journal_disk::BlockDisk;
+use journal_memlog::MemLog;
+use journal_world::Refusal;
+
+impl<D: BlockDisk> Wal<D> {
+    /// Copies the block with the logged updates alone. It is read from the device only where none is of it.
+    ///
+    /// Answers J6 `DeviceFailed` where the device failed now or before; what `into` then holds is not said. The
+    /// log and what lies on the disk are as they were, whatever it answers.
+    pub fn read_logged(&mut self, block: u64, into: &mut Block) -> Result<(), Refusal<()>>
+        requires { block < size_of self.old }
+        ensures refusal { IfErr result (IsFault self.old.ring.faulted self.old.ring.disk self.new.ring.disk) }
+        ensures faulted { IsTrue self.old.ring.faulted → IsErr result × (self.new ≡ self.old) }
+        ensures reads { OnlyReads self.old self.new }
+        ensures ok { OnOk result ((self.old.ring.faulted ≡ false) × (self.new.ring.faulted ≡ false)) }
+        ensures err { OnErr result (self.new.ring.faulted ≡ true) }
+        ensures value { IsTrue self.old.ring.disk.honest → OnOk result (into.new ≡ blocks_logged self.old block) }
+        ensures crash { Crashes self.old self.new }
+    {
+        if self.on_disk.circ.is_faulted() {
+            return Err(Refusal::DeviceFailed(()));
+        }
+        if let Some(found) = logged_block(&self.memory, block) {
+            into.copy_from(found);
+            return Ok(());
+        }
+        self.on_disk.circ.read(block, into)
+    }
+}
+
+// The content of the block's last logged update, or `None` where it has none.
+fn logged_block(memory: &MemLog, block: u64) -> Option<&Block>
+    ensures found { is_some result ≡ updates_block (updates_to memory.now memory.now.logged) block }
+    ensures content { IfSome result (λ found.
+        (before : Bytes) → updated (updates_to memory.now memory.now.logged) block before ≡ found.now) }
+{
+    let bounds = memory.bounds();
+    let mut position = bounds.logged;
+    while bounds.start < position {
+        position -= 1;
+        let update = memory.at(position);
+        if update.block == block {
+            return Some(&update.bytes);
+        }
+    }
+    None
+}
