@@ -12,3 +12,4 @@ pub mod Opening
 pub mod Reading
 pub mod Grouping
 pub mod Scanning
+pub mod Tailing

@@ -3,3 +3,4 @@ pub mod States
 pub mod Recovery
 pub mod Rooms
 pub mod Groups
+pub mod Tails

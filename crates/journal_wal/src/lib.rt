@@ -7,6 +7,8 @@
 //! A step makes one device call or none, and the state tells which: `log_call` that of the logger,
 //! `install_call` that of the installer, whose plan has the last logged update of each block, blocks
 //! ascending. No other call but a read and the opening asks the device for anything, and those only read.
+//!
+//! A `Tail` has the part in memory alone, for a lock of its own. What it cuts, `Wal::take_group` takes whole.
 #![tactic(auto)]
 
 mod append;
@@ -18,8 +20,10 @@ mod logged;
 mod open;
 mod plan;
 mod step;
+mod tail;
 mod wal;
 
 pub use append::{MAX_TAIL, MAX_UPDATES};
 pub use step::{GroupStep, InstallStep};
+pub use tail::{CutPoint, Tail};
 pub use wal::Wal;
