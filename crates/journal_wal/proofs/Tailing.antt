@@ -135,10 +135,10 @@ pub rises_rest : (from to : ℕ) (cuts : List CutPoint) (c : CutPoint) (later : 
 rises_rest from to cuts c later is rises =
     let both : RisesTo from to (c ∷ later) = subst (λ (cs : List CutPoint). RisesTo from to cs) is rises in both.1
 
-pub rises_push : (from to next commits : ℕ) (cuts : List CutPoint) → to ≤ next → RisesTo from to cuts
-    → RisesTo from next (cuts ++ record { end = next; commits = commits } ∷ [])
-rises_push from to next commits [] le rises = (omega (arith, le, rises), refl)
-rises_push from to next commits (c ∷ later) le rises = (rises.0, rises_push c.end to next commits later le rises.1)
+pub rises_push : (from to next : ℕ) (p : CutPoint) (cuts : List CutPoint) → p.end ≡ next → to ≤ next → RisesTo from to cuts
+    → RisesTo from next (cuts ++ p ∷ [])
+rises_push from to next p [] end le rises = (omega (arith, end, le, rises), end)
+rises_push from to next p (c ∷ later) end le rises = (rises.0, rises_push c.end to next p later end le rises.1)
 
 -- the first of the cuts
 pub first_cut : (cuts : List CutPoint) (c : CutPoint) → 0 < length cuts → c ≡ get_or cuts 0 c → (later : List CutPoint) × (cuts ≡ c ∷ later)
@@ -212,15 +212,17 @@ since_dropped old new upto drops from above =
     place = omega (arith, drops.above, above)
 
 -- what holds of a tail after a cut
-pub tail_cut : (t : TailState) (commits : ℕ) (later : LogState) → IsTail t → later ≡ record t.log { cut = next_position t.log } → IsMemLog later
-    → IsTail (record t { log = later; cuts = t.cuts ++ record { end = next_position t.log; commits = commits } ∷ [] })
-tail_cut t commits later is later_is sound = record {
+pub tail_cut : (t : TailState) (p : CutPoint) (cuts : List CutPoint) (later : LogState) → IsTail t → cuts ≡ t.cuts ++ p ∷ []
+    → p.end ≡ next_position t.log → later ≡ record t.log { cut = next_position t.log } → IsMemLog later
+    → IsTail (record t { log = later; cuts = cuts })
+tail_cut t p cuts later is cuts_is end later_is sound = record {
   log = sound;
   few = subst (λ (l : LogState). length (tail_of l) ≤ 255) (sym later_is) (omega (arith, length-drop (next_position t.log - t.log.start) t.log.updates));
   homes = subst (λ (l : LogState). AreHomes l.blocks l.updates) (sym later_is) is.homes;
   logged = subst (λ (l : LogState). l.logged ≡ l.start) (sym later_is) is.logged;
-  cuts = subst (λ (l : LogState). RisesTo l.start l.cut (t.cuts ++ record { end = next_position t.log; commits = commits } ∷ [])) (sym later_is)
-      (rises_push t.log.start t.log.cut (next_position t.log) commits t.cuts is.log.bounds.cut_to_next is.cuts);
+  cuts = subst (λ (l : LogState). RisesTo l.start l.cut cuts) (sym later_is)
+      (subst (λ (cs : List CutPoint). RisesTo t.log.start (next_position t.log) cs) (sym cuts_is)
+      (rises_push t.log.start t.log.cut (next_position t.log) p t.cuts end is.log.bounds.cut_to_next is.cuts));
 }
 
 -- what holds of a tail without its first cut
