@@ -12,3 +12,4 @@ pub mod Readings
 pub mod Counting
 pub mod StagingLoop
 pub mod Preparing
+pub mod Fetched

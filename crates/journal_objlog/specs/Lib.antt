@@ -8,3 +8,4 @@ pub mod Writes
 pub mod Soundness
 pub mod Staging
 pub mod Places
+pub mod ObjectTails

@@ -16,8 +16,10 @@ mod rules;
 mod spares;
 mod stage;
 mod steps;
+mod tail;
 mod writes;
 
 pub use object_log::ObjectLog;
 pub use prepare::Prepared;
 pub use spares::Spares;
+pub use tail::ObjectTail;

@@ -92,7 +92,7 @@ impl<D: BlockDisk> ObjectLog<D> {
 }
 
 // Reads the object that the block has at the address.
-fn load_object(layout: &Layout, block: &Block, addr: Addr, into: &mut [u8])
+pub(crate) fn load_object(layout: &Layout, block: &Block, addr: Addr, into: &mut [u8])
     requires valid { IsTrue (is_valid layout.now.blocks addr) }
     requires size { length into.old ≡ size_at layout.now.blocks addr }
     ensures value { into.new ≡ object_at layout.now.blocks block.now addr }
