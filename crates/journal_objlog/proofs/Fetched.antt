@@ -7,7 +7,7 @@ use Rattle.journal_block.specs.Updates.{updated, updates_block}
 use Rattle.journal_block.specs.UpdateLaws.{updated-append, updated-unnamed}
 use Rattle.journal_memlog.specs.Laws.{updates_block-append}
 
-or_right : (x y : Bool) → y ≡ true → (x || y) ≡ true
+pub or_right : (x y : Bool) → y ≡ true → (x || y) ≡ true
 or_right true y is = refl
 or_right false y is = is
 
@@ -19,9 +19,9 @@ or_none : (x y : Bool) → (x ≡ true → ⊥) → y ≡ false → (x || y) ≡
 or_none true y none is = absurd (none refl)
 or_none false y none is = is
 
-empty : (ws : List Update) → length ws ≡ 0 → ws ≡ []
-empty [] none = refl
-empty (w ∷ ws) none = absurd (omega (arith, none))
+pub none_of : {A : Type 0} (ws : List A) → length ws ≡ 0 → ws ≡ []
+none_of [] none = refl
+none_of (w ∷ ws) none = absurd (omega (arith, none))
 
 module _ (us left done : List Update) (b : ℕ) (split : us ≡ left ++ done) (unnamed : updates_block done b ≡ false) where
   module _ (rest : List Update) (u : Update) (took : left ≡ rest ++ u ∷ []) where
@@ -45,7 +45,7 @@ module _ (us left done : List Update) (b : ℕ) (split : us ≡ left ++ done) (u
     passed other = (whole, or_none (u.block == b) (updates_block done b) (λ is. other (eqb-true u.block b is)) unnamed)
 
   pub none_named : length left ≡ 0 → updates_block us b ≡ false
-  none_named none = ap (λ (ws : List Update). updates_block ws b) (split ∙ ap (λ (ws : List Update). ws ++ done) (empty left none)) ∙ unnamed
+  none_named none = ap (λ (ws : List Update). updates_block ws b) (split ∙ ap (λ (ws : List Update). ws ++ done) (none_of left none)) ∙ unnamed
 
 -- what memory knows of a block: as the updates have it, or as what was fetched before them has it
 module _ (fetched us vs : List Update) (b : ℕ) (same : us ≡ vs) where

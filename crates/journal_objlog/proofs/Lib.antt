@@ -13,3 +13,5 @@ pub mod Counting
 pub mod StagingLoop
 pub mod Preparing
 pub mod Fetched
+pub mod Missing
+pub mod TailStaging

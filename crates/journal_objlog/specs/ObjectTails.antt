@@ -1,13 +1,24 @@
 -- What contracts see of an object tail: what memory knows of a block and of an address, from its updates and what was fetched.
-use Rattle.std.specs.Prelude.{ℕ, ◌≡◌, ◌≤◌, if◌then◌else◌, List, [], ◌++◌, Option, Some, None}
+use Rattle.std.specs.Prelude.{ℕ, ◌≡◌, ◌≤◌, ◌⊎◌, Bool, true, false, not, ◌&&◌, if◌then◌else◌, List, [], ◌∷◌, ◌++◌, Option, Some, None}
 use Rattle.journal_world.specs.declared.address.Addr.{Addr}
 use Rattle.journal_world.specs.declared.layout.TheConstants.{MIN_BLOCKS}
-use Rattle.journal_world.specs.Addresses.{Value}
+use Rattle.journal_world.specs.declared.address.Kind.{Kind}
+use Rattle.journal_world.specs.declared.address.Kind.TheVariants.{Block}
+use Rattle.journal_world.specs.declared.refusal.Refusal.{Refusal}
+use Rattle.journal_world.specs.declared.refusal.Refusal.TheVariants.{NoMemory}
+use Rattle.journal_world.specs.Addresses.{Value, kind_of}
+use Rattle.journal_world.specs.Maps.{Pair}
 use Rattle.journal_block.specs.declared.update.Update.{Update}
-use Rattle.journal_block.specs.Updates.{Content, updated, updates_block}
+use Rattle.journal_block.specs.Updates.{Content, updated, with_updates, updates_block}
+use Rattle.journal_memlog.specs.Logs.{next_position, tail_of}
 use Rattle.journal_object.specs.Objects.{IsMapOf, map_of_blocks}
-use Rattle.journal_wal.specs.Tails.{TailState}
+use Rattle.journal_wal.specs.Wal.{AreHomes}
+use Rattle.journal_wal.specs.Tails.{TailState, TakesUpdates}
 use Rattle.journal_objlog.specs.Maps.{object_or_zeros}
+use Rattle.journal_objlog.specs.ObjectLogs.{Base}
+use Rattle.journal_objlog.specs.Writes.{writes_block, CanPrepare, IsWriteRefusal}
+use Rattle.journal_objlog.specs.declared.tail_prepare.Preparation.{Preparation}
+use Rattle.journal_objlog.specs.declared.tail_prepare.Preparation.TheVariants.{Ready, Missing}
 
 -- the number of blocks of the disk
 abbrev pub blocks_of : TailState → ℕ
@@ -32,3 +43,54 @@ pub record IsObjectTail (blocks : ℕ) (t : TailState) : Type 0 where
   pub low : MIN_BLOCKS ≤ blocks
   -- the law of the map that blocks make, at this size
   pub law : (content : Content) → IsMapOf content (map_of_blocks blocks content)
+
+-- What overwriting looks at, with these blocks fetched. A block that memory does not know has no bytes
+abbrev pub tail_base : List Update → TailState → Base
+tail_base fetched t = record {
+  size = blocks_of t;
+  content = with_updates (λ b. []) (known_updates fetched t);
+  tail = tail_of t.log;
+  next = next_position t.log;
+}
+
+-- Whether a block of this kind is one object, so that a write of it needs nothing that it held
+abbrev pub is_one_object : Option Kind → Bool
+is_one_object (Some Block) = true
+is_one_object other = false
+
+-- whether a write of block b needs the block's other objects, and no update has them
+abbrev pub is_missing : ℕ → List Update → ℕ → Bool
+is_missing n known b = not (is_one_object (kind_of n b)) && not (updates_block known b)
+
+-- the blocks that have to be fetched before the writes can be prepared: each once, in the order of the writes
+abbrev pub missing_blocks : ℕ → List Update → List Pair → List ℕ
+missing_blocks n known [] = []
+missing_blocks n known (p ∷ later) =
+    if is_missing n known p.0.block && not (writes_block later p.0.block) then p.0.block ∷ missing_blocks n known later
+    else missing_blocks n known later
+
+-- No block has to be fetched for the writes
+abbrev pub HasBlocks : ℕ → List Update → List Pair → Type 0
+HasBlocks n known writes = (b : ℕ) → writes_block writes b ≡ true → is_missing n known b ≡ false
+
+-- What is prepared can be applied here, without memory and without a refusal
+pub record TakesPrepared (t : TailState) (prepared : List Update) : Type 0 where
+  pub homes : AreHomes (blocks_of t) prepared
+  pub room : TakesUpdates t.log prepared
+
+-- Why writes are not prepared: the first of the refusals that need no memory, or memory alone is refused
+abbrev pub IsTailWriteRefusal : Base → List Pair → Refusal Unit → Type 0
+IsTailWriteRefusal b writes refusal = IsWriteRefusal false b writes refusal ⊎ (CanPrepare b writes × (refusal ≡ NoMemory))
+
+-- the tail with other room in memory
+abbrev pub with_tail_room : TailState → ℕ → TailState
+with_tail_room t room = record t { log = record t.log { room = room } }
+
+-- of an answer: what holds where the writes are prepared, and where blocks are to be fetched
+abbrev pub IfReady : (List Update → Type 0) → Preparation → Type 0
+IfReady holds (Ready prepared) = holds prepared
+IfReady holds (Missing blocks) = Unit {0}
+
+abbrev pub IfMissing : (List ℕ → Type 0) → Preparation → Type 0
+IfMissing holds (Ready prepared) = Unit {0}
+IfMissing holds (Missing blocks) = holds blocks.items

@@ -17,9 +17,12 @@ mod spares;
 mod stage;
 mod steps;
 mod tail;
+mod tail_prepare;
+mod tail_stage;
 mod writes;
 
 pub use object_log::ObjectLog;
 pub use prepare::Prepared;
 pub use spares::Spares;
 pub use tail::ObjectTail;
+pub use tail_prepare::Preparation;

@@ -21,7 +21,7 @@ use std::mem;
 
 /// Updates that are made from the last on. Contracts see them in order.
 #[derive(Drop)]
-struct Backwards {
+pub(crate) struct Backwards {
     // The last first, so that one more goes to the end.
     updates: Vec<Update>,
 }
@@ -37,7 +37,7 @@ impl Model for Backwards {
 
 impl Backwards {
     // None yet, in the room that the spares have for them.
-    fn new(alloc: Global, spares: &mut Spares) -> Backwards
+    pub(crate) fn new(alloc: Global, spares: &mut Spares) -> Backwards
         ensures { result ≡ [] }
     {
         Backwards {
@@ -46,7 +46,7 @@ impl Backwards {
     }
 
     /// Puts an update before the others.
-    fn put_first(&mut self, update: Update) -> Result<(), AllocError>
+    pub(crate) fn put_first(&mut self, update: Update) -> Result<(), AllocError>
         ensures ok { OnOk result (self.new ≡ update ∷ self.old) }
     {
         self.updates.push(update)?;
@@ -54,7 +54,7 @@ impl Backwards {
     }
 
     /// Whether the first of the updates is of the block.
-    fn has_first(&self, block: u64) -> bool
+    pub(crate) fn has_first(&self, block: u64) -> bool
         ensures { IsTrue result ↔ (first_update self.now ≡ Some block) }
     {
         match self.updates.last() {
@@ -64,7 +64,7 @@ impl Backwards {
     }
 
     /// Overwrites an object of the first update's block.
-    fn store_first(&mut self, layout: &Layout, addr: Addr, value: &Value)
+    pub(crate) fn store_first(&mut self, layout: &Layout, addr: Addr, value: &Value)
         requires some { 0 < length self.old }
         requires object { IsTrue (is_object layout.now.blocks (addr, value.now)) }
         ensures stored { self.new ≡ with_first self.old (first_bytes self.new) }
@@ -76,7 +76,7 @@ impl Backwards {
     }
 
     /// The updates, in order.
-    fn into_updates(self) -> Vec<Update>
+    pub(crate) fn into_updates(self) -> Vec<Update>
         ensures { result.items ≡ self }
     {
         let Backwards { mut updates } = self;

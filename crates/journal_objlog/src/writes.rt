@@ -67,7 +67,7 @@ impl<D: BlockDisk> ObjectLog<D> {
 }
 
 // Whether this is the block.
-fn is_block(found: Option<u64>, block: u64) -> bool
+pub(crate) fn is_block(found: Option<u64>, block: u64) -> bool
     ensures { IsTrue result ↔ (found ≡ Some block) }
 {
     match found {

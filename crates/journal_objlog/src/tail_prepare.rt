@@ -1,0 +1,112 @@
+// Overwriting objects in memory: all that may fail comes first, and then nothing can.
+ghost use Rattle.std.specs.Prelude.{ℕ, ◌≡◌, ◌≢◌, ◌≤◌, List, [], ◌++◌, false, true, IsTrue, OnOk, IfOk, IfErr};
+ghost use Rattle.journal_world.specs.Maps.{are_objects};
+ghost use Rattle.journal_block.specs.declared.update.Update.{Update};
+ghost use Rattle.journal_memlog.specs.Logs.{appended};
+ghost use Rattle.journal_wal.specs.Tails.{MakeTheSame, updates_from};
+ghost use Rattle.journal_objlog.specs.ObjectTails.{blocks_of, known_updates, tail_base, missing_blocks, with_tail_room, TakesPrepared, IsTailWriteRefusal, IfReady, IfMissing};
+ghost use Rattle.journal_objlog.specs.Places.{places_of};
+ghost use Rattle.journal_objlog.specs.Writes.{written_blocks, fresh_blocks, CanPrepare, IsPrepared, IsWriteRefusal};
+
+use crate::prepare::Prepared;
+use crate::spares::Spares;
+use crate::tail::ObjectTail;
+use crate::writes::{Places, is_block, judge};
+use journal_block::Update;
+use journal_world::{Objects, Refusal};
+
+/// What `ObjectTail::prepare` answers.
+#[derive(Drop)]
+pub enum Preparation {
+    /// The overwrites, ready to be applied.
+    Ready(Prepared),
+    /// The blocks that have to be fetched first, each once, in the order of the writes.
+    Missing(Vec<u64>),
+}
+
+impl ObjectTail {
+    /// Makes the overwriting of objects by these values ready for `apply`, with all the memory that it takes; it
+    /// takes what memory the spares have first. A block that is written, but not as a whole, has to be in memory or
+    /// among the fetched ones: where some are not, the answer is these.
+    ///
+    /// The first that applies of these refuses it: J2 `BadAddress` where an address is not valid, J3 `BadSize` where
+    /// a value is not of its address's kind, J4 `TooLarge` where more than 128 distinct blocks are written, J11
+    /// `Worn` where a position of the log would reach 2^62, J12 `Full` where the tail cannot take the blocks that do
+    /// not stand in it, then J1 `NoMemory` where memory is refused. The objects are as they were, whatever it
+    /// answers.
+    pub fn prepare(
+        &mut self,
+        writes: &Objects,
+        spares: &mut Spares,
+        fetched: &[Update],
+    ) -> Result<Preparation, Refusal<()>>
+        ensures ready { IfOk result (IfReady (TakesPrepared self.new)) }
+        ensures prepared { IfOk result (IfReady (λ prepared. IsPrepared true (tail_base fetched.now self.new) prepared writes.now)) }
+        ensures missing { IfOk result (IfMissing (λ blocks.
+            blocks ≡ missing_blocks (blocks_of self.old) (known_updates fetched.now self.old) writes.now)) }
+        ensures some { IfOk result (IfMissing (λ blocks. blocks ≢ [])) }
+        ensures ok { OnOk result (CanPrepare (tail_base fetched.now self.old) writes.now) }
+        ensures refusal { IfErr result (IsTailWriteRefusal (tail_base fetched.now self.old) writes.now) }
+        ensures same { self.new ≡ with_tail_room self.old self.new.log.room }
+    {
+        let places = self.check(writes)?;
+        let missing = self.missing(writes, fetched)?;
+        if !missing.is_empty() {
+            return Ok(Preparation::Missing(missing));
+        }
+        let updates = self.stage(writes, spares, fetched)?;
+        self.tail.reserve(places.fresh)?;
+        Ok(Preparation::Ready(Prepared { updates }))
+    }
+
+    /// Overwrites the objects by what `prepare` made ready, where no call came between that changes them. It takes
+    /// no memory, and moves the blocks.
+    pub fn apply(&mut self, prepared: Prepared)
+        requires { TakesPrepared self.old prepared }
+        ensures log { self.new ≡ record self.old { log = appended self.old.log prepared } }
+        // What was updated since any cut is what was, and then these.
+        ensures since { (from : ℕ) → self.old.log.start ≤ from → from ≤ self.old.log.cut →
+            MakeTheSame (updates_from self.new.log from) (updates_from self.old.log from ++ prepared) }
+    {
+        self.tail.append_reserved(prepared.updates);
+    }
+
+    // Refuses what needs no memory: J2, J3, J4, J11 and J12. Tells how many places the writes take.
+    fn check(&self, writes: &Objects) -> Result<Places, Refusal<()>>
+        ensures ok { OnOk result ((fetched : List Update) → CanPrepare (tail_base fetched self.now) writes.now) }
+        ensures places { IfOk result (λ places. (fetched : List Update) → places ≡ places_of (tail_base fetched self.now) writes.now) }
+        ensures refusal { IfErr result (λ refusal. (fetched : List Update) → IsWriteRefusal false (tail_base fetched self.now) writes.now refusal) }
+    {
+        let (valid, objects) = judge(&self.layout, writes);
+        if !valid {
+            return Err(Refusal::BadAddress);
+        }
+        if !objects {
+            return Err(Refusal::BadSize);
+        }
+        let places = self.count_blocks(writes);
+        self.tail.check_room(places.blocks, places.fresh)?;
+        Ok(places)
+    }
+
+    // How many distinct blocks are written, and how many of these do not stand in the tail.
+    fn count_blocks(&self, writes: &Objects) -> Places
+        requires { IsTrue (are_objects (blocks_of self.now) writes.now) }
+        ensures blocks { result.blocks ≡ written_blocks writes.now }
+        ensures fresh { result.fresh ≡ fresh_blocks (tail_base [] self.now) writes.now }
+        ensures fewer { result.fresh ≤ result.blocks }
+    {
+        let mut blocks = 0;
+        let mut fresh = 0;
+        let mut last = None;
+        for (addr, _) in writes.iter().rev() {
+            if is_block(last, addr.block) {
+                continue;
+            }
+            last = Some(addr.block);
+            blocks += 1;
+            fresh += usize::from(!self.tail.stands(addr.block));
+        }
+        Places { blocks, fresh }
+    }
+}

@@ -1,0 +1,119 @@
+// The blocks that are written in memory: which have to be fetched first, and what they hold with the writes stored.
+ghost use Rattle.std.specs.Prelude.{◌≡◌, ◌⊎◌, ◌≤◌, false, true, IsTrue, OnOk, IfOk, IsOkUnless, List, Some};
+ghost use Rattle.journal_world.specs.declared.layout.TheConstants.{MIN_BLOCKS};
+ghost use Rattle.journal_world.specs.Addresses.{kind_of, is_valid};
+ghost use Rattle.journal_world.specs.Maps.{Pair, are_objects};
+ghost use Rattle.journal_world.specs.Orders.{HasAscendingBlocks};
+ghost use Rattle.journal_objlog.specs.ObjectTails.{blocks_of, known_updates, tail_base, is_missing, missing_blocks, HasBlocks};
+ghost use Rattle.journal_objlog.specs.Staging.{IsAboveNone, IsStaged, IsOpen};
+
+use crate::spares::Spares;
+use crate::stage::Backwards;
+use crate::tail::ObjectTail;
+use crate::writes::is_block;
+use journal_block::{Block, Update};
+use journal_world::{Addr, Kind, Objects, Refusal};
+
+impl ObjectTail {
+    /// The blocks that have to be fetched before the writes can be prepared, each once, in the writes' order.
+    pub(crate) fn missing(
+        &self,
+        writes: &Objects,
+        fetched: &[Update],
+    ) -> Result<Vec<u64>, Refusal<()>>
+        ensures blocks { IfOk result (λ blocks.
+            blocks.items ≡ missing_blocks (blocks_of self.now) (known_updates fetched.now self.now) writes.now) }
+        ensures refusal { IsOkUnless result Refusal.NoMemory }
+    {
+        let mut blocks = Vec::new(self.alloc);
+        let mut last = None;
+        for (addr, _) in writes.iter().rev() {
+            if is_block(last, addr.block) {
+                continue;
+            }
+            last = Some(addr.block);
+            if self.is_missing(fetched, addr.block) {
+                blocks.push(addr.block)?;
+            }
+        }
+        blocks.reverse();
+        Ok(blocks)
+    }
+
+    // Whether a write of the block needs what it holds, and memory does not know it.
+    fn is_missing(&self, fetched: &[Update], block: u64) -> bool
+        ensures { result ≡ is_missing (blocks_of self.now) (known_updates fetched.now self.now) block }
+    {
+        if self.layout.kind(block) == Some(Kind::Block) {
+            return false;
+        }
+        self.known(fetched, block).is_none()
+    }
+
+    /// One update for each block that is written, blocks ascending, with its objects stored.
+    pub(crate) fn stage(
+        &self,
+        writes: &Objects,
+        spares: &mut Spares,
+        fetched: &[Update],
+    ) -> Result<Vec<Update>, Refusal<()>>
+        requires objects { IsTrue (are_objects (blocks_of self.now) writes.now) }
+        requires present { HasBlocks (blocks_of self.now) (known_updates fetched.now self.now) writes.now }
+        ensures staged { IfOk result (λ updates. IsStaged true (tail_base fetched.now self.now) writes.now updates.items) }
+        ensures refusal { IsOkUnless result Refusal.NoMemory }
+    {
+        let mut updates = Backwards::new(self.alloc, spares);
+        // From the last on: of two values of one address the first would stand.
+        for (addr, value) in writes.iter().rev() {
+            self.open_block(&mut updates, spares, fetched, *addr)?;
+            updates.store_first(&self.layout, *addr, value);
+        }
+        Ok(updates.into_updates())
+    }
+
+    // Makes the first of the updates that of the address's block.
+    fn open_block(
+        &self,
+        updates: &mut Backwards,
+        spares: &mut Spares,
+        fetched: &[Update],
+        addr: Addr,
+    ) -> Result<(), Refusal<()>>
+        requires valid { IsTrue (is_valid (blocks_of self.now) addr) }
+        requires present { is_missing (blocks_of self.now) (known_updates fetched.now self.now) addr.block ≡ false }
+        ensures opened { OnOk result ((writes : List Pair) → IsStaged true (tail_base fetched.now self.now) writes updates.old
+            → HasAscendingBlocks writes → IsAboveNone addr.block writes → IsOpen true (tail_base fetched.now self.now) writes addr updates.new) }
+        ensures refusal { IsOkUnless result Refusal.NoMemory }
+    {
+        if updates.has_first(addr.block) {
+            return Ok(());
+        }
+        let bytes = self.block_before(spares, fetched, addr.block)?;
+        let update = Update {
+            block: addr.block,
+            bytes,
+        };
+        updates.put_first(update)?;
+        Ok(())
+    }
+
+    // The block that is to be overwritten, where not all of it is.
+    fn block_before(
+        &self,
+        spares: &mut Spares,
+        fetched: &[Update],
+        block: u64,
+    ) -> Result<Block, Refusal<()>>
+        requires { is_missing (blocks_of self.now) (known_updates fetched.now self.now) block ≡ false }
+        ensures low { MIN_BLOCKS ≤ blocks_of self.now }
+        ensures block { IfOk result (λ bytes.
+            (kind_of (blocks_of self.now) block ≡ Some Kind.Block) ⊎ (bytes ≡ (tail_base fetched.now self.now).content block)) }
+        ensures refusal { IsOkUnless result Refusal.NoMemory }
+    {
+        let mut bytes = spares.take(self.alloc)?;
+        if self.layout.kind(block) != Some(Kind::Block) {
+            bytes.copy_from(self.known(fetched, block).unwrap());
+        }
+        Ok(bytes)
+    }
+}
