@@ -20,8 +20,8 @@ use Rattle.journal_core.specs.Tallies.{Pairs, made_among, SameTally, CountsOne, 
 use Rattle.journal_core.specs.Causes.{Told}
 use Rattle.journal_core.specs.Cores.{CoreState, IsCore}
 use Rattle.journal_core.specs.Transactions.{TransactionState}
-use Rattle.journal_core.specs.Commits.{IsCommitted, IsAdded, HasSeen, IsWorn, MayCommit, CanPrepare, CanCommit, IsPreparingRefusal, IsCommitRefusal}
-use Rattle.journal_core.specs.Steps.{IsStrange}
+use Rattle.journal_core.specs.Commits.{IsCommitted, IsAdded, IsWorn, MayCommit, CanPrepare, CanCommit, IsPreparingRefusal, IsCommitRefusal}
+use Rattle.journal_core.specs.Memories.{HasSeen, IsStrange}
 use Rattle.journal_core.proofs.Keeping.{commits_of-other, Rests, kept_commit}
 use Rattle.journal_core.specs.Cores.{disk_of}
 use Rattle.journal_objlog.specs.ObjectLogs.{is_faulted as is_log_faulted}
@@ -43,30 +43,30 @@ extends_on a b c first second = record {
 }
 
 -- where a session was shown all, it and the transaction had seen no more
-pub has_seen : (c : CoreState) (t : TransactionState) (old first second shown : SessionState) → OnlyExtends old first → OnlyExtends first second
-    → IsPrefix t.seen second.seen → OnlyExtends second shown → shown.seen ≡ c.history → HasSeen c old t
-has_seen c t old first second shown one two read three whole = record {
+pub has_seen : (history : List Entry) (t : TransactionState) (old first second shown : SessionState) → OnlyExtends old first → OnlyExtends first second
+    → IsPrefix t.seen second.seen → OnlyExtends second shown → shown.seen ≡ history → HasSeen history old t
+has_seen history t old first second shown one two read three whole = record {
   shown = subst (IsPrefix old.seen) whole (extends_on old first shown one (extends_on first second shown two three)).seen;
   later = subst (IsPrefix t.seen) whole (IsPrefix-trans t.seen second.seen shown.seen read three.seen);
 }
 
 -- a session that has seen the history made no more commits than it has, so that where they are not as many there is a strange one
-pub is_strange : (c : CoreState) (old shown : SessionState) (tally : Pairs) (number has own : ℕ) → OnlyExtends old shown
-    → shown.seen ≡ c.history → IsPrefix shown.mine shown.seen → IsTallied tally c.history → number ≡ shown.number
-    → has ≡ made_among tally number → own ≡ made shown → has ≢ own → IsStrange c old
-is_strange c old shown tally number has own extends all prefix tallied is counted told differs =
-    subst (λ (n : ℕ). n < length (commits_of old.number c.history)) same_made
+pub is_strange : (history : List Entry) (old shown : SessionState) (tally : Pairs) (number has own : ℕ) → OnlyExtends old shown
+    → shown.seen ≡ history → IsPrefix shown.mine shown.seen → IsTallied tally history → number ≡ shown.number
+    → has ≡ made_among tally number → own ≡ made shown → has ≢ own → IsStrange history old
+is_strange history old shown tally number has own extends all prefix tallied is counted told differs =
+    subst (λ (n : ℕ). n < length (commits_of old.number history)) same_made
     (omega (arith, fewer, here, told, differs))
   where
     same_made : made shown ≡ made old
     same_made = (λ i. length (commits_of (extends.number i) (extends.mine i)))
 
-    fewer : made shown ≤ length (commits_of old.number c.history)
+    fewer : made shown ≤ length (commits_of old.number history)
     fewer = subst (λ (h : List Entry). made shown ≤ length (commits_of old.number h)) all
         (subst (λ (n : ℕ). made shown ≤ length (commits_of n shown.seen)) extends.number (fewer_commits shown.number shown.mine shown.seen prefix))
 
-    here : has ≡ length (commits_of old.number c.history)
-    here = counted ∙ tallied number ∙ ap (λ (n : ℕ). length (commits_of n c.history)) (is ∙ extends.number)
+    here : has ≡ length (commits_of old.number history)
+    here = counted ∙ tallied number ∙ ap (λ (n : ℕ). length (commits_of n history)) (is ∙ extends.number)
 
 -- the map after all commits keeps the rule once it is overwritten
 pub ruled_then : (blocks : ℕ) (rule : Map → Type 0) (history : List Entry) (reads writes : List Pair) → (opened history).blocks ≡ blocks → IsSound rule history

@@ -1,22 +1,29 @@
 -- What the core counts beside its history stays that of the history.
-use Rattle.std.proofs.Common.{◌≡◌, ◌<◌, ◌+◌, ◌^◌, ◌++◌, ℕ, Bool, true, false, cond, List, [], ◌∷◌, length, length-append, refl, sym, ap, subst, ◌∙◌, arith}
+use Rattle.std.proofs.Common.{◌≡◌, ◌<◌, ◌==◌, max, ◌+◌, ◌^◌, ◌++◌, ℕ, Bool, true, false, cond, List, [], ◌∷◌, length, length-append, refl, sym, ap, subst, ◌∙◌, arith}
 use Rattle.std.specs.List.{filter}
 use Rattle.std.proofs.lemmas.List.Elements.{filter-append}
-use Rattle.journal_world.specs.Maps.{Map, Transaction}
-use Rattle.journal_world.specs.Histories.{Entry, commits, writes_slot, touched}
-use Rattle.journal_world.specs.Histories.Entry.{opening, commit, stable}
+use Rattle.journal_world.specs.Maps.{Transaction}
+use Rattle.journal_world.specs.Histories.{Entry, commits, commits_of, writes_slot, touched}
+use Rattle.journal_world.specs.Histories.Entry.{commit, stable}
 use Rattle.journal_world.proofs.LongerHistories.{commits-commit}
 use Rattle.journal_world.proofs.Marks.{commits-mark}
 use Rattle.journal_world.proofs.SessionCommits.{length-commits-le}
 use Rattle.journal_core.specs.Tallies.{Pairs, SameTally, CountsOne}
 use Rattle.journal_core.specs.SlotCounts.{Counts, AreCounts, CountsNothing, CountsWrites, KeepsCounts}
-use Rattle.journal_core.proofs.Keeping.{tallied_mark}
+use Rattle.journal_core.specs.Memories.{MemoryState, IsMemory}
+use Rattle.journal_core.proofs.Keeping.{tallied_mark, commits_of-other}
 use Rattle.journal_core.proofs.Committing.{tallied_commit}
-use Rattle.journal_core.proofs.Opening.{tallied_begun}
 
 -- nothing is counted yet
-counts_begun : (c : Counts) (m : Map) (trusted : Bool) → CountsNothing c → AreCounts c (opening m trusted ∷ [])
-counts_begun c m trusted none = record { slots = none.slots; commits = none.commits; touched = none.touched }
+counts_none : (c : Counts) (history : List Entry) → commits history ≡ [] → CountsNothing c → AreCounts c history
+counts_none c history no_commits none = record {
+  slots = none.slots;
+  commits = none.commits ∙ sym (ap length no_commits);
+  touched = λ slot lt. none.touched slot lt ∙ sym (ap (λ (ts : List Transaction). length (filter (writes_slot slot) ts)) no_commits);
+}
+
+no_session : (history : List Entry) → commits history ≡ [] → (s : ℕ) → commits_of s history ≡ []
+no_session history no_commits s = ap (λ (ts : List Transaction). filter (λ (t : Transaction). t.session == s) ts) no_commits
 
 -- a mark is no commit
 counts_mark : (c : Counts) (history : List Entry) (n : ℕ) → AreCounts c history → AreCounts c (history ++ stable n ∷ [])
@@ -51,21 +58,25 @@ counts_commit old new history t more counts = record {
       ∙ sym (touched_commit history t slot);
 }
 
-pub keeps_begun : (slots : Counts) (history : List Entry) (m : Map) (trusted : Bool) → history ≡ opening m trusted ∷ [] → CountsNothing slots
-    → KeepsCounts [] slots history
-keeps_begun slots history m trusted is none = record {
-  tallied = tallied_begun history m trusted is;
-  touched = subst (AreCounts slots) (sym is) (counts_begun slots m trusted none);
+-- what the memory part keeps at first
+pub memory_begun : (slots : Counts) (history : List Entry) → commits history ≡ [] → CountsNothing slots
+    → IsMemory [] slots (record { history = history; next = 0; closed = false })
+memory_begun slots history no_commits none = record {
+  counts = record {
+    tallied = λ s. sym (ap length (no_session history no_commits s));
+    touched = counts_none slots history no_commits none;
+  };
+  fresh = λ s le. no_session history no_commits s;
 }
 
-pub keeps_mark : (tally : Pairs) (slots : Counts) (history : List Entry) (n : ℕ) → KeepsCounts tally slots history
+keeps_mark : (tally : Pairs) (slots : Counts) (history : List Entry) (n : ℕ) → KeepsCounts tally slots history
     → KeepsCounts tally slots (history ++ stable n ∷ [])
 keeps_mark tally slots history n kept = record {
   tallied = tallied_mark tally history n kept.tallied;
   touched = counts_mark slots history n kept.touched;
 }
 
-pub keeps_commit : (old mid new : Pairs) (slots more : Counts) (history later : List Entry) (t : Transaction) (session : ℕ) → later ≡ history ++ commit t ∷ []
+keeps_commit : (old mid new : Pairs) (slots more : Counts) (history later : List Entry) (t : Transaction) (session : ℕ) → later ≡ history ++ commit t ∷ []
     → session ≡ t.session → SameTally old mid → CountsOne session mid new → CountsWrites t.writes slots more → KeepsCounts old slots history
     → KeepsCounts new more later
 keeps_commit old mid new slots more history later t session added is same counts writes kept = record {
@@ -77,3 +88,28 @@ keeps_commit old mid new slots more history later t session added is same counts
 pub few_counted : (tally : Pairs) (slots : Counts) (history : List Entry) → KeepsCounts tally slots history → length history + 1 < 2 ^ 62
     → slots.commits < 2 ^ 62
 few_counted tally slots history kept room = omega (arith, kept.touched.commits, length-commits-le history, room)
+
+module _ (tally : Pairs) (slots : Counts) (m : MemoryState) (kept : IsMemory tally slots m) where
+  -- a mark
+  pub memory_marked : (n : ℕ) → IsMemory tally slots (record m { history = m.history ++ stable n ∷ [] })
+  memory_marked n = record {
+    counts = keeps_mark tally slots m.history n kept.counts;
+    fresh = λ s le. ap (λ (ts : List Transaction). filter (λ (t : Transaction). t.session == s) ts) (commits-mark m.history n) ∙ kept.fresh s le;
+  }
+
+  -- a further session
+  pub memory_joined : IsMemory tally slots (record m { next = m.next + 1 })
+  memory_joined = record { counts = kept.counts; fresh = λ s le. kept.fresh s (omega (arith, le)) }
+
+  -- a commit
+  pub memory_committed : (mid new : Pairs) (more : Counts) (history : List Entry) (next : ℕ) (t : Transaction) (session : ℕ)
+      → history ≡ m.history ++ commit t ∷ [] → next ≡ max m.next (session + 1) → session ≡ t.session
+      → SameTally tally mid → CountsOne session mid new → CountsWrites t.writes slots more
+      → IsMemory new more (record m { history = history; next = next })
+  memory_committed mid new more history next t session added raised is same counts writes = record {
+    counts = keeps_commit tally mid new slots more m.history history t session added is same counts writes kept.counts;
+    fresh = λ s le.
+        ap (commits_of s) added
+        ∙ commits_of-other m.history t s (λ equal. omega (arith, equal, is, raised, le))
+        ∙ kept.fresh s (omega (arith, raised, le));
+  }

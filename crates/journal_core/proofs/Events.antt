@@ -10,9 +10,9 @@ use Rattle.journal_history.specs.Tokens.{SessionState, CommitPlace}
 use Rattle.journal_core.specs.Causes.{Told}
 use Rattle.journal_core.specs.Cores.{CoreState, Crashes, IsRunning}
 use Rattle.journal_core.specs.Transactions.{TransactionState}
-use Rattle.journal_core.specs.Steps.{LogAnswers, IsLogRefusal, InstallAnswers, IsInstallRefusal}
+use Rattle.journal_core.specs.Steps.{LogAnswers, IsLogRefusal, InstallAnswers, IsInstallRefusal, BeginsSession, IsSessionRefusal}
 use Rattle.journal_core.specs.Commits.{IsCommitted, CanCommit, IsCommitRefusal}
-use Rattle.journal_core.specs.Interleavings.{AnswersCommit, AnswersLog, AnswersInstall}
+use Rattle.journal_core.specs.Interleavings.{AnswersCommit, AnswersLog, AnswersInstall, AnswersSession}
 
 module _ (old new : CoreState) (crash : Crashes old new) where
   pub answers_log : (r : Result LogStep (Refusal Told)) → IfOk r (λ step. LogAnswers old step new)
@@ -42,3 +42,8 @@ module _ (old new : CoreState) (crash : Crashes old new) where
     others = same;
     crash = crash;
   }
+
+  pub answers_session : (r : Result SessionState (Refusal Told)) → IfOk r (λ session. BeginsSession old session new)
+      → IfErr r (IsSessionRefusal old) → OnErr r (new ≡ old) → AnswersSession old r new
+  answers_session (Ok session) begins refusal same = record { begins = begins; crash = crash }
+  answers_session (Err why) begins refusal same = record { refusal = refusal; same = same; crash = crash }

@@ -1,5 +1,5 @@
 -- Each step keeps what the core keeps, and leaves of its disk only fronts of its history.
-use Rattle.std.proofs.Common.{true, false, ◌==◌, Bool, cond, max, ◌≡◌, ◌≢◌, inr, ⊎_elim, ◌<◌, ◌≤◌, ◌+◌, ℕ, List, [], ◌∷◌, ◌++◌, take, length, IsTrue, refl, sym, ap, subst, ◌∙◌, arith}
+use Rattle.std.proofs.Common.{false, ◌==◌, Bool, cond, max, ◌≡◌, ◌≢◌, inr, ⊎_elim, ◌<◌, ◌≤◌, ◌+◌, ℕ, List, [], ◌∷◌, ◌++◌, take, length, IsTrue, refl, sym, ap, subst, ◌∙◌, arith}
 use Rattle.std.proofs.lemmas.List.{take-append-le, append-nil}
 use Rattle.std.proofs.lemmas.Bool.{ne_eqb}
 use Rattle.std.specs.List.{filter}
@@ -21,7 +21,8 @@ use Rattle.journal_objlog.specs.CutLaws.{cut_is_now, logged_is_cut}
 use Rattle.journal_objlog.specs.ObjectLogs.{map_now, map_cut, map_logged, IsCutLogged, MayOpenAs, Crashes as MapCrashes, KeepsMaps, CutsMap, EndsMap}
 use Rattle.journal_core.specs.Tallies.{Pairs, IsTallied}
 use Rattle.journal_core.specs.Steps.{CanMark}
-use Rattle.journal_core.specs.Cores.{CoreState, Leaves, Crashes, IsCore}
+use Rattle.journal_core.specs.Cores.{CoreState, Leaves, Crashes, IsCore, core_of}
+use Rattle.journal_core.specs.Memories.{MemoryState}
 use Rattle.journal_core.specs.Cores.{disk_of}
 use Rattle.journal_objlog.specs.ObjectLogs.{is_faulted as is_log_faulted, disk_of as log_disk}
 
@@ -89,7 +90,6 @@ module _ (blocks : ℕ) (c : CoreState) (kept : IsCore blocks c) where
       logged = SameMap-trans (map_logged objects) (map_logged c.objects) (at c.history c.logged) (maps was).logged (kept.tied was).logged;
     };
     images = crash.images;
-    fresh = kept.fresh;
   }
 
   -- the tail is cut
@@ -111,7 +111,6 @@ module _ (blocks : ℕ) (c : CoreState) (kept : IsCore blocks c) where
       logged = SameMap-trans (map_logged objects) (map_logged c.objects) (at c.history c.logged) (maps was).logged (kept.tied was).logged;
     };
     images = crash.images;
-    fresh = kept.fresh;
   }
 
   -- the cycle of the group in flight ends
@@ -132,7 +131,6 @@ module _ (blocks : ℕ) (c : CoreState) (kept : IsCore blocks c) where
       logged = SameMap-trans (map_logged objects) (map_cut c.objects) (at c.history c.cut) (maps was).logged (kept.tied was).cut;
     };
     images = crash.images;
-    fresh = kept.fresh;
   }
 
   -- an entry that is no commit and no opening leaves the maps
@@ -142,9 +140,6 @@ module _ (blocks : ℕ) (c : CoreState) (kept : IsCore blocks c) where
 
   latest-mark : (n : ℕ) → c.history ≢ [] → latest (c.history ++ stable n ∷ []) ≡ latest c.history
   latest-mark n some = λ i. after (opened-append c.history (stable n ∷ []) some i) (commits-mark c.history n i)
-
-  same_sessions : (n s : ℕ) → commits_of s (c.history ++ stable n ∷ []) ≡ commits_of s c.history
-  same_sessions n s = ap (λ (ts : List Transaction). filter (λ (t : Transaction). t.session == s) ts) (commits-mark c.history n)
 
   -- the commits of a group whose cycle ended are marked
   pub kept_mark : c.history ≢ [] → c.logged ≡ c.cut → IsCore blocks (record c { history = c.history ++ stable c.cut ∷ [] })
@@ -162,7 +157,6 @@ module _ (blocks : ℕ) (c : CoreState) (kept : IsCore blocks c) where
       logged = subst (λ (m : Map). SameMap (map_logged c.objects) m) (sym (at-mark c.cut c.logged some)) (kept.tied honest).logged;
     };
     images = kept.images;
-    fresh = λ s le. same_sessions c.cut s ∙ kept.fresh s le;
   }
 
   -- commits that wrote nothing are marked
@@ -182,7 +176,6 @@ module _ (blocks : ℕ) (c : CoreState) (kept : IsCore blocks c) where
       logged = subst (λ (m : Map). SameMap m (at later (count c.history))) (sym (logged_is_cut c.objects none ∙ cut_is_now c.objects empty)) (at_all honest);
     };
     images = kept.images;
-    fresh = λ s le. same_sessions (count c.history) s ∙ kept.fresh s le;
   }
     where
       later : List Entry
@@ -219,7 +212,6 @@ module _ (blocks : ℕ) (c : CoreState) (kept : IsCore blocks c) where
           (SameMap-trans (map_logged objects) (map_logged c.objects) (at c.history c.logged) logged (kept.tied was).logged);
     };
     images = crash.images;
-    fresh = λ s le. commits_of-other c.history t s (λ same. omega (arith, same, le)) ∙ kept.fresh s (omega (arith, le));
   }
     where
       -- the map after fewer commits is as before
@@ -247,7 +239,6 @@ kept_opened blocks objects m size same on_disk none empty images = record {
     logged = subst (λ (l : Map). SameMap l m) (sym (logged_is_cut objects none ∙ cut_is_now objects empty)) same;
   };
   images = λ honest image one. inr (subst (λ (l : Map). OpensAs l image) (sym (cut_is_now objects empty)) (images honest image one));
-  fresh = λ n le. refl;
 }
 
 -- a step without a device call
@@ -269,35 +260,21 @@ pub crashes_seen : (blocks : ℕ) (inside now new : CoreState) → IsCore blocks
 crashes_seen blocks inside now new before is kept same =
     subst (λ (c : CoreState). Crashes c new) is (crashes_same blocks inside new before kept same)
 
--- the core is stopped
-pub kept_closed : (blocks : ℕ) (c : CoreState) → IsCore blocks c → IsCore blocks (record c { closed = true })
-kept_closed blocks c kept = record {
-  size = kept.size;
-  on_disk = kept.on_disk;
-  trusted = kept.trusted;
-  marked = kept.marked;
-  logged_to_cut = kept.logged_to_cut;
-  cut_to_count = kept.cut_to_count;
-  rest = kept.rest;
-  tied = kept.tied;
-  images = kept.images;
-  fresh = kept.fresh;
-}
-
--- a further session
-pub kept_session : (blocks : ℕ) (c : CoreState) → IsCore blocks c → IsCore blocks (record c { next = c.next + 1 })
-kept_session blocks c kept = record {
-  size = kept.size;
-  on_disk = kept.on_disk;
-  trusted = kept.trusted;
-  marked = kept.marked;
-  logged_to_cut = kept.logged_to_cut;
-  cut_to_count = kept.cut_to_count;
-  rest = kept.rest;
-  tied = kept.tied;
-  images = kept.images;
-  fresh = λ s le. kept.fresh s (omega (arith, le));
-}
+-- whatever became of the memory part, the history stays
+pub kept_still : (blocks : ℕ) (objects : WalState) (old new : MemoryState) (cut logged : ℕ) → new.history ≡ old.history
+    → IsCore blocks (core_of objects old cut logged) → IsCore blocks (core_of objects new cut logged)
+kept_still blocks objects old new cut logged same kept =
+    subst (λ (h : List Entry). IsCore blocks (core_of objects (record new { history = h }) cut logged)) (sym same) (record {
+      size = kept.size;
+      on_disk = kept.on_disk;
+      trusted = kept.trusted;
+      marked = kept.marked;
+      logged_to_cut = kept.logged_to_cut;
+      cut_to_count = kept.cut_to_count;
+      rest = kept.rest;
+      tied = kept.tied;
+      images = kept.images;
+    })
 
 -- a true mark
 pub kept_marked : (blocks : ℕ) (c : CoreState) (n : ℕ) → IsCore blocks c → c.history ≢ [] → CanMark c n

@@ -5,7 +5,7 @@ use Rattle.journal_world.specs.declared.refusal.Refusal.{Refusal}
 use Rattle.journal_world.specs.declared.refusal.Refusal.TheVariants.{NoMemory, BadAddress, BadSize, TooLarge, Busy, DeviceFailed, BadLog, BadSuper, Stale, Stranger, Worn, Full, Closed, Fenced}
 use Rattle.journal_world.specs.Refusals.{IsReadingRefusal}
 use Rattle.journal_world.specs.Maps.{Map, are_objects}
-use Rattle.journal_world.specs.Histories.{Entry}
+use Rattle.journal_world.specs.Histories.{Entry, commits}
 use Rattle.journal_world.specs.Histories.Entry.{opening}
 use Rattle.journal_world.proofs.SameMaps.{SameMap-refl}
 use Rattle.journal_disk.specs.Disks.{DiskState, Keeps, Past, HasFailed}
@@ -18,7 +18,6 @@ use Rattle.journal_objlog.specs.ReadLaws.{now_read, images_read}
 use Rattle.journal_objlog.proofs.Openings.{failed_after}
 use Rattle.journal_core.specs.Causes.{Told, raised_of}
 use Rattle.journal_core.specs.Cores.{IsCore}
-use Rattle.journal_core.specs.Tallies.{IsTallied}
 use Rattle.journal_core.specs.Openings.{HoldsMap, Begins, IsInRange, IsBeginRefusal, IsOpenRefusal, OnlyReadsDisk}
 use Rattle.journal_core.proofs.Keeping.{kept_opened}
 use Rattle.journal_objlog.specs.ObjectLogs.{is_faulted as is_log_faulted, disk_of as log_disk}
@@ -143,5 +142,5 @@ module _ (disk : DiskState) (opened objects : WalState) (keeps : Keeps disk (log
     refuses_begin (Ok admitted) Fenced is because = absurd because
 
 -- no session has committed yet
-pub tallied_begun : (history : List Entry) (m : Map) (trusted : Bool) → history ≡ opening m trusted ∷ [] → IsTallied [] history
-tallied_begun history m trusted is = subst (IsTallied []) (sym is) (λ s. refl)
+pub none_begun : (history : List Entry) (m : Map) (trusted : Bool) → history ≡ opening m trusted ∷ [] → commits history ≡ []
+none_begun history m trusted is = ap commits is

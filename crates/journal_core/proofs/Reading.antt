@@ -12,7 +12,7 @@ use Rattle.journal_core.specs.Causes.{Told}
 use Rattle.journal_core.specs.Cores.{CoreState, IsCore}
 use Rattle.journal_core.specs.Transactions.{TransactionState, AreUnmoved}
 use Rattle.journal_core.specs.Steps.{MayRead, IsReadRefusal}
-use Rattle.journal_core.specs.Commits.{IsMovedRefusal}
+use Rattle.journal_core.specs.Memories.{IsLookRefusal}
 use Rattle.journal_core.specs.Cores.{IsRunning}
 
 -- the layout is that of the disk
@@ -24,8 +24,8 @@ valid_as n blocks a r b same told is = ap (λ (m : ℕ). is_valid m a) (sym same
 
 module _ (blocks : ℕ) (old : CoreState) (t : TransactionState) (a : Addr) (running : IsRunning old) (valid : IsTrue (is_valid blocks a)) where
   -- what was read before has moved
-  refuses_admission : (refusal : Refusal Told) → IsMovedRefusal old t refusal → IsReadRefusal blocks old t a old refusal
-  refuses_admission (Stale cause) why = absurd why
+  refuses_admission : (refusal : Refusal Told) → IsLookRefusal old.history t refusal → IsReadRefusal blocks old t a old refusal
+  refuses_admission (Stale cause) why = (running, valid, why, refl)
   refuses_admission (Stranger cause) why = (running, valid, why, refl)
   refuses_admission NoMemory why = absurd why
   refuses_admission BadAddress why = absurd why
@@ -40,12 +40,12 @@ module _ (blocks : ℕ) (old : CoreState) (t : TransactionState) (a : Addr) (run
   refuses_admission (Closed cause) why = absurd why
   refuses_admission Fenced why = absurd why
 
-  pub not_admitted : {T : Type 0} (r : Result T (Refusal Told)) → IfErr r (IsMovedRefusal old t) → IfErr r (IsReadRefusal blocks old t a old)
+  pub not_admitted : {T : Type 0} (r : Result T (Refusal Told)) → IfErr r (IsLookRefusal old.history t) → IfErr r (IsReadRefusal blocks old t a old)
   not_admitted (Ok value) why = tt
   not_admitted (Err refusal) why = refuses_admission refusal why
 
 -- nothing but memory and the device can refuse what is admitted
 pub may_read : {T E : Type 0} (blocks : ℕ) (c : CoreState) (t : TransactionState) (a : Addr) → IsRunning c → IsTrue (is_valid blocks a)
-    → IsPrefix t.seen c.history → (r : Result T E) → OnOk r (AreUnmoved c.history t) → OnOk r (MayRead blocks c t a)
-may_read blocks c t a running valid later (Ok value) unmoved = record { running = running; valid = valid; later = later; unmoved = unmoved }
-may_read blocks c t a running valid later (Err e) unmoved = tt
+    → (r : Result T E) → OnOk r (IsPrefix t.seen c.history) → OnOk r (AreUnmoved c.history t) → OnOk r (MayRead blocks c t a)
+may_read blocks c t a running valid (Ok value) later unmoved = record { running = running; valid = valid; later = later; unmoved = unmoved }
+may_read blocks c t a running valid (Err e) later unmoved = tt

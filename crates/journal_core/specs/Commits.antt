@@ -1,6 +1,5 @@
 -- What a commit is, and why one is refused.
-use Rattle.std.specs.Prelude.{ℕ, ◌≡◌, ◌⊎◌, ◌<◌, ◌≤◌, ◌+◌, ◌^◌, max, List, length, Some}
-use mathlib.Core.List.{IsPrefix}
+use Rattle.std.specs.Prelude.{ℕ, ◌≡◌, ◌⊎◌, ◌<◌, ◌≤◌, ◌+◌, ◌^◌, max, List, length}
 use Rattle.journal_world.specs.declared.refusal.Refusal.{Refusal}
 use Rattle.journal_world.specs.declared.refusal.Refusal.TheVariants.{NoMemory, TooLarge, DeviceFailed, Stale, Stranger, Worn, Full, Closed}
 use Rattle.journal_world.specs.Maps.{Pair, Transaction}
@@ -10,12 +9,12 @@ use Rattle.journal_block.specs.Updates.{updates_block}
 use Rattle.journal_wal.specs.Wal.{WalState, Appends}
 use Rattle.journal_objlog.specs.ObjectLogs.{base_of, OnlyReads}
 use Rattle.journal_objlog.specs.Writes.{writes_block, written_blocks, fresh_blocks}
-use Rattle.journal_history.specs.Soundness.{IsLonger}
 use Rattle.journal_history.specs.Tokens.{SessionState, made, next_transaction as numbered, Commits}
 use Rattle.journal_core.specs.Causes.{Told, IsUnexplained}
 use Rattle.journal_core.specs.Cores.{CoreState, IsRunning}
 use Rattle.journal_core.specs.Transactions.{TransactionState, AreUnmoved}
-use Rattle.journal_core.specs.Steps.{IsStopped, IsDeviceRefusal, IsStale, IsStrange, IsMoved}
+use Rattle.journal_core.specs.Memories.{IsStale, HasSeen, IsUnknown}
+use Rattle.journal_core.specs.Steps.{IsStopped, IsDeviceRefusal}
 use Rattle.journal_wal.specs.declared.append.TheConstants.{MAX_TAIL, MAX_UPDATES}
 
 -- The log was only read, and then one update of each block that is written was appended to its tail, and no other
@@ -33,15 +32,6 @@ pub record IsCommitted (reads writes : List Pair) (session after : SessionState)
   pub logs : AppendsWrites old.objects new.objects writes
   pub others : new ≡ record old { objects = new.objects; history = new.history; next = max old.next (session.number + 1) }
 
--- Neither the session nor the transaction has seen more of the history than the core
-pub record HasSeen (c : CoreState) (s : SessionState) (t : TransactionState) : Type 0 where
-  pub shown : IsPrefix s.seen c.history
-  pub later : IsPrefix t.seen c.history
-
--- The history has a commit that the session or the transaction does not know to be there
-abbrev pub IsUnknown : CoreState → SessionState → TransactionState → Told → Type 0
-IsUnknown c s t cause = ((cause ≡ Some c.history) × IsStrange c s) ⊎ IsMoved c t cause
-
 -- The history's length, the session's number or a position of the log would reach 2^62
 abbrev pub IsWorn : CoreState → SessionState → List Pair → Type 0
 IsWorn c s writes = (2 ^ 62 ≤ length c.history + 1) ⊎ (2 ^ 62 ≤ s.number) ⊎ (2 ^ 62 ≤ (base_of c.objects).next + fresh_blocks (base_of c.objects) writes)
@@ -53,7 +43,7 @@ IsFull c writes = MAX_TAIL < length (base_of c.objects).tail + fresh_blocks (bas
 -- Nothing that is known before the writes are looked at refuses the session's commit
 pub record MayCommit (c : CoreState) (s : SessionState) (t : TransactionState) : Type 0 where
   pub running : IsRunning c
-  pub seen : HasSeen c s t
+  pub seen : HasSeen c.history s t
   pub own : length (commits_of s.number c.history) ≡ made s
   pub unmoved : AreUnmoved c.history t
 
@@ -72,35 +62,14 @@ pub record CanCommit (c : CoreState) (s : SessionState) (t : TransactionState) :
 abbrev pub IsCommitRefusal : CoreState → SessionState → TransactionState → CoreState → Refusal Told → Type 0
 IsCommitRefusal old s t new (Closed cause) = IsStopped old new cause
 IsCommitRefusal old s t new (DeviceFailed cause) = IsDeviceRefusal (CanCommit old s t) old new cause
-IsCommitRefusal old s t new (Stale cause) = IsRunning old × IsStale old cause
-IsCommitRefusal old s t new (Stranger cause) = IsRunning old × HasSeen old s t × IsUnknown old s t cause
+IsCommitRefusal old s t new (Stale cause) = IsRunning old × IsStale old.history cause
+IsCommitRefusal old s t new (Stranger cause) = IsRunning old × HasSeen old.history s t × IsUnknown old.history s t cause
 IsCommitRefusal old s t new TooLarge = MayCommit old s t × (MAX_UPDATES < written_blocks t.writes)
 IsCommitRefusal old s t new (Worn cause) = MayCommit old s t × (written_blocks t.writes ≤ MAX_UPDATES) × IsWorn old s t.writes × IsUnexplained cause
 IsCommitRefusal old s t new (Full cause) = MayCommit old s t × (written_blocks t.writes ≤ MAX_UPDATES) × (IsWorn old s t.writes → ⊥)
     × IsFull old t.writes × IsUnexplained cause
 IsCommitRefusal old s t new NoMemory = CanCommit old s t
 IsCommitRefusal old s t new other = ⊥
-
--- J9 lasts: the session has then seen the longer history, by which each later commit of it is refused
-abbrev pub ShowsLonger : CoreState → SessionState → Refusal Told → Type 0
-ShowsLonger c after (Stale cause) = IsLonger c.history after.seen
-ShowsLonger c after other = Unit {0}
-
--- The history is longer than the core's
-abbrev pub IsStaleRefusal : CoreState → Refusal Told → Type 0
-IsStaleRefusal c (Stale cause) = IsStale c cause
-IsStaleRefusal c other = ⊥
-
--- Why a session's commit is not admitted
-abbrev pub IsAdmissionRefusal : CoreState → SessionState → TransactionState → Refusal Told → Type 0
-IsAdmissionRefusal c s t (Stale cause) = IsStale c cause
-IsAdmissionRefusal c s t (Stranger cause) = HasSeen c s t × IsUnknown c s t cause
-IsAdmissionRefusal c s t other = ⊥
-
--- Why what a transaction has read is not admitted
-abbrev pub IsMovedRefusal : CoreState → TransactionState → Refusal Told → Type 0
-IsMovedRefusal c t (Stranger cause) = IsMoved c t cause
-IsMovedRefusal c t other = ⊥
 
 -- Why writes are not made ready
 abbrev pub IsPreparingRefusal : CoreState → SessionState → List Pair → CoreState → Refusal Told → Type 0
@@ -111,12 +80,6 @@ IsPreparingRefusal old s writes new (Full cause) = (written_blocks writes ≤ MA
 IsPreparingRefusal old s writes new NoMemory = CanPrepare old s writes
 IsPreparingRefusal old s writes new (DeviceFailed cause) = IsDeviceRefusal (CanPrepare old s writes) old new cause
 IsPreparingRefusal old s writes new other = ⊥
-
--- Why what is ready is not added
-abbrev pub IsAddingRefusal : CoreState → Refusal Told → Type 0
-IsAddingRefusal c (Stale cause) = IsStale c cause
-IsAddingRefusal c NoMemory = Unit {0}
-IsAddingRefusal c other = ⊥
 
 -- The transaction was added, and the prepared updates appended
 pub record IsAdded (t : Transaction) (prepared : List Update) (session after : SessionState) (old new : CoreState) : Type 0 where

@@ -1,7 +1,7 @@
 -- What contracts see of the core, what a crash may leave of it, and what its type keeps.
-use Rattle.std.specs.Prelude.{ℕ, ◌≡◌, ◌≤◌, Bool, false, IsTrue, List, []}
+use Rattle.std.specs.Prelude.{ℕ, ◌≡◌, ◌≤◌, Bool, false, IsTrue, List}
 use Rattle.journal_world.specs.Maps.{Map, SameMap}
-use Rattle.journal_world.specs.Histories.{Entry, opened, is_trusted, commits_of, count, floor, at, latest}
+use Rattle.journal_world.specs.Histories.{Entry, opened, is_trusted, count, floor, at, latest}
 use Rattle.journal_block.specs.Block.{Bytes}
 use Rattle.journal_disk.specs.Disks.{DiskState, Keeps}
 use Rattle.journal_disk.specs.Images.{EveryImage}
@@ -9,6 +9,7 @@ use Rattle.journal_disk.specs.Moments.{LeavesOnly}
 use Rattle.journal_wal.specs.Wal.{WalState, size_of, log_steps}
 use Rattle.journal_objlog.specs.Maps.{OpensAs}
 use Rattle.journal_objlog.specs.ObjectLogs.{map_now, map_cut, map_logged, MayOpenAs, is_faulted as is_log_faulted, disk_of as log_disk}
+use Rattle.journal_core.specs.Memories.{MemoryState}
 
 pub record CoreState : Type 0 where
   -- the map of objects, and the log that it is kept in
@@ -22,6 +23,17 @@ pub record CoreState : Type 0 where
   pub next : ℕ
   -- it was stopped, so that reads, commits, steps and waits are refused from then on
   pub closed : Bool
+
+-- the core of an object log and the memory part
+abbrev pub core_of : WalState → MemoryState → ℕ → ℕ → CoreState
+core_of objects memory cut logged = record {
+  objects = objects;
+  history = memory.history;
+  cut = cut;
+  logged = logged;
+  next = memory.next;
+  closed = memory.closed;
+}
 
 -- a device call failed, so that reads, commits and steps are refused until the disk is opened again
 abbrev pub is_faulted : CoreState → Bool
@@ -69,5 +81,3 @@ pub record IsCore (blocks : ℕ) (c : CoreState) : Type 0 where
   pub rest : is_faulted c ≡ false → log_steps c.objects ≡ 0 → c.logged ≡ c.cut
   pub tied : IsTrue (disk_of c).honest → AreTied c.objects c.history c.cut c.logged
   pub images : IsTrue (disk_of c).honest → EveryImage (disk_of c).past (MayOpenAs c.objects)
-  -- no session of a later number has committed
-  pub fresh : (s : ℕ) → c.next ≤ s → commits_of s c.history ≡ []

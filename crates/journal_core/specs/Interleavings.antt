@@ -21,7 +21,8 @@ use Rattle.journal_core.specs.declared.step.LogStep.TheVariants.{Marked}
 use Rattle.journal_core.specs.Causes.{Told}
 use Rattle.journal_core.specs.Cores.{CoreState, Crashes, IsRunning, disk_of}
 use Rattle.journal_core.specs.Transactions.{TransactionState, FoundState, begun, AreUnmoved, Remembers, Overwrites}
-use Rattle.journal_core.specs.Steps.{LogAnswers, IsLogRefusal, InstallAnswers, IsInstallRefusal, MayRead, IsReadRefusal, IsBehind, IsMoved, BeginsSession, IsSessionRefusal, Stops}
+use Rattle.journal_core.specs.Steps.{LogAnswers, IsLogRefusal, InstallAnswers, IsInstallRefusal, MayRead, IsReadRefusal, BeginsSession, IsSessionRefusal, Stops}
+use Rattle.journal_core.specs.Memories.{IsBehind, IsMoved}
 use Rattle.journal_core.specs.Commits.{IsCommitted, CanCommit, IsCommitRefusal}
 use Rattle.journal_core.specs.Openings.{Begins}
 
@@ -337,5 +338,5 @@ pub record IsUndisturbed (c : CoreState) (t : TransactionState) : Type 0 where
   pub later : IsPrefix t.seen c.history
   pub unmoved : AreUnmoved c.history t
   pub agrees : Agrees (latest c.history) t.reads
-  pub never_behind : (cause : Told) → IsBehind c t cause → ⊥
-  pub never_moved : (cause : Told) → IsMoved c t cause → ⊥
+  pub never_behind : (cause : Told) → IsBehind c.history t cause → ⊥
+  pub never_moved : (cause : Told) → IsMoved c.history t cause → ⊥

@@ -4,6 +4,7 @@ pub mod Steps
 pub mod Tallies
 pub mod SlotCounts
 pub mod Transactions
+pub mod Memories
 pub mod Commits
 pub mod Openings
 pub mod Interleavings

@@ -1,22 +1,22 @@
 -- What the steps of the core do, and why they are refused.
-use Rattle.std.specs.Prelude.{ℕ, ◌≡◌, ◌⊎◌, ◌<◌, ◌≤◌, ◌+◌, ◌^◌, ◌++◌, ◌∷◌, [], List, IsTrue, true, false, length, Some}
+use Rattle.std.specs.Prelude.{ℕ, ◌≡◌, ◌⊎◌, ◌<◌, ◌≤◌, ◌+◌, ◌++◌, ◌∷◌, [], IsTrue, true, false}
 use mathlib.Core.List.{IsPrefix}
 use Rattle.journal_world.specs.declared.address.Addr.{Addr}
 use Rattle.journal_world.specs.declared.refusal.Refusal.{Refusal}
-use Rattle.journal_world.specs.declared.refusal.Refusal.TheVariants.{NoMemory, BadAddress, DeviceFailed, Stale, Stranger, Worn, Closed}
+use Rattle.journal_world.specs.declared.refusal.Refusal.TheVariants.{NoMemory, BadAddress, DeviceFailed, Stale, Stranger, Closed}
 use Rattle.journal_world.specs.Addresses.{is_valid}
 use Rattle.journal_disk.specs.Disks.{HasFailed}
-use Rattle.journal_world.specs.Histories.{Entry, count, floor, commits_of}
+use Rattle.journal_world.specs.Histories.{count, floor, commits_of}
 use Rattle.journal_world.specs.Histories.Entry.{stable}
 use Rattle.journal_wal.specs.Wal.{log_steps, install_steps, tail_length, free_positions, Cuts, EndsGroup, LogsOn, InstallAnswers as WalInstalls}
 use Rattle.journal_objlog.specs.ObjectLogs.{start_of, end_of, IsCutLogged}
-use Rattle.journal_history.specs.Soundness.{IsLonger}
-use Rattle.journal_history.specs.Tokens.{SessionState, made}
+use Rattle.journal_history.specs.Tokens.{SessionState}
 use Rattle.journal_wal.specs.declared.step.InstallStep.{InstallStep}
 use Rattle.journal_core.specs.declared.step.LogStep.{LogStep}
 use Rattle.journal_core.specs.declared.step.LogStep.TheVariants.{Idle, Cut, Put, Logged, Marked}
 use Rattle.journal_core.specs.Causes.{Told, IsUnexplained}
 use Rattle.journal_core.specs.Transactions.{TransactionState, AreUnmoved}
+use Rattle.journal_core.specs.Memories.{IsBehind, IsMoved, IsNumberRefusal, IsStrayRefusal, IsStaleRefusal, IsMarkRefusal}
 use Rattle.journal_core.specs.Cores.{CoreState, is_faulted, IsRunning, disk_of, Crashes}
 
 -- The logger
@@ -99,22 +99,12 @@ pub record IsDeviceRefusal (reached : Type 0) (old new : CoreState) (cause : Tol
   pub faulted : is_faulted new ≡ true
   pub others : new ≡ record old { objects = new.objects }
 
--- The history is longer than the core's, and was seen
-abbrev pub IsStale : CoreState → Told → Type 0
-IsStale c cause = (longer : List Entry) × (cause ≡ Some longer) × IsLonger c.history longer
-
--- why a mark is refused, and what is left
-abbrev pub IsMarkRefusal : CoreState → CoreState → Refusal Told → Type 0
-IsMarkRefusal old new (Worn cause) = (2 ^ 62 ≤ length old.history + 1) × (new ≡ old) × IsUnexplained cause
-IsMarkRefusal old new (Stale cause) = IsStale old cause × (new ≡ old)
-IsMarkRefusal old new other = ⊥
-
 -- why a step of the logger is refused, and what is left: a mark is, or the device failed
 abbrev pub IsLogRefusal : CoreState → CoreState → Refusal Told → Type 0
 IsLogRefusal old new (Closed cause) = IsStopped old new cause
 IsLogRefusal old new (DeviceFailed cause) = IsDeviceRefusal (Unit {0}) old new cause
 IsLogRefusal old new refusal =
-    IsRunning old × (log_steps old.objects ≡ 0) × (HasLogged old ⊎ HasUnmarked old) × IsMarkRefusal old new refusal
+    IsRunning old × (log_steps old.objects ≡ 0) × (HasLogged old ⊎ HasUnmarked old) × IsMarkRefusal old.history refusal × (new ≡ old)
 
 -- what a step of the installer answers, and does
 abbrev pub InstallAnswers : CoreState → InstallStep → CoreState → Type 0
@@ -126,14 +116,6 @@ IsInstallRefusal old new NoMemory =
     IsRunning old × (install_steps old.objects ≡ 0) × (start_of old.objects < end_of old.objects) × (new ≡ old)
 IsInstallRefusal old new (DeviceFailed cause) = IsDeviceRefusal (Unit {0}) old new cause
 IsInstallRefusal old new other = ⊥
-
--- The transaction has seen more of the history than the core, as this cause has
-abbrev pub IsBehind : CoreState → TransactionState → Told → Type 0
-IsBehind c t cause = (cause ≡ Some t.seen) × IsLonger c.history t.seen
-
--- A commit touched a slot under which the transaction had read
-abbrev pub IsMoved : CoreState → TransactionState → Told → Type 0
-IsMoved c t cause = (cause ≡ Some c.history) × IsPrefix t.seen c.history × (AreUnmoved c.history t → ⊥)
 
 -- Nothing but memory and the device can refuse the read
 pub record MayRead (blocks : ℕ) (c : CoreState) (t : TransactionState) (a : Addr) : Type 0 where
@@ -153,9 +135,9 @@ IsReadRefusal blocks old t addr new (Closed cause) = IsStopped old new cause
 IsReadRefusal blocks old t addr new (DeviceFailed cause) = IsDeviceRefusal (MayRead blocks old t addr) old new cause
 IsReadRefusal blocks old t addr new BadAddress = IsRunning old × (is_valid blocks addr ≡ false)
 IsReadRefusal blocks old t addr new (Stale cause) =
-    IsRunning old × IsTrue (is_valid blocks addr) × IsBehind old t cause × (new ≡ old)
+    IsRunning old × IsTrue (is_valid blocks addr) × IsBehind old.history t cause × (new ≡ old)
 IsReadRefusal blocks old t addr new (Stranger cause) =
-    IsRunning old × IsTrue (is_valid blocks addr) × IsMoved old t cause × (new ≡ old)
+    IsRunning old × IsTrue (is_valid blocks addr) × IsMoved old.history t cause × (new ≡ old)
 IsReadRefusal blocks old t addr new other = ⊥
 
 -- A session of a number that no session had before, and that the history has no commit of. It has seen the whole history
@@ -166,8 +148,7 @@ pub record BeginsSession (old : CoreState) (session : SessionState) (new : CoreS
 
 -- why there is no further session
 abbrev pub IsSessionRefusal : CoreState → Refusal Told → Type 0
-IsSessionRefusal c (Worn cause) = (2 ^ 62 ≤ c.next) × IsUnexplained cause
-IsSessionRefusal c other = ⊥
+IsSessionRefusal c why = IsNumberRefusal c.next why
 
 -- It was stopped, and nothing else was done
 pub record Stops (old new : CoreState) : Type 0 where
@@ -180,27 +161,16 @@ IsEndRefusal c (Closed cause) = IsUnexplained cause × (c.closed ≡ true)
 IsEndRefusal c (DeviceFailed cause) = IsUnexplained cause × (c.closed ≡ false) × (is_faulted c ≡ true)
 IsEndRefusal c other = ⊥
 
--- The history has a commit under the session's number that the session did not make
-abbrev pub IsStrange : CoreState → SessionState → Type 0
-IsStrange c s = made s < length (commits_of s.number c.history)
-
 -- it goes on, or the mark stands already
 abbrev pub MayWait : CoreState → ℕ → Type 0
 MayWait c n = IsRunning c ⊎ (n ≤ floor c.history)
-
--- why a session is not shown the history where it is to be exact then
-abbrev pub IsStrayRefusal : CoreState → SessionState → Refusal Told → Type 0
-IsStrayRefusal c s (Stale cause) = IsStale c cause
-IsStrayRefusal c s (Stranger cause) = IsPrefix s.seen c.history × (cause ≡ Some c.history) × IsStrange c s
-IsStrayRefusal c s other = ⊥
 
 -- why a session is not told whether so many commits are marked: the first of these that holds
 abbrev pub IsWaitRefusal : CoreState → SessionState → ℕ → Refusal Told → Type 0
 IsWaitRefusal c s n (Closed cause) = (floor c.history < n) × IsEndRefusal c (Closed cause)
 IsWaitRefusal c s n (DeviceFailed cause) = (floor c.history < n) × IsEndRefusal c (DeviceFailed cause)
-IsWaitRefusal c s n other = MayWait c n × IsStrayRefusal c s other
+IsWaitRefusal c s n other = MayWait c n × IsStrayRefusal c.history s other
 
 -- why a session is not shown the history
 abbrev pub IsShowRefusal : CoreState → Refusal Told → Type 0
-IsShowRefusal c (Stale cause) = IsStale c cause
-IsShowRefusal c other = ⊥
+IsShowRefusal c why = IsStaleRefusal c.history why

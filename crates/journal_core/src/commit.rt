@@ -1,16 +1,14 @@
 // A commit.
 ghost use Rattle.std.specs.Prelude.{◌≡◌, ◌<◌, ◌≤◌, ◌+◌, ◌^◌, ◌↔◌, false, IsTrue, List, length, Err, IfOk, IfErr, OnOk, OnErr};
-ghost use mathlib.Core.List.{IsPrefix};
 ghost use Rattle.journal_world.specs.declared.refusal.Refusal.TheVariants.{TooLarge};
 ghost use Rattle.journal_world.specs.Maps.{Map, Agrees, are_objects, overwritten};
 ghost use Rattle.journal_world.specs.Histories.{is_trusted, commits_of, latest};
 ghost use Rattle.journal_objlog.specs.ObjectLogs.{OnlyReads, base_of};
 ghost use Rattle.journal_history.specs.Tokens.{made, next_transaction, OnlyExtends, IsReceiptFor};
-ghost use Rattle.journal_history.specs.Soundness.{IsLonger};
 ghost use Rattle.journal_core.specs.Cores.{Crashes, IsRunning, disk_of};
 ghost use Rattle.journal_objlog.specs.Writes.{IsReady, IsPrepared};
-ghost use Rattle.journal_core.specs.Transactions.{AreUnmoved};
-ghost use Rattle.journal_core.specs.Commits.{IsCommitted, IsAdded, HasSeen, CanPrepare, CanCommit, ShowsLonger, IsStaleRefusal, IsCommitRefusal, IsAdmissionRefusal, IsPreparingRefusal, IsAddingRefusal};
+ghost use Rattle.journal_core.specs.Memories.{ShowsLonger, IsAddingRefusal};
+ghost use Rattle.journal_core.specs.Commits.{IsCommitted, IsAdded, CanPrepare, CanCommit, IsCommitRefusal, IsPreparingRefusal};
 ghost use Rattle.journal_core.specs.Interleavings.{AnswersCommit};
 
 use crate::cause::{Cause, raise};
@@ -52,57 +50,14 @@ impl<'b, D: BlockDisk, R: MapRule, J: Naming> Core<'b, D, R, J> {
         ensures same { OnErr result (self.new ≡ record self.old { objects = self.new.objects }) }
         ensures left { OnErr result (OnlyReads self.old.objects self.new.objects) }
         ensures session { OnErr result (OnlyExtends session.old session.new) }
-        ensures longer { IfErr result (ShowsLonger self.old session.new) }
+        ensures longer { IfErr result (ShowsLonger self.old.history session.new) }
         ensures crash { Crashes self.old self.new }
         ensures event { AnswersCommit self.old session.old transaction.now result self.new session.new }
     {
         self.check_running()?;
-        self.admit(session, transaction)?;
+        self.memory.admit(session, transaction)?;
         let prepared = self.prepare(session, &transaction.writes, spares)?;
         self.add(session, transaction, prepared)
-    }
-
-    // Refuses by what is known of the session and of what the transaction has read: J9 and J10. The session has
-    // then seen the history as it is, or the longer one.
-    fn admit(
-        &self,
-        session: &mut Session<'b, J, R>,
-        transaction: &Transaction<'b, J, R>,
-    ) -> Result<(), Refusal<Cause<'b, J, R>>>
-        ensures own { OnOk result (length (commits_of session.old.number self.now.history) ≡ made session.old) }
-        ensures seen { OnOk result (HasSeen self.now session.old transaction.now) }
-        ensures unmoved { OnOk result (AreUnmoved self.now.history transaction.now) }
-        ensures agrees { OnOk result (IsTrue (is_trusted self.now.history) → Agrees (latest self.now.history) transaction.now.reads) }
-        ensures session { OnlyExtends session.old session.new }
-        ensures refusal { IfErr result (IsAdmissionRefusal self.now session.old transaction.now) }
-        ensures longer { IfErr result (ShowsLonger self.now session.new) }
-    {
-        self.catch_up(session, transaction)?;
-        self.admit_reads(transaction)?;
-        if self.tally.made(session.number()) != session.made() {
-            return Err(Refusal::Stranger(Cause::of(self.writer.front())));
-        }
-        Ok(())
-    }
-
-    // Shows the session all that is known of the history. Refuses by J9 where that is more than the core knows.
-    fn catch_up(
-        &self,
-        session: &mut Session<'b, J, R>,
-        transaction: &Transaction<'b, J, R>,
-    ) -> Result<(), Refusal<Cause<'b, J, R>>>
-        ensures seen { OnOk result (HasSeen self.now session.old transaction.now) }
-        ensures whole { OnOk result (session.new.seen ≡ self.now.history) }
-        ensures session { OnlyExtends session.old session.new }
-        ensures refusal { IfErr result (IsStaleRefusal self.now) }
-        ensures longer { IfErr result (ShowsLonger self.now session.new) }
-    {
-        session.observe();
-        session.see(&transaction.front);
-        match self.writer.show(session) {
-            Ok(()) => Ok(()),
-            Err(front) => Err(Refusal::Stale(Cause::of(front))),
-        }
     }
 
     // Makes the writes ready, with all the memory and all the reads from the device that they take. Refuses by
@@ -130,7 +85,7 @@ impl<'b, D: BlockDisk, R: MapRule, J: Naming> Core<'b, D, R, J> {
         if is_too_large(&prepared) {
             return Err(Refusal::TooLarge);
         }
-        if self.writer.len() >= LIMIT - 1 || session.number() >= LIMIT {
+        if self.memory.len() >= LIMIT - 1 || session.number() >= LIMIT {
             return Err(Refusal::Worn(Cause::none()));
         }
         raise(prepared)
@@ -155,28 +110,15 @@ impl<'b, D: BlockDisk, R: MapRule, J: Naming> Core<'b, D, R, J> {
         requires prepared { IsPrepared (disk_of self.old).honest (base_of self.old.objects) prepared transaction.now.writes }
         ensures committed { OnOk result (IsAdded (next_transaction session.old transaction.now.reads transaction.now.writes) prepared session.old session.new self.old self.new) }
         ensures receipt { IfOk result (IsReceiptFor (next_transaction session.old transaction.now.reads transaction.now.writes) self.new.history (length self.old.history)) }
-        ensures refusal { IfErr result (IsAddingRefusal self.old) }
+        ensures refusal { IfErr result (IsAddingRefusal self.old.history) }
         ensures same { OnErr result (self.new ≡ self.old) }
         ensures session { OnErr result (OnlyExtends session.old session.new) }
-        ensures longer { IfErr result (ShowsLonger self.old session.new) }
+        ensures longer { IfErr result (ShowsLonger self.old.history session.new) }
         ensures crash { Crashes self.old self.new }
     {
-        // Called for its contract: the history is sound.
-        let _len = self.writer.len();
-        let number = session.number();
-        self.tally.reserve(number)?;
-        let receipt = match self.writer.commit(session, transaction) {
-            Ok(receipt) => receipt,
-            Err(front) => {
-                session.see(&front);
-                return Err(Refusal::Stale(Cause::of(front)));
-            }
-        };
+        let receipt = self.memory.commit(session, transaction)?;
         // Nothing fails from here on.
         self.objects.apply(prepared);
-        self.tally.count_one(number);
-        self.slots.count_writes(&transaction.writes);
-        self.next = self.next.max(number + 1);
         Ok(receipt)
     }
 }

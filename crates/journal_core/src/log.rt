@@ -2,11 +2,12 @@
 ghost use Rattle.std.specs.Prelude.{ℕ, ◌≡◌, ◌≤◌, ◌<◌, false, true, IsTrue, IsErr, IfOk, IfErr, OnOk, OnErr};
 ghost use Rattle.journal_world.specs.Histories.{count, floor};
 ghost use Rattle.journal_core.specs.Cores.{Crashes, IsRunning};
-ghost use Rattle.journal_core.specs.Steps.{LogAnswers, Marks, IsLogRefusal, IsMarkRefusal, CanMark};
+ghost use Rattle.journal_core.specs.Steps.{LogAnswers, Marks, IsLogRefusal, CanMark};
+ghost use Rattle.journal_core.specs.Memories.{IsMarkRefusal};
 ghost use Rattle.journal_core.specs.Interleavings.{AnswersLog};
 
 use crate::cause::{Cause, raise};
-use crate::state::{Core, LIMIT};
+use crate::state::Core;
 use crate::step::LogStep;
 use journal_disk::BlockDisk;
 use journal_history::Naming;
@@ -29,13 +30,13 @@ impl<'b, D: BlockDisk, R: MapRule, J: Naming> Core<'b, D, R, J> {
         ensures event { AnswersLog self.old result self.new }
     {
         self.check_running()?;
-        if !self.objects.is_logging() && self.writer.floor() < self.cut {
+        if !self.objects.is_logging() && self.memory.floor() < self.cut {
             return self.mark(self.cut);
         }
         match raise(self.objects.log_step())? {
             GroupStep::Idle => {}
             GroupStep::Cut => {
-                self.cut = self.writer.count();
+                self.cut = self.memory.count();
                 return Ok(LogStep::Cut);
             }
             GroupStep::Put => return Ok(LogStep::Put),
@@ -44,8 +45,8 @@ impl<'b, D: BlockDisk, R: MapRule, J: Naming> Core<'b, D, R, J> {
                 return Ok(LogStep::Logged);
             }
         }
-        let commits = self.writer.count();
-        if self.objects.tail_len() == 0 && self.writer.floor() < commits {
+        let commits = self.memory.count();
+        if self.objects.tail_len() == 0 && self.memory.floor() < commits {
             return self.mark(commits);
         }
         Ok(LogStep::Idle)
@@ -56,16 +57,10 @@ impl<'b, D: BlockDisk, R: MapRule, J: Naming> Core<'b, D, R, J> {
         requires can { CanMark self.old n }
         ensures ok { OnOk result (Marks n self.old self.new) }
         ensures moved { IfOk result (λ step. step ≡ LogStep.Marked n) }
-        ensures refusal { IfErr result (IsMarkRefusal self.old self.new) }
+        ensures refusal { IfErr result (λ why. IsMarkRefusal self.old.history why × (self.new ≡ self.old)) }
         ensures crash { Crashes self.old self.new }
     {
-        if self.writer.len() >= LIMIT - 1 {
-            return Err(Refusal::Worn(Cause::none()));
-        }
-        if let Err(front) = self.writer.mark(n) {
-            return Err(Refusal::Stale(Cause::of(front)));
-        }
-        self.writer.tell();
+        self.memory.mark(n)?;
         self.cut = n;
         self.logged = n;
         Ok(LogStep::Marked(n))

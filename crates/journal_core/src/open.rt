@@ -7,9 +7,9 @@ ghost use Rattle.journal_disk.specs.Disks.{IsSettled};
 ghost use Rattle.journal_core.specs.Openings.{Begins, IsBeginRefusal, IsOpenRefusal, OnlyReadsDisk};
 
 use crate::cause::{Cause, raise, raised};
+use crate::memory::Memory;
 use crate::slot_counts::SlotCounts;
 use crate::state::Core;
-use crate::tally::Tally;
 use journal_disk::BlockDisk;
 use journal_history::{Book, Naming, Opened, Writer};
 use journal_objlog::ObjectLog;
@@ -76,13 +76,9 @@ impl<'b, D: BlockDisk, R: MapRule, J: Naming> Core<'b, D, R, J> {
         match begin(book, &objects, admitted) {
             Ok(writer) => Ok(Core {
                 objects,
-                writer,
+                memory: Memory::new(alloc, writer, slots),
                 cut: 0,
                 logged: 0,
-                tally: Tally::new(alloc),
-                next: 0,
-                closed: false,
-                slots,
             }),
             Err(refusal) => Err(Refused {
                 refusal,

@@ -1,16 +1,13 @@
 // A read.
 ghost use Rattle.std.specs.Prelude.{◌≡◌, length, IsTrue, IfOk, IfErr, OnOk};
-ghost use mathlib.Core.List.{IsPrefix};
 ghost use Rattle.journal_world.specs.Addresses.{is_valid};
-ghost use Rattle.journal_world.specs.Maps.{Agrees, value_at, is_object};
+ghost use Rattle.journal_world.specs.Maps.{value_at, is_object};
 ghost use Rattle.journal_world.specs.Histories.{is_trusted, latest};
 ghost use Rattle.journal_object.specs.Objects.{size_at};
 ghost use Rattle.journal_core.specs.Cores.{Crashes, IsRunning};
 ghost use Rattle.journal_objlog.specs.ObjectLogs.{OnlyReads};
 ghost use Rattle.journal_core.specs.Steps.{MayRead, IsReadRefusal, IsFetchRefusal};
 ghost use Rattle.journal_core.specs.Interleavings.{AnswersRead};
-ghost use Rattle.journal_core.specs.Commits.{IsMovedRefusal};
-ghost use Rattle.journal_core.specs.Transactions.{AreUnmoved};
 
 use crate::cause::{Cause, raise};
 use crate::state::Core;
@@ -50,8 +47,8 @@ impl<'b, D: BlockDisk, R: MapRule, J: Naming> Core<'b, D, R, J> {
         self.fetch(addr, into)?;
         Ok(Found {
             addr,
-            touched: self.touched(slot_of(addr)),
-            front: self.writer.front(),
+            touched: self.memory.touched(slot_of(addr)),
+            front: self.memory.front(),
         })
     }
 
@@ -70,28 +67,7 @@ impl<'b, D: BlockDisk, R: MapRule, J: Naming> Core<'b, D, R, J> {
         if !self.objects.layout().is_valid(addr) {
             return Err(Refusal::BadAddress);
         }
-        let mut front = self.writer.front();
-        front.see(&transaction.front);
-        if front.len() > self.writer.len() {
-            return Err(Refusal::Stale(Cause::of(front)));
-        }
-        self.admit_reads(transaction)
-    }
-
-    // Refuses by J10 what a transaction has read that has seen no more of the history than the core.
-    pub(crate) fn admit_reads(
-        &self,
-        transaction: &Transaction<'b, J, R>,
-    ) -> Result<(), Refusal<Cause<'b, J, R>>>
-        requires later { IsPrefix transaction.now.seen self.now.history }
-        ensures unmoved { OnOk result (AreUnmoved self.now.history transaction.now) }
-        ensures agrees { OnOk result (IsTrue (is_trusted self.now.history) → Agrees (latest self.now.history) transaction.now.reads) }
-        ensures refusal { IfErr result (IsMovedRefusal self.now transaction.now) }
-    {
-        if !self.unmoved(&transaction.counts) {
-            return Err(Refusal::Stranger(Cause::of(self.writer.front())));
-        }
-        Ok(())
+        self.memory.check_transaction(transaction)
     }
 
     // Reads the value of the map now. Refuses by a new J6.

@@ -1,14 +1,13 @@
 // A further session.
 ghost use Rattle.std.specs.Prelude.{◌≡◌, ◌≤◌, ◌^◌, ◌+◌, ◌↔◌, [], length, IsTrue, IfOk, IfErr, OnOk, OnErr};
-ghost use mathlib.Core.List.{IsPrefix};
-ghost use Rattle.journal_world.specs.Histories.{commits_of, floor};
-ghost use Rattle.journal_history.specs.Tokens.{made, IsExact, OnlyExtends};
+ghost use Rattle.journal_world.specs.Histories.{floor};
+ghost use Rattle.journal_history.specs.Tokens.{IsExact, OnlyExtends};
 ghost use Rattle.journal_core.specs.Cores.{Crashes};
-ghost use Rattle.journal_core.specs.Steps.{BeginsSession, Stops, MayWait, IsSessionRefusal, IsShowRefusal, IsWaitRefusal, IsStrayRefusal};
+ghost use Rattle.journal_core.specs.Steps.{BeginsSession, Stops, MayWait, IsSessionRefusal, IsShowRefusal, IsWaitRefusal};
 ghost use Rattle.journal_core.specs.Interleavings.{AnswersSession};
 
 use crate::cause::Cause;
-use crate::state::{Core, LIMIT};
+use crate::state::Core;
 use journal_disk::BlockDisk;
 use journal_history::{Naming, Session};
 use journal_world::{MapRule, Refusal};
@@ -25,12 +24,7 @@ impl<'b, D: BlockDisk, R: MapRule, J: Naming> Core<'b, D, R, J> {
         ensures crash { Crashes self.old self.new }
         ensures event { AnswersSession self.old result self.new }
     {
-        if self.next >= LIMIT {
-            return Err(Refusal::Worn(Cause::none()));
-        }
-        let session = self.writer.session(self.next);
-        self.next += 1;
-        Ok(session)
+        self.memory.session()
     }
 
     /// Whether so many commits are marked as stable. The session has then seen the whole history, and is exact.
@@ -52,31 +46,12 @@ impl<'b, D: BlockDisk, R: MapRule, J: Naming> Core<'b, D, R, J> {
         ensures refusal { IfErr result (IsWaitRefusal self.now session.old n) }
         ensures stays { OnErr result (session.new ≡ session.old) }
     {
-        let marked = n <= self.writer.floor();
+        let marked = n <= self.memory.floor();
         if !marked {
             self.check_running()?;
         }
-        self.check_session(session)?;
-        session.see(&self.writer.front());
+        self.memory.show_exact(session)?;
         Ok(marked)
-    }
-
-    // Refuses by J9 where the history is longer than the core's, or the session has seen more, then by J10.
-    fn check_session(&self, session: &Session<'b, J, R>) -> Result<(), Refusal<Cause<'b, J, R>>>
-        ensures seen { OnOk result (IsPrefix session.now.seen self.now.history) }
-        ensures own { OnOk result (length (commits_of session.now.number self.now.history) ≡ made session.now) }
-        ensures refusal { IfErr result (IsStrayRefusal self.now session.now) }
-    {
-        let mut front = self.writer.front();
-        front.see(&session.front());
-        front.observe();
-        if front.len() > self.writer.len() {
-            return Err(Refusal::Stale(Cause::of(front)));
-        }
-        if self.tally.made(session.number()) != session.made() {
-            return Err(Refusal::Stranger(Cause::of(self.writer.front())));
-        }
-        Ok(())
     }
 
     /// Stops the core: reads, commits and steps, and waits for marks that do not stand, are refused by J13 from then
@@ -84,7 +59,7 @@ impl<'b, D: BlockDisk, R: MapRule, J: Naming> Core<'b, D, R, J> {
     pub fn stop_step(&mut self)
         ensures stops { Stops self.old self.new }
     {
-        self.closed = true;
+        self.memory.stop();
     }
 
     /// Shows the session the whole history.
@@ -96,9 +71,6 @@ impl<'b, D: BlockDisk, R: MapRule, J: Naming> Core<'b, D, R, J> {
         ensures shown { OnOk result (session.new.seen ≡ self.now.history) }
         ensures refusal { IfErr result (IsShowRefusal self.now) }
     {
-        match self.writer.show(session) {
-            Ok(()) => Ok(()),
-            Err(front) => Err(Refusal::Stale(Cause::of(front))),
-        }
+        self.memory.show(session)
     }
 }

@@ -11,10 +11,9 @@ ghost use Rattle.journal_core.specs.Steps.{IsLogIdle, IsEndRefusal};
 ghost use Rattle.journal_core.specs.Transactions.{IsCount};
 
 use crate::cause::Cause;
-use crate::slot_counts::SlotCounts;
-use crate::tally::Tally;
+use crate::memory::Memory;
 use journal_disk::{BlockDisk, MemDisk};
-use journal_history::{Front, Naming, Writer};
+use journal_history::{Front, Naming};
 use journal_objlog::ObjectLog;
 use journal_world::{MapRule, Refusal};
 use std::marker::Model;
@@ -39,30 +38,20 @@ pub struct Stat {
 #[derive(Drop)]
 pub struct Core<'b, D: BlockDisk, R: MapRule, J: Naming> {
     pub(crate) objects: ObjectLog<D>,
-    pub(crate) writer: Writer<'b, J, R>,
+    pub(crate) memory: Memory<'b, R, J>,
     // How many commits there were at the last cut, and at that of the last group whose cycle ended.
     pub(crate) cut: u64,
     pub(crate) logged: u64,
-    // How many commits each session has, and the number of the next one.
-    pub(crate) tally: Tally,
-    pub(crate) next: u64,
-    // It was stopped.
-    pub(crate) closed: bool,
-    // How many commits touched each slot.
-    pub(crate) slots: SlotCounts,
 }
 
 impl<'b, D: BlockDisk, R: MapRule, J: Naming> Model for Core<'b, D, R, J> {
-    ghost use Rattle.journal_core.specs.Cores.{CoreState, IsCore};
-    ghost use Rattle.journal_core.specs.SlotCounts.{KeepsCounts};
+    ghost use Rattle.journal_core.specs.Cores.{CoreState, IsCore, core_of};
 
     ghost Value = { CoreState };
 
-    ghost view = { λ c. record { objects = c.objects; history = c.writer; cut = c.cut; logged = c.logged; next = c.next; closed = c.closed } };
+    ghost view = { λ c. core_of c.objects c.memory c.cut c.logged };
 
-    ghost invariant = { λ c.
-        IsCore J.blocks (record { objects = c.objects; history = c.writer; cut = c.cut; logged = c.logged; next = c.next; closed = c.closed })
-        × KeepsCounts c.tally c.slots c.writer };
+    ghost invariant = { λ c. IsCore J.blocks (core_of c.objects c.memory c.cut c.logged) };
 }
 
 impl<'b, D: BlockDisk, R: MapRule, J: Naming> Core<'b, D, R, J> {
@@ -77,8 +66,8 @@ impl<'b, D: BlockDisk, R: MapRule, J: Naming> Core<'b, D, R, J> {
     {
         let (start, end) = self.objects.bounds();
         Stat {
-            commits: self.writer.count(),
-            floor: self.writer.floor(),
+            commits: self.memory.count(),
+            floor: self.memory.floor(),
             start,
             end,
         }
@@ -91,7 +80,7 @@ impl<'b, D: BlockDisk, R: MapRule, J: Naming> Core<'b, D, R, J> {
         ensures refusal { IfErr result (IsEndRefusal self.now) }
         ensures crash { Crashes self.now self.now }
     {
-        if self.closed {
+        if self.memory.is_closed() {
             return Err(Refusal::Closed(Cause::none()));
         }
         if self.objects.is_faulted() {
@@ -105,10 +94,10 @@ impl<'b, D: BlockDisk, R: MapRule, J: Naming> Core<'b, D, R, J> {
     pub fn is_log_idle(&self) -> bool
         ensures { IsRunning self.now → IsTrue result ↔ IsLogIdle self.now }
     {
-        if !self.objects.is_log_idle() || self.writer.floor() < self.cut {
+        if !self.objects.is_log_idle() || self.memory.floor() < self.cut {
             return false;
         }
-        self.objects.tail_len() > 0 || self.writer.count() <= self.writer.floor()
+        self.objects.tail_len() > 0 || self.memory.count() <= self.memory.floor()
     }
 
     /// How many blocks stand in the log's tail, which a cut empties: at most 255.
@@ -123,7 +112,7 @@ impl<'b, D: BlockDisk, R: MapRule, J: Naming> Core<'b, D, R, J> {
         requires slot { slot < SLOT_COUNT }
         ensures { result ≡ touched self.now.history slot }
     {
-        self.slots.touched(slot)
+        self.memory.touched(slot)
     }
 
     /// Whether each of these slots has been touched by as many commits as stand beside it.
@@ -131,9 +120,7 @@ impl<'b, D: BlockDisk, R: MapRule, J: Naming> Core<'b, D, R, J> {
         requires slots { All (λ c. c.0 < SLOT_COUNT) counts.now }
         ensures { IsTrue result ↔ All (IsCount self.now.history) counts.now }
     {
-        counts
-            .iter()
-            .all(|(slot, count)| self.touched(*slot) == *count)
+        self.memory.unmoved(counts)
     }
 
     /// The whole history. It is sound, its map has the journal's number of blocks, and it is trusted where the
@@ -144,9 +131,7 @@ impl<'b, D: BlockDisk, R: MapRule, J: Naming> Core<'b, D, R, J> {
         ensures trusted { is_trusted self.now.history ≡ (disk_of self.now).honest }
         ensures sound { IsSound R.statement self.now.history }
     {
-        // Called for its contract: the history is sound.
-        let _len = self.writer.len();
-        self.writer.front()
+        self.memory.front()
     }
 
     /// The disk, lent. Where it was honest and settled when it was opened, each image that a crash may leave of it

@@ -6,7 +6,8 @@ use Rattle.journal_objlog.proofs.Refusing.{if_err}
 use Rattle.journal_history.specs.Tokens.{made}
 use Rattle.journal_core.specs.Causes.{Told}
 use Rattle.journal_core.specs.Transactions.{TransactionState, AreUnmoved}
-use Rattle.journal_core.specs.Commits.{HasSeen, IsPreparingRefusal, IsCommitRefusal}
+use Rattle.journal_core.specs.Commits.{IsPreparingRefusal, IsCommitRefusal}
+use Rattle.journal_core.specs.Memories.{HasSeen}
 use Rattle.journal_core.proofs.Committing.{refuses_writes, committed_from, err_extends, on_ok, OnErr-any}
 use Rattle.journal_core.proofs.Events.{answers_commit}
 use Rattle.journal_core.specs.Cores.{IsRunning}
@@ -16,7 +17,7 @@ pub returns-in_err-prepared-clause-refusal : goal.returns-in_err-prepared-clause
 returns-in_err-prepared-clause-refusal g c =
     let running : IsRunning c.args.self.now = search rules in
     let own : length (commits_of c.args.session.now.number c.args.self.now.history) ≡ made c.args.session.now = search rules in
-    let seen : HasSeen c.args.self.now c.args.session.now c.args.transaction.now = search rules in
+    let seen : HasSeen c.args.self.now.history c.args.session.now c.args.transaction.now = search rules in
     let unmoved : AreUnmoved c.args.self.now.history c.args.transaction.now = search rules in
     if_err c.from_residual-in_err-prepared.result _ (IsCommitRefusal c.args.self.now c.args.session.now c.args.transaction.now c.prepare.new.self)
     c.from_residual-in_err-prepared.ensures.1

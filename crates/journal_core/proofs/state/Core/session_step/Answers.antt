@@ -1,16 +1,13 @@
 use Rattle.std.proofs.Common.{refl, rules}
-use Rattle.journal_core.proofs.Keeping.{crashes_still, crashes_seen, kept_session}
+use Rattle.journal_core.proofs.Keeping.{crashes_seen, kept_still}
+use Rattle.journal_core.proofs.Events.{answers_session}
 use Rattle.journal_core.proofs.state.Core.session_step.Goals as goal
 
-pub returns-then-self-ge-LIMIT-clause-crash : goal.returns-then-self-ge-LIMIT-clause-crash
-returns-then-self-ge-LIMIT-clause-crash g c = crashes_still g.J.Naming.blocks _ _ c.self.invariant.0 c.self.view_is
+pub invariant_of-self : goal.invariant_of-self
+invariant_of-self g c = kept_still g.J.Naming.blocks _ _ _ _ _ c.session.ensures.history c.self.invariant
 
 pub returns-clause-crash : goal.returns-clause-crash
-returns-clause-crash g c =
-    crashes_seen g.J.Naming.blocks _ _ _ c.self.invariant.0 c.self.view_is (kept_session g.J.Naming.blocks _ c.self.invariant.0) refl
-
-pub returns-then-self-ge-LIMIT-clause-event : goal.returns-then-self-ge-LIMIT-clause-event
-returns-then-self-ge-LIMIT-clause-event g c = record { refusal = search rules; same = refl; crash = returns-then-self-ge-LIMIT-clause-crash g c }
+returns-clause-crash g c = crashes_seen g.J.Naming.blocks _ _ _ c.self.invariant c.self.view_is (invariant_of-self g c) refl
 
 pub returns-clause-event : goal.returns-clause-event
-returns-clause-event g c = record { begins = search rules; crash = returns-clause-crash g c }
+returns-clause-event g c = answers_session _ _ (returns-clause-crash g c) c.session.result (search rules) (search rules) (search rules)

@@ -2,24 +2,24 @@ use Rattle.std.proofs.Common.{◌≡◌, List, length, Some, ap, sym, subst, ◌
 use mathlib.Core.List.{IsPrefix}
 use Rattle.journal_world.specs.Histories.{Entry}
 use Rattle.journal_world.proofs.Prefixes.{IsPrefix-whole, IsPrefix-trans}
-use Rattle.journal_core.specs.Cores.{CoreState}
-use Rattle.journal_core.specs.Steps.{IsStrange}
+use Rattle.journal_core.specs.Memories.{MemoryState}
+use Rattle.journal_core.specs.Memories.{IsStrange}
 use Rattle.journal_core.proofs.Committing.{is_strange}
-use Rattle.journal_core.proofs.state.Core.check_session.Goals as goal
+use Rattle.journal_core.proofs.memory.Memory.check_session.Goals as goal
 
 pub returns-then-len-clause-refusal : goal.returns-then-len-clause-refusal
 returns-then-len-clause-refusal g c =
-    let history : c.front-front.result ≡ c.args.self.now.history = c.front-front.ensures ∙ ap (λ (s : CoreState). s.history) c.self.view_is in
+    let history : c.front-front.result ≡ c.args.self.now.history = c.front-front.ensures ∙ ap (λ (s : MemoryState). s.history) c.self.view_is in
     let begins : IsPrefix c.args.self.now.history c.observe.new.self = subst (λ (h : List Entry). IsPrefix h c.observe.new.self) history
     (IsPrefix-trans c.front-front.result c.see-2.new.self c.observe.new.self c.see-2.ensures.this c.observe.ensures) in (
       c.observe.new.self,
       c.of.ensures,
-      (begins, omega (arith, c.if-len.true, c.len.ensures.length, c.len-2.ensures.length, ap length (ap (λ (s : CoreState). s.history) c.self.view_is))),
+      (begins, omega (arith, c.if-len.true, c.len.ensures.length, c.len-2.ensures.length, ap length (ap (λ (s : MemoryState). s.history) c.self.view_is))),
     )
 
 pub returns-then-made-clause-refusal : goal.returns-then-made-clause-refusal
 returns-then-made-clause-refusal g c =
-    let history : c.front-front.result ≡ c.args.self.now.history = c.front-front.ensures ∙ ap (λ (s : CoreState). s.history) c.self.view_is in
+    let history : c.front-front.result ≡ c.args.self.now.history = c.front-front.ensures ∙ ap (λ (s : MemoryState). s.history) c.self.view_is in
     let begins : IsPrefix c.front-front.result c.observe.new.self =
     IsPrefix-trans c.front-front.result c.see-2.new.self c.observe.new.self c.see-2.ensures.this c.observe.ensures in
     let whole : c.front-front.result ≡ c.observe.new.self = IsPrefix-whole c.front-front.result c.observe.new.self begins
@@ -27,12 +27,12 @@ returns-then-made-clause-refusal g c =
     let seen : IsPrefix c.args.session.now.seen c.args.self.now.history = subst (λ (h : List Entry). IsPrefix c.args.session.now.seen h) (sym whole ∙ history)
     (IsPrefix-trans c.args.session.now.seen c.see-2.new.self c.observe.new.self (subst (λ (h : List Entry). IsPrefix h c.see-2.new.self) c.front.ensures c.see-2.ensures.that) c.observe.ensures) in (
       seen,
-      c.of-then-made.ensures ∙ ap (λ (h : List Entry). Some h) (c.front-then-made.ensures ∙ ap (λ (s : CoreState). s.history) c.self.view_is),
-      subst (λ (s : CoreState). IsStrange s c.args.session.now) c.self.view_is
-          (is_strange (record { objects = c.self.inside.objects; history = c.self.inside.writer; cut = c.self.inside.cut; logged = c.self.inside.logged; next = c.self.inside.next; closed = c.self.inside.closed })
+      c.of-then-made.ensures ∙ ap (λ (h : List Entry). Some h) (c.front-then-made.ensures ∙ ap (λ (s : MemoryState). s.history) c.self.view_is),
+      subst (λ (s : MemoryState). IsStrange s.history c.args.session.now) c.self.view_is
+          (is_strange c.self.inside.writer
           c.args.session.now (record c.args.session.now { seen = c.args.self.now.history }) c.self.inside.tally c.number.result c.made.result c.made-2.result
           (record { number = refl; mine = refl; seen = seen })
-          (ap (λ (s : CoreState). s.history) (sym c.self.view_is))
+          (ap (λ (s : MemoryState). s.history) (sym c.self.view_is))
           (IsPrefix-trans c.args.session.now.mine c.args.session.now.seen c.args.self.now.history c.made-2.ensures.own seen)
-          c.self.invariant.1.tallied c.number.ensures c.made.ensures c.made-2.ensures.made c.if-made.true),
+          c.self.invariant.counts.tallied c.number.ensures c.made.ensures c.made-2.ensures.made c.if-made.true),
     )

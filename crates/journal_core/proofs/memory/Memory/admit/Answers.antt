@@ -1,0 +1,18 @@
+use Rattle.std.proofs.Common.{inl, Some, List, ap, subst, rules, ◌∙◌}
+use Rattle.journal_world.specs.Histories.{Entry}
+use Rattle.journal_core.specs.Memories.{MemoryState}
+use Rattle.journal_core.specs.Memories.{IsStrange}
+use Rattle.journal_core.proofs.Committing.{is_strange}
+use Rattle.journal_core.proofs.memory.Memory.admit.Goals as goal
+
+pub returns-then-made-clause-refusal : goal.returns-then-made-clause-refusal
+returns-then-made-clause-refusal g c = (
+  search rules,
+  inl (
+    c.of.ensures ∙ ap (λ (h : List Entry). Some h) (c.front.ensures ∙ ap (λ (s : MemoryState). s.history) c.self.view_is),
+    subst (λ (s : MemoryState). IsStrange s.history c.args.session.now) c.self.view_is
+        (is_strange c.self.inside.writer
+        c.args.session.now c.catch_up.new.session c.self.inside.tally c.number.result c.made.result c.made-2.result c.catch_up.ensures.session
+        (search rules) c.made-2.ensures.own c.self.invariant.counts.tallied c.number.ensures c.made.ensures c.made-2.ensures.made c.if-made.true),
+  ),
+)

@@ -1,0 +1,100 @@
+-- What contracts see of the core's memory part, what its type keeps, and why it refuses. No device is asked for any of it.
+use Rattle.std.specs.Prelude.{ℕ, ◌≡◌, ◌⊎◌, ◌<◌, ◌≤◌, ◌+◌, ◌^◌, Bool, List, [], length, Some}
+use mathlib.Core.List.{IsPrefix}
+use Rattle.journal_world.specs.declared.refusal.Refusal.{Refusal}
+use Rattle.journal_world.specs.declared.refusal.Refusal.TheVariants.{NoMemory, Stale, Stranger, Worn}
+use Rattle.journal_world.specs.Histories.{Entry, commits_of}
+use Rattle.journal_history.specs.Soundness.{IsLonger}
+use Rattle.journal_history.specs.Tokens.{SessionState, made}
+use Rattle.journal_core.specs.Causes.{Told, IsUnexplained}
+use Rattle.journal_core.specs.Tallies.{Pairs}
+use Rattle.journal_core.specs.SlotCounts.{Counts, KeepsCounts}
+use Rattle.journal_core.specs.Transactions.{TransactionState, AreUnmoved}
+
+pub record MemoryState : Type 0 where
+  -- all entries of the mount's history
+  pub history : List Entry
+  -- the number of the next session
+  pub next : ℕ
+  -- it was stopped
+  pub closed : Bool
+
+-- What it keeps: it counts the commits of each session and slot, and no session of a later number has committed
+pub record IsMemory (tally : Pairs) (slots : Counts) (m : MemoryState) : Type 0 where
+  pub counts : KeepsCounts tally slots m.history
+  pub fresh : (s : ℕ) → m.next ≤ s → commits_of s m.history ≡ []
+
+-- The history is longer than the core's, and was seen
+abbrev pub IsStale : List Entry → Told → Type 0
+IsStale history cause = (longer : List Entry) × (cause ≡ Some longer) × IsLonger history longer
+
+-- The history has a commit under the session's number that the session did not make
+abbrev pub IsStrange : List Entry → SessionState → Type 0
+IsStrange history s = made s < length (commits_of s.number history)
+
+-- The transaction has seen more of the history than the core, as this cause has
+abbrev pub IsBehind : List Entry → TransactionState → Told → Type 0
+IsBehind history t cause = (cause ≡ Some t.seen) × IsLonger history t.seen
+
+-- A commit touched a slot under which the transaction had read
+abbrev pub IsMoved : List Entry → TransactionState → Told → Type 0
+IsMoved history t cause = (cause ≡ Some history) × IsPrefix t.seen history × (AreUnmoved history t → ⊥)
+
+-- Neither the session nor the transaction has seen more of the history than the core
+pub record HasSeen (history : List Entry) (s : SessionState) (t : TransactionState) : Type 0 where
+  pub shown : IsPrefix s.seen history
+  pub later : IsPrefix t.seen history
+
+-- The history has a commit that the session or the transaction does not know to be there
+abbrev pub IsUnknown : List Entry → SessionState → TransactionState → Told → Type 0
+IsUnknown history s t cause = ((cause ≡ Some history) × IsStrange history s) ⊎ IsMoved history t cause
+
+-- J9 lasts: the session has then seen the longer history, by which each later commit of it is refused
+abbrev pub ShowsLonger : List Entry → SessionState → Refusal Told → Type 0
+ShowsLonger history after (Stale cause) = IsLonger history after.seen
+ShowsLonger history after other = Unit {0}
+
+-- why a session is not shown the history
+abbrev pub IsStaleRefusal : List Entry → Refusal Told → Type 0
+IsStaleRefusal history (Stale cause) = IsStale history cause
+IsStaleRefusal history other = ⊥
+
+-- why a session is not shown the history where it is to be exact then
+abbrev pub IsStrayRefusal : List Entry → SessionState → Refusal Told → Type 0
+IsStrayRefusal history s (Stale cause) = IsStale history cause
+IsStrayRefusal history s (Stranger cause) = IsPrefix s.seen history × (cause ≡ Some history) × IsStrange history s
+IsStrayRefusal history s other = ⊥
+
+-- why there is no session of this number
+abbrev pub IsNumberRefusal : ℕ → Refusal Told → Type 0
+IsNumberRefusal next (Worn cause) = (2 ^ 62 ≤ next) × IsUnexplained cause
+IsNumberRefusal next other = ⊥
+
+-- why what a transaction has read is not admitted, which has seen no more of the history than the core
+abbrev pub IsMovedRefusal : List Entry → TransactionState → Refusal Told → Type 0
+IsMovedRefusal history t (Stranger cause) = IsMoved history t cause
+IsMovedRefusal history t other = ⊥
+
+-- why a transaction may not read
+abbrev pub IsLookRefusal : List Entry → TransactionState → Refusal Told → Type 0
+IsLookRefusal history t (Stale cause) = IsBehind history t cause
+IsLookRefusal history t (Stranger cause) = IsMoved history t cause
+IsLookRefusal history t other = ⊥
+
+-- why a session's commit is not admitted
+abbrev pub IsAdmissionRefusal : List Entry → SessionState → TransactionState → Refusal Told → Type 0
+IsAdmissionRefusal history s t (Stale cause) = IsStale history cause
+IsAdmissionRefusal history s t (Stranger cause) = HasSeen history s t × IsUnknown history s t cause
+IsAdmissionRefusal history s t other = ⊥
+
+-- why what is ready is not added
+abbrev pub IsAddingRefusal : List Entry → Refusal Told → Type 0
+IsAddingRefusal history (Stale cause) = IsStale history cause
+IsAddingRefusal history NoMemory = Unit {0}
+IsAddingRefusal history other = ⊥
+
+-- why a mark is refused
+abbrev pub IsMarkRefusal : List Entry → Refusal Told → Type 0
+IsMarkRefusal history (Worn cause) = (2 ^ 62 ≤ length history + 1) × IsUnexplained cause
+IsMarkRefusal history (Stale cause) = IsStale history cause
+IsMarkRefusal history other = ⊥

@@ -1,0 +1,117 @@
+// What the memory part adds to the history.
+ghost use Rattle.std.specs.Prelude.{◌≡◌, ◌≢◌, ◌<◌, ◌≤◌, ◌+◌, ◌^◌, ◌++◌, ◌∷◌, [], max, IsTrue, length, IfOk, IfErr, OnOk, OnErr};
+ghost use Rattle.journal_world.specs.Maps.{Map, Agrees, are_objects, overwritten};
+ghost use Rattle.journal_world.specs.Histories.{is_trusted, commits_of, count, floor, latest};
+ghost use Rattle.journal_world.specs.Histories.Entry.{stable};
+ghost use Rattle.journal_history.specs.Tokens.{made, next_transaction, OnlyExtends, Commits, IsReceiptFor};
+ghost use Rattle.journal_core.specs.Memories.{HasSeen, ShowsLonger, IsStaleRefusal, IsAdmissionRefusal, IsAddingRefusal, IsMarkRefusal};
+ghost use Rattle.journal_core.specs.Transactions.{AreUnmoved};
+
+use crate::cause::Cause;
+use crate::memory::Memory;
+use crate::state::LIMIT;
+use crate::transaction::Transaction;
+use journal_history::{Naming, Receipt, Session};
+use journal_world::{MapRule, Refusal};
+
+impl<'b, R: MapRule, J: Naming> Memory<'b, R, J> {
+    /// Refuses a commit by what is known of the session and of what the transaction has read: J9 and J10. The
+    /// session has then seen the history as it is, or the longer one.
+    pub(crate) fn admit(
+        &self,
+        session: &mut Session<'b, J, R>,
+        transaction: &Transaction<'b, J, R>,
+    ) -> Result<(), Refusal<Cause<'b, J, R>>>
+        ensures own { OnOk result (length (commits_of session.old.number self.now.history) ≡ made session.old) }
+        ensures seen { OnOk result (HasSeen self.now.history session.old transaction.now) }
+        ensures unmoved { OnOk result (AreUnmoved self.now.history transaction.now) }
+        ensures agrees { OnOk result (IsTrue (is_trusted self.now.history) → Agrees (latest self.now.history) transaction.now.reads) }
+        ensures session { OnlyExtends session.old session.new }
+        ensures refusal { IfErr result (IsAdmissionRefusal self.now.history session.old transaction.now) }
+        ensures longer { IfErr result (ShowsLonger self.now.history session.new) }
+    {
+        self.catch_up(session, transaction)?;
+        self.admit_reads(transaction)?;
+        if self.tally.made(session.number()) != session.made() {
+            return Err(Refusal::Stranger(Cause::of(self.writer.front())));
+        }
+        Ok(())
+    }
+
+    // Shows the session all that is known of the history. Refuses by J9 where that is more than the core knows.
+    fn catch_up(
+        &self,
+        session: &mut Session<'b, J, R>,
+        transaction: &Transaction<'b, J, R>,
+    ) -> Result<(), Refusal<Cause<'b, J, R>>>
+        ensures seen { OnOk result (HasSeen self.now.history session.old transaction.now) }
+        ensures whole { OnOk result (session.new.seen ≡ self.now.history) }
+        ensures session { OnlyExtends session.old session.new }
+        ensures refusal { IfErr result (IsStaleRefusal self.now.history) }
+        ensures longer { IfErr result (ShowsLonger self.now.history session.new) }
+    {
+        session.observe();
+        session.see(&transaction.front);
+        self.show(session)
+    }
+
+    /// Adds the session's next transaction to the history. Refuses by J1 and J9, and is then as it was.
+    pub(crate) fn commit(
+        &mut self,
+        session: &mut Session<'b, J, R>,
+        transaction: &Transaction<'b, J, R>,
+    ) -> Result<Receipt<'b, J, R>, Refusal<Cause<'b, J, R>>>
+        requires reads { IsTrue (are_objects J.blocks transaction.now.reads) }
+        requires writes { IsTrue (are_objects J.blocks transaction.now.writes) }
+        requires rule { (m : Map) → m.blocks ≡ J.blocks → R.statement m → Agrees m transaction.now.reads
+            → R.statement (overwritten m transaction.now.writes) }
+        requires agrees { IsTrue (is_trusted self.old.history) → Agrees (latest self.old.history) transaction.now.reads }
+        requires own { length (commits_of session.old.number self.old.history) ≡ made session.old }
+        requires room { length self.old.history + 1 < 2 ^ 62 }
+        requires small { session.old.number < 2 ^ 62 }
+        ensures committed { OnOk result (Commits (next_transaction session.old transaction.now.reads transaction.now.writes) session.old session.new self.old.history self.new.history) }
+        ensures others { OnOk result (self.new ≡ record self.old { history = self.new.history; next = max self.old.next (session.old.number + 1) }) }
+        ensures begun { self.old.history ≢ [] }
+        ensures receipt { IfOk result (IsReceiptFor (next_transaction session.old transaction.now.reads transaction.now.writes) self.new.history (length self.old.history)) }
+        ensures refusal { IfErr result (IsAddingRefusal self.old.history) }
+        ensures same { OnErr result (self.new ≡ self.old) }
+        ensures session { OnErr result (OnlyExtends session.old session.new) }
+        ensures longer { IfErr result (ShowsLonger self.old.history session.new) }
+    {
+        // Called for its contract: the history is sound.
+        let _len = self.writer.len();
+        let number = session.number();
+        self.tally.reserve(number)?;
+        let receipt = match self.writer.commit(session, transaction) {
+            Ok(receipt) => receipt,
+            Err(front) => {
+                session.see(&front);
+                return Err(Refusal::Stale(Cause::of(front)));
+            }
+        };
+        // Nothing fails from here on.
+        self.tally.count_one(number);
+        self.slots.count_writes(&transaction.writes);
+        self.next = self.next.max(number + 1);
+        Ok(receipt)
+    }
+
+    /// Marks that n commits are stable, and tells it. Refuses by J11 and J9, and is then as it was.
+    pub(crate) fn mark(&mut self, n: u64) -> Result<(), Refusal<Cause<'b, J, R>>>
+        requires rises { floor self.old.history ≤ n }
+        requires made { n ≤ count self.old.history }
+        ensures added { OnOk result (self.new ≡ record self.old { history = self.old.history ++ stable n ∷ [] }) }
+        ensures begun { self.old.history ≢ [] }
+        ensures refusal { IfErr result (IsMarkRefusal self.old.history) }
+        ensures same { OnErr result (self.new ≡ self.old) }
+    {
+        if self.writer.len() >= LIMIT - 1 {
+            return Err(Refusal::Worn(Cause::none()));
+        }
+        if let Err(front) = self.writer.mark(n) {
+            return Err(Refusal::Stale(Cause::of(front)));
+        }
+        self.writer.tell();
+        Ok(())
+    }
+}

@@ -1,0 +1,89 @@
+// The memory part's steps for sessions, and its stop.
+ghost use Rattle.std.specs.Prelude.{◌≡◌, ◌+◌, [], true, length, IfOk, IfErr, OnOk, OnErr};
+ghost use mathlib.Core.List.{IsPrefix};
+ghost use Rattle.journal_world.specs.Histories.{commits_of};
+ghost use Rattle.journal_history.specs.Tokens.{made, IsExact, OnlyExtends};
+ghost use Rattle.journal_core.specs.Memories.{ShowsLonger, IsNumberRefusal, IsStaleRefusal, IsStrayRefusal};
+
+use crate::cause::Cause;
+use crate::memory::Memory;
+use crate::state::LIMIT;
+use journal_history::{Naming, Session};
+use journal_world::{MapRule, Refusal};
+
+impl<'b, R: MapRule, J: Naming> Memory<'b, R, J> {
+    /// A session of the next number, that no session had before. Refuses by J11. It takes no memory.
+    pub(crate) fn session(&mut self) -> Result<Session<'b, J, R>, Refusal<Cause<'b, J, R>>>
+        ensures is { IfOk result (λ session. session ≡ record { number = self.old.next; mine = self.old.history; seen = self.old.history }) }
+        ensures fresh { commits_of self.old.next self.old.history ≡ [] }
+        ensures others { OnOk result (self.new ≡ record self.old { next = self.old.next + 1 }) }
+        ensures history { self.new.history ≡ self.old.history }
+        ensures refusal { IfErr result (IsNumberRefusal self.old.next) }
+        ensures same { OnErr result (self.new ≡ self.old) }
+    {
+        if self.next >= LIMIT {
+            return Err(Refusal::Worn(Cause::none()));
+        }
+        let session = self.writer.session(self.next);
+        self.next += 1;
+        Ok(session)
+    }
+
+    /// Shows the session the whole history. Refuses by J9, and the session may then have seen more.
+    pub(crate) fn show(
+        &self,
+        session: &mut Session<'b, J, R>,
+    ) -> Result<(), Refusal<Cause<'b, J, R>>>
+        ensures extends { OnlyExtends session.old session.new }
+        ensures shown { OnOk result (session.new.seen ≡ self.now.history) }
+        ensures refusal { IfErr result (IsStaleRefusal self.now.history) }
+        ensures longer { IfErr result (ShowsLonger self.now.history session.new) }
+    {
+        match self.writer.show(session) {
+            Ok(()) => Ok(()),
+            Err(front) => Err(Refusal::Stale(Cause::of(front))),
+        }
+    }
+
+    /// Shows the session the whole history, where it is exact then. Refuses by J9 and J10, and leaves the session as
+    /// it was.
+    pub(crate) fn show_exact(
+        &self,
+        session: &mut Session<'b, J, R>,
+    ) -> Result<(), Refusal<Cause<'b, J, R>>>
+        ensures shown { OnOk result (session.new.seen ≡ self.now.history) }
+        ensures exact { OnOk result (IsExact session.new) }
+        ensures extends { OnlyExtends session.old session.new }
+        ensures refusal { IfErr result (IsStrayRefusal self.now.history session.old) }
+        ensures stays { OnErr result (session.new ≡ session.old) }
+    {
+        self.check_session(session)?;
+        session.see(&self.writer.front());
+        Ok(())
+    }
+
+    // Refuses by J9 where the history is longer, or the session has seen more, then by J10.
+    fn check_session(&self, session: &Session<'b, J, R>) -> Result<(), Refusal<Cause<'b, J, R>>>
+        ensures seen { OnOk result (IsPrefix session.now.seen self.now.history) }
+        ensures own { OnOk result (length (commits_of session.now.number self.now.history) ≡ made session.now) }
+        ensures refusal { IfErr result (IsStrayRefusal self.now.history session.now) }
+    {
+        let mut front = self.writer.front();
+        front.see(&session.front());
+        front.observe();
+        if front.len() > self.writer.len() {
+            return Err(Refusal::Stale(Cause::of(front)));
+        }
+        if self.tally.made(session.number()) != session.made() {
+            return Err(Refusal::Stranger(Cause::of(self.writer.front())));
+        }
+        Ok(())
+    }
+
+    /// Stops it. Nothing else changes.
+    pub(crate) fn stop(&mut self)
+        ensures { self.new ≡ record self.old { closed = true } }
+    {
+        self.closed = true;
+    }
+}
