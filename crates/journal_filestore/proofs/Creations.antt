@@ -176,6 +176,7 @@ module _ (blocks : ℕ) (s : Settings) (now : Time) (j last : ℕ) (t : Time) (n
               ∙ sym (cond-false _ _ _ small ∙ cond-false _ _ _ (ne_eqb _ 4294967295 (λ e. young (sym (generation_is m here) ∙ e)))),
         ),
       ))
+      (omega arith)
     where
       size : ℕ
       size = unwrap_or s.size 0
@@ -207,6 +208,7 @@ pub Does-room : (blocks : ℕ) (name : List ℕ) (how : How) (now : Time) (i gen
     → Does blocks (λ F r F2. (r, F2) ≡ create_case room name how now F (file_target F i generation)) t.reads t.writes answer
     → Does blocks (CaseOf name how now i generation) t.reads t.writes answer
 Does-room blocks name how now i generation t answer room does = record {
+  few = does.few;
   sound = does.sound;
   answers = λ m on_disk sound agrees. (room, does.answers m on_disk sound agrees);
 }

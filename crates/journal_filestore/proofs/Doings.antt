@@ -14,6 +14,9 @@ use Rattle.journal_twophase.specs.Transactions.{TxnState, holding, ReadsValue, L
 use Rattle.journal_inode.specs.Places.{Object, addr_of, IsOnDisk, is_same_object, object}
 use Rattle.journal_inode.specs.Places.Object.{block}
 use Rattle.journal_inode.specs.Sound.{HasSoundFiles}
+use Rattle.journal_wal.specs.declared.append.TheConstants.{MAX_UPDATES}
+use Rattle.journal_objlog.specs.Writes.{written_blocks}
+use Rattle.journal_filestore.proofs.Refusing.{written-few}
 use Rattle.journal_filestore.proofs.Overwrites.{Write, pairs_of, AreOnDisk, Overwrites, Overwrites-pairs, same_addr_of}
 use Rattle.journal_filestore.specs.Files.{Files, files_of}
 use Rattle.journal_filestore.specs.Doing.{GivesPairs, MayBeRead, IsNotYetRead, ReadsOnly, LearnsThat, WritesObject, Makes, Does}
@@ -111,13 +114,22 @@ HasWritten-more blocks old new o v ws writes had = record {
   on_disk = (writes.on_disk, had.on_disk);
 }
 
+length-pairs_of : (ws : List Write) → length (pairs_of ws) ≡ length ws
+length-pairs_of [] = refl
+length-pairs_of (w ∷ ws) = ap suc (length-pairs_of ws)
+
+-- who overwrote nothing wrote few blocks
+few-none : (ws : List Pair) → ws ≡ [] → written_blocks ws ≤ MAX_UPDATES
+few-none ws none = subst (λ (qs : List Pair). written_blocks qs ≤ MAX_UPDATES) (sym none) (omega arith)
+
 -- What a transaction makes, by the objects that it overwrote
 pub Makes-written : (blocks : ℕ) (t0 t1 : TxnState) (Q : Map → Map → Type 0) (ws : List Write) → HasWritten blocks t1 ws
     → ((m : Map) → MayBeRead blocks t1.reads m → MayBeRead blocks t0.reads m)
     → ((m n : Map) → MayBeRead blocks t1.reads m → Overwrites m n ws → Q m n)
-    → Makes blocks t0 t1 Q
-Makes-written blocks t0 t1 Q ws written before shows = record {
+    → length ws ≤ MAX_UPDATES → Makes blocks t0 t1 Q
+Makes-written blocks t0 t1 Q ws written before shows short = record {
   before = before;
+  few = omega (arith, written-few t1.writes (pairs_of ws) written.pairs, length-pairs_of ws, short);
   now = λ m seen. shows m (overwritten m t1.writes) seen
       (Overwrites-pairs m t1.writes ws (subst (λ b. AreOnDisk b ws) (sym seen.on_disk) written.on_disk) written.pairs);
 }
@@ -126,17 +138,19 @@ Makes-written blocks t0 t1 Q ws written before shows = record {
 pub Makes-told : (blocks : ℕ) (t0 t1 : TxnState) (P : Map → Type 0) (Q : Map → Map → Type 0) → t0.writes ≡ [] → LearnsThat blocks t0 t1 P
     → ((m : Map) → HasSoundFiles m → P m → Q m m) → Makes blocks t0 t1 Q
 Makes-told blocks t0 t1 P Q none told shows = record {
+  few = few-none t1.writes (told.writes ∙ none);
   before = told.before;
   now = λ m seen. subst (λ ws. Q m (overwritten m ws)) (sym (told.writes ∙ none)) (shows m seen.sound (told.now m seen));
 }
 
 -- of any transaction nothing is said
-pub Makes-nothing : (blocks : ℕ) (t : TxnState) → Makes blocks t t (λ m n. Unit {0})
-Makes-nothing blocks t = record { before = λ m seen. seen; now = λ m seen. tt }
+pub Makes-nothing : (blocks : ℕ) (t : TxnState) → t.writes ≡ [] → Makes blocks t t (λ m n. Unit {0})
+Makes-nothing blocks t none = record { before = λ m seen. seen; now = λ m seen. tt; few = few-none t.writes none }
 
 -- what is made may be said otherwise
 pub Makes-like : (blocks : ℕ) (t0 t1 : TxnState) (P Q : Map → Map → Type 0) → ((m n : Map) → HasSoundFiles m → P m n → Q m n) → Makes blocks t0 t1 P → Makes blocks t0 t1 Q
 Makes-like blocks t0 t1 P Q like made = record {
+  few = made.few;
   before = made.before;
   now = λ m seen. like m _ seen.sound (made.now m seen);
 }
@@ -147,6 +161,7 @@ pub Does-made : {A : Type 0} (blocks : ℕ) (case : Files → A → Files → Ty
     → ((m n : Map) → HasSoundFiles m → P m → Q m n → HasSoundFiles n × case (files_of m) answer (files_of n))
     → Does blocks case t2.reads t2.writes answer
 Does-made {A} blocks case t0 t1 t2 answer P Q told made shows = record {
+  few = made.few;
   sound = λ m on_disk sound agrees. (both m on_disk sound agrees).0;
   answers = λ m on_disk sound agrees. (both m on_disk sound agrees).1;
 }
@@ -176,6 +191,7 @@ pub Does-told : {A : Type 0} (blocks : ℕ) (case : Files → A → Files → Ty
 Does-told blocks case old t answer P none told shows =
     Does-made blocks case t t t answer _ _ (Tells-nothing blocks t)
     (record {
+      few = few-none t.writes (told.writes ∙ none);
       before = λ m seen. seen;
       now = λ m seen. subst (λ ws. HasSoundFiles (overwritten m ws) × case (files_of m) answer (files_of (overwritten m ws))) (sym (told.writes ∙ none))
           (seen.sound, shows m seen.sound (told.now m seen));

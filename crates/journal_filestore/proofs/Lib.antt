@@ -8,6 +8,7 @@ pub mod Writing
 pub mod Removing
 pub mod Creating
 pub mod Ending
+pub mod Refusing
 pub mod Answering
 pub mod Resizing
 pub mod Setting

@@ -1,5 +1,5 @@
 -- REMOVE, as its transaction makes it.
-use Rattle.std.proofs.Common.{ℕ, ◌≡◌, ◌-◌, true, [], ◌∷◌, None, subst, ◌∙◌}
+use Rattle.std.proofs.Common.{ℕ, ◌≡◌, ◌-◌, true, [], ◌∷◌, None, subst, ◌∙◌, arith}
 use Rattle.journal_world.specs.declared.layout.TheConstants.{FIRST_DATA}
 use Rattle.journal_twophase.specs.Transactions.{TxnState}
 use Rattle.journal_inode.specs.declared.node.FileNode.{FileNode}
@@ -24,3 +24,4 @@ Makes-remove blocks j f t0 t1 t2 fresh wrote_node wrote_bit number fits =
     (HasWritten-more blocks t0 t1 _ _ _ wrote_node (HasWritten-none blocks t0 fresh)))
     (λ m seen. subst (λ rs. MayBeRead blocks rs m) (wrote_bit.reads ∙ wrote_node.reads) seen)
     (λ m n seen o is_file. Puts-removed m n j f number seen.sound is_file fits.0 o)
+    (omega arith)

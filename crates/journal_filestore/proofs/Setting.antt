@@ -1,5 +1,5 @@
 -- What is asked for of a file is set.
-use Rattle.std.proofs.Common.{ℕ, ◌≡◌, ◌<◌, ◌≤◌, ◌-◌, Bool, true, false, cond, ◌==◌, [], ◌∷◌, ◌++◌, length, take, replicate, Option, Some, None, refl, sym, ap, subst, ◌∙◌}
+use Rattle.std.proofs.Common.{ℕ, ◌≡◌, ◌<◌, ◌≤◌, ◌-◌, Bool, true, false, cond, ◌==◌, [], ◌∷◌, ◌++◌, length, take, replicate, Option, Some, None, refl, sym, ap, subst, ◌∙◌, arith}
 use Rattle.std.specs.Prelude.{unwrap_or}
 use Rattle.std.proofs.lemmas.Bool.{ltb-false, eqb-true}
 use Rattle.journal_world.specs.declared.moment.TheConstants.{MAX_NANOS}
@@ -92,6 +92,7 @@ module _ (blocks i : ℕ) (f : FileNode) (s : Settings) (now : Time) (small : is
       ∙ ap (λ x. content m f ++ replicate (FILE_BYTES - x) 0) (sym old.whole)
       ∙ sym (resized-grown (content m f) FILE_BYTES s.size (subst (λ x. x ≤ unwrap_or s.size x) (sym old.whole) grows) (subst (λ x. unwrap_or s.size x ≤ FILE_BYTES) (sym old.whole) (size_fits s.size f.size small old.small))))
       (stays-alone m n i f (set_node f s now) (old.data_block, old.on_disk) (subst (λ x. Overwrites m n ((inode i, inode_bytes (File x)) ∷ [])) is o)))
+      (omega arith)
 
   -- some are, and the block is overwritten too
   pub Makes-set_block : (g : FileNode) (old_block new_block : Value) (t0 t1 t2 t3 : TxnState) → t0.writes ≡ [] → LearnsThat blocks t0 t1 (λ m. object m (block f.block) ≡ old_block)
@@ -116,6 +117,7 @@ module _ (blocks i : ℕ) (f : FileNode) (s : Settings) (now : Time) (small : is
       (sym here ∙ old.padded ∙ ap (λ x. content m f ++ replicate (FILE_BYTES - x) 0) (sym old.whole))
       ∙ sym (resized-cut (content m f) FILE_BYTES s.size (subst (λ x. unwrap_or s.size x < x) (sym old.whole) shrinks) (subst (λ x. x ≤ FILE_BYTES) (sym old.whole) old.small)))
       (subst (λ x. stays m n i f x new_block) is o))
+      (omega arith)
     where
       back : (m : Map) → MayBeRead blocks t3.reads m → MayBeRead blocks t1.reads m
       back m seen = subst (λ rs. MayBeRead blocks rs m) (wrote_node.reads ∙ wrote_block.reads) seen

@@ -112,6 +112,7 @@ Makes-write blocks i offset bs now f g t0 t1 t2 fresh placing wrote_node is end 
     Puts-written m n i f offset bs now number seen.sound is_file end timed fits
     (subst (λ x. stays m n i f x (with_data (stored m f) offset bs)) is
     (subst (λ x. stays m n i f g x) (placing.placed m (back m seen) (stored-whole m f old)) o)))
+    (omega arith)
   where
     back : (m : Map) → MayBeRead blocks t2.reads m → MayBeRead blocks t1.reads m
     back m seen = subst (λ rs. MayBeRead blocks rs m) wrote_node.reads seen

@@ -1,8 +1,10 @@
 -- What a transaction learns of the files, and what it does to them.
-use Rattle.std.specs.Prelude.{ℕ, ◌≡◌, false, List, ◌∷◌, length, Some, None, Result}
+use Rattle.std.specs.Prelude.{ℕ, ◌≡◌, ◌≤◌, false, List, ◌∷◌, length, Some, None, Result}
 use Rattle.journal_world.specs.declared.address.Addr.{Addr}
 use Rattle.journal_world.specs.Addresses.{Value, is_same}
 use Rattle.journal_world.specs.Maps.{Map, Pair, Agrees, SamePairs, value_among, value_at, overwritten}
+use Rattle.journal_wal.specs.declared.append.TheConstants.{MAX_UPDATES}
+use Rattle.journal_objlog.specs.Writes.{written_blocks}
 use Rattle.journal_twophase.specs.Transactions.{TxnState}
 use Rattle.journal_inode.specs.declared.node.TheConstants.{FILE_BYTES}
 use Rattle.journal_inode.specs.Places.{Object, addr_of, IsOnDisk, object}
@@ -63,8 +65,11 @@ Leads n answer outcome = HasSoundFiles n × ((answer, files_of n) ≡ outcome)
 pub record Makes (blocks : ℕ) (old new : TxnState) (P : Map → Map → Type 0) : Type 0 where
   pub before : (m : Map) → MayBeRead blocks new.reads m → MayBeRead blocks old.reads m
   pub now : (m : Map) → MayBeRead blocks new.reads m → P m (overwritten m new.writes)
+  pub few : written_blocks new.writes ≤ MAX_UPDATES
 
 -- Wherever a sound map gives what was read, the writes leave it sound, and the answer fits the files before and after
 pub record Does {A : Type 0} (blocks : ℕ) (case : Files → A → Files → Type 0) (reads writes : List Pair) (answer : A) : Type 0 where
   pub sound : (m : Map) → m.blocks ≡ blocks → HasSoundFiles m → Agrees m reads → HasSoundFiles (overwritten m writes)
   pub answers : (m : Map) → m.blocks ≡ blocks → HasSoundFiles m → Agrees m reads → case (files_of m) answer (files_of (overwritten m writes))
+  -- no more blocks are written than a transaction may write
+  pub few : written_blocks writes ≤ MAX_UPDATES

@@ -3,3 +3,4 @@ pub mod Operations
 pub mod Handles
 pub mod Doing
 pub mod Done
+pub mod Faults

@@ -1,7 +1,8 @@
 // COMMIT.
-ghost use Rattle.std.specs.Prelude.{◌≡◌, true};
+ghost use Rattle.std.specs.Prelude.{◌≡◌, true, IfErr};
 ghost use Rattle.journal_inode.specs.declared.node.Time.{Time};
 ghost use Rattle.journal_filestore.specs.Done.{IsAnswered};
+ghost use Rattle.journal_filestore.specs.Faults.{IsFaultOf};
 ghost use Rattle.journal_filestore.specs.Operations.{Op, file_target, commit_case};
 ghost use Rattle.journal_filestore.specs.Operations.Call.{commit};
 ghost use Rattle.journal_filestore.specs.Operations.Reply.{committed};
@@ -60,7 +61,8 @@ impl<'b, D: BlockDisk, J: Naming> FileStore<'b, D, J> {
         session: &mut Session<'b, J, SoundFiles>,
         handle: Handle,
     ) -> Result<Answer<Attributes>, FileFault<'b, J>>
-        ensures { IsAnswered true (λ F r F2. (now : Time) → Op (commit handle.number handle.generation) now F (committed r) F2) session.old session.new result }
+        ensures answered { IsAnswered true (λ F r F2. (now : Time) → Op (commit handle.number handle.generation) now F (committed r) F2) session.old session.new result }
+        ensures refusal { IfErr result (IsFaultOf session.new) }
     {
         self.run(rt, session, &Commit { handle })
     }

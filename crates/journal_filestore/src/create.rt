@@ -1,5 +1,5 @@
 // CREATE.
-ghost use Rattle.std.specs.Prelude.{ℕ, ◌≡◌, ◌<◌, ◌≤◌, Bool, Some, true, false, [], IfOk};
+ghost use Rattle.std.specs.Prelude.{ℕ, ◌≡◌, ◌<◌, ◌≤◌, Bool, Some, true, false, [], IfOk, IfErr};
 ghost use Rattle.journal_world.specs.declared.layout.TheConstants.{FIRST_DATA, BLOCK_BITS};
 ghost use Rattle.journal_inode.specs.declared.node.Node.TheVariants.{Free, File};
 ghost use Rattle.journal_inode.specs.Nodes.{Fits};
@@ -8,6 +8,7 @@ ghost use Rattle.journal_inode.specs.Places.Object.{block, bit};
 ghost use Rattle.journal_filestore.specs.Files.{is_file_number, files_of};
 ghost use Rattle.journal_filestore.specs.Doing.{IsNotYetRead, Leads, Makes};
 ghost use Rattle.journal_filestore.specs.Done.{IsAnswered};
+ghost use Rattle.journal_filestore.specs.Faults.{IsFaultOf, IsGivenUp};
 ghost use Rattle.journal_filestore.specs.Handles.{time_of, data_of, asked, found_node};
 ghost use Rattle.journal_filestore.specs.Operations.{Op, file_target, create_case, create_new, create_file, is_no_time};
 ghost use Rattle.journal_filestore.specs.Operations.Call.{create};
@@ -108,8 +109,9 @@ impl<'a> Create<'a> {
         requires timed { is_no_time settings.mtime ≡ false }
         requires unread { FIRST_DATA ≤ file.block → IsNotYetRead txn.old (block file.block) }
         requires writes { txn.old.writes ≡ [] }
-        ensures { IfOk result (λ answer. Makes J.blocks txn.old txn.new (λ m n. node_at m number ≡ File file → (files_of m).root ≡ root
+        ensures makes { IfOk result (λ answer. Makes J.blocks txn.old txn.new (λ m n. node_at m number ≡ File file → (files_of m).root ≡ root
             → Leads n answer (create_file true is_guarded settings (time_of self.now.moment) (files_of m) number (Some (data_of m file))))) }
+        ensures refusal { IfErr result IsGivenUp }
     {
         if is_guarded {
             return Ok(Err(Status::Exists));
@@ -136,8 +138,9 @@ impl<'a> Create<'a> {
         requires timed { is_no_time settings.mtime ≡ false }
         requires unread { (k : ℕ) → k < BLOCK_BITS → IsNotYetRead txn.old (bit k) }
         requires writes { txn.old.writes ≡ [] }
-        ensures { IfOk result (λ answer. Makes J.blocks txn.old txn.new (λ m n. node_at m number ≡ Free last → (files_of m).root ≡ root
+        ensures makes { IfOk result (λ answer. Makes J.blocks txn.old txn.new (λ m n. node_at m number ≡ Free last → (files_of m).root ≡ root
             → (room : Bool) × Leads n answer (create_new room settings (time_of self.now.moment) (files_of m) number))) }
+        ensures refusal { IfErr result IsGivenUp }
     {
         if is_too_big(settings.size) {
             return Ok(Err(Status::TooBig));
@@ -195,7 +198,8 @@ impl<'b, D: BlockDisk, J: Naming> FileStore<'b, D, J> {
         how: How,
         now: Moment,
     ) -> Result<Answer<Found>, FileFault<'b, J>>
-        ensures { IsAnswered true (λ F r F2. Op (create directory.number directory.generation name.now how) (time_of now) F (made r) F2) session.old session.new result }
+        ensures answered { IsAnswered true (λ F r F2. Op (create directory.number directory.generation name.now how) (time_of now) F (made r) F2) session.old session.new result }
+        ensures refusal { IfErr result (IsFaultOf session.new) }
     {
         let create = Create {
             directory,

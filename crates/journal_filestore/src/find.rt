@@ -1,7 +1,8 @@
 // What a handle names.
-ghost use Rattle.std.specs.Prelude.{◌≡◌, [], IfOk, OnOk};
+ghost use Rattle.std.specs.Prelude.{◌≡◌, [], IfOk, IfErr, OnOk};
 ghost use Rattle.journal_inode.specs.Places.Object.{inode};
 ghost use Rattle.journal_filestore.specs.Doing.{LearnsThat, ReadsOnly};
+ghost use Rattle.journal_filestore.specs.Faults.{IsGivenUp};
 ghost use Rattle.journal_filestore.specs.Handles.{IsAt, IsPlace, place_of};
 
 use crate::Handle;
@@ -35,6 +36,7 @@ pub(crate) fn find<'j, 'b, D: BlockDisk, J: Naming, W: Wait>(
     ensures told { IfOk result (λ place. LearnsThat J.blocks txn.old txn.new (λ m. IsAt handle.number handle.generation m place)) }
     ensures reads { OnOk result (ReadsOnly txn.old txn.new (inode handle.number)) }
     ensures fits { IfOk result (IsPlace handle.number) }
+    ensures refusal { IfErr result IsGivenUp }
 {
     let node = read_node(rt, txn, handle.number)?;
     Ok(place_of(node, handle.number, handle.generation))

@@ -1,7 +1,8 @@
 // GETATTR.
-ghost use Rattle.std.specs.Prelude.{◌≡◌, false};
+ghost use Rattle.std.specs.Prelude.{◌≡◌, false, IfErr};
 ghost use Rattle.journal_inode.specs.declared.node.Time.{Time};
 ghost use Rattle.journal_filestore.specs.Done.{IsAnswered};
+ghost use Rattle.journal_filestore.specs.Faults.{IsFaultOf};
 ghost use Rattle.journal_filestore.specs.Operations.{Op, file_target, getattr_case};
 ghost use Rattle.journal_filestore.specs.Operations.Call.{getattr};
 ghost use Rattle.journal_filestore.specs.Operations.Reply.{got};
@@ -58,7 +59,8 @@ impl<'b, D: BlockDisk, J: Naming> FileStore<'b, D, J> {
         session: &mut Session<'b, J, SoundFiles>,
         handle: Handle,
     ) -> Result<Answer<Attributes>, FileFault<'b, J>>
-        ensures { IsAnswered false (λ F r F2. (now : Time) → Op (getattr handle.number handle.generation) now F (got r) F2) session.old session.new result }
+        ensures answered { IsAnswered false (λ F r F2. (now : Time) → Op (getattr handle.number handle.generation) now F (got r) F2) session.old session.new result }
+        ensures refusal { IfErr result (IsFaultOf session.new) }
     {
         self.run(rt, session, &GetAttr { handle })
     }

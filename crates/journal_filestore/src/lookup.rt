@@ -1,7 +1,8 @@
 // LOOKUP.
-ghost use Rattle.std.specs.Prelude.{◌≡◌, false};
+ghost use Rattle.std.specs.Prelude.{◌≡◌, false, IfErr};
 ghost use Rattle.journal_inode.specs.declared.node.Time.{Time};
 ghost use Rattle.journal_filestore.specs.Done.{IsAnswered};
+ghost use Rattle.journal_filestore.specs.Faults.{IsFaultOf};
 ghost use Rattle.journal_filestore.specs.Operations.{Op, file_target, lookup_case};
 ghost use Rattle.journal_filestore.specs.Operations.Call.{lookup};
 ghost use Rattle.journal_filestore.specs.Operations.Reply.{found};
@@ -74,7 +75,8 @@ impl<'b, D: BlockDisk, J: Naming> FileStore<'b, D, J> {
         directory: Handle,
         name: &[u8],
     ) -> Result<Answer<Found>, FileFault<'b, J>>
-        ensures { IsAnswered false (λ F r F2. (now : Time) → Op (lookup directory.number directory.generation name.now) now F (found r) F2) session.old session.new result }
+        ensures answered { IsAnswered false (λ F r F2. (now : Time) → Op (lookup directory.number directory.generation name.now) now F (found r) F2) session.old session.new result }
+        ensures refusal { IfErr result (IsFaultOf session.new) }
     {
         self.run(rt, session, &Lookup { directory, name })
     }

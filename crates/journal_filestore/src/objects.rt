@@ -1,16 +1,18 @@
 // The objects of files, read and overwritten through a transaction. An operation reads each object once, and reads
 // first and then writes.
-ghost use Rattle.std.specs.Prelude.{ℕ, ◌≡◌, ◌<◌, ◌≤◌, ◌+◌, ◌-◌, ◌↔◌, [], ◌∷◌, length, IsTrue, IfOk, OnOk, if◌then◌else◌};
+ghost use Rattle.std.specs.Prelude.{ℕ, ◌≡◌, ◌<◌, ◌≤◌, ◌+◌, ◌-◌, ◌↔◌, [], ◌∷◌, length, true, IsTrue, IfOk, IfErr, OnOk, if◌then◌else◌};
 ghost use Rattle.journal_world.specs.declared.address.Kind.TheVariants.{Bit};
-ghost use Rattle.journal_world.specs.declared.layout.TheConstants.{FIRST_DATA, BLOCK_BITS};
-ghost use Rattle.journal_world.specs.Addresses.{is_value_of};
-ghost use Rattle.journal_world.specs.Maps.{is_object};
+ghost use Rattle.journal_world.specs.declared.layout.TheConstants.{FIRST_DATA, BLOCK_BITS, BLOCK_BYTES};
+ghost use Rattle.journal_world.specs.Addresses.{is_value_of, is_valid, kind_of};
+ghost use Rattle.journal_world.specs.Maps.{is_object, is_value_at};
 ghost use Rattle.journal_twophase.specs.Transactions.{holding, ReadsValue, Overwrites};
 ghost use Rattle.journal_inode.specs.declared.place.TheConstants.{INODES};
+ghost use Rattle.journal_inode.specs.declared.node.TheConstants.{NODE_BYTES};
 ghost use Rattle.journal_inode.specs.Places.{object};
 ghost use Rattle.journal_inode.specs.Places.Object.{bit, inode, block};
 ghost use Rattle.journal_inode.specs.Nodes.{inode_bytes, Fits};
 ghost use Rattle.journal_inode.specs.Sound.{node_at};
+ghost use Rattle.journal_filestore.specs.Faults.{IsGivenUp};
 ghost use Rattle.journal_filestore.specs.Doing.{LearnsThat, WritesObject, IsNotYetRead, ReadsOnly};
 
 use crate::operation::{AttemptFault, GivenUp};
@@ -29,6 +31,7 @@ fn read<'j, 'b, D: BlockDisk, J: Naming, W: Wait>(
 ) -> Result<Value, GivenUp<'b, J>>
     ensures reads { IfOk result (λ value. ReadsValue (holding txn.old addr) addr value txn.new) }
     ensures object { IfOk result (λ value. IsTrue (is_object J.blocks (addr, value))) }
+    ensures refusal { IfErr result IsGivenUp }
 {
     match txn.read(rt, addr) {
         Ok(value) => Ok(value),
@@ -43,8 +46,10 @@ fn overwrite<'j, 'b, D: BlockDisk, J: Naming, W: Wait>(
     addr: Addr,
     bytes: &[u8],
 ) -> Result<(), GivenUp<'b, J>>
+    requires kind { IsTrue (is_valid J.blocks addr) → is_value_at (kind_of J.blocks addr.block) bytes.now ≡ true }
     ensures overwrites { OnOk result (Overwrites (holding txn.old addr) addr bytes.now txn.new) }
     ensures object { OnOk result (IsTrue (is_object J.blocks (addr, bytes.now))) }
+    ensures refusal { IfErr result IsGivenUp }
 {
     match txn.overwrite(rt, addr, bytes) {
         Ok(()) => Ok(()),
@@ -64,6 +69,7 @@ pub(crate) fn read_node<'j, 'b, D: BlockDisk, J: Naming, W: Wait>(
     ensures told { IfOk result (λ node. LearnsThat J.blocks txn.old txn.new (λ m. node_at m number ≡ node)) }
     ensures reads { OnOk result (ReadsOnly txn.old txn.new (inode number)) }
     ensures fits { IfOk result Fits }
+    ensures refusal { IfErr result IsGivenUp }
 {
     let value = read(rt, txn, inode_addr(number))?;
     Ok(Node::read(value.bytes()))
@@ -80,6 +86,7 @@ pub(crate) fn read_block<'j, 'b, D: BlockDisk, J: Naming, W: Wait>(
     ensures told { IfOk result (λ value. LearnsThat J.blocks txn.old txn.new (λ m. object m (block number) ≡ value)) }
     ensures whole { IfOk result (λ value. length value ≡ 4096) }
     ensures data_block { OnOk result (FIRST_DATA ≤ number) }
+    ensures refusal { IfErr result IsGivenUp }
 {
     if number < FIRST_DATA {
         return Err(AttemptFault::Refused(Refusal::BadAddress));
@@ -98,6 +105,7 @@ pub(crate) fn read_bit<'j, 'b, D: BlockDisk, J: Naming, W: Wait>(
     ensures told { IfOk result (λ is_set. LearnsThat J.blocks txn.old txn.new
         (λ m. object m (bit (number - FIRST_DATA)) ≡ (if is_set then 1 else 0) ∷ [])) }
     ensures data_block { OnOk result (FIRST_DATA ≤ number) }
+    ensures refusal { IfErr result IsGivenUp }
 {
     if !has_bit(number) {
         return Err(AttemptFault::Refused(Refusal::BadAddress));
@@ -114,9 +122,25 @@ pub(crate) fn write_node<'j, 'b, D: BlockDisk, J: Naming, W: Wait>(
     node: &Node,
 ) -> Result<(), GivenUp<'b, J>>
     requires { number < INODES }
-    ensures { OnOk result (WritesObject J.blocks txn.old txn.new (inode number) (inode_bytes node.now)) }
+    ensures writes { OnOk result (WritesObject J.blocks txn.old txn.new (inode number) (inode_bytes node.now)) }
+    ensures refusal { IfErr result IsGivenUp }
 {
-    overwrite(rt, txn, inode_addr(number), &node.bytes())
+    write_inode(rt, txn, number, &node.bytes())
+}
+
+// Overwrites an inode by its bytes.
+fn write_inode<'j, 'b, D: BlockDisk, J: Naming, W: Wait>(
+    rt: &W,
+    txn: &mut FileTxn<'j, 'b, D, J>,
+    number: u32,
+    bytes: &[u8],
+) -> Result<(), GivenUp<'b, J>>
+    requires number { number < INODES }
+    requires whole { length bytes.now ≡ NODE_BYTES }
+    ensures writes { OnOk result (WritesObject J.blocks txn.old txn.new (inode number) bytes.now) }
+    ensures refusal { IfErr result IsGivenUp }
+{
+    overwrite(rt, txn, inode_addr(number), bytes)
 }
 
 // Overwrites a data block.
@@ -126,7 +150,9 @@ pub(crate) fn write_block<'j, 'b, D: BlockDisk, J: Naming, W: Wait>(
     number: u64,
     bytes: &[u8],
 ) -> Result<(), GivenUp<'b, J>>
-    ensures { OnOk result (WritesObject J.blocks txn.old txn.new (block number) bytes.now) }
+    requires whole { length bytes.now ≡ BLOCK_BYTES }
+    ensures writes { OnOk result (WritesObject J.blocks txn.old txn.new (block number) bytes.now) }
+    ensures refusal { IfErr result IsGivenUp }
 {
     if number < FIRST_DATA {
         return Err(AttemptFault::Refused(Refusal::BadAddress));
@@ -141,7 +167,8 @@ pub(crate) fn write_bit<'j, 'b, D: BlockDisk, J: Naming, W: Wait>(
     number: u64,
     is_set: bool,
 ) -> Result<(), GivenUp<'b, J>>
-    ensures { OnOk result (WritesObject J.blocks txn.old txn.new (bit (number - FIRST_DATA)) ((if is_set then 1 else 0) ∷ [])) }
+    ensures writes { OnOk result (WritesObject J.blocks txn.old txn.new (bit (number - FIRST_DATA)) ((if is_set then 1 else 0) ∷ [])) }
+    ensures refusal { IfErr result IsGivenUp }
 {
     if !has_bit(number) {
         return Err(AttemptFault::Refused(Refusal::BadAddress));

@@ -1,8 +1,9 @@
 // An operation on files, as one transaction, and why an attempt at it is given up.
-ghost use Rattle.std.specs.Prelude.{◌≡◌, [], Bool, IfOk, Result};
+ghost use Rattle.std.specs.Prelude.{◌≡◌, [], Bool, IfOk, IfErr, Result};
 ghost use Rattle.journal_filestore.specs.declared.status.Status.{Status};
 ghost use Rattle.journal_filestore.specs.Files.{Files};
 ghost use Rattle.journal_filestore.specs.Doing.{Does};
+ghost use Rattle.journal_filestore.specs.Faults.{IsGivenUp, fault_at};
 
 use crate::space::Space;
 use crate::store::{Answer, FileTxn};
@@ -28,7 +29,9 @@ pub(crate) type GivenUp<'b, J> = AttemptFault<Cause<'b, J, SoundFiles>>;
 
 impl<C> AttemptFault<C> {
     // What a call that asked for the address was refused by.
-    pub(crate) fn at(addr: Addr, refusal: Refusal<C>) -> AttemptFault<C> {
+    pub(crate) fn at(addr: Addr, refusal: Refusal<C>) -> AttemptFault<C>
+        ensures { result ≡ fault_at addr refusal }
+    {
         match refusal {
             Refusal::Busy => AttemptFault::Held(addr),
             refusal => AttemptFault::Refused(refusal),
@@ -37,6 +40,11 @@ impl<C> AttemptFault<C> {
 }
 
 impl<C> From<AllocError> for AttemptFault<C> {
+    ghost use Rattle.journal_world.specs.declared.refusal.Refusal.TheVariants.{NoMemory};
+    ghost use Rattle.journal_filestore.specs.declared.operation.AttemptFault.TheVariants.{Refused};
+
+    ghost from_gives = { λ _ fault. fault ≡ Refused NoMemory };
+
     fn from(_error: AllocError) -> AttemptFault<C> {
         AttemptFault::Refused(Refusal::NoMemory)
     }
@@ -65,5 +73,6 @@ pub(crate) trait Operation<J: Naming> {
     ) -> Result<Answer<Self::Reply>, GivenUp<'b, J>>
         requires reads { txn.old.reads ≡ [] }
         requires writes { txn.old.writes ≡ [] }
-        ensures does { IfOk result (Does J.blocks (case self.now) txn.new.reads txn.new.writes) };
+        ensures does { IfOk result (Does J.blocks (case self.now) txn.new.reads txn.new.writes) }
+        ensures refusal { IfErr result IsGivenUp };
 }

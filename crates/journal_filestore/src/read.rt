@@ -1,7 +1,8 @@
 // READ.
-ghost use Rattle.std.specs.Prelude.{◌≡◌, ◌≤◌, ◌-◌, false, min};
+ghost use Rattle.std.specs.Prelude.{◌≡◌, ◌≤◌, ◌-◌, false, min, IfErr};
 ghost use Rattle.journal_inode.specs.declared.node.Time.{Time};
 ghost use Rattle.journal_filestore.specs.Done.{IsAnswered};
+ghost use Rattle.journal_filestore.specs.Faults.{IsFaultOf};
 ghost use Rattle.journal_filestore.specs.Operations.{Op, file_target, read_case};
 ghost use Rattle.journal_filestore.specs.Operations.Call.{read};
 ghost use Rattle.journal_filestore.specs.Operations.Reply.{bytes_read};
@@ -89,7 +90,8 @@ impl<'b, D: BlockDisk, J: Naming> FileStore<'b, D, J> {
         offset: u64,
         count: u32,
     ) -> Result<Answer<Portion>, FileFault<'b, J>>
-        ensures { IsAnswered false (λ F r F2. (now : Time) → Op (read handle.number handle.generation offset count) now F (bytes_read r) F2) session.old session.new result }
+        ensures answered { IsAnswered false (λ F r F2. (now : Time) → Op (read handle.number handle.generation offset count) now F (bytes_read r) F2) session.old session.new result }
+        ensures refusal { IfErr result (IsFaultOf session.new) }
     {
         let read = Read {
             handle,

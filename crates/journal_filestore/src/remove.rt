@@ -1,7 +1,8 @@
 // REMOVE.
-ghost use Rattle.std.specs.Prelude.{◌≡◌, true};
+ghost use Rattle.std.specs.Prelude.{◌≡◌, true, IfErr};
 ghost use Rattle.journal_inode.specs.declared.node.Time.{Time};
 ghost use Rattle.journal_filestore.specs.Done.{IsAnswered};
+ghost use Rattle.journal_filestore.specs.Faults.{IsFaultOf};
 ghost use Rattle.journal_filestore.specs.Operations.{Op, file_target, remove_case};
 ghost use Rattle.journal_filestore.specs.Operations.Call.{remove};
 ghost use Rattle.journal_filestore.specs.Operations.Reply.{removed};
@@ -74,7 +75,8 @@ impl<'b, D: BlockDisk, J: Naming> FileStore<'b, D, J> {
         directory: Handle,
         name: &[u8],
     ) -> Result<Answer<Attributes>, FileFault<'b, J>>
-        ensures { IsAnswered true (λ F r F2. (now : Time) → Op (remove directory.number directory.generation name.now) now F (removed r) F2) session.old session.new result }
+        ensures answered { IsAnswered true (λ F r F2. (now : Time) → Op (remove directory.number directory.generation name.now) now F (removed r) F2) session.old session.new result }
+        ensures refusal { IfErr result (IsFaultOf session.new) }
     {
         self.run(rt, session, &Remove { directory, name })
     }

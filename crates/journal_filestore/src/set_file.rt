@@ -1,5 +1,5 @@
 // What is asked for of a file is set, as SETATTR and CREATE do.
-ghost use Rattle.std.specs.Prelude.{◌≡◌, ◌<◌, ◌≤◌, ◌-◌, [], ◌++◌, Some, true, false, take, length, replicate, IfOk, OnOk};
+ghost use Rattle.std.specs.Prelude.{◌≡◌, ◌<◌, ◌≤◌, ◌-◌, [], ◌++◌, Some, true, false, take, length, replicate, IfOk, IfErr, OnOk};
 ghost use Rattle.journal_world.specs.declared.layout.TheConstants.{FIRST_DATA};
 ghost use Rattle.journal_inode.specs.declared.node.Node.TheVariants.{File};
 ghost use Rattle.journal_inode.specs.declared.place.TheConstants.{INODES};
@@ -7,6 +7,7 @@ ghost use Rattle.journal_inode.specs.Nodes.{IsTime, Fits};
 ghost use Rattle.journal_inode.specs.Sound.{node_at};
 ghost use Rattle.journal_inode.specs.Places.Object.{block};
 ghost use Rattle.journal_filestore.specs.Files.{is_file_number};
+ghost use Rattle.journal_filestore.specs.Faults.{IsGivenUp};
 ghost use Rattle.journal_filestore.specs.Doing.{IsNotYetRead, Puts, Makes};
 ghost use Rattle.journal_filestore.specs.Handles.{time_of, data_of, set_node};
 ghost use Rattle.journal_filestore.specs.Operations.{is_no_time, is_too_big, time_after, with_settings};
@@ -40,6 +41,7 @@ pub(crate) fn set_file<'j, 'b, D: BlockDisk, J: Naming, W: Wait>(
     ensures node { IfOk result (λ after. after ≡ set_node file settings (time_of now)) }
     ensures makes { OnOk result (Makes J.blocks txn.old txn.new (λ m n. is_file_number number ≡ true → node_at m number ≡ File file
         → Puts m n number (record { generation = file.generation; file = Some (with_settings (data_of m file) settings (time_of now)) }))) }
+    ensures refusal { IfErr result IsGivenUp }
 {
     let after = set_node(file, settings, now);
     if after.size >= file.size {

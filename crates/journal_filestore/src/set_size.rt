@@ -1,6 +1,7 @@
 // SETATTR.
-ghost use Rattle.std.specs.Prelude.{◌≡◌, true};
+ghost use Rattle.std.specs.Prelude.{◌≡◌, true, IfErr};
 ghost use Rattle.journal_filestore.specs.Done.{IsAnswered};
+ghost use Rattle.journal_filestore.specs.Faults.{IsFaultOf};
 ghost use Rattle.journal_filestore.specs.Handles.{time_of};
 ghost use Rattle.journal_filestore.specs.Operations.{Op, file_target, setattr_case, root_set, is_other_time};
 ghost use Rattle.journal_filestore.specs.Operations.Call.{setattr};
@@ -117,7 +118,8 @@ impl<'b, D: BlockDisk, J: Naming> FileStore<'b, D, J> {
         guard: Option<Time>,
         now: Moment,
     ) -> Result<Answer<Changed>, FileFault<'b, J>>
-        ensures { IsAnswered true (λ F r F2. Op (setattr handle.number handle.generation settings guard) (time_of now) F (set r) F2) session.old session.new result }
+        ensures answered { IsAnswered true (λ F r F2. Op (setattr handle.number handle.generation settings guard) (time_of now) F (set r) F2) session.old session.new result }
+        ensures refusal { IfErr result (IsFaultOf session.new) }
     {
         let set = SetSize {
             handle,

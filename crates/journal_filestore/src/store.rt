@@ -1,5 +1,5 @@
 // The store: its journal, and the numbers of its free blocks.
-ghost use Rattle.std.specs.Prelude.{◌≡◌, IsTrue, IfOk, OnOk, IfErr, OnErr};
+ghost use Rattle.std.specs.Prelude.{◌≡◌, ◌≤◌, IsTrue, IfOk, OnOk, IfErr, OnErr};
 ghost use Rattle.journal_world.specs.Maps.{Map, Agrees, overwritten};
 ghost use Rattle.journal_world.specs.Histories.{is_trusted};
 ghost use Rattle.journal_disk.specs.Disks.{IsSettled};
@@ -9,7 +9,10 @@ ghost use Rattle.journal_core.specs.Cores.{Leaves};
 ghost use Rattle.journal_core.specs.Openings.{IsOpenRefusal, OnlyReadsDisk};
 ghost use Rattle.journal_inode.specs.Sound.{HasSoundFiles};
 ghost use Rattle.journal_twophase.specs.Journals.{BeginsWith, IsCloseRefusal};
+ghost use Rattle.journal_wal.specs.declared.append.TheConstants.{MAX_UPDATES};
+ghost use Rattle.journal_objlog.specs.Writes.{written_blocks};
 ghost use Rattle.journal_filestore.specs.Done.{IsAnswered, IsEndOf};
+ghost use Rattle.journal_filestore.specs.Faults.{IsFaultOf};
 
 use crate::operation::{AttemptFault, Operation};
 use crate::space::Space;
@@ -130,7 +133,8 @@ impl<'b, D: BlockDisk, J: Naming> FileStore<'b, D, J> {
         session: &mut Session<'b, J, SoundFiles>,
         operation: &O,
     ) -> Result<Answer<O::Reply>, FileFault<'b, J>>
-        ensures { IsAnswered (O.is_waiting operation.now) (O.case operation.now) session.old session.new result }
+        ensures answered { IsAnswered (O.is_waiting operation.now) (O.case operation.now) session.old session.new result }
+        ensures refusal { IfErr result (IsFaultOf session.new) }
     {
         for _ in 0..RETRIES {
             match self.once(rt, session, operation) {
@@ -162,6 +166,7 @@ impl<'b, D: BlockDisk, J: Naming> FileStore<'b, D, J> {
         operation: &O,
     ) -> Result<Outcome<'b, J, O::Reply>, Addr>
         ensures answered { IfOk result (IsAnswered (O.is_waiting operation.now) (O.case operation.now) session.old session.new) }
+        ensures refusal { IfOk result (λ outcome. IfErr outcome (IsFaultOf session.new)) }
         ensures held { OnErr result (OnlyExtends session.old session.new) }
     {
         let mut space = Space::new();
@@ -217,7 +222,9 @@ fn end<'j, 'b, D: BlockDisk, J: Naming, W: Wait>(
     waits: bool,
 ) -> Result<(), FileFault<'b, J>>
     requires rule { (m : Map) → m.blocks ≡ J.blocks → HasSoundFiles m → Agrees m txn.reads → HasSoundFiles (overwritten m txn.writes) }
-    ensures { IsEndOf J.blocks txn.entry waits session.old session.new result }
+    requires few { written_blocks txn.writes ≤ MAX_UPDATES }
+    ensures ended { IsEndOf J.blocks txn.entry waits session.old session.new result }
+    ensures refusal { IfErr result (IsFaultOf session.new) }
 {
     if !waits {
         return match txn.commit(rt, session) {

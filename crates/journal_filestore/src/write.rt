@@ -1,9 +1,10 @@
 // WRITE.
-ghost use Rattle.std.specs.Prelude.{◌≡◌, ◌≤◌, ◌+◌, [], length, OnOk};
+ghost use Rattle.std.specs.Prelude.{◌≡◌, ◌≤◌, ◌+◌, [], length, IfErr, OnOk};
 ghost use Rattle.journal_world.specs.declared.layout.TheConstants.{FIRST_DATA};
 ghost use Rattle.journal_inode.specs.declared.node.TheConstants.{FILE_BYTES};
 ghost use Rattle.journal_inode.specs.Places.Object.{block};
 ghost use Rattle.journal_filestore.specs.Doing.{IsNotYetRead, Places};
+ghost use Rattle.journal_filestore.specs.Faults.{IsGivenUp, IsFaultOf};
 ghost use Rattle.journal_filestore.specs.Done.{IsAnswered};
 ghost use Rattle.journal_filestore.specs.Handles.{time_of};
 ghost use Rattle.journal_filestore.specs.Operations.{Op, file_target, write_case, with_data, is_waiting};
@@ -96,7 +97,8 @@ fn put_data<'j, 'b, D: BlockDisk, J: Naming, W: Wait>(
     requires room { offset + length bytes.now ≤ FILE_BYTES }
     requires unread { FIRST_DATA ≤ number → IsNotYetRead txn.old (block number) }
     requires writes { txn.old.writes ≡ [] }
-    ensures { OnOk result (Places J.blocks txn.old txn.new number offset bytes.now) }
+    ensures places { OnOk result (Places J.blocks txn.old txn.new number offset bytes.now) }
+    ensures refusal { IfErr result IsGivenUp }
 {
     if bytes.len() as u64 == FILE_BYTES {
         return write_block(rt, txn, number, bytes);
@@ -132,7 +134,8 @@ impl<'b, D: BlockDisk, J: Naming> FileStore<'b, D, J> {
         stability: Stability,
         now: Moment,
     ) -> Result<Answer<Changed>, FileFault<'b, J>>
-        ensures { IsAnswered (is_waiting stability) (λ F r F2. Op (write handle.number handle.generation offset count bytes.now) (time_of now) F (wrote r) F2) session.old session.new result }
+        ensures answered { IsAnswered (is_waiting stability) (λ F r F2. Op (write handle.number handle.generation offset count bytes.now) (time_of now) F (wrote r) F2) session.old session.new result }
+        ensures refusal { IfErr result (IsFaultOf session.new) }
     {
         let write = Write {
             handle,

@@ -7,12 +7,12 @@ use Rattle.journal_filestore.proofs.read.ReadOperation.attempt.Goals as goal
 pub returns-in-Gone : goal.returns-in-Gone
 returns-in-Gone g c =
     let w = c.args.self.now in
-    record { does = Does-gone _ (read_case w.offset w.count) w.handle.number w.handle.generation _ _ _ c.requires.writes c.in_ok-find.ensures.told _ c.in-Gone.is (λ F. refl) }
+    record { does = Does-gone _ (read_case w.offset w.count) w.handle.number w.handle.generation _ _ _ c.requires.writes c.in_ok-find.ensures.told _ c.in-Gone.is (λ F. refl); refusal = tt }
 
 pub returns-in-Directory : goal.returns-in-Directory
 returns-in-Directory g c =
     let w = c.args.self.now in
-    record { does = Does-directory _ (read_case w.offset w.count) w.handle.number w.handle.generation _ _ _ c.requires.writes c.in_ok-find.ensures.told _ _ c.in-Directory.is (λ F is. refl) }
+    record { does = Does-directory _ (read_case w.offset w.count) w.handle.number w.handle.generation _ _ _ c.requires.writes c.in_ok-find.ensures.told _ _ c.in-Directory.is (λ F is. refl); refusal = tt }
 
 pub returns-then-length-eq0 : goal.returns-then-length-eq0
 returns-then-length-eq0 g c =
@@ -27,6 +27,7 @@ returns-then-length-eq0 g c =
           ∙ bytes-none m c.in-Regular.file w.offset n c.if-length-eq0.true)
           (ap (λ p. p.is_end) c.new-then-length-eq0.ensures
           ∙ ap (nat_le c.in-Regular.file.size) (let e : w.offset ≡ w.offset + n = omega (arith, c.if-length-eq0.true) in e)));
+      refusal = tt;
     }
 
 pub returns : goal.returns
@@ -37,4 +38,5 @@ returns g c =
           (Makes-read _ w.handle.number w.offset w.count c.in-Regular.file c.new-2.result _ c.length_read-length.result c.in_ok-block.block _ _ (c.in_ok-find.ensures.told.writes ∙ c.requires.writes) c.in_ok-block.ensures.told
           c.length_read-length.ensures.value c.if-length-eq0.false c.attributes_of-read.ensures c.new-2.ensures)
           (λ m n sound whole number here reads. reads whole);
+      refusal = tt;
     }

@@ -10,12 +10,12 @@ use Rattle.journal_filestore.proofs.remove.RemoveOperation.attempt.Goals as goal
 pub returns-in-Gone : goal.returns-in-Gone
 returns-in-Gone g c =
     let w = c.args.self.now in
-    record { does = Does-gone _ (remove_case w.name.now) w.directory.number w.directory.generation _ _ _ c.requires.writes c.in_ok-find.ensures.told _ c.in-Gone.is (λ F. refl) }
+    record { does = Does-gone _ (remove_case w.name.now) w.directory.number w.directory.generation _ _ _ c.requires.writes c.in_ok-find.ensures.told _ c.in-Gone.is (λ F. refl); refusal = tt }
 
 pub returns-in-Regular : goal.returns-in-Regular
 returns-in-Regular g c =
     let w = c.args.self.now in
-    record { does = Does-regular _ (remove_case w.name.now) w.directory.number w.directory.generation _ _ _ c.requires.writes c.in_ok-find.ensures.told _ _ c.in-Regular.is (λ m sound. refl) }
+    record { does = Does-regular _ (remove_case w.name.now) w.directory.number w.directory.generation _ _ _ c.requires.writes c.in_ok-find.ensures.told _ _ c.in-Regular.is (λ m sound. refl); refusal = tt }
 
 pub returns-in_default : goal.returns-in_default
 returns-in_default g c =
@@ -23,6 +23,7 @@ returns-in_default g c =
     record {
       does = Does-directory _ (remove_case w.name.now) w.directory.number w.directory.generation _ _ _ c.requires.writes c.in_ok-find.ensures.told _ _ c.in-Directory.is
           (λ F is. ap (remove_number F) (sym c.number_of.ensures.value ∙ c.in_default.is));
+      refusal = tt;
     }
 
 pub returns-in_default-2 : goal.returns-in_default-2
@@ -31,6 +32,7 @@ returns-in_default-2 g c =
     record {
       does = Does-in_root _ (remove_case w.name.now) w.directory.number w.directory.generation _ _ _ c.requires.writes c.in_ok-find.ensures.told _ _ c.in-Some.number _ _ c.in-Directory.is c.in_ok-file.ensures.told
           (λ m sound is here. ap (remove_number _) (sym c.in-Some.ensures.value) ∙ remove-absent m _ _ sound c.in-Some.ensures.number here c.in_default-2.not-File);
+      refusal = tt;
     }
 
 pub returns : goal.returns
@@ -40,10 +42,11 @@ returns g c =
     let fits : Fits (File f) = subst Fits c.in-File.is c.in_ok-file.ensures.fits in
     record {
       does = Does-made_in_root _ (remove_case w.name.now) w.directory.number w.directory.generation _ _ _ c.requires.writes c.in_ok-find.ensures.told _ _ c.in-Some.number _ _ _ _ c.in-Directory.is c.in_ok-file.ensures.told
-          (Makes-remove _ c.in-Some.number f _ _ _ (c.in_ok-file.ensures.told.writes ∙ c.in_ok-find.ensures.told.writes ∙ c.requires.writes) c.in_ok-write_node.ensures c.in_ok-write_bit.ensures c.in-Some.ensures.number fits)
+          (Makes-remove _ c.in-Some.number f _ _ _ (c.in_ok-file.ensures.told.writes ∙ c.in_ok-find.ensures.told.writes ∙ c.requires.writes) c.in_ok-write_node.ensures.writes c.in_ok-write_bit.ensures.writes c.in-Some.ensures.number fits)
           (λ m after sound is here puts.
           let at : _ ≡ File f = here ∙ c.in-File.is in (
             (puts at).sound,
             remove-found m after _ f _ _ sound c.in-Some.ensures.number at is c.root_attributes.ensures (puts at) ∙ ap (remove_number _) c.in-Some.ensures.value,
           ));
+      refusal = tt;
     }

@@ -9,7 +9,7 @@ use Rattle.journal_filestore.proofs.set_size.SetSizeOperation.attempt.Goals as g
 pub returns-in-Gone : goal.returns-in-Gone
 returns-in-Gone g c =
     let w = c.args.self.now in
-    record { does = Does-gone _ (setattr_case w.settings w.guard (time_of w.moment)) w.handle.number w.handle.generation _ _ _ c.requires.writes c.in_ok-find.ensures.told _ c.in-Gone.is (λ F. refl) }
+    record { does = Does-gone _ (setattr_case w.settings w.guard (time_of w.moment)) w.handle.number w.handle.generation _ _ _ c.requires.writes c.in_ok-find.ensures.told _ c.in-Gone.is (λ F. refl); refusal = tt }
 
 pub returns-in-Directory : goal.returns-in-Directory
 returns-in-Directory g c =
@@ -17,6 +17,7 @@ returns-in-Directory g c =
     record {
       does = Does-directory _ (setattr_case w.settings w.guard (time_of w.moment)) w.handle.number w.handle.generation _ _ _ c.requires.writes c.in_ok-find.ensures.told _ _ c.in-Directory.is
           (λ F is. ap (λ t. (root_set w.settings w.guard t, F)) is ∙ ap (λ x. (x, F)) (sym c.root_set.ensures));
+      refusal = tt;
     }
 
 pub returns-then-is_other_time : goal.returns-then-is_other_time
@@ -25,6 +26,7 @@ returns-then-is_other_time g c =
     record {
       does = Does-regular _ (setattr_case w.settings w.guard (time_of w.moment)) w.handle.number w.handle.generation _ _ _ c.requires.writes c.in_ok-find.ensures.told _ _ c.in-Regular.is
           (λ m sound. set-not_sync w.settings w.guard (time_of w.moment) _ _ _ (sym c.is_other_time.ensures ∙ c.if-is_other_time.true));
+      refusal = tt;
     }
 
 pub returns-then-is_no_time : goal.returns-then-is_no_time
@@ -33,6 +35,7 @@ returns-then-is_no_time g c =
     record {
       does = Does-regular _ (setattr_case w.settings w.guard (time_of w.moment)) w.handle.number w.handle.generation _ _ _ c.requires.writes c.in_ok-find.ensures.told _ _ c.in-Regular.is
           (λ m sound. set-invalid w.settings w.guard (time_of w.moment) _ _ _ (sym c.is_other_time.ensures ∙ c.if-is_other_time.false) (sym c.is_no_time.ensures ∙ c.if-is_no_time.true));
+      refusal = tt;
     }
 
 pub returns-then-is_too_big : goal.returns-then-is_too_big
@@ -41,6 +44,7 @@ returns-then-is_too_big g c =
     record {
       does = Does-regular _ (setattr_case w.settings w.guard (time_of w.moment)) w.handle.number w.handle.generation _ _ _ c.requires.writes c.in_ok-find.ensures.told _ _ c.in-Regular.is
           (λ m sound. set-too_big w.settings w.guard (time_of w.moment) _ _ _ (sym c.is_other_time.ensures ∙ c.if-is_other_time.false) (sym c.is_no_time.ensures ∙ c.if-is_no_time.false) (sym c.is_too_big.ensures ∙ c.if-is_too_big.true));
+      refusal = tt;
     }
 
 pub returns : goal.returns
@@ -55,4 +59,5 @@ returns g c =
                 (c.attributes_of-2.ensures ∙ attributes-set m _ _ _ w.settings (time_of w.moment) whole c.in_ok-after.ensures.node) (puts number here)
                 ∙ sym (set-done w.settings w.guard (time_of w.moment) (files_of m) _ _ (sym c.is_other_time.ensures ∙ c.if-is_other_time.false) (sym c.is_no_time.ensures ∙ c.if-is_no_time.false) (sym c.is_too_big.ensures ∙ c.if-is_too_big.false)),
           ));
+      refusal = tt;
     }

@@ -2,5 +2,5 @@ use Rattle.journal_filestore.specs.Operations.Op.{answers_commit}
 use Rattle.journal_filestore.proofs.Ending.{IsAnswered-like}
 use Rattle.journal_filestore.proofs.store.FileStore.commit.Goals as goal
 
-pub returns : goal.returns
-returns g c = IsAnswered-like _ _ (λ answer F F2 case now. answers_commit _ _ now F F2 answer case) _ _ _ _ c.run.ensures
+pub returns-clause-answered : goal.returns-clause-answered
+returns-clause-answered g c = IsAnswered-like _ _ (λ answer F F2 case now. answers_commit _ _ now F F2 answer case) _ _ _ _ c.run.ensures.answered

@@ -16,6 +16,7 @@ returns-in-Gone g c =
     let w = c.args.self.now in
     record {
       does = Does-gone _ (write_case w.offset w.count w.bytes.now (time_of w.moment)) w.handle.number w.handle.generation _ _ _ c.requires.writes c.in_ok-find.ensures.told _ c.in-Gone.is (λ F. refl);
+      refusal = tt;
     }
 
 pub returns-in-Directory : goal.returns-in-Directory
@@ -23,6 +24,7 @@ returns-in-Directory g c =
     let w = c.args.self.now in
     record {
       does = Does-directory _ (write_case w.offset w.count w.bytes.now (time_of w.moment)) w.handle.number w.handle.generation _ _ _ c.requires.writes c.in_ok-find.ensures.told _ _ c.in-Directory.is (λ F is. refl);
+      refusal = tt;
     }
 
 pub returns-then-self : goal.returns-then-self
@@ -31,6 +33,7 @@ returns-then-self g c =
     record {
       does = Does-regular _ (write_case w.offset w.count w.bytes.now (time_of w.moment)) w.handle.number w.handle.generation _ _ _ c.requires.writes c.in_ok-find.ensures.told _ _ c.in-Regular.is
           (λ m sound. write-invalid w.offset w.count w.bytes.now (time_of w.moment) _ _ _ c.if-self.true);
+      refusal = tt;
     }
 
 pub returns-then-self-eq0 : goal.returns-then-self-eq0
@@ -39,6 +42,7 @@ returns-then-self-eq0 g c =
     record {
       does = Does-regular _ (write_case w.offset w.count w.bytes.now (time_of w.moment)) w.handle.number w.handle.generation _ _ _ c.requires.writes c.in_ok-find.ensures.told _ _ c.in-Regular.is
           (λ m sound. write-nothing w.offset w.count w.bytes.now (time_of w.moment) m _ _ _ sound c.attributes_of-before.ensures c.if-self.false c.if-self-eq0.true);
+      refusal = tt;
     }
 
 pub returns-then-end-gt-FILE_BYTES : goal.returns-then-end-gt-FILE_BYTES
@@ -48,6 +52,7 @@ returns-then-end-gt-FILE_BYTES g c =
       does = Does-regular _ (write_case w.offset w.count w.bytes.now (time_of w.moment)) w.handle.number w.handle.generation _ _ _ c.requires.writes c.in_ok-find.ensures.told _ _ c.in-Regular.is
           (λ m sound. write-too_big w.offset w.count w.bytes.now (time_of w.moment) _ _ _ c.if-self.false c.if-self-eq0.false
           (let past : FILE_BYTES < w.offset + w.count = omega (arith, c.saturating_add-end.ensures, c.from.ensures, c.if-end-gt-FILE_BYTES.true) in past));
+      refusal = tt;
     }
 
 pub returns : goal.returns
@@ -65,11 +70,12 @@ returns g c =
     let now_fits : Fits (File (written f w.offset w.bytes.now (time_of w.moment))) = written-fits f w.offset w.bytes.now (time_of w.moment) fits ends (omega arith, omega arith) in
     record {
       does = Does-changed _ (write_case w.offset w.count w.bytes.now (time_of w.moment)) w.handle.number w.handle.generation _ _ _ c.requires.writes c.in_ok-find.ensures.told _ f _ _ c.in-Regular.is
-          (Makes-write _ w.handle.number w.offset w.bytes.now (time_of w.moment) f g_node _ _ _ (c.in_ok-find.ensures.told.writes ∙ c.requires.writes) c.in_ok-put_data.ensures c.in_ok-write_node.ensures is ends w.moment.in_second now_fits)
+          (Makes-write _ w.handle.number w.offset w.bytes.now (time_of w.moment) f g_node _ _ _ (c.in_ok-find.ensures.told.writes ∙ c.requires.writes) c.in_ok-put_data.ensures.places c.in_ok-write_node.ensures.writes is ends w.moment.in_second now_fits)
           (λ m n sound whole number here puts. (
             (puts number here).sound,
             changed-puts m n _ f (placed_data m f w.offset w.bytes.now (time_of w.moment)) _ _ whole number here c.attributes_of-before.ensures
                 (attributes-written m _ w.offset w.bytes.now (time_of w.moment) f g_node _ whole is c.attributes_of.ensures) (puts number here)
                 ∙ sym (write-done w.offset w.count w.bytes.now (time_of w.moment) (files_of m) _ _ same c.if-self-eq0.false end),
           ));
+      refusal = tt;
     }

@@ -1,0 +1,5 @@
+use Rattle.journal_filestore.proofs.Refusing.{inode_fits}
+use Rattle.journal_filestore.proofs.objects.write_inode.Goals as goal
+
+pub overwrite-requires : goal.overwrite-requires
+overwrite-requires g c = record { kind = λ valid. inode_fits _ c.args.number _ c.args.bytes.now c.inode_addr.ensures c.requires.number c.requires.whole c.type_inv.bytes }

@@ -1,0 +1,39 @@
+-- Why an operation has no answer: the refusals that it may have.
+use Rattle.journal_world.specs.declared.address.Addr.{Addr}
+use Rattle.journal_world.specs.declared.refusal.Refusal.{Refusal}
+use Rattle.journal_world.specs.declared.refusal.Refusal.TheVariants.{NoMemory, BadAddress, Busy, DeviceFailed, Stale, Stranger, Worn, Closed}
+use Rattle.journal_history.specs.Tokens.{SessionState}
+use Rattle.journal_core.specs.Causes.{Told, IsUnexplained}
+use Rattle.journal_twophase.specs.Journals.{IsShown}
+use Rattle.journal_twophase.specs.Waits.{IsWaitRefusal}
+use Rattle.journal_filestore.specs.declared.fault.Fault.{Fault}
+use Rattle.journal_filestore.specs.declared.fault.Fault.TheVariants as fault
+use Rattle.journal_filestore.specs.declared.operation.AttemptFault.{AttemptFault}
+use Rattle.journal_filestore.specs.declared.operation.AttemptFault.TheVariants.{Held, Refused}
+
+-- Why a transaction on files is refused: never for the size of a value or for too many blocks, and never for room
+abbrev pub IsFilesRefusal : Refusal Told → Type 0
+IsFilesRefusal NoMemory = Unit {0}
+IsFilesRefusal BadAddress = Unit {0}
+IsFilesRefusal Busy = Unit {0}
+IsFilesRefusal (DeviceFailed cause) = IsUnexplained cause
+IsFilesRefusal (Stale cause) = IsShown cause
+IsFilesRefusal (Stranger cause) = IsShown cause
+IsFilesRefusal (Worn cause) = IsUnexplained cause
+IsFilesRefusal (Closed cause) = IsUnexplained cause
+IsFilesRefusal other = ⊥
+
+-- Why an operation has no answer: it is refused, or its wait until it is stable is, after which the session has seen this
+abbrev pub IsFaultOf : SessionState → Fault Told → Type 0
+IsFaultOf s (fault.Refused why) = IsFilesRefusal why
+IsFaultOf s (fault.Unsure why) = IsWaitRefusal s why
+
+-- a call that asked for the address was refused so
+abbrev pub fault_at : {C : Type 0} → Addr → Refusal C → AttemptFault C
+fault_at addr Busy = Held addr
+fault_at addr other = Refused other
+
+-- Why an attempt is given up
+abbrev pub IsGivenUp : AttemptFault Told → Type 0
+IsGivenUp (Held addr) = Unit {0}
+IsGivenUp (Refused why) = IsFilesRefusal why
