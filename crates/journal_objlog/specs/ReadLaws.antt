@@ -1,10 +1,10 @@
 -- What follows where an object log was only read.
-use Rattle.std.proofs.Common.{◌≡◌, IsTrue, ap, subst, sym, ◌∙◌}
+use Rattle.std.proofs.Common.{◌≡◌, ℕ, IsTrue, ap, subst, sym, ◌∙◌}
 use Rattle.journal_world.specs.Maps.{Map}
 use Rattle.journal_block.specs.Updates.{with_updates}
 use Rattle.journal_disk.specs.Disks.{Past, read_of}
 use Rattle.journal_disk.specs.Images.{EveryImage}
-use Rattle.journal_wal.specs.Wal.{WalState}
+use Rattle.journal_wal.specs.Wal.{WalState, blocks_now}
 use Rattle.journal_objlog.specs.Maps.{map_of, OpensAs}
 use Rattle.journal_objlog.specs.ObjectLogs.{map_now, OnlyReads, disk_of}
 
@@ -13,6 +13,11 @@ module _ (old new : WalState) (reads : OnlyReads old new) (honest : IsTrue (disk
   pub now_read : map_now new ≡ map_now old
   now_read = ap map_now reads.same
       ∙ ap (λ (past : Past). map_of past.size (with_updates (read_of past) old.log.updates)) (reads.past honest)
+
+  -- and so is each block
+  pub block_read : (block : ℕ) → blocks_now new block ≡ blocks_now old block
+  block_read block = ap (λ (w : WalState). blocks_now w block) reads.same
+      ∙ ap (λ (past : Past). with_updates (read_of past) old.log.updates block) (reads.past honest)
 
   -- where each image opened as the map now, it does so still
   pub images_read : EveryImage (disk_of old).past (OpensAs (map_now old)) → EveryImage (disk_of new).past (OpensAs (map_now new))

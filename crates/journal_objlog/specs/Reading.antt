@@ -1,6 +1,7 @@
 -- What reads leave of an object log, whatever order they come in and whatever asks for them.
-use Rattle.std.specs.Prelude.{false, IsTrue, []}
-use Rattle.journal_wal.specs.Wal.{WalState, log_blocks, install_none}
+use Rattle.std.specs.Prelude.{ℕ, ◌≡◌, false, IsTrue, []}
+use Rattle.journal_block.specs.Block.{Bytes}
+use Rattle.journal_wal.specs.Wal.{WalState, blocks_now, log_blocks, install_none}
 use Rattle.journal_objlog.specs.ObjectLogs.{KeepsMaps, Crashes, OnlyReads, disk_of}
 
 -- The log was only read since this state of it
@@ -8,6 +9,10 @@ pub record OnlyReadSince (opened now : WalState) : Type 0 where
   pub only : OnlyReads opened now
   pub maps : IsTrue (disk_of opened).honest → KeepsMaps opened now
   pub crash : Crashes opened now
+
+-- the bytes are those that the log has for the block
+abbrev pub IsBlockOf : WalState → Bytes → ℕ → Type 0
+IsBlockOf w bytes block = IsTrue (disk_of w).honest → bytes ≡ blocks_now w block
 
 -- the log of no disk
 abbrev pub no_log : WalState

@@ -38,7 +38,7 @@ impl<D: BlockDisk> ObjectLog<D> {
 
     // Zeros in the number of bytes that the address's object has. Refuses by J6 of an earlier fault, by J2 and
     // then by J1.
-    fn room_for(&self, addr: Addr) -> Result<Vec<u8>, Refusal<()>>
+    pub(crate) fn room_for(&self, addr: Addr) -> Result<Vec<u8>, Refusal<()>>
         ensures size { IfOk result (λ bytes. length bytes.items ≡ size_at (size_of self.now) addr) }
         ensures fine { OnOk result (is_faulted self.now ≡ false) }
         ensures refusal { IfErr result (IsReadRefusal self.now addr self.now) }

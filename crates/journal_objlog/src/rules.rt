@@ -1,12 +1,18 @@
 // Asking a rule about the map now.
-ghost use Rattle.std.specs.Prelude.{◌≡◌, ◌↔◌, false, IsTrue, IsErr, OnOk, IfOk, IfErr};
+ghost use Rattle.std.specs.Prelude.{◌≡◌, ◌↔◌, false, length, IsTrue, IsErr, OnOk, IfOk, IfErr};
 ghost use Rattle.journal_world.specs.Refusals.{IsReadingRefusal};
-ghost use Rattle.journal_objlog.specs.ObjectLogs.{map_now, KeepsMaps, Crashes, OnlyReads, IsLeft, disk_of, is_faulted};
-ghost use Rattle.journal_objlog.specs.Reading.{OnlyReadSince};
+ghost use Rattle.journal_world.specs.Addresses.{is_valid};
+ghost use Rattle.journal_world.specs.Maps.{value_at, is_object};
+ghost use Rattle.journal_object.specs.Objects.{size_at};
+ghost use Rattle.journal_wal.specs.Wal.{size_of};
+ghost use Rattle.journal_objlog.specs.ObjectLogs.{map_now, KeepsMaps, Crashes, OnlyReads, IsLeft, IsReadRefusal, disk_of, is_faulted};
+ghost use Rattle.journal_objlog.specs.Reading.{OnlyReadSince, IsBlockOf};
 
 use crate::object_log::ObjectLog;
+use crate::read::load_object;
+use journal_block::Block;
 use journal_disk::BlockDisk;
-use journal_world::{Addr, Layout, MapRule, ObjectReader, Refusal, Value};
+use journal_world::{Addr, Kind, Layout, MapRule, ObjectReader, Refusal, Value};
 use std::marker::{Brand, Model, PhantomData};
 
 // The log before its map was read. It stands in proofs alone, and is picked where the reading begins.
@@ -23,21 +29,25 @@ impl Opening for Brand {
 }
 
 // Reads the map that the log had then. It holds the log, so that whatever reads by it leaves a log that was
-// only read.
+// only read. Of blocks with many objects it keeps the one that it read last, so that a rule that goes through such a
+// block reads it once.
 struct MapReader<D: BlockDisk, O: Opening> {
     log: ObjectLog<D>,
+    kept: Option<u64>,
+    block: Block,
     opening: PhantomData<O>,
 }
 
 impl<D: BlockDisk, O: Opening> Model for MapReader<D, O> {
+    ghost use Rattle.std.specs.Prelude.{IfSome};
     ghost use Rattle.journal_wal.specs.Wal.{WalState};
-    ghost use Rattle.journal_objlog.specs.Reading.{OnlyReadSince};
+    ghost use Rattle.journal_objlog.specs.Reading.{OnlyReadSince, IsBlockOf};
 
     ghost Value = { WalState };
 
     ghost view = { λ r. r.log };
 
-    ghost invariant = { λ r. OnlyReadSince O.log r.log };
+    ghost invariant = { λ r. OnlyReadSince O.log r.log × IfSome r.kept (IsBlockOf r.log r.block) };
 }
 
 impl<D: BlockDisk, O: Opening> ObjectReader for MapReader<D, O> {
@@ -54,7 +64,15 @@ impl<D: BlockDisk, O: Opening> ObjectReader for MapReader<D, O> {
     }
 
     fn read(&mut self, addr: Addr) -> Result<Value, Refusal<()>> {
-        self.log.read(addr)
+        if let Some(Kind::Block) = self.log.layout().kind(addr.block) {
+            return self.log.read(addr);
+        }
+        if self.kept != Some(addr.block) {
+            self.kept = None;
+            self.log.read_block(addr, &mut self.block)?;
+            self.kept = Some(addr.block);
+        }
+        self.log.value_in(&self.block, addr)
     }
 }
 
@@ -85,6 +103,43 @@ impl<D: BlockDisk> ObjectLog<D> {
         (log, admitted)
     }
 
+    // Reads the address's block, with all overwrites. What it holds after a refusal is not said.
+    fn read_block(&mut self, addr: Addr, into: &mut Block) -> Result<(), Refusal<()>>
+        requires { IsTrue (is_valid (size_of self.old) addr) }
+        ensures block { OnOk result (IsBlockOf self.new into.new addr.block) }
+        ensures refusal { IfErr result (IsReadingRefusal (is_faulted self.new)) }
+        ensures reads { OnlyReads self.old self.new }
+        ensures maps { IsTrue (disk_of self.old).honest → KeepsMaps self.old self.new }
+        ensures crash { Crashes self.old self.new }
+    {
+        self.wal.read(addr.block, into)
+    }
+
+    // The value that a block of the log has at the address. No device is asked.
+    fn value_in(&self, block: &Block, addr: Addr) -> Result<Value, Refusal<()>>
+        requires { IsTrue (is_valid (size_of self.now) addr) }
+        ensures value { IsTrue (disk_of self.now).honest → IsBlockOf self.now block.now addr.block
+            → IfOk result (λ value. value ≡ value_at (map_now self.now) addr) }
+        ensures object { IfOk result (λ value. IsTrue (is_object (map_now self.now).blocks (addr, value))) }
+        ensures refusal { IfErr result (IsReadRefusal self.now addr self.now) }
+        ensures left { IfErr result (IsLeft self.now) }
+    {
+        let mut bytes = self.room_for(addr)?;
+        self.object_in(block, addr, &mut bytes);
+        Ok(Value::new(bytes))
+    }
+
+    // Reads the object that a block of the log has at the address.
+    fn object_in(&self, block: &Block, addr: Addr, into: &mut [u8])
+        requires valid { IsTrue (is_valid (size_of self.now) addr) }
+        requires size { length into.old ≡ size_at (size_of self.now) addr }
+        ensures value { IsTrue (disk_of self.now).honest → IsBlockOf self.now block.now addr.block
+            → into.new ≡ value_at (map_now self.now) addr }
+        ensures object { IsTrue (is_object (map_now self.now).blocks (addr, into.new)) }
+    {
+        load_object(&self.layout, block, addr, into);
+    }
+
     // A log that was not read since.
     fn untouched(&self)
         ensures { OnlyReadSince self.now self.now }
@@ -105,11 +160,22 @@ fn read_by<O: Opening, D: BlockDisk, R: MapRule>(
     ensures read { OnlyReadSince O.log result.0 }
 {
     log.untouched();
+    let block = match Block::try_new(log.alloc) {
+        Ok(block) => block,
+        Err(refusal) => return (log, Err(refusal)),
+    };
     let mut reader = MapReader::<D, O> {
         log,
+        kept: None,
+        block,
         opening: PhantomData,
     };
     let admitted = rule.admit(&mut reader);
-    let MapReader { log, opening: _ } = reader;
+    let MapReader {
+        log,
+        kept: _,
+        block: _,
+        opening: _,
+    } = reader;
     (log, admitted)
 }

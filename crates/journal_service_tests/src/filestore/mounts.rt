@@ -39,9 +39,10 @@ fn mount_watched(alloc: Global, disk: MemDisk, watch: &Watch) -> Told
     }
 }
 
-// A disk without files: the two headers of the log, the superblock, each inode and each bit are read once.
+// A disk without files: the two headers of the log, the superblock, the sixteen blocks of inodes and the bitmap are read
+// once.
 #[test]
-fn a_mount_reads_each_object_once(rt: HostRuntime) {
+fn a_mount_reads_each_block_once(rt: HostRuntime) {
     let watch = Watch::new(514, 0);
     watch.is_on.store(true, Ordering::SeqCst);
     let told = match on_formatted(&rt, rt.alloc(), 600, &Story::Table("")) {
@@ -49,5 +50,5 @@ fn a_mount_reads_each_object_once(rt: HostRuntime) {
         Err(wrong) => Err(wrong),
     };
     let reads = watch.reads.load(Ordering::SeqCst);
-    assert_eq!(rt; (told, reads), (Ok(()), 2 + 1 + 512 + 32768));
+    assert_eq!(rt; (told, reads), (Ok(()), 2 + 1 + 16 + 1));
 }
