@@ -17,6 +17,7 @@ mod spares;
 mod stage;
 mod steps;
 mod tail;
+mod tail_cut;
 mod tail_prepare;
 mod tail_stage;
 mod writes;
