@@ -17,6 +17,9 @@ use Rattle.journal_wal.specs.declared.step.GroupStep.{GroupStep}
 use Rattle.journal_wal.specs.declared.step.GroupStep.TheVariants.{Idle, Cut, Put, Logged}
 use Rattle.journal_wal.specs.declared.step.InstallStep.{InstallStep}
 use Rattle.journal_wal.specs.declared.step.InstallStep.TheVariants.{Idle as InstallIdle, Put as InstallPut, Freed}
+use Rattle.journal_wal.specs.Groups.{TakesGroup}
+use Rattle.journal_circ.specs.Ring.{Ring}
+use Rattle.journal_objlog.specs.Groups.{TakesMap}
 use Rattle.journal_objlog.specs.Writes.{IsPrepared}
 use Rattle.journal_objlog.specs.Soundness.{IsObjectLog}
 use Rattle.journal_world.proofs.SameMaps.{SameMap-refl, SameMap-trans}
@@ -91,6 +94,17 @@ applied_cut n old new updates sound appends = same_map n old new sound (ap size_
 
 pub applied_logged : (n : ℕ) (old new : WalState) (updates : List Update) → IsObjectLog n old → Appends old updates new → SameMap (map_logged new) (map_logged old)
 applied_logged n old new updates sound appends = same_map n old new sound (ap size_of appends.log) (blocks_logged new) (blocks_logged old) appends.logged
+
+-- a group that was cut elsewhere is taken
+pub takes_map : (n : ℕ) (old new : WalState) (group : List Update) → IsObjectLog n old → TakesGroup old group new → TakesMap old group new
+takes_map n old new group sound takes = record {
+  now = same_map n old new sound size (blocks_now new) (with_updates (blocks_now old) group) takes.now;
+  cut = same_map n old new sound size (blocks_cut new) (with_updates (blocks_now old) group) takes.cut;
+  logged = same_map n old new sound size (blocks_logged new) (blocks_logged old) takes.logged;
+}
+  where
+    size : size_of new ≡ size_of old
+    size = ap (λ (r : Ring). r.disk.past.size) takes.disk
 
 -- the object of the block as it is now is the map's value
 pub read_value : (n : ℕ) (w : WalState) → IsObjectLog n w → (a : Addr) (bytes : Bytes) (value : Value) → IsTrue (is_object n (a, value))

@@ -9,3 +9,4 @@ pub mod Soundness
 pub mod Staging
 pub mod Places
 pub mod ObjectTails
+pub mod Groups

@@ -9,6 +9,7 @@
 //! maps is owed where the disk is honest. `specs/` has these words.
 #![tactic(auto)]
 
+mod group;
 mod object_log;
 mod prepare;
 mod read;
