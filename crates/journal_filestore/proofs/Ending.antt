@@ -1,19 +1,29 @@
 -- An operation in the history, from the commit of its transaction.
-use Rattle.std.proofs.Common.{ℕ, ◌≡◌, ◌≤◌, ◌+◌, Bool, IsTrue, Result, Ok, Err, OnOk, List, [], ◌∷◌, ◌++◌, length, take, slice_get, Some, refl, sym, ap, subst, ◌∙◌, arith, append_assoc, length-append}
+use Rattle.std.proofs.Common.{ℕ, zero, suc, ◌≡◌, ◌≢◌, ◌≤◌, ◌+◌, Bool, true, false, IsTrue, Result, Ok, Err, OnOk, List, [], ◌∷◌, ◌++◌, length, take, slice_get, Some, None, refl, sym, ap, subst, ◌∙◌, arith, length-append}
 use Rattle.std.proofs.Math.Seq.{take-append_seam}
-use Rattle.journal_world.specs.Maps.{Transaction, overwritten}
-use Rattle.journal_world.specs.Histories.{Entry, is_trusted, commits_of, count, floor, latest}
+use Rattle.std.proofs.lemmas.Bool.{false≢true}
+use Rattle.std.proofs.lemmas.List.{take_all, take-append-le}
+use Rattle.std.proofs.lemmas.Option.{slice_get_past, slice_get_within}
+use Rattle.journal_world.specs.declared.refusal.Refusal.{Refusal}
+use Rattle.journal_world.specs.Maps.{Transaction, apply, overwritten}
+use Rattle.journal_world.specs.Histories.{Entry, is_trusted, commits_of, count, floor, at, latest}
 use Rattle.journal_world.specs.Histories.Entry.{commit}
 use Rattle.journal_world.proofs.Prefixes.{IsPrefix-trans, IsPrefix-length}
-use Rattle.journal_history.specs.Tokens.{SessionState, OnlyExtends, CommitPlace}
+use Rattle.journal_world.proofs.MapsOfHistories.{is_trusted-append}
+use Rattle.journal_history.specs.Tokens.{SessionState, OnlyExtends, CommitPlace, IsExact}
 use Rattle.journal_core.specs.Causes.{Told}
-use Rattle.journal_twophase.specs.Transactions.{TxnState}
+use Rattle.journal_twophase.specs.Transactions.{TxnState, core_of}
+use Rattle.journal_twophase.specs.Commits.{IsCommitted}
+use Rattle.journal_inode.specs.Sound.{HasSoundFiles}
 use Rattle.journal_filestore.specs.declared.fault.Fault.{Fault}
 use Rattle.journal_filestore.specs.declared.fault.Fault.TheVariants.{Refused, Unsure}
+use Rattle.journal_filestore.specs.declared.owed.Owed.{Owed}
+use Rattle.journal_filestore.specs.declared.owed.Owed.TheVariants.{Nothing, Wait}
+use Rattle.journal_filestore.specs.declared.owed.Committed.{Committed}
 use Rattle.journal_filestore.specs.declared.status.Status.{Status}
 use Rattle.journal_filestore.specs.Files.{Files, files_of}
 use Rattle.journal_filestore.specs.Doing.{Does}
-use Rattle.journal_filestore.specs.Done.{IsMadeAt, IsDone, IsOperationFault, IsAnswered, IsEnded, Ends, IsEndFault}
+use Rattle.journal_filestore.specs.Done.{IsMadeAt, IsDone, IsOperationFault, IsAnswered, IsReceiptOf, IsOwed, IsCommittedBy, IsAnsweredSoon, IsPaid, IsWait, owed_for}
 
 -- an entry that is no opening says nothing of trust
 trusted_before : (found : List Entry) (t : Transaction) (rest : List Entry) → is_trusted (found ++ commit t ∷ rest) ≡ is_trusted found
@@ -31,73 +41,115 @@ OnlyExtends-trans old middle new first second = record {
   seen = IsPrefix-trans old.seen middle.seen new.seen first.seen second.seen;
 }
 
-module _ {A : Type 0} (blocks : ℕ) (case : Files → Result A Status → Files → Type 0) (t : TxnState) (answer : Result A Status) where
-  -- where the transaction's commit stands
-  abbrev pub place_of_commit : (old new : SessionState) (place : CommitPlace) → IsEnded blocks t old new place → ℕ
-  place_of_commit old new place ended = length ended.committed.found
+none_true : {A E : Type 0} (r : Result A E) → OnOk r (IsTrue false) → OnOk r ⊥
+none_true (Ok x) is = false≢true is
+none_true (Err e) is = tt
 
-  -- the history then seen, from the commit on
-  seen_is : (old new : SessionState) (place : CommitPlace) (ended : IsEnded blocks t old new place)
-      → new.seen ≡ ended.committed.found ++ commit (record { session = old.number; number = length (commits_of old.number old.mine); reads = t.reads; writes = t.writes }) ∷ ended.more.seen.0
-  seen_is old new place ended =
-      sym ended.more.seen.1
-      ∙ ap (λ h. h ++ ended.more.seen.0) ended.committed.committed.added
-      ∙ append_assoc ended.committed.found _ ended.more.seen.0
-
-  -- a transaction that does what the case says is such an operation
-  pub IsMadeAt-ended : (old new : SessionState) (place : CommitPlace) (ended : IsEnded blocks t old new place) → Does blocks case t.reads t.writes answer
-      → IsMadeAt case old new answer (place_of_commit old new place ended)
-  IsMadeAt-ended old new place ended does =
-      let c = ended.committed in
+module _ {A : Type 0} (blocks : ℕ) (case : Files → Result A Status → Files → Type 0) (t : TxnState) (answer : Result A Status) (old new : SessionState) (receipt : CommitPlace) (c : IsCommitted HasSoundFiles blocks t.began (core_of t) old new receipt) where
+  -- a transaction that does what the case says is such an operation, where its commit stands
+  pub IsMadeAt-committed : Does blocks case t.reads t.writes answer → IsMadeAt case old new answer (length c.found)
+  IsMadeAt-committed does =
       let u : Transaction = record { session = old.number; number = length (commits_of old.number old.mine); reads = t.reads; writes = t.writes } in
-      let whole : new.seen ≡ c.found ++ commit u ∷ ended.more.seen.0 = seen_is old new place ended in
+      let whole : new.seen ≡ c.found ++ commit u ∷ [] = c.committed.added in
       let before : take (length c.found) new.seen ≡ c.found = ap (take (length c.found)) whole ∙ take-append_seam c.found _ in
-      let same_number : new.number ≡ old.number = ended.more.number ∙ ap (λ s. s.number) c.committed.session in
+      let same_number : new.number ≡ old.number = ap (λ s. s.number) c.committed.session in
       record {
         made = u;
-        stands = ap (λ h. slice_get h (length c.found)) whole ∙ at_seam c.found (commit u) ended.more.seen.0;
+        stands = ap (λ h. slice_get h (length c.found)) whole ∙ at_seam c.found (commit u) [];
         later = IsPrefix-length old.seen c.found c.committed.later;
-        extends = IsPrefix-trans old.seen c.found new.seen c.committed.later (commit u ∷ ended.more.seen.0, sym whole);
+        extends = IsPrefix-trans old.seen c.found new.seen c.committed.later (commit u ∷ [], sym whole);
         number = same_number;
-        one_more =
-            ap (λ h. commits_of new.number h) (ended.more.mine ∙ ap (λ s. s.mine) c.committed.session)
-            ∙ ap (λ n. commits_of n ended.then_seen.seen) same_number
-            ∙ c.committed.one_more;
+        one_more = ap (λ h. commits_of new.number h) (ap (λ s. s.mine) c.committed.session) ∙ ap (λ n. commits_of n new.seen) same_number ∙ c.committed.one_more;
         answers = λ trusted.
-            let trusted_found : IsTrue (is_trusted c.found) = sym (trusted_before c.found u ended.more.seen.0) ∙ ap is_trusted (sym whole) ∙ trusted in
+            let trusted_found : IsTrue (is_trusted c.found) = sym (trusted_before c.found u []) ∙ ap is_trusted (sym whole) ∙ trusted in
             subst (λ h. case (files_of (latest h)) answer (files_of (overwritten (latest h) t.writes))) (sym before)
             (does.answers (latest c.found) c.on_disk (c.ruled trusted_found) (c.agrees trusted_found));
-        ruled = ended.ruled;
+        ruled = c.known.sound.ruled;
       }
 
-  -- the commits up to it are those that its receipt counts
-  pub count-ended : (old new : SessionState) (place : CommitPlace) (ended : IsEnded blocks t old new place)
-      → count (take (place_of_commit old new place ended + 1) new.seen) ≡ place.count
-  count-ended old new place ended =
-      let c = ended.committed in
-      let longer : length ended.then_seen.seen ≡ length c.found + 1 = ap length c.committed.added ∙ length-append c.found _ in
-      ap (λ n. count (take n new.seen)) (sym longer)
-      ∙ ap (λ h. count (take (length ended.then_seen.seen) h)) (sym ended.more.seen.1)
-      ∙ ap count (take-append_seam ended.then_seen.seen ended.more.seen.0)
-      ∙ sym (ap (λ p. p.count) c.receipt.told)
+  -- the receipt is its own
+  IsReceiptOf-committed : IsReceiptOf new.seen (length c.found) receipt
+  IsReceiptOf-committed =
+      let long : length new.seen ≡ length c.found + 1 = ap length c.committed.added ∙ length-append c.found _ in
+      record {
+        front = ap (λ r. r.front) c.receipt.told;
+        place = ap (λ r. r.place) c.receipt.told;
+        counted = ap (λ r. r.count) c.receipt.told ∙ sym (ap count (take_all (length c.found + 1) new.seen (omega (arith, long))));
+      }
 
-  OnOk-always : {B E : Type 0} (r : Result B E) (P : Type 0) → P → OnOk r P
-  OnOk-always (Ok x) P p = p
-  OnOk-always (Err e) P p = tt
-
-  -- it did not wait, or it waited until the commit is marked
-  pub IsDone-ended : (waits waited : Bool) (old new : SessionState) → (IsTrue waits → OnOk answer (IsTrue waited)) → Ends blocks t waited old new → Does blocks case t.reads t.writes answer
-      → IsDone waits case old new answer
-  IsDone-ended waits waited old new when ends does = record {
-    place = place_of_commit old new ends.place ends.ended;
-    made = IsMadeAt-ended old new ends.place ends.ended does;
-    exact = ends.exact;
-    stable = λ waiting. stable_where answer (when waiting);
+  -- it is owed where the transaction waits: where the operation does, and is answered Ok
+  pub IsCommittedBy-ended : (waits waited : Bool) (owed : Owed CommitPlace) → (IsTrue waits → OnOk answer (IsTrue waited)) → (IsTrue waited → IsTrue waits) → owed ≡ owed_for waited receipt
+      → Does blocks case t.reads t.writes answer → IsCommittedBy waits case old new (record { answer = answer; owed = owed })
+  IsCommittedBy-ended waits waited owed when only owes does = record {
+    place = length c.found;
+    made = IsMadeAt-committed does;
+    exact = c.exact;
+    owed = subst (λ o. IsOwed waits answer new.seen (length c.found) o) (sym owes) (owing waited when only);
   }
     where
-      stable_where : (r : Result A Status) → OnOk r (IsTrue waited) → OnOk r (count (take (place_of_commit old new ends.place ends.ended + 1) new.seen) ≤ floor new.seen)
-      stable_where (Ok x) is = subst (λ n. n ≤ floor new.seen) (sym (count-ended old new ends.place ends.ended)) (ends.stable is)
-      stable_where (Err e) is = tt
+      owing : (w : Bool) → (IsTrue waits → OnOk answer (IsTrue w)) → (IsTrue w → IsTrue waits) → IsOwed waits answer new.seen (length c.found) (owed_for w receipt)
+      owing true when only = (only refl, IsReceiptOf-committed)
+      owing false when only = λ waiting. none_true answer (when waiting)
+
+stands_on : {A : Type 0} (xs ys : List A) (n : ℕ) (y : A) → slice_get xs n ≡ Some y → slice_get (xs ++ ys) n ≡ Some y
+stands_on [] ys n y is = let none : None ≡ Some y = sym (slice_get_past [] n (omega arith)) ∙ is in cc
+stands_on (x ∷ xs) ys zero y is = is
+stands_on (x ∷ xs) ys (suc n) y is = stands_on xs ys n y is
+
+begun : {A : Type 0} (xs : List A) (n : ℕ) (y : A) → slice_get xs n ≡ Some y → xs ≢ []
+begun xs n y is none = let past : None ≡ Some y = sym (slice_get_past [] n (omega arith)) ∙ ap (λ h. slice_get h n) (sym none) ∙ is in cc
+
+-- A session that has seen more since
+module _ {A : Type 0} (case : Files → Result A Status → Files → Type 0) (old middle new : SessionState) (more : OnlyExtends middle new) (sound : IsTrue (is_trusted new.seen) → (n : ℕ) → HasSoundFiles (at new.seen n)) where
+  front_is : (answer : Result A Status) (place : ℕ) → IsMadeAt case old middle answer place → (n : ℕ) → n ≤ place + 1 → take n new.seen ≡ take n middle.seen
+  front_is answer place is n low =
+      ap (take n) (sym more.seen.1) ∙ take-append-le n middle.seen more.seen.0 (omega (arith, low, slice_get_within middle.seen place (commit is.made) is.stands))
+
+  IsMadeAt-seen : (answer : Result A Status) (place : ℕ) → IsMadeAt case old middle answer place → IsMadeAt case old new answer place
+  IsMadeAt-seen answer place is = record {
+    made = is.made;
+    stands = ap (λ h. slice_get h place) (sym more.seen.1) ∙ stands_on middle.seen more.seen.0 place (commit is.made) is.stands;
+    later = is.later;
+    extends = IsPrefix-trans old.seen middle.seen new.seen is.extends more.seen;
+    number = more.number ∙ is.number;
+    one_more = ap (λ h. commits_of new.number h) more.mine ∙ ap (λ n. commits_of n middle.mine) more.number ∙ is.one_more;
+    answers = λ trusted.
+        let trusted_middle : IsTrue (is_trusted middle.seen) = sym (is_trusted-append middle.seen more.seen.0 (begun middle.seen place (commit is.made) is.stands)) ∙ ap is_trusted more.seen.1 ∙ trusted in
+        subst (λ h. case (files_of (latest h)) answer (files_of (apply is.made (latest h)))) (sym (front_is answer place is place (omega arith))) (is.answers trusted_middle);
+    ruled = sound;
+  }
+
+  -- what was owed is paid
+  pub IsDone-paid : (waits : Bool) (done : Committed A CommitPlace) → IsCommittedBy waits case old middle done → IsPaid done.owed new → IsExact new → IsDone waits case old new done.answer
+  IsDone-paid waits done is paid exact = record {
+    place = is.place;
+    made = IsMadeAt-seen done.answer is.place is.made;
+    exact = exact;
+    stable = λ waiting. stable_where done.owed is.owed paid waiting;
+  }
+    where
+      covered : (receipt : CommitPlace) → IsReceiptOf middle.seen is.place receipt → receipt.count ≤ floor new.seen → count (take (is.place + 1) new.seen) ≤ floor new.seen
+      covered receipt of marked = subst (λ n. n ≤ floor new.seen) (of.counted ∙ sym (ap count (front_is done.answer is.place is.made (is.place + 1) (omega arith)))) marked
+
+      always : (r : Result A Status) (P : Type 0) → P → OnOk r P
+      always (Ok x) P p = p
+      always (Err e) P p = tt
+
+      never : (r : Result A Status) (P : Type 0) → OnOk r ⊥ → OnOk r P
+      never (Ok x) P none = absurd none
+      never (Err e) P none = tt
+
+      stable_where : (owed : Owed CommitPlace) → IsOwed waits done.answer middle.seen is.place owed → IsPaid owed new → IsTrue waits → OnOk done.answer (count (take (is.place + 1) new.seen) ≤ floor new.seen)
+      stable_where Nothing owes paid waiting = never done.answer _ (owes waiting)
+      stable_where (Wait receipt) owes paid waiting = always done.answer _ (covered receipt owes.1 paid)
+
+  -- what was owed is refused
+  pub IsFault-unpaid : (waits : Bool) (done : Committed A CommitPlace) (why : Refusal Told) → IsCommittedBy waits case old middle done → IsWait done.owed → IsOperationFault waits case old new (Unsure why)
+  IsFault-unpaid waits done why is wait = (waiting done.owed is.owed wait, (done.answer, is.place, IsMadeAt-seen done.answer is.place is.made))
+    where
+      waiting : (owed : Owed CommitPlace) → IsOwed waits done.answer middle.seen is.place owed → IsWait owed → IsTrue waits
+      waiting Nothing owes wait = absurd wait
+      waiting (Wait receipt) owes wait = owes.0
 
 -- a session that had only seen more before
 module _ {A : Type 0} (case : Files → Result A Status → Files → Type 0) (old middle new : SessionState) (more : OnlyExtends old middle) where
@@ -113,21 +165,14 @@ module _ {A : Type 0} (case : Files → Result A Status → Files → Type 0) (o
     ruled = is.ruled;
   }
 
-  pub IsDone-later : (waits : Bool) (answer : Result A Status) → IsDone waits case middle new answer → IsDone waits case old new answer
-  IsDone-later waits answer done = record {
-    place = done.place;
-    made = IsMadeAt-later answer done.place done.made;
-    exact = done.exact;
-    stable = done.stable;
+  pub IsSoon-later : (waits : Bool) (r : Result (Committed A CommitPlace) (Refusal Told)) → IsAnsweredSoon waits case middle new r → IsAnsweredSoon waits case old new r
+  IsSoon-later waits (Ok done) is = record {
+    place = is.place;
+    made = IsMadeAt-later done.answer is.place is.made;
+    exact = is.exact;
+    owed = is.owed;
   }
-
-  pub IsFault-later : (waits : Bool) (fault : Fault Told) → IsOperationFault waits case middle new fault → IsOperationFault waits case old new fault
-  IsFault-later waits (Refused why) is = OnlyExtends-trans old middle new more is
-  IsFault-later waits (Unsure why) is = (is.0, (is.1.0, is.1.1, IsMadeAt-later is.1.0 is.1.1 is.1.2))
-
-  pub IsAnswered-later : (waits : Bool) (r : Result (Result A Status) (Fault Told)) → IsAnswered waits case middle new r → IsAnswered waits case old new r
-  IsAnswered-later waits (Ok answer) is = IsDone-later waits answer is
-  IsAnswered-later waits (Err fault) is = IsFault-later waits fault is
+  IsSoon-later waits (Err why) is = OnlyExtends-trans old middle new more is
 
 -- the same, said otherwise
 module _ {A : Type 0} (case other : Files → Result A Status → Files → Type 0) (like : (answer : Result A Status) (F F2 : Files) → case F answer F2 → other F answer F2) where
@@ -153,9 +198,11 @@ module _ {A : Type 0} (case other : Files → Result A Status → Files → Type
   IsAnswered-like waits old new (Err (Refused why)) is = is
   IsAnswered-like waits old new (Err (Unsure why)) is = (is.0, (is.1.0, is.1.1, IsMadeAt-like old new is.1.0 is.1.1 is.1.2))
 
--- An attempt that has no answer
-pub IsFault-ended : {A : Type 0} (blocks : ℕ) (case : Files → Result A Status → Files → Type 0) (t : TxnState) (answer : Result A Status) (waits waited : Bool) (old new : SessionState) (fault : Fault Told)
-    → Does blocks case t.reads t.writes answer → (IsTrue waited → IsTrue waits) → IsEndFault blocks t waited old new fault → IsOperationFault waits case old new fault
-IsFault-ended blocks case t answer waits waited old new (Refused why) does only is = is
-IsFault-ended blocks case t answer waits waited old new (Unsure why) does only is =
-    (only is.0, (answer, place_of_commit blocks case t answer old new is.1.0 is.1.1, IsMadeAt-ended blocks case t answer old new is.1.0 is.1.1 does))
+  pub IsSoon-like : (waits : Bool) (old new : SessionState) (r : Result (Committed A CommitPlace) (Refusal Told)) → IsAnsweredSoon waits case old new r → IsAnsweredSoon waits other old new r
+  IsSoon-like waits old new (Ok done) is = record {
+    place = is.place;
+    made = IsMadeAt-like old new done.answer is.place is.made;
+    exact = is.exact;
+    owed = is.owed;
+  }
+  IsSoon-like waits old new (Err why) is = is

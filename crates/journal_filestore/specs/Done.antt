@@ -1,8 +1,9 @@
 -- What an operation is in the history, and what is left where it has no answer.
-use Rattle.std.specs.Prelude.{ℕ, ◌≡◌, ◌≤◌, ◌+◌, Bool, IsTrue, [], ◌∷◌, ◌++◌, length, take, Some, slice_get, Result, Ok, Err, OnOk}
+use Rattle.std.specs.Prelude.{ℕ, ◌≡◌, ◌≤◌, ◌+◌, Bool, true, false, IsTrue, List, [], ◌∷◌, ◌++◌, length, take, Some, slice_get, Result, Ok, Err, OnOk}
 use mathlib.Core.List.{IsPrefix}
 use Rattle.journal_world.specs.Maps.{Transaction, apply}
-use Rattle.journal_world.specs.Histories.{commits_of, count, floor, is_trusted, at, latest}
+use Rattle.journal_world.specs.declared.refusal.Refusal.{Refusal}
+use Rattle.journal_world.specs.Histories.{Entry, commits_of, count, floor, is_trusted, at, latest}
 use Rattle.journal_world.specs.Histories.Entry.{commit}
 use Rattle.journal_history.specs.Tokens.{SessionState, OnlyExtends, IsExact, CommitPlace}
 use Rattle.journal_core.specs.Causes.{Told}
@@ -11,6 +12,9 @@ use Rattle.journal_twophase.specs.Commits.{IsCommitted}
 use Rattle.journal_inode.specs.Sound.{HasSoundFiles}
 use Rattle.journal_filestore.specs.declared.fault.Fault.{Fault}
 use Rattle.journal_filestore.specs.declared.fault.Fault.TheVariants.{Refused, Unsure}
+use Rattle.journal_filestore.specs.declared.owed.Owed.{Owed}
+use Rattle.journal_filestore.specs.declared.owed.Owed.TheVariants.{Nothing, Wait}
+use Rattle.journal_filestore.specs.declared.owed.Committed.{Committed}
 use Rattle.journal_filestore.specs.declared.status.Status.{Status}
 use Rattle.journal_filestore.specs.Files.{Files, files_of}
 
@@ -47,26 +51,47 @@ abbrev pub IsAnswered : {A : Type 0} → Bool → (Files → Result A Status →
 IsAnswered waits case old new (Ok answer) = IsDone waits case old new answer
 IsAnswered waits case old new (Err fault) = IsOperationFault waits case old new fault
 
--- The transaction was committed, and the session may have seen more since
-pub record IsEnded (blocks : ℕ) (t : TxnState) (old new : SessionState) (place : CommitPlace) : Type 0 where
-  pub then_seen : SessionState
-  pub committed : IsCommitted HasSoundFiles blocks t.began (core_of t) old then_seen place
-  pub more : OnlyExtends then_seen new
-  pub ruled : IsTrue (is_trusted new.seen) → (n : ℕ) → HasSoundFiles (at new.seen n)
+-- the receipt is of the commit at this place of the history
+pub record IsReceiptOf (history : List Entry) (index : ℕ) (receipt : CommitPlace) : Type 0 where
+  pub front : receipt.front ≡ history
+  pub place : receipt.place ≡ index
+  pub counted : receipt.count ≡ count (take (index + 1) history)
 
--- The session is exact, and where it waited the commit is marked as stable
-pub record Ends (blocks : ℕ) (t : TxnState) (waits : Bool) (old new : SessionState) : Type 0 where
-  pub place : CommitPlace
-  pub ended : IsEnded blocks t old new place
+-- What is owed for an answer whose commit stands at this place: a success that waits is owed the wait for its receipt, and else nothing is
+abbrev pub IsOwed : {A : Type 0} → Bool → Result A Status → List Entry → ℕ → Owed CommitPlace → Type 0
+IsOwed waits answer history place Nothing = IsTrue waits → OnOk answer ⊥
+IsOwed waits answer history place (Wait receipt) = IsTrue waits × IsReceiptOf history place receipt
+
+-- The operation is committed, and answered. What waits is not waited for yet
+pub record IsCommittedBy {A : Type 0} (waits : Bool) (case : Files → Result A Status → Files → Type 0) (old new : SessionState) (done : Committed A CommitPlace) : Type 0 where
+  pub place : ℕ
+  pub made : IsMadeAt case old new done.answer place
+  -- the session has no other commits
   pub exact : IsExact new
-  pub stable : IsTrue waits → place.count ≤ floor new.seen
+  pub owed : IsOwed waits done.answer new.seen place done.owed
 
--- Why the transaction is not committed, or not known to be stable
-abbrev pub IsEndFault : ℕ → TxnState → Bool → SessionState → SessionState → Fault Told → Type 0
-IsEndFault blocks t waits old new (Refused why) = OnlyExtends old new
-IsEndFault blocks t waits old new (Unsure why) = IsTrue waits × ((place : CommitPlace) × IsEnded blocks t old new place)
+-- What an operation comes to that is not waited for. Refused, it was not done
+abbrev pub IsAnsweredSoon : {A : Type 0} → Bool → (Files → Result A Status → Files → Type 0) → SessionState → SessionState → Result (Committed A CommitPlace) (Refusal Told) → Type 0
+IsAnsweredSoon waits case old new (Ok done) = IsCommittedBy waits case old new done
+IsAnsweredSoon waits case old new (Err why) = OnlyExtends old new
 
--- What the end of an attempt comes to
-abbrev pub IsEndOf : ℕ → TxnState → Bool → SessionState → SessionState → Result Unit (Fault Told) → Type 0
-IsEndOf blocks t waits old new (Ok ended) = Ends blocks t waits old new
-IsEndOf blocks t waits old new (Err fault) = IsEndFault blocks t waits old new fault
+-- a mark covers what was owed
+abbrev pub IsPaid : Owed CommitPlace → SessionState → Type 0
+IsPaid Nothing s = Unit {0}
+IsPaid (Wait receipt) s = receipt.count ≤ floor s.seen
+
+-- something is owed
+abbrev pub IsWait : Owed CommitPlace → Type 0
+IsWait Nothing = ⊥
+IsWait (Wait receipt) = Unit {0}
+
+-- what is owed for a commit, where it waits or not
+abbrev pub owed_for : {P : Type 0} → Bool → P → Owed P
+owed_for true receipt = Wait receipt
+owed_for false receipt = Nothing
+
+-- The transaction was committed, and its receipt is owed where it waits
+pub record Ends (blocks : ℕ) (t : TxnState) (waits : Bool) (old new : SessionState) (owed : Owed CommitPlace) : Type 0 where
+  pub receipt : CommitPlace
+  pub committed : IsCommitted HasSoundFiles blocks t.began (core_of t) old new receipt
+  pub owes : owed ≡ owed_for waits receipt

@@ -1,8 +1,8 @@
 // COMMIT.
 ghost use Rattle.std.specs.Prelude.{◌≡◌, true, IfErr};
 ghost use Rattle.journal_inode.specs.declared.node.Time.{Time};
-ghost use Rattle.journal_filestore.specs.Done.{IsAnswered};
-ghost use Rattle.journal_filestore.specs.Faults.{IsFaultOf};
+ghost use Rattle.journal_filestore.specs.Done.{IsAnswered, IsAnsweredSoon};
+ghost use Rattle.journal_filestore.specs.Faults.{IsFaultOf, IsFilesRefusal};
 ghost use Rattle.journal_filestore.specs.Operations.{Op, file_target, commit_case};
 ghost use Rattle.journal_filestore.specs.Operations.Call.{commit};
 ghost use Rattle.journal_filestore.specs.Operations.Reply.{committed};
@@ -12,7 +12,7 @@ use crate::operation::{GivenUp, Operation};
 use crate::reply::attributes_of;
 use crate::space::Space;
 use crate::store::{Answer, FileFault, FileTxn};
-use crate::{Attributes, FileStore, Handle, Status};
+use crate::{Attributes, FileStore, Handle, Soon, Status};
 use journal_disk::BlockDisk;
 use journal_history::{Naming, Session};
 use journal_inode::SoundFiles;
@@ -65,5 +65,19 @@ impl<'b, D: BlockDisk, J: Naming> FileStore<'b, D, J> {
         ensures refusal { IfErr result (IsFaultOf session.new) }
     {
         self.run(rt, session, &Commit { handle })
+    }
+
+    /// COMMIT up to its commit: as `commit` does it, and answered before it is stable. Where that waits, what is owed is the
+    /// wait for its receipt, by `Journal::wait_stable`: the answer stands in the history, and a crash before may lose it.
+    pub fn commit_soon<W: Wait>(
+        &self,
+        rt: &W,
+        session: &mut Session<'b, J, SoundFiles>,
+        handle: Handle,
+    ) -> Soon<'b, J, Attributes>
+        ensures answered { IsAnsweredSoon true (λ F r F2. (now : Time) → Op (commit handle.number handle.generation) now F (committed r) F2) session.old session.new result }
+        ensures refusal { IfErr result IsFilesRefusal }
+    {
+        self.run_soon(rt, session, &Commit { handle })
     }
 }

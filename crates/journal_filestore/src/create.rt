@@ -7,8 +7,8 @@ ghost use Rattle.journal_inode.specs.Sound.{node_at};
 ghost use Rattle.journal_inode.specs.Places.Object.{block, bit};
 ghost use Rattle.journal_filestore.specs.Files.{is_file_number, files_of};
 ghost use Rattle.journal_filestore.specs.Doing.{IsNotYetRead, Leads, Makes};
-ghost use Rattle.journal_filestore.specs.Done.{IsAnswered};
-ghost use Rattle.journal_filestore.specs.Faults.{IsFaultOf, IsGivenUp};
+ghost use Rattle.journal_filestore.specs.Done.{IsAnswered, IsAnsweredSoon};
+ghost use Rattle.journal_filestore.specs.Faults.{IsFaultOf, IsGivenUp, IsFilesRefusal};
 ghost use Rattle.journal_filestore.specs.Handles.{time_of, data_of, asked, found_node};
 ghost use Rattle.journal_filestore.specs.Operations.{Op, file_target, create_case, create_new, create_file, is_no_time};
 ghost use Rattle.journal_filestore.specs.Operations.Call.{create};
@@ -22,7 +22,7 @@ use crate::reply::{attributes_of, root_attributes};
 use crate::set_file::{is_no_time, is_too_big, set_file, time_after};
 use crate::space::Space;
 use crate::store::{Answer, FileFault, FileTxn};
-use crate::{FileStore, Found, Handle, How, Settings, Status};
+use crate::{FileStore, Found, Handle, How, Settings, Soon, Status};
 use journal_alloc::Alloc;
 use journal_disk::BlockDisk;
 use journal_history::{Naming, Session};
@@ -210,5 +210,30 @@ impl<'b, D: BlockDisk, J: Naming> FileStore<'b, D, J> {
             alloc: self.alloc,
         };
         self.run(rt, session, &create)
+    }
+
+    /// CREATE up to its commit: as `create` does it, and answered before it is stable. Where that waits, what is owed is the
+    /// wait for its receipt, by `Journal::wait_stable`: the answer stands in the history, and a crash before may lose it.
+    pub fn create_soon<W: Wait>(
+        &self,
+        rt: &W,
+        session: &mut Session<'b, J, SoundFiles>,
+        directory: Handle,
+        name: &[u8],
+        how: How,
+        now: Moment,
+    ) -> Soon<'b, J, Found>
+        ensures answered { IsAnsweredSoon true (λ F r F2. Op (create directory.number directory.generation name.now how) (time_of now) F (made r) F2) session.old session.new result }
+        ensures refusal { IfErr result IsFilesRefusal }
+    {
+        let create = Create {
+            directory,
+            name,
+            how,
+            moment: now,
+            free: &self.free,
+            alloc: self.alloc,
+        };
+        self.run_soon(rt, session, &create)
     }
 }

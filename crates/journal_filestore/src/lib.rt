@@ -24,6 +24,7 @@ mod lookup;
 mod name;
 mod objects;
 mod operation;
+mod owed;
 mod portion;
 mod read;
 mod remove;
@@ -38,6 +39,7 @@ mod write;
 
 pub use fault::Fault;
 pub use handle::Handle;
+pub use owed::{Committed, Owed, Soon};
 pub use portion::Portion;
 pub use reply::{Attributes, Changed, Found};
 pub use settings::{How, NewTime, Settings, Stability};

@@ -1,8 +1,8 @@
 // REMOVE.
 ghost use Rattle.std.specs.Prelude.{◌≡◌, true, IfErr};
 ghost use Rattle.journal_inode.specs.declared.node.Time.{Time};
-ghost use Rattle.journal_filestore.specs.Done.{IsAnswered};
-ghost use Rattle.journal_filestore.specs.Faults.{IsFaultOf};
+ghost use Rattle.journal_filestore.specs.Done.{IsAnswered, IsAnsweredSoon};
+ghost use Rattle.journal_filestore.specs.Faults.{IsFaultOf, IsFilesRefusal};
 ghost use Rattle.journal_filestore.specs.Operations.{Op, file_target, remove_case};
 ghost use Rattle.journal_filestore.specs.Operations.Call.{remove};
 ghost use Rattle.journal_filestore.specs.Operations.Reply.{removed};
@@ -14,7 +14,7 @@ use crate::operation::{GivenUp, Operation};
 use crate::reply::root_attributes;
 use crate::space::Space;
 use crate::store::{Answer, FileFault, FileTxn};
-use crate::{Attributes, FileStore, Handle, Status};
+use crate::{Attributes, FileStore, Handle, Soon, Status};
 use journal_disk::BlockDisk;
 use journal_history::{Naming, Session};
 use journal_inode::{Node, SoundFiles};
@@ -79,5 +79,20 @@ impl<'b, D: BlockDisk, J: Naming> FileStore<'b, D, J> {
         ensures refusal { IfErr result (IsFaultOf session.new) }
     {
         self.run(rt, session, &Remove { directory, name })
+    }
+
+    /// REMOVE up to its commit: as `remove` does it, and answered before it is stable. Where that waits, what is owed is the
+    /// wait for its receipt, by `Journal::wait_stable`: the answer stands in the history, and a crash before may lose it.
+    pub fn remove_soon<W: Wait>(
+        &self,
+        rt: &W,
+        session: &mut Session<'b, J, SoundFiles>,
+        directory: Handle,
+        name: &[u8],
+    ) -> Soon<'b, J, Attributes>
+        ensures answered { IsAnsweredSoon true (λ F r F2. (now : Time) → Op (remove directory.number directory.generation name.now) now F (removed r) F2) session.old session.new result }
+        ensures refusal { IfErr result IsFilesRefusal }
+    {
+        self.run_soon(rt, session, &Remove { directory, name })
     }
 }

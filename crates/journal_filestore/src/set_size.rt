@@ -1,7 +1,7 @@
 // SETATTR.
 ghost use Rattle.std.specs.Prelude.{◌≡◌, true, IfErr};
-ghost use Rattle.journal_filestore.specs.Done.{IsAnswered};
-ghost use Rattle.journal_filestore.specs.Faults.{IsFaultOf};
+ghost use Rattle.journal_filestore.specs.Done.{IsAnswered, IsAnsweredSoon};
+ghost use Rattle.journal_filestore.specs.Faults.{IsFaultOf, IsFilesRefusal};
 ghost use Rattle.journal_filestore.specs.Handles.{time_of};
 ghost use Rattle.journal_filestore.specs.Operations.{Op, file_target, setattr_case, root_set, is_other_time};
 ghost use Rattle.journal_filestore.specs.Operations.Call.{setattr};
@@ -13,7 +13,7 @@ use crate::reply::{attributes_of, root_attributes};
 use crate::set_file::{is_no_time, is_too_big, set_file};
 use crate::space::Space;
 use crate::store::{Answer, FileFault, FileTxn};
-use crate::{Changed, FileStore, Handle, Settings, Status};
+use crate::{Changed, FileStore, Handle, Settings, Soon, Status};
 use journal_disk::BlockDisk;
 use journal_history::{Naming, Session};
 use journal_inode::{SoundFiles, Time};
@@ -128,5 +128,28 @@ impl<'b, D: BlockDisk, J: Naming> FileStore<'b, D, J> {
             moment: now,
         };
         self.run(rt, session, &set)
+    }
+
+    /// SETATTR up to its commit: as `set_size` does it, and answered before it is stable. Where that waits, what is owed is the
+    /// wait for its receipt, by `Journal::wait_stable`: the answer stands in the history, and a crash before may lose it.
+    pub fn set_size_soon<W: Wait>(
+        &self,
+        rt: &W,
+        session: &mut Session<'b, J, SoundFiles>,
+        handle: Handle,
+        settings: Settings,
+        guard: Option<Time>,
+        now: Moment,
+    ) -> Soon<'b, J, Changed>
+        ensures answered { IsAnsweredSoon true (λ F r F2. Op (setattr handle.number handle.generation settings guard) (time_of now) F (set r) F2) session.old session.new result }
+        ensures refusal { IfErr result IsFilesRefusal }
+    {
+        let set = SetSize {
+            handle,
+            settings,
+            guard,
+            moment: now,
+        };
+        self.run_soon(rt, session, &set)
     }
 }

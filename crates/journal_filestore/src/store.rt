@@ -4,25 +4,26 @@ ghost use Rattle.journal_world.specs.Maps.{Map, Agrees, overwritten};
 ghost use Rattle.journal_world.specs.Histories.{is_trusted};
 ghost use Rattle.journal_disk.specs.Disks.{IsSettled};
 ghost use Rattle.journal_disk.specs.Images.{EveryImage};
-ghost use Rattle.journal_history.specs.Tokens.{OnlyExtends};
+ghost use Rattle.journal_history.specs.Tokens.{OnlyExtends, IsExact};
 ghost use Rattle.journal_core.specs.Cores.{Leaves};
 ghost use Rattle.journal_core.specs.Openings.{IsOpenRefusal, OnlyReadsDisk};
 ghost use Rattle.journal_inode.specs.Sound.{HasSoundFiles};
 ghost use Rattle.journal_twophase.specs.Journals.{BeginsWith, IsCloseRefusal};
+ghost use Rattle.journal_twophase.specs.Waits.{IsWaitRefusal};
 ghost use Rattle.journal_wal.specs.declared.append.TheConstants.{MAX_UPDATES};
 ghost use Rattle.journal_objlog.specs.Writes.{written_blocks};
-ghost use Rattle.journal_filestore.specs.Done.{IsAnswered, IsEndOf};
-ghost use Rattle.journal_filestore.specs.Faults.{IsFaultOf};
+ghost use Rattle.journal_filestore.specs.Done.{IsAnswered, IsAnsweredSoon, IsPaid, IsWait, Ends, owed_for};
+ghost use Rattle.journal_filestore.specs.Faults.{IsFilesRefusal, IsFaultOf};
 
 use crate::operation::{AttemptFault, Operation};
 use crate::space::Space;
-use crate::{Fault, Status};
+use crate::{Committed, Fault, Owed, Soon, Status};
 use journal_alloc::Alloc;
 use journal_core::Cause;
 use journal_disk::BlockDisk;
-use journal_history::{Book, Naming, Session};
+use journal_history::{Book, Naming, Receipt, Session};
 use journal_inode::SoundFiles;
-use journal_twophase::{Journal, Txn, WaitFault};
+use journal_twophase::{Journal, Txn};
 use journal_world::{Addr, FIRST_DATA, Refusal, Refused};
 use std::alloc::Global;
 use std::marker::Model;
@@ -33,9 +34,6 @@ pub type Answer<A> = Result<A, Status>;
 
 /// Why an operation on files has no answer.
 pub type FileFault<'b, J> = Fault<Cause<'b, J, SoundFiles>>;
-
-// What an operation comes to.
-type Outcome<'b, J, A> = Result<Answer<A>, FileFault<'b, J>>;
 
 /// Why the journal below refuses.
 pub(crate) type Why<'b, J> = Refusal<Cause<'b, J, SoundFiles>>;
@@ -124,9 +122,7 @@ impl<'b, D: BlockDisk, J: Naming> FileStore<'b, D, J> {
         journal.close(session)
     }
 
-    // Attempts an operation until it is answered, or refused by another number than J5, or refused by J5 once more
-    // after the last retry. Before each retry it waits for the slot that was held, so that it is refused by J5 only
-    // where others took slots in between each time.
+    // Does an operation, and waits for what is owed before it is answered.
     pub(crate) fn run<O: Operation<J>, W: Wait>(
         &self,
         rt: &W,
@@ -136,6 +132,54 @@ impl<'b, D: BlockDisk, J: Naming> FileStore<'b, D, J> {
         ensures answered { IsAnswered (O.is_waiting operation.now) (O.case operation.now) session.old session.new result }
         ensures refusal { IfErr result (IsFaultOf session.new) }
     {
+        let Committed { answer, owed } = match self.run_soon(rt, session, operation) {
+            Ok(done) => done,
+            Err(why) => return Err(Fault::Refused(why)),
+        };
+        let waited = self.wait_for(rt, session, owed);
+        // It tells the proof what is known of all that the session has then seen.
+        let _seen = session.seen();
+        match waited {
+            Ok(()) => Ok(answer),
+            Err(why) => Err(Fault::Unsure(why)),
+        }
+    }
+
+    // Waits for what is owed.
+    fn wait_for<W: Wait>(
+        &self,
+        rt: &W,
+        session: &mut Session<'b, J, SoundFiles>,
+        owed: Owed<Receipt<'b, J, SoundFiles>>,
+    ) -> Result<(), Why<'b, J>>
+        ensures paid { OnOk result (IsPaid owed.entry session.new) }
+        ensures owes { OnErr result (IsWait owed.entry) }
+        ensures exact { OnOk result (IsExact session.old → IsExact session.new) }
+        ensures session { OnlyExtends session.old session.new }
+        ensures refusal { IfErr result (IsWaitRefusal session.new) }
+    {
+        let receipt = match owed {
+            Owed::Nothing => return Ok(()),
+            Owed::Wait(receipt) => receipt,
+        };
+        match self.journal.wait_stable(rt, session, &receipt) {
+            Ok(_note) => Ok(()),
+            Err(why) => Err(why),
+        }
+    }
+
+    // Attempts an operation until it is committed, or refused by another number than J5, or refused by J5 once more
+    // after the last retry. Before each retry it waits for the slot that was held, so that it is refused by J5 only
+    // where others took slots in between each time.
+    pub(crate) fn run_soon<O: Operation<J>, W: Wait>(
+        &self,
+        rt: &W,
+        session: &mut Session<'b, J, SoundFiles>,
+        operation: &O,
+    ) -> Soon<'b, J, O::Reply>
+        ensures answered { IsAnsweredSoon (O.is_waiting operation.now) (O.case operation.now) session.old session.new result }
+        ensures refusal { IfErr result IsFilesRefusal }
+    {
         for _ in 0..RETRIES {
             match self.once(rt, session, operation) {
                 Ok(outcome) => return outcome,
@@ -144,7 +188,7 @@ impl<'b, D: BlockDisk, J: Naming> FileStore<'b, D, J> {
         }
         match self.once(rt, session, operation) {
             Ok(outcome) => outcome,
-            Err(_held) => Err(Fault::Refused(Refusal::Busy)),
+            Err(_held) => Err(Refusal::Busy),
         }
     }
 
@@ -164,9 +208,9 @@ impl<'b, D: BlockDisk, J: Naming> FileStore<'b, D, J> {
         rt: &W,
         session: &mut Session<'b, J, SoundFiles>,
         operation: &O,
-    ) -> Result<Outcome<'b, J, O::Reply>, Addr>
-        ensures answered { IfOk result (IsAnswered (O.is_waiting operation.now) (O.case operation.now) session.old session.new) }
-        ensures refusal { IfOk result (λ outcome. IfErr outcome (IsFaultOf session.new)) }
+    ) -> Result<Soon<'b, J, O::Reply>, Addr>
+        ensures answered { IfOk result (IsAnsweredSoon (O.is_waiting operation.now) (O.case operation.now) session.old session.new) }
+        ensures refusal { IfOk result (λ outcome. IfErr outcome IsFilesRefusal) }
         ensures held { OnErr result (OnlyExtends session.old session.new) }
     {
         let mut space = Space::new();
@@ -179,15 +223,19 @@ impl<'b, D: BlockDisk, J: Naming> FileStore<'b, D, J> {
             }
             Err(AttemptFault::Refused(why)) => {
                 self.undo(rt, txn, space);
-                return Ok(Err(Fault::Refused(why)));
+                return Ok(Err(why));
             }
         };
         let waits = is_awaited(operation.waits(), &answer);
-        let ended = end(rt, session, txn, waits);
-        self.settle(rt, space, &ended);
-        match ended {
-            Ok(()) => Ok(Ok(answer)),
-            Err(fault) => Ok(Err(fault)),
+        match end(rt, session, txn, waits) {
+            Ok(owed) => {
+                space.committed(rt, &self.free);
+                Ok(Ok(Committed { answer, owed }))
+            }
+            Err(why) => {
+                space.undone(rt, &self.free);
+                Ok(Err(why))
+            }
         }
     }
 
@@ -195,14 +243,6 @@ impl<'b, D: BlockDisk, J: Naming> FileStore<'b, D, J> {
     fn undo<'j, W: Wait>(&self, rt: &W, txn: FileTxn<'j, 'b, D, J>, space: Space) {
         txn.abort(rt);
         space.undone(rt, &self.free);
-    }
-
-    // Gives back what a commit freed, or what an attempt took that came to nothing.
-    fn settle<W: Wait>(&self, rt: &W, space: Space, ended: &Result<(), FileFault<'b, J>>) {
-        match ended {
-            Err(Fault::Refused(_)) => space.undone(rt, &self.free),
-            _ => space.committed(rt, &self.free),
-        }
     }
 }
 
@@ -214,27 +254,32 @@ fn is_awaited<A>(waits: bool, answer: &Answer<A>) -> bool
     waits && answer.is_ok()
 }
 
-// Commits a transaction, and waits until it is stable or not.
+// Commits a transaction: its receipt is owed where it waits.
 fn end<'j, 'b, D: BlockDisk, J: Naming, W: Wait>(
     rt: &W,
     session: &mut Session<'b, J, SoundFiles>,
     txn: FileTxn<'j, 'b, D, J>,
     waits: bool,
-) -> Result<(), FileFault<'b, J>>
+) -> Result<Owed<Receipt<'b, J, SoundFiles>>, Why<'b, J>>
     requires rule { (m : Map) → m.blocks ≡ J.blocks → HasSoundFiles m → Agrees m txn.reads → HasSoundFiles (overwritten m txn.writes) }
     requires few { written_blocks txn.writes ≤ MAX_UPDATES }
-    ensures ended { IsEndOf J.blocks txn.entry waits session.old session.new result }
-    ensures refusal { IfErr result (IsFaultOf session.new) }
+    ensures ended { IfOk result (Ends J.blocks txn.entry waits session.old session.new) }
+    ensures session { OnErr result (OnlyExtends session.old session.new) }
+    ensures refusal { IfErr result IsFilesRefusal }
 {
-    if !waits {
-        return match txn.commit(rt, session) {
-            Ok(_receipt) => Ok(()),
-            Err(why) => Err(Fault::Refused(why)),
-        };
+    match txn.commit(rt, session) {
+        Ok(receipt) => Ok(owed_for(waits, receipt)),
+        Err(why) => Err(why),
     }
-    match txn.commit_wait(rt, session) {
-        Ok(_stable) => Ok(()),
-        Err(WaitFault::Refused(why)) => Err(Fault::Refused(why)),
-        Err(WaitFault::Unsure(_receipt, why)) => Err(Fault::Unsure(why)),
+}
+
+// What is owed for a commit.
+fn owed_for<P: Drop>(waits: bool, receipt: P) -> Owed<P>
+    ensures { result ≡ owed_for waits receipt }
+{
+    if waits {
+        Owed::Wait(receipt)
+    } else {
+        Owed::Nothing
     }
 }

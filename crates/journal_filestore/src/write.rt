@@ -4,8 +4,8 @@ ghost use Rattle.journal_world.specs.declared.layout.TheConstants.{FIRST_DATA};
 ghost use Rattle.journal_inode.specs.declared.node.TheConstants.{FILE_BYTES};
 ghost use Rattle.journal_inode.specs.Places.Object.{block};
 ghost use Rattle.journal_filestore.specs.Doing.{IsNotYetRead, Places};
-ghost use Rattle.journal_filestore.specs.Faults.{IsGivenUp, IsFaultOf};
-ghost use Rattle.journal_filestore.specs.Done.{IsAnswered};
+ghost use Rattle.journal_filestore.specs.Faults.{IsGivenUp, IsFaultOf, IsFilesRefusal};
+ghost use Rattle.journal_filestore.specs.Done.{IsAnswered, IsAnsweredSoon};
 ghost use Rattle.journal_filestore.specs.Handles.{time_of};
 ghost use Rattle.journal_filestore.specs.Operations.{Op, file_target, write_case, with_data, is_waiting};
 ghost use Rattle.journal_filestore.specs.Operations.Call.{write};
@@ -17,7 +17,7 @@ use crate::operation::{GivenUp, Operation};
 use crate::reply::attributes_of;
 use crate::space::Space;
 use crate::store::{Answer, FileFault, FileTxn};
-use crate::{Changed, FileStore, Handle, Stability, Status};
+use crate::{Changed, FileStore, Handle, Soon, Stability, Status};
 use journal_disk::BlockDisk;
 use journal_history::{Naming, Session};
 use journal_inode::{FILE_BYTES, FileNode, Node, SoundFiles, Time};
@@ -146,5 +146,32 @@ impl<'b, D: BlockDisk, J: Naming> FileStore<'b, D, J> {
             moment: now,
         };
         self.run(rt, session, &write)
+    }
+
+    /// WRITE up to its commit: as `write` does it, and answered before it is stable. Where that waits, what is owed is the
+    /// wait for its receipt, by `Journal::wait_stable`: the answer stands in the history, and a crash before may lose it.
+    pub fn write_soon<W: Wait>(
+        &self,
+        rt: &W,
+        session: &mut Session<'b, J, SoundFiles>,
+        handle: Handle,
+        offset: u64,
+        count: u32,
+        bytes: &[u8],
+        stability: Stability,
+        now: Moment,
+    ) -> Soon<'b, J, Changed>
+        ensures answered { IsAnsweredSoon (is_waiting stability) (λ F r F2. Op (write handle.number handle.generation offset count bytes.now) (time_of now) F (wrote r) F2) session.old session.new result }
+        ensures refusal { IfErr result IsFilesRefusal }
+    {
+        let write = Write {
+            handle,
+            offset,
+            count,
+            bytes,
+            stability,
+            moment: now,
+        };
+        self.run_soon(rt, session, &write)
     }
 }
