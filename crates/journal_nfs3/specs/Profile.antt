@@ -1,5 +1,5 @@
 -- What the results say of the files.
-use Rattle.std.specs.Prelude.{ℕ, ◌==◌, if◌then◌else◌, List, length, Some, None, Result, Ok, Err}
+use Rattle.std.specs.Prelude.{ℕ, ◌==◌, if◌then◌else◌, List, [], ◌++◌, length, Some, None, Result, Ok, Err}
 use Rattle.journal_filestore.specs.declared.reply.Attributes.{Attributes}
 use Rattle.journal_filestore.specs.declared.reply.Changed.{Changed}
 use Rattle.journal_filestore.specs.declared.reply.Found.{Found}
@@ -9,8 +9,10 @@ use Rattle.journal_nfs3.specs.declared.arguments.StableHow.TheVariants.{Unstable
 use Rattle.journal_nfs3.specs.declared.results.NfsError.{NfsError}
 use Rattle.journal_nfs3.specs.declared.results.Results as code_results
 use Rattle.journal_nfs3.specs.declared.results.Results.TheVariants as code_result
+use Rattle.journal_nfs3.specs.declared.writing.Untold.{Untold}
+use Rattle.journal_nfs3.specs.declared.writing.Untold.TheVariants as untold
 use Rattle.journal_nfs3.specs.Handles.{FileHandle}
-use Rattle.journal_nfs3.specs.Results.{Fattr, Before, Change, LookupResults, ReadResults, WriteResults, CreateResults, CommitResults, Results, Null, GetAttributes, SetAttributes, Lookup, Read, Write, Create, Remove, Commit}
+use Rattle.journal_nfs3.specs.Results.{status, post_op_attributes, change, Fattr, Before, Change, LookupResults, ReadResults, WriteResults, CreateResults, CommitResults, Results, Null, GetAttributes, SetAttributes, Lookup, Read, Write, Create, Remove, Commit}
 
 -- The attributes of the root, whose number is 1, or of a file
 abbrev pub fattr_of : Attributes → Fattr
@@ -75,6 +77,17 @@ commit_of verifier a = record { change = unchanged_of a; verifier = verifier }
 abbrev pub outcome_of : {A B C : Type 0} → (A → B) → C → Result A NfsError → Result B (NfsError × C)
 outcome_of told nothing (Ok v) = Ok (told v)
 outcome_of told nothing (Err why) = Err (why, nothing)
+
+-- how it is spelled that nothing is told
+abbrev pub untold_text : Untold → List ℕ
+untold_text untold.Nothing = []
+untold_text untold.Attributes = post_op_attributes.spelling None
+untold_text untold.Change = change.spelling no_change
+
+-- how the status of an outcome is spelled, and behind one that refuses that nothing is told
+abbrev pub status_text : {A : Type 0} → Untold → Result A NfsError → List ℕ
+status_text u (Ok v) = status.spelling None
+status_text u (Err why) = status.spelling (Some why) ++ untold_text u
 
 abbrev pub results_of : code_results.Results → Results
 results_of code_result.Null = Null

@@ -2,8 +2,8 @@
 ghost use Rattle.std.specs.Prelude.{◌≡◌, ◌++◌, OnOk, Some, None};
 ghost use Rattle.journal_xdr.specs.Items.{Writes};
 ghost use Rattle.journal_nfs3.specs.Arguments.{time};
-ghost use Rattle.journal_nfs3.specs.Results.{given_handle, fattr, post_op_attributes, before, change, lookup_results, read_results, write_results, create_results, commit_results, status, outcome, nothing};
-ghost use Rattle.journal_nfs3.specs.Profile.{fattr_of, before_of, change_of, unchanged_of, no_change, lookup_of, read_results_of, write_of, create_of, commit_of, outcome_of};
+ghost use Rattle.journal_nfs3.specs.Results.{given_handle, fattr, post_op_attributes, before, change, lookup_results, read_results, write_results, create_results, commit_results, outcome, nothing};
+ghost use Rattle.journal_nfs3.specs.Profile.{fattr_of, before_of, change_of, unchanged_of, no_change, lookup_of, read_results_of, write_of, create_of, commit_of, outcome_of, status_text};
 
 use crate::arguments::StableHow;
 use crate::handle::HANDLE_MARK;
@@ -48,6 +48,14 @@ const ROOT_SHAPE: Shape = Shape {
     links: 2,
     used: 0,
 };
+
+// What else a procedure tells of files, and does not where it refuses.
+#[derive(Clone, Copy)]
+enum Untold {
+    Nothing,
+    Attributes,
+    Change,
+}
 
 #[tactic(auto, unfolding(crate::specs::Arguments::time))]
 fn write_time(writer: &mut Writer, value: Time) -> Result<(), AllocError>
@@ -114,7 +122,6 @@ fn write_change(writer: &mut Writer, changed: &Changed) -> Result<(), AllocError
 }
 
 // Writes a handle (RFC 1813, section 2.4, nfs_fh3).
-
 fn write_handle(writer: &mut Writer, number: u32, generation: u32) -> Result<(), AllocError>
     ensures { OnOk result (Writes given_handle (record { number = number; generation = generation }) writer.old writer.new) }
 {
@@ -122,38 +129,6 @@ fn write_handle(writer: &mut Writer, number: u32, generation: u32) -> Result<(),
     writer.word(HANDLE_MARK)?;
     writer.word(number)?;
     writer.word(generation)
-}
-
-// Writes the status of a procedure that is not refused.
-fn write_ok(writer: &mut Writer) -> Result<(), AllocError>
-    ensures { OnOk result (Writes status None writer.old writer.new) }
-{
-    writer.word(OK)
-}
-
-// Writes why a procedure is refused.
-fn write_error(writer: &mut Writer, why: NfsError) -> Result<(), AllocError>
-    ensures { OnOk result (Writes status (Some why) writer.old writer.new) }
-{
-    writer.word(why as u32)
-}
-
-// Writes why a procedure is refused that else tells attributes: none are told.
-fn write_error_untold(writer: &mut Writer, why: NfsError) -> Result<(), AllocError>
-    ensures { OnOk result (writer.new ≡ writer.old ++ (status.spelling (Some why) ++ post_op_attributes.spelling None)) }
-{
-    write_error(writer, why)?;
-    writer.boolean(false)
-}
-
-// Writes why a procedure is refused that else tells of a change: nothing is told.
-#[tactic(auto, unfolding(crate::specs::Results::change))]
-fn write_error_unchanged(writer: &mut Writer, why: NfsError) -> Result<(), AllocError>
-    ensures { OnOk result (writer.new ≡ writer.old ++ (status.spelling (Some why) ++ change.spelling no_change)) }
-{
-    write_error(writer, why)?;
-    writer.boolean(false)?;
-    writer.boolean(false)
 }
 
 // Writes that nothing was changed.
@@ -169,83 +144,41 @@ fn write_no_change(writer: &mut Writer, attributes: &Attributes) -> Result<(), A
     )
 }
 
-// Writes what LOOKUP answers (RFC 1813, section 3.3.3).
-#[tactic(auto, unfolding(crate::specs::Results::lookup_results))]
-fn write_lookup_ok(writer: &mut Writer, found: &Found) -> Result<(), AllocError>
-    ensures { OnOk result (Writes lookup_results (lookup_of found.now) writer.old writer.new) }
-{
-    write_handle(writer, found.file.number, found.generation)?;
-    write_after(writer, &found.file)?;
-    write_after(writer, &found.root)
-}
-
-// Writes what READ answers (RFC 1813, section 3.3.6).
-#[tactic(auto, unfolding(crate::specs::Results::read_results))]
-fn write_read_ok(writer: &mut Writer, portion: &Portion) -> Result<(), AllocError>
-    ensures { OnOk result (Writes read_results (read_results_of portion.now) writer.old writer.new) }
-{
-    let bytes = portion.bytes();
-    write_after(writer, &portion.file())?;
-    writer.word(bytes.len() as u32)?;
-    writer.boolean(portion.is_end())?;
-    writer.opaque(bytes)
-}
-
-// Writes what WRITE answers (RFC 1813, section 3.3.7).
-#[tactic(auto, unfolding(crate::specs::Results::write_results))]
-fn write_write_ok(
+// Writes the status of an outcome, and that nothing is told behind one that refuses.
+#[tactic(auto, unfolding(crate::specs::Results::change))]
+fn write_status<T>(
     writer: &mut Writer,
-    changed: &Changed,
-    count: u32,
-    how: StableHow,
-    verifier: Verifier,
+    outcome: &Result<T, NfsError>,
+    untold: Untold,
 ) -> Result<(), AllocError>
-    ensures { OnOk result (Writes write_results (write_of count how verifier.0 changed.now) writer.old writer.new) }
+    ensures { OnOk result (writer.new ≡ writer.old ++ status_text untold outcome.now) }
 {
-    write_change(writer, changed)?;
-    writer.word(count)?;
-    writer.enumeration(how.committed())?;
-    writer.fixed(&verifier.0)
+    let Err(why) = outcome else {
+        return writer.word(OK);
+    };
+    writer.word(*why as u32)?;
+    match untold {
+        Untold::Nothing => Ok(()),
+        Untold::Attributes => writer.boolean(false),
+        Untold::Change => {
+            writer.boolean(false)?;
+            writer.boolean(false)
+        }
+    }
 }
 
-// Writes what CREATE answers (RFC 1813, section 3.3.8).
-#[tactic(auto, unfolding(crate::specs::Results::create_results))]
-fn write_create_ok(writer: &mut Writer, found: &Found) -> Result<(), AllocError>
-    ensures { OnOk result (Writes create_results (create_of found.now) writer.old writer.new) }
-{
-    writer.boolean(true)?;
-    write_handle(writer, found.file.number, found.generation)?;
-    write_after(writer, &found.file)?;
-    write_no_change(writer, &found.root)
-}
-
-// Writes what COMMIT answers (RFC 1813, section 3.3.21).
-#[tactic(auto, unfolding(crate::specs::Results::commit_results))]
-fn write_commit_ok(
-    writer: &mut Writer,
-    attributes: &Attributes,
-    verifier: Verifier,
-) -> Result<(), AllocError>
-    ensures { OnOk result (Writes commit_results (commit_of verifier.0 attributes.now) writer.old writer.new) }
-{
-    write_no_change(writer, attributes)?;
-    writer.fixed(&verifier.0)
-}
-
-// Writes what GETATTR answers, or why it is refused (RFC 1813, section 3.3.1).
+// GETATTR (RFC 1813, section 3.3.1).
 pub(crate) fn write_get_attributes(
     writer: &mut Writer,
     answer: &Result<Attributes, NfsError>,
 ) -> Result<(), AllocError>
     ensures { OnOk result (Writes (outcome fattr nothing) (outcome_of fattr_of tt answer.now) writer.old writer.new) }
 {
-    match answer {
-        Ok(value) => {
-            write_ok(writer)?;
-            write_attributes(writer, value)
-        }
-        Err(why) => write_error(writer, *why),
-    }
+    write_status(writer, answer, Untold::Nothing)?;
+    let Ok(file) = answer else {
+        return Ok(());
+    };
+    write_attributes(writer, file)
 }
 
 // SETATTR (RFC 1813, section 3.3.2).
@@ -255,48 +188,51 @@ pub(crate) fn write_set_attributes(
 ) -> Result<(), AllocError>
     ensures { OnOk result (Writes (outcome change change) (outcome_of change_of no_change answer.now) writer.old writer.new) }
 {
-    match answer {
-        Ok(value) => {
-            write_ok(writer)?;
-            write_change(writer, value)
-        }
-        Err(why) => write_error_unchanged(writer, *why),
-    }
+    write_status(writer, answer, Untold::Change)?;
+    let Ok(changed) = answer else {
+        return Ok(());
+    };
+    write_change(writer, changed)
 }
 
 // LOOKUP (RFC 1813, section 3.3.3).
+#[tactic(auto, unfolding(crate::specs::Results::lookup_results))]
 pub(crate) fn write_lookup(
     writer: &mut Writer,
     answer: &Result<Found, NfsError>,
 ) -> Result<(), AllocError>
     ensures { OnOk result (Writes (outcome lookup_results post_op_attributes) (outcome_of lookup_of None answer.now) writer.old writer.new) }
 {
-    match answer {
-        Ok(value) => {
-            write_ok(writer)?;
-            write_lookup_ok(writer, value)
-        }
-        Err(why) => write_error_untold(writer, *why),
-    }
+    write_status(writer, answer, Untold::Attributes)?;
+    let Ok(found) = answer else {
+        return Ok(());
+    };
+    write_handle(writer, found.file.number, found.generation)?;
+    write_after(writer, &found.file)?;
+    write_after(writer, &found.root)
 }
 
 // READ (RFC 1813, section 3.3.6).
+#[tactic(auto, unfolding(crate::specs::Results::read_results))]
 pub(crate) fn write_read(
     writer: &mut Writer,
     answer: &Result<Portion, NfsError>,
 ) -> Result<(), AllocError>
     ensures { OnOk result (Writes (outcome read_results post_op_attributes) (outcome_of read_results_of None answer.now) writer.old writer.new) }
 {
-    match answer {
-        Ok(value) => {
-            write_ok(writer)?;
-            write_read_ok(writer, value)
-        }
-        Err(why) => write_error_untold(writer, *why),
-    }
+    write_status(writer, answer, Untold::Attributes)?;
+    let Ok(portion) = answer else {
+        return Ok(());
+    };
+    let bytes = portion.bytes();
+    write_after(writer, &portion.file())?;
+    writer.word(bytes.len() as u32)?;
+    writer.boolean(portion.is_end())?;
+    writer.opaque(bytes)
 }
 
 // WRITE (RFC 1813, section 3.3.7).
+#[tactic(auto, unfolding(crate::specs::Results::write_results))]
 pub(crate) fn write_write(
     writer: &mut Writer,
     answer: &Result<Changed, NfsError>,
@@ -306,29 +242,32 @@ pub(crate) fn write_write(
 ) -> Result<(), AllocError>
     ensures { OnOk result (Writes (outcome write_results change) (outcome_of (write_of count how verifier.0) no_change answer.now) writer.old writer.new) }
 {
-    match answer {
-        Ok(value) => {
-            write_ok(writer)?;
-            write_write_ok(writer, value, count, how, verifier)
-        }
-        Err(why) => write_error_unchanged(writer, *why),
-    }
+    write_status(writer, answer, Untold::Change)?;
+    let Ok(changed) = answer else {
+        return Ok(());
+    };
+    write_change(writer, changed)?;
+    writer.word(count)?;
+    writer.enumeration(how.committed())?;
+    writer.fixed(&verifier.0)
 }
 
 // CREATE (RFC 1813, section 3.3.8).
+#[tactic(auto, unfolding(crate::specs::Results::create_results))]
 pub(crate) fn write_create(
     writer: &mut Writer,
     answer: &Result<Found, NfsError>,
 ) -> Result<(), AllocError>
     ensures { OnOk result (Writes (outcome create_results change) (outcome_of create_of no_change answer.now) writer.old writer.new) }
 {
-    match answer {
-        Ok(value) => {
-            write_ok(writer)?;
-            write_create_ok(writer, value)
-        }
-        Err(why) => write_error_unchanged(writer, *why),
-    }
+    write_status(writer, answer, Untold::Change)?;
+    let Ok(found) = answer else {
+        return Ok(());
+    };
+    writer.boolean(true)?;
+    write_handle(writer, found.file.number, found.generation)?;
+    write_after(writer, &found.file)?;
+    write_no_change(writer, &found.root)
 }
 
 // REMOVE (RFC 1813, section 3.3.12).
@@ -338,16 +277,15 @@ pub(crate) fn write_remove(
 ) -> Result<(), AllocError>
     ensures { OnOk result (Writes (outcome change change) (outcome_of unchanged_of no_change answer.now) writer.old writer.new) }
 {
-    match answer {
-        Ok(value) => {
-            write_ok(writer)?;
-            write_no_change(writer, value)
-        }
-        Err(why) => write_error_unchanged(writer, *why),
-    }
+    write_status(writer, answer, Untold::Change)?;
+    let Ok(root) = answer else {
+        return Ok(());
+    };
+    write_no_change(writer, root)
 }
 
 // COMMIT (RFC 1813, section 3.3.21).
+#[tactic(auto, unfolding(crate::specs::Results::commit_results))]
 pub(crate) fn write_commit(
     writer: &mut Writer,
     answer: &Result<Attributes, NfsError>,
@@ -355,11 +293,10 @@ pub(crate) fn write_commit(
 ) -> Result<(), AllocError>
     ensures { OnOk result (Writes (outcome commit_results change) (outcome_of (commit_of verifier.0) no_change answer.now) writer.old writer.new) }
 {
-    match answer {
-        Ok(value) => {
-            write_ok(writer)?;
-            write_commit_ok(writer, value, verifier)
-        }
-        Err(why) => write_error_unchanged(writer, *why),
-    }
+    write_status(writer, answer, Untold::Change)?;
+    let Ok(file) = answer else {
+        return Ok(());
+    };
+    write_no_change(writer, file)?;
+    writer.fixed(&verifier.0)
 }
