@@ -11,7 +11,7 @@ pub or_right : (x y : Bool) → y ≡ true → (x || y) ≡ true
 or_right true y is = refl
 or_right false y is = is
 
-or_left : (x y : Bool) → y ≡ false → (x || y) ≡ x
+pub or_left : (x y : Bool) → y ≡ false → (x || y) ≡ x
 or_left true y is = refl
 or_left false y is = is
 

@@ -14,4 +14,5 @@ pub mod StagingLoop
 pub mod Preparing
 pub mod Fetched
 pub mod Missing
+pub mod KnownObjects
 pub mod TailStaging

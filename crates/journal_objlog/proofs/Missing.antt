@@ -17,9 +17,6 @@ use Rattle.journal_objlog.proofs.Fetched.{or_right}
 
 -- Of one block
 
-pub whole_present : (n : ℕ) (known : List Update) (b : ℕ) → kind_of n b ≡ Some Block → is_missing n known b ≡ false
-whole_present n known b is = ap (λ (k : Option Kind). not (is_one_object k) && not (updates_block known b)) is
-
 pub missing_parts : (n : ℕ) (known : List Update) (b : ℕ) → (kind_of n b ≡ Some Block → ⊥) → is_missing n known b ≡ not (updates_block known b)
 missing_parts n known b other = ap (λ (t : Bool). t && not (updates_block known b)) (by (kind_of n b) other)
   where
@@ -47,10 +44,6 @@ taken : (m t : Bool) (b : ℕ) (bs : List ℕ) → m ≡ true → t ≡ false �
 taken true false b bs m_is t_is = refl
 taken true true b bs m_is t_is = absurd (false≢true (sym t_is))
 taken false t b bs m_is t_is = absurd (false≢true m_is)
-
-left_out : (m t : Bool) (b : ℕ) (bs : List ℕ) → m ≡ false → cond (m && not t) (b ∷ bs) bs ≡ bs
-left_out false t b bs is = refl
-left_out true t b bs is = absurd (false≢true (sym is))
 
 none_later : (m t : Bool) (b : ℕ) (bs : List ℕ) → cond (m && not t) (b ∷ bs) bs ≡ [] → bs ≡ []
 none_later true true b bs none = none
@@ -104,13 +97,6 @@ module _ (n : ℕ) (known : List Update) (writes left rest done : List Pair) (p 
     listed = so.listed
         ∙ sym (skipped (is_missing n known p.0.block) (writes_block done p.0.block) p.0.block (missing_blocks n known done)
         (is_first p.0.block done (sym so.newest ∙ is)));
-  }
-
-  pub listed_present : is_missing n known p.0.block ≡ false → IsListed n known writes rest (p ∷ done) (Some p.0.block) blocks
-  listed_present is = record {
-    split = split;
-    newest = refl;
-    listed = so.listed ∙ sym (left_out (is_missing n known p.0.block) (writes_block done p.0.block) p.0.block (missing_blocks n known done) is);
   }
 
   pub listed_missing : (last ≡ Some p.0.block → ⊥) → is_missing n known p.0.block ≡ true → (more : List ℕ) → more ≡ blocks ++ p.0.block ∷ []

@@ -37,12 +37,6 @@ read_on opened old new read reads maps crash = record {
   crash = crash_after opened old new read.only crash;
 }
 
--- a block that was read is the log's block still, after a further read
-pub block_on : (old new : WalState) → OnlyReads old new → (bytes : Bytes) (block : ℕ) → IsBlockOf old bytes block → IsBlockOf new bytes block
-block_on old new reads bytes block is = λ honest.
-    let before : IsTrue (disk_of old).honest = subst IsTrue reads.keeps.honest honest in
-    is before ∙ sym (block_read old new reads before block)
-
 -- the number is the one that it is compared with
 pub same_number : (number : Option ℕ) (n : ℕ) → false ≡ not (option_eq eqb number (Some n)) → number ≡ Some n
 same_number None n is = absurd (false≢true is)

@@ -24,7 +24,7 @@ value_at-first n p ps a = by (is_same a p.0)
     by false = refl
 
 -- a block's only object lies at its front
-whole_off : (k : Option Kind) (off : ℕ) → k ≡ Some Block → IsTrue (starts_object k off) → off ≡ 0
+pub whole_off : (k : Option Kind) (off : ℕ) → k ≡ Some Block → IsTrue (starts_object k off) → off ≡ 0
 whole_off k off is starts =
     let valid : IsTrue (starts_object (Some Block) off) = subst (λ (o : Option Kind). IsTrue (starts_object o off)) is starts in
     let parts = and_parts (nat_lt off 32768) (off % 32768 == 0) valid in

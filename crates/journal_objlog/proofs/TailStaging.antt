@@ -14,10 +14,11 @@ use Rattle.journal_wal.specs.Wal.{AreHomes}
 use Rattle.journal_wal.specs.Tails.{TailState, TakesFresh}
 use Rattle.journal_objlog.specs.Maps.{map_of}
 use Rattle.journal_objlog.specs.ObjectLogs.{Base, map_in}
-use Rattle.journal_objlog.specs.ObjectTails.{IsObjectTail, blocks_of, tail_base, is_missing, HasBlocks, TakesPrepared, with_tail_room}
+use Rattle.journal_objlog.specs.ObjectTails.{IsObjectTail, blocks_of, known_updates, tail_base, is_missing, HasBlocks, OverwritesKnown, TakesPrepared, with_tail_room}
 use Rattle.journal_objlog.specs.Staging.{IsAboveNone, first_bytes, with_first, IsStaged, IsOpen}
 use Rattle.journal_objlog.specs.Writes.{writes_block, fresh_blocks, IsPrepared}
 use Rattle.journal_objlog.proofs.Ascending.{ascending_later, objects_split}
+use Rattle.journal_objlog.proofs.KnownObjects.{overwrites_known}
 use Rattle.journal_objlog.proofs.MapsOfBlocks.{Law, HasObjects-map_of, map_of-is}
 use Rattle.journal_objlog.proofs.Missing.{written_there}
 use Rattle.journal_objlog.proofs.Staged.{stored}
@@ -44,12 +45,6 @@ module _ (b : Base) (writes left rest done : List Pair) (p : Pair) (updates : Li
 
   parts : IsTrue (are_objects b.size rest) × IsTrue (is_object b.size p)
   parts = objects_split b.size rest p (subst (λ (ws : List Pair). IsTrue (are_objects b.size ws)) took staging.objects)
-
-  pub tail_object : IsTrue (is_object b.size p)
-  tail_object = parts.1
-
-  pub tail_valid : IsTrue (is_valid b.size p.0)
-  tail_valid = (and_parts (is_valid b.size p.0) (is_value_at (kind_of b.size p.0.block) p.1) parts.1).0
 
   pub tail_present : (known : List Update) → HasBlocks b.size known writes → is_missing b.size known p.0.block ≡ false
   tail_present known has = has p.0.block (ap (λ (ws : List Pair). writes_block ws p.0.block) split ∙ written_there rest p done)
@@ -99,6 +94,15 @@ module _ (mid old new : TailState) (fetched : List Update) (writes : List Pair) 
     where
       homes : AreHomes (blocks_of new) updates
       homes = subst (λ (t : TailState). AreHomes (blocks_of t) updates) (sym (other_room was is)) staged.blocks.homes
+
+  -- and overwrites what memory knows
+  pub tail_overwrites : (n : ℕ) → IsObjectTail n mid → mid ≡ old → IsStaged true (tail_base fetched old) writes updates
+      → IsTrue (are_objects (blocks_of old) writes) → HasBlocks (blocks_of old) (known_updates fetched old) writes
+      → new ≡ with_tail_room mid new.log.room → OverwritesKnown (blocks_of new) (known_updates fetched new) updates writes
+  tail_overwrites n sound was staged objects present is =
+      subst (λ (t : TailState). OverwritesKnown (blocks_of t) (known_updates fetched t) updates writes) (sym (other_room was is))
+      (overwrites_known (blocks_of old) (tail_law n old (subst (λ (t : TailState). IsObjectTail n t) was sound)) (known_updates fetched old) updates writes
+      (staged.objects refl) staged.blocks.named objects present)
 
   -- and prepared
   pub tail_prepared : (n : ℕ) → IsObjectTail n mid → mid ≡ old → IsStaged true (tail_base fetched old) writes updates

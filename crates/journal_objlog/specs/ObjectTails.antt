@@ -1,12 +1,12 @@
 -- What contracts see of an object tail: what memory knows of a block and of an address, from its updates and what was fetched.
-use Rattle.std.specs.Prelude.{ℕ, ◌≡◌, ◌≤◌, ◌⊎◌, Bool, true, false, not, ◌&&◌, if◌then◌else◌, List, [], ◌∷◌, ◌++◌, Option, Some, None}
+use Rattle.std.specs.Prelude.{ℕ, ◌≡◌, ◌≤◌, ◌⊎◌, Bool, true, false, not, ◌&&◌, IsTrue, if◌then◌else◌, List, [], ◌∷◌, ◌++◌, Option, Some, None}
 use Rattle.journal_world.specs.declared.address.Addr.{Addr}
 use Rattle.journal_world.specs.declared.layout.TheConstants.{MIN_BLOCKS}
 use Rattle.journal_world.specs.declared.address.Kind.{Kind}
 use Rattle.journal_world.specs.declared.address.Kind.TheVariants.{Block}
 use Rattle.journal_world.specs.declared.refusal.Refusal.{Refusal}
 use Rattle.journal_world.specs.declared.refusal.Refusal.TheVariants.{NoMemory}
-use Rattle.journal_world.specs.Addresses.{Value, kind_of}
+use Rattle.journal_world.specs.Addresses.{Value, kind_of, is_valid, is_same}
 use Rattle.journal_world.specs.Maps.{Pair}
 use Rattle.journal_block.specs.declared.update.Update.{Update}
 use Rattle.journal_block.specs.Updates.{Content, updated, with_updates, updates_block}
@@ -72,6 +72,15 @@ missing_blocks n known (p ∷ later) =
 -- No block has to be fetched for the writes
 abbrev pub HasBlocks : ℕ → List Update → List Pair → Type 0
 HasBlocks n known writes = (b : ℕ) → writes_block writes b ≡ true → is_missing n known b ≡ false
+
+-- what an address has after the writes: what the first of it writes, or where none is of it, what it had
+abbrev pub after_writes : List Pair → Option Value → Addr → Option Value
+after_writes [] before a = before
+after_writes (p ∷ later) before a = if is_same a p.0 then Some p.1 else after_writes later before a
+
+-- With what is prepared behind what memory knows, each address has what the writes make of what it had
+pub record OverwritesKnown (n : ℕ) (known prepared : List Update) (writes : List Pair) : Type 0 where
+  pub values : (a : Addr) → IsTrue (is_valid n a) → known_object n (known ++ prepared) a ≡ after_writes writes (known_object n known a) a
 
 -- What is prepared can be applied here, without memory and without a refusal
 pub record TakesPrepared (t : TailState) (prepared : List Update) : Type 0 where

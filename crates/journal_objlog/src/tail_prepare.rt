@@ -1,10 +1,11 @@
 // Overwriting objects in memory: all that may fail comes first, and then nothing can.
 ghost use Rattle.std.specs.Prelude.{ℕ, ◌≡◌, ◌≢◌, ◌≤◌, List, [], ◌++◌, false, true, IsTrue, OnOk, IfOk, IfErr};
+ghost use Rattle.journal_world.specs.declared.address.Addr.{Addr};
 ghost use Rattle.journal_world.specs.Maps.{are_objects};
 ghost use Rattle.journal_block.specs.declared.update.Update.{Update};
 ghost use Rattle.journal_memlog.specs.Logs.{appended};
 ghost use Rattle.journal_wal.specs.Tails.{MakeTheSame, updates_from};
-ghost use Rattle.journal_objlog.specs.ObjectTails.{blocks_of, known_updates, tail_base, missing_blocks, with_tail_room, TakesPrepared, IsTailWriteRefusal, IfReady, IfMissing};
+ghost use Rattle.journal_objlog.specs.ObjectTails.{blocks_of, known_updates, known_at, known_object, tail_base, missing_blocks, with_tail_room, OverwritesKnown, TakesPrepared, IsTailWriteRefusal, IfReady, IfMissing};
 ghost use Rattle.journal_objlog.specs.Places.{places_of};
 ghost use Rattle.journal_objlog.specs.Writes.{written_blocks, fresh_blocks, CanPrepare, IsPrepared, IsWriteRefusal};
 
@@ -42,6 +43,9 @@ impl ObjectTail {
     ) -> Result<Preparation, Refusal<()>>
         ensures ready { IfOk result (IfReady (TakesPrepared self.new)) }
         ensures prepared { IfOk result (IfReady (λ prepared. IsPrepared true (tail_base fetched.now self.new) prepared writes.now)) }
+        // Each address that is written then has its value, and each other what it had.
+        ensures overwrites { IfOk result (IfReady (λ prepared.
+            OverwritesKnown (blocks_of self.new) (known_updates fetched.now self.new) prepared writes.now)) }
         ensures missing { IfOk result (IfMissing (λ blocks.
             blocks ≡ missing_blocks (blocks_of self.old) (known_updates fetched.now self.old) writes.now)) }
         ensures some { IfOk result (IfMissing (λ blocks. blocks ≢ [])) }
@@ -67,6 +71,9 @@ impl ObjectTail {
         // What was updated since any cut is what was, and then these.
         ensures since { (from : ℕ) → self.old.log.start ≤ from → from ≤ self.old.log.cut →
             MakeTheSame (updates_from self.new.log from) (updates_from self.old.log from ++ prepared) }
+        // What memory knows of an address is what it knew, with these behind.
+        ensures known { (fetched : List Update) (a : Addr) →
+            known_at fetched self.new a ≡ known_object (blocks_of self.old) (known_updates fetched self.old ++ prepared) a }
     {
         self.tail.append_reserved(prepared.updates);
     }

@@ -115,9 +115,6 @@ module _ (log : LogState) (p : ℕ) (u : Update) (from : log.start ≤ log.cut) 
       place : p + 1 - log.cut ≡ suc (p - log.cut)
       place = omega (arith, above)
 
-pub tail_whole : (log : LogState) (p : ℕ) → log.start ≤ log.cut → next_position log ≤ p → take (p - log.cut) (tail_of log) ≡ tail_of log
-tail_whole log p from end = take_all (p - log.cut) (tail_of log) (omega (arith, from, end, length-drop (log.cut - log.start) log.updates))
-
 -- Cuts
 
 pub rises_le : (from to : ℕ) (cuts : List CutPoint) → RisesTo from to cuts → from ≤ to
@@ -129,11 +126,6 @@ pub rises_first : (from to : ℕ) (cuts : List CutPoint) (c : CutPoint) (later :
 rises_first from to cuts c later is rises =
     let both : RisesTo from to (c ∷ later) = subst (λ (cs : List CutPoint). RisesTo from to cs) is rises in
     (both.0, rises_le c.end to later both.1)
-
-pub rises_rest : (from to : ℕ) (cuts : List CutPoint) (c : CutPoint) (later : List CutPoint) → cuts ≡ c ∷ later → RisesTo from to cuts
-    → RisesTo c.end to later
-rises_rest from to cuts c later is rises =
-    let both : RisesTo from to (c ∷ later) = subst (λ (cs : List CutPoint). RisesTo from to cs) is rises in both.1
 
 pub rises_push : (from to next : ℕ) (p : CutPoint) (cuts : List CutPoint) → p.end ≡ next → to ≤ next → RisesTo from to cuts
     → RisesTo from next (cuts ++ p ∷ [])
@@ -155,22 +147,6 @@ rises_past from to upto cuts c later is rises past =
     all c later rise lt zero d within = lt
     all c [] rise lt (suc k) d within = absurd (omega (arith, within))
     all c (next ∷ later) rise lt (suc k) d within = all next later rise.1 (omega (arith, lt, rise.0)) k d (omega (arith, within))
-
--- nothing was dropped
-pub drops_none : (t : TailState) (upto : ℕ) → DropsCuts t upto t
-drops_none t upto = record {
-  earlier = [];
-  points = refl;
-  above = omega arith;
-  by = inl refl;
-  log = λ i. record t.log { updates = drop (none i) t.log.updates; room = room i };
-}
-  where
-    none : 0 ≡ t.log.start - t.log.start
-    none = omega arith
-
-    room : t.log.room ≡ t.log.room + (t.log.start - t.log.start)
-    room = omega arith
 
 -- and the first cut of those that are left
 pub drops_first : (old mid new : TailState) (upto : ℕ) (c : CutPoint) (later : List CutPoint) → DropsCuts old upto mid → mid.cuts ≡ c ∷ later
@@ -201,16 +177,6 @@ drops_first old mid new upto c later drops first rises le is =
           room = room i;
         })
 
-pub since_dropped : (old new : TailState) (upto : ℕ) → DropsCuts old upto new → (from : ℕ) → new.log.start ≤ from
-    → updates_from new.log from ≡ updates_from old.log from
-since_dropped old new upto drops from above =
-    ap (λ (l : LogState). drop (from - new.log.start) l.updates) drops.log
-    ∙ drop-drop (from - new.log.start) (new.log.start - old.log.start) old.log.updates
-    ∙ ap (λ (n : ℕ). drop n old.log.updates) place
-  where
-    place : (new.log.start - old.log.start) + (from - new.log.start) ≡ from - old.log.start
-    place = omega (arith, drops.above, above)
-
 -- what holds of a tail after a cut
 pub tail_cut : (t : TailState) (p : CutPoint) (cuts : List CutPoint) (later : LogState) → IsTail t → cuts ≡ t.cuts ++ p ∷ []
     → p.end ≡ next_position t.log → later ≡ record t.log { cut = next_position t.log } → IsMemLog later
@@ -224,30 +190,3 @@ tail_cut t p cuts later is cuts_is end later_is sound = record {
       (subst (λ (cs : List CutPoint). RisesTo t.log.start (next_position t.log) cs) (sym cuts_is)
       (rises_push t.log.start t.log.cut (next_position t.log) p t.cuts end is.log.bounds.cut_to_next is.cuts));
 }
-
--- what holds of a tail without its first cut
-pub tail_without_first : (t : TailState) (c : CutPoint) (later : List CutPoint) (log : LogState) → IsTail t → t.cuts ≡ c ∷ later
-    → log ≡ trimmed (record t.log { logged = c.end }) c.end → IsMemLog log
-    → IsTail (record { log = log; trimmed = c.commits; cuts = later })
-tail_without_first t c later log is first log_is sound = record {
-  log = sound;
-  few = subst (λ (l : LogState). length (tail_of l) ≤ 255) (sym log_is) few;
-  homes = subst (λ (l : LogState). AreHomes l.blocks l.updates) (sym log_is)
-      (All-drop (λ (u : Update). (513 ≤ u.block) × (u.block < t.log.blocks)) (c.end - t.log.start) t.log.updates is.homes);
-  logged = ap (λ (l : LogState). l.logged) log_is ∙ sym (ap (λ (l : LogState). l.start) log_is);
-  cuts = subst (λ (l : LogState). RisesTo l.start l.cut later) (sym log_is) (rises_rest t.log.start t.log.cut t.cuts c later first is.cuts);
-}
-  where
-    bounds : (t.log.start ≤ c.end) × (c.end ≤ t.log.cut)
-    bounds = rises_first t.log.start t.log.cut t.cuts c later first is.cuts
-
-    few : length (drop (t.log.cut - c.end) (drop (c.end - t.log.start) t.log.updates)) ≤ 255
-    few = omega (
-      arith,
-      is.few,
-      bounds.0,
-      bounds.1,
-      length-drop (t.log.cut - c.end) (drop (c.end - t.log.start) t.log.updates),
-      length-drop (c.end - t.log.start) t.log.updates,
-      length-drop (t.log.cut - t.log.start) t.log.updates,
-    )

@@ -7,7 +7,7 @@ use Rattle.journal_objlog.specs.ObjectTails.{blocks_of, known_updates, tail_base
 use Rattle.journal_objlog.proofs.Fetched.{none_of}
 use Rattle.journal_objlog.proofs.Missing.{none_missing}
 use Rattle.journal_objlog.proofs.Refusing.{if_err}
-use Rattle.journal_objlog.proofs.TailStaging.{tail_ready, tail_prepared}
+use Rattle.journal_objlog.proofs.TailStaging.{tail_ready, tail_overwrites, tail_prepared}
 use Rattle.journal_objlog.proofs.tail.ObjectTail.prepare.Goals as goal
 
 pub returns-in_err-places-clause-refusal : goal.returns-in_err-places-clause-refusal
@@ -58,6 +58,15 @@ returns-clause-ready c =
     tail_ready c.self.inside.tail c.args.self.now c.reserve.new.self c.args.fetched.now c.args.writes.now c.in_ok-updates.updates.items
     c.in_ok-places.places.fresh c.self.view_is c.in_ok-updates.ensures.staged (ap (λ (p : Places). p.fresh) (c.in_ok-places.ensures.places c.args.fetched.now))
     c.in_ok-reserve.ensures.same c.in_ok-reserve.ensures.room
+
+pub returns-clause-overwrites : goal.returns-clause-overwrites
+returns-clause-overwrites c =
+    let none : length c.in_ok-missing.missing.items ≡ 0 = search rules in
+    let present = none_missing (blocks_of c.args.self.now) (known_updates c.args.fetched.now c.args.self.now) c.args.writes.now
+    (sym c.in_ok-missing.ensures.blocks ∙ none_of c.in_ok-missing.missing.items none) in
+    tail_overwrites c.self.inside.tail c.args.self.now c.reserve.new.self c.args.fetched.now c.args.writes.now c.in_ok-updates.updates.items
+    c.self.inside.layout.blocks c.self.invariant c.self.view_is c.in_ok-updates.ensures.staged (c.in_ok-places.ensures.ok c.args.fetched.now).objects
+    present c.in_ok-reserve.ensures.same
 
 pub returns-clause-prepared : goal.returns-clause-prepared
 returns-clause-prepared c =
