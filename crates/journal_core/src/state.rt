@@ -64,7 +64,7 @@ impl<'b, D: BlockDisk, R: MapRule, J: Naming> Core<'b, D, R, J> {
           end = end_of self.now.objects;
         } }
     {
-        let (start, end) = self.objects.bounds();
+        let (start, end) = self.objects.log_range();
         Stat {
             commits: self.memory.count(),
             floor: self.memory.floor(),

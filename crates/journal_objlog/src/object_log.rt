@@ -87,10 +87,10 @@ impl<D: BlockDisk> ObjectLog<D> {
     }
 
     /// Where the log on the disk starts and ends, as last synced: positions, of which there are at most 511.
-    pub fn bounds(&self) -> (u64, u64)
+    pub fn log_range(&self) -> (u64, u64)
         ensures { result ≡ (self.now.log.start, self.now.log.logged) }
     {
-        self.wal.bounds()
+        self.wal.log_range()
     }
 
     /// Whether a group is in flight.

@@ -56,7 +56,7 @@ impl<D: BlockDisk> Wal<D> {
     }
 
     /// Where the log on the disk starts and ends, as last synced: positions, of which there are at most 511.
-    pub fn bounds(&self) -> (u64, u64)
+    pub fn log_range(&self) -> (u64, u64)
         ensures { result ≡ (self.now.log.start, self.now.log.logged) }
     {
         let bounds = self.memory.bounds();
