@@ -3,14 +3,17 @@ use Rattle.std.proofs.Common.{◌≡◌, ◌<◌, ◌==◌, max, ◌+◌, ◌^�
 use Rattle.std.specs.List.{filter}
 use Rattle.std.proofs.lemmas.List.Elements.{filter-append}
 use Rattle.journal_world.specs.Maps.{Transaction}
-use Rattle.journal_world.specs.Histories.{Entry, commits, commits_of, writes_slot, touched}
+use Rattle.journal_world.specs.Histories.{Entry, commits, commits_of, count, floor, writes_slot, touched}
 use Rattle.journal_world.specs.Histories.Entry.{commit, stable}
 use Rattle.journal_world.proofs.LongerHistories.{commits-commit}
 use Rattle.journal_world.proofs.Marks.{commits-mark}
 use Rattle.journal_world.proofs.SessionCommits.{length-commits-le}
 use Rattle.journal_core.specs.Tallies.{Pairs, SameTally, CountsOne}
+use Rattle.journal_core.specs.declared.covered.Covered.{Covered}
+use Rattle.journal_core.specs.Covers.{KeepsCovered}
 use Rattle.journal_core.specs.SlotCounts.{Counts, AreCounts, CountsNothing, CountsWrites, KeepsCounts}
 use Rattle.journal_core.specs.Memories.{MemoryState, IsMemory}
+use Rattle.journal_core.proofs.Covering.{keeps_commit as covers_commit, keeps_cut as covers_cut, keeps_none as covers_none}
 use Rattle.journal_core.proofs.Keeping.{tallied_mark, commits_of-other}
 use Rattle.journal_core.proofs.Committing.{tallied_commit}
 
@@ -59,13 +62,15 @@ counts_commit old new history t more counts = record {
 }
 
 -- what the memory part keeps at first
-pub memory_begun : (slots : Counts) (history : List Entry) → commits history ≡ [] → CountsNothing slots
-    → IsMemory [] slots (record { history = history; next = 0; closed = false })
-memory_begun slots history no_commits none = record {
+pub memory_begun : (slots : Counts) (covered : Covered) (history : List Entry) → commits history ≡ [] → floor history ≡ 0 → CountsNothing slots
+    → covered.marked ≡ length history → covered.cut ≡ length history
+    → IsMemory [] slots covered (record { history = history; cut = 0; next = 0; closed = false })
+memory_begun slots covered history no_commits unmarked none marked cut = record {
   counts = record {
     tallied = λ s. sym (ap length (no_session history no_commits s));
     touched = counts_none slots history no_commits none;
   };
+  fronts = covers_none history no_commits unmarked covered marked cut;
   fresh = λ s le. no_session history no_commits s;
 }
 
@@ -89,25 +94,37 @@ pub few_counted : (tally : Pairs) (slots : Counts) (history : List Entry) → Ke
     → slots.commits < 2 ^ 62
 few_counted tally slots history kept room = omega (arith, kept.touched.commits, length-commits-le history, room)
 
-module _ (tally : Pairs) (slots : Counts) (m : MemoryState) (kept : IsMemory tally slots m) where
+module _ (tally : Pairs) (slots : Counts) (covered : Covered) (m : MemoryState) (kept : IsMemory tally slots covered m) where
   -- a mark
-  pub memory_marked : (n : ℕ) → IsMemory tally slots (record m { history = m.history ++ stable n ∷ [] })
-  memory_marked n = record {
+  pub memory_marked : (n : ℕ) (now : Covered) → KeepsCovered now (m.history ++ stable n ∷ []) n
+      → IsMemory tally slots now (record m { history = m.history ++ stable n ∷ []; cut = n })
+  memory_marked n now covers = record {
     counts = keeps_mark tally slots m.history n kept.counts;
+    fronts = covers;
     fresh = λ s le. ap (λ (ts : List Transaction). filter (λ (t : Transaction). t.session == s) ts) (commits-mark m.history n) ∙ kept.fresh s le;
   }
 
+  -- a cut
+  pub memory_cut : (now : Covered) (cut : ℕ) → now.marked ≡ covered.marked → now.cut ≡ length m.history → cut ≡ count m.history
+      → IsMemory tally slots now (record m { cut = cut })
+  memory_cut now cut marked whole all = subst (λ (n : ℕ). IsMemory tally slots now (record m { cut = n })) (sym all) (record {
+    counts = kept.counts;
+    fronts = covers_cut covered m.history m.cut kept.fronts now marked whole;
+    fresh = kept.fresh;
+  })
+
   -- a further session
-  pub memory_joined : IsMemory tally slots (record m { next = m.next + 1 })
-  memory_joined = record { counts = kept.counts; fresh = λ s le. kept.fresh s (omega (arith, le)) }
+  pub memory_joined : IsMemory tally slots covered (record m { next = m.next + 1 })
+  memory_joined = record { counts = kept.counts; fronts = kept.fronts; fresh = λ s le. kept.fresh s (omega (arith, le)) }
 
   -- a commit
   pub memory_committed : (mid new : Pairs) (more : Counts) (history : List Entry) (next : ℕ) (t : Transaction) (session : ℕ)
       → history ≡ m.history ++ commit t ∷ [] → next ≡ max m.next (session + 1) → session ≡ t.session
       → SameTally tally mid → CountsOne session mid new → CountsWrites t.writes slots more
-      → IsMemory new more (record m { history = history; next = next })
+      → IsMemory new more covered (record m { history = history; next = next })
   memory_committed mid new more history next t session added raised is same counts writes = record {
     counts = keeps_commit tally mid new slots more m.history history t session added is same counts writes kept.counts;
+    fronts = subst (λ (h : List Entry). KeepsCovered covered h m.cut) (sym added) (covers_commit covered m.history m.cut kept.fronts t);
     fresh = λ s le.
         ap (commits_of s) added
         ∙ commits_of-other m.history t s (λ equal. omega (arith, equal, is, raised, le))

@@ -261,10 +261,11 @@ crashes_seen blocks inside now new before is kept same =
     subst (λ (c : CoreState). Crashes c new) is (crashes_same blocks inside new before kept same)
 
 -- whatever became of the memory part, the history stays
-pub kept_still : (blocks : ℕ) (objects : WalState) (old new : MemoryState) (cut logged : ℕ) → new.history ≡ old.history
-    → IsCore blocks (core_of objects old cut logged) → IsCore blocks (core_of objects new cut logged)
-kept_still blocks objects old new cut logged same kept =
-    subst (λ (h : List Entry). IsCore blocks (core_of objects (record new { history = h }) cut logged)) (sym same) (record {
+pub kept_still : (blocks : ℕ) (objects : WalState) (old new : MemoryState) (logged : ℕ) → new.history ≡ old.history
+    → new.cut ≡ old.cut → IsCore blocks (core_of objects old logged) → IsCore blocks (core_of objects new logged)
+kept_still blocks objects old new logged same cut kept =
+    subst (λ (n : ℕ). IsCore blocks (core_of objects (record new { cut = n }) logged)) (sym cut)
+    (subst (λ (h : List Entry). IsCore blocks (core_of objects (record new { history = h; cut = old.cut }) logged)) (sym same) (record {
       size = kept.size;
       on_disk = kept.on_disk;
       trusted = kept.trusted;
@@ -274,7 +275,7 @@ kept_still blocks objects old new cut logged same kept =
       rest = kept.rest;
       tied = kept.tied;
       images = kept.images;
-    })
+    }))
 
 -- a true mark
 pub kept_marked : (blocks : ℕ) (c : CoreState) (n : ℕ) → IsCore blocks c → c.history ≢ [] → CanMark c n

@@ -6,6 +6,7 @@ pub mod Opening
 pub mod SlotCounting
 pub mod Remembering
 pub mod Reading
+pub mod Covering
 pub mod Counting
 pub mod Holding
 pub mod Running

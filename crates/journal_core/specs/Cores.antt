@@ -25,11 +25,11 @@ pub record CoreState : Type 0 where
   pub closed : Bool
 
 -- the core of an object log and the memory part
-abbrev pub core_of : WalState → MemoryState → ℕ → ℕ → CoreState
-core_of objects memory cut logged = record {
+abbrev pub core_of : WalState → MemoryState → ℕ → CoreState
+core_of objects memory logged = record {
   objects = objects;
   history = memory.history;
-  cut = cut;
+  cut = memory.cut;
   logged = logged;
   next = memory.next;
   closed = memory.closed;

@@ -1,7 +1,9 @@
 pub mod Causes
 pub mod Cores
 pub mod Steps
+pub mod Flushes
 pub mod Tallies
+pub mod Covers
 pub mod SlotCounts
 pub mod Transactions
 pub mod Memories

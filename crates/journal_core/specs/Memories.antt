@@ -7,21 +7,27 @@ use Rattle.journal_world.specs.Histories.{Entry, commits_of}
 use Rattle.journal_history.specs.Soundness.{IsLonger}
 use Rattle.journal_history.specs.Tokens.{SessionState, made}
 use Rattle.journal_core.specs.Causes.{Told, IsUnexplained}
+use Rattle.journal_core.specs.declared.covered.Covered.{Covered}
 use Rattle.journal_core.specs.Tallies.{Pairs}
+use Rattle.journal_core.specs.Covers.{KeepsCovered}
 use Rattle.journal_core.specs.SlotCounts.{Counts, KeepsCounts}
 use Rattle.journal_core.specs.Transactions.{TransactionState, AreUnmoved}
 
 pub record MemoryState : Type 0 where
   -- all entries of the mount's history
   pub history : List Entry
+  -- how many commits there were at the last cut
+  pub cut : ℕ
   -- the number of the next session
   pub next : ℕ
   -- it was stopped
   pub closed : Bool
 
--- What it keeps: it counts the commits of each session and slot, and no session of a later number has committed
-pub record IsMemory (tally : Pairs) (slots : Counts) (m : MemoryState) : Type 0 where
+-- What it keeps: it counts the commits of each session and slot, knows which fronts have only marked commits, and no session
+-- of a later number has committed
+pub record IsMemory (tally : Pairs) (slots : Counts) (covered : Covered) (m : MemoryState) : Type 0 where
   pub counts : KeepsCounts tally slots m.history
+  pub fronts : KeepsCovered covered m.history m.cut
   pub fresh : (s : ℕ) → m.next ≤ s → commits_of s m.history ≡ []
 
 -- The history is longer than the core's, and was seen

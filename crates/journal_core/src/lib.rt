@@ -8,11 +8,14 @@
 
 mod cause;
 mod commit;
+mod covered;
+mod flush;
 mod install;
 mod law;
 mod log;
 mod memory;
 mod memory_commit;
+mod memory_flush;
 mod memory_session;
 mod open;
 mod read;

@@ -30,18 +30,19 @@ impl<'b, D: BlockDisk, R: MapRule, J: Naming> Core<'b, D, R, J> {
         ensures event { AnswersLog self.old result self.new }
     {
         self.check_running()?;
-        if !self.objects.is_logging() && self.memory.floor() < self.cut {
-            return self.mark(self.cut);
+        let cut = self.memory.cut();
+        if !self.objects.is_logging() && self.memory.floor() < cut {
+            return self.mark(cut);
         }
         match raise(self.objects.log_step())? {
             GroupStep::Idle => {}
             GroupStep::Cut => {
-                self.cut = self.memory.count();
+                self.memory.note_cut();
                 return Ok(LogStep::Cut);
             }
             GroupStep::Put => return Ok(LogStep::Put),
             GroupStep::Logged => {
-                self.logged = self.cut;
+                self.logged = cut;
                 return Ok(LogStep::Logged);
             }
         }
@@ -61,7 +62,6 @@ impl<'b, D: BlockDisk, R: MapRule, J: Naming> Core<'b, D, R, J> {
         ensures crash { Crashes self.old self.new }
     {
         self.memory.mark(n)?;
-        self.cut = n;
         self.logged = n;
         Ok(LogStep::Marked(n))
     }

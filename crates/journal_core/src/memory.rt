@@ -10,6 +10,7 @@ ghost use Rattle.journal_core.specs.SlotCounts.{CountsNothing};
 ghost use Rattle.journal_core.specs.Transactions.{IsCount, AreUnmoved};
 
 use crate::cause::Cause;
+use crate::covered::Covered;
 use crate::slot_counts::SlotCounts;
 use crate::tally::Tally;
 use crate::transaction::Transaction;
@@ -24,6 +25,9 @@ use std::marker::Model;
 #[derive(Drop)]
 pub(crate) struct Memory<'b, R: MapRule, J: Naming> {
     pub(crate) writer: Writer<'b, J, R>,
+    // How many commits there were at the last cut.
+    pub(crate) cut: u64,
+    pub(crate) covered: Covered,
     // How many commits each session has, and the number of the next one.
     pub(crate) tally: Tally,
     pub(crate) next: u64,
@@ -38,9 +42,9 @@ impl<'b, R: MapRule, J: Naming> Model for Memory<'b, R, J> {
 
     ghost Value = { MemoryState };
 
-    ghost view = { λ m. record { history = m.writer; next = m.next; closed = m.closed } };
+    ghost view = { λ m. record { history = m.writer; cut = m.cut; next = m.next; closed = m.closed } };
 
-    ghost invariant = { λ m. IsMemory m.tally m.slots (record { history = m.writer; next = m.next; closed = m.closed }) };
+    ghost invariant = { λ m. IsMemory m.tally m.slots m.covered (record { history = m.writer; cut = m.cut; next = m.next; closed = m.closed }) };
 }
 
 impl<'b, R: MapRule, J: Naming> Memory<'b, R, J> {
@@ -51,11 +55,18 @@ impl<'b, R: MapRule, J: Naming> Memory<'b, R, J> {
         slots: SlotCounts,
     ) -> Memory<'b, R, J>
         requires none { commits writer ≡ [] }
+        requires unmarked { floor writer ≡ 0 }
         requires slots { CountsNothing slots }
-        ensures { result ≡ record { history = writer.entry; next = 0; closed = false } }
+        ensures { result ≡ record { history = writer.entry; cut = 0; next = 0; closed = false } }
     {
+        let len = writer.len();
         Memory {
             writer,
+            cut: 0,
+            covered: Covered {
+                marked: len,
+                cut: len,
+            },
             tally: Tally::new(alloc),
             next: 0,
             closed: false,

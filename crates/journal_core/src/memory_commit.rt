@@ -1,5 +1,5 @@
 // What the memory part adds to the history.
-ghost use Rattle.std.specs.Prelude.{◌≡◌, ◌≢◌, ◌<◌, ◌≤◌, ◌+◌, ◌^◌, ◌++◌, ◌∷◌, [], max, IsTrue, length, IfOk, IfErr, OnOk, OnErr};
+ghost use Rattle.std.specs.Prelude.{◌≡◌, ◌≢◌, ◌<◌, ◌≤◌, ◌+◌, ◌^◌, ◌++◌, ◌∷◌, ◌⊎◌, [], max, IsTrue, length, IfOk, IfErr, OnOk, OnErr};
 ghost use Rattle.journal_world.specs.Maps.{Map, Agrees, are_objects, overwritten};
 ghost use Rattle.journal_world.specs.Histories.{is_trusted, commits_of, count, floor, latest};
 ghost use Rattle.journal_world.specs.Histories.Entry.{stable};
@@ -72,6 +72,7 @@ impl<'b, R: MapRule, J: Naming> Memory<'b, R, J> {
         ensures committed { OnOk result (Commits (next_transaction session.old transaction.now.reads transaction.now.writes) session.old session.new self.old.history self.new.history) }
         ensures others { OnOk result (self.new ≡ record self.old { history = self.new.history; next = max self.old.next (session.old.number + 1) }) }
         ensures begun { self.old.history ≢ [] }
+        ensures cut { self.new.cut ≡ self.old.cut }
         ensures receipt { IfOk result (IsReceiptFor (next_transaction session.old transaction.now.reads transaction.now.writes) self.new.history (length self.old.history)) }
         ensures refusal { IfErr result (IsAddingRefusal self.old.history) }
         ensures same { OnErr result (self.new ≡ self.old) }
@@ -96,11 +97,28 @@ impl<'b, R: MapRule, J: Naming> Memory<'b, R, J> {
         Ok(receipt)
     }
 
-    /// Marks that n commits are stable, and tells it. Refuses by J11 and J9, and is then as it was.
+    /// How many commits there were at the last cut.
+    pub(crate) fn cut(&self) -> u64
+        ensures { result ≡ self.now.cut }
+    {
+        self.cut
+    }
+
+    /// Notes a cut: all commits that there are.
+    pub(crate) fn note_cut(&mut self)
+        ensures { self.new ≡ record self.old { cut = count self.old.history } }
+    {
+        self.cut = self.writer.count();
+        self.covered.cut = self.writer.len();
+    }
+
+    /// Marks that n commits are stable, those at the last cut or all, and tells it. Refuses by J11 and J9, and is then as
+    /// it was.
     pub(crate) fn mark(&mut self, n: u64) -> Result<(), Refusal<Cause<'b, J, R>>>
         requires rises { floor self.old.history ≤ n }
         requires made { n ≤ count self.old.history }
-        ensures added { OnOk result (self.new ≡ record self.old { history = self.old.history ++ stable n ∷ [] }) }
+        requires due { (n ≡ self.old.cut) ⊎ (n ≡ count self.old.history) }
+        ensures added { OnOk result (self.new ≡ record self.old { history = self.old.history ++ stable n ∷ []; cut = n }) }
         ensures begun { self.old.history ≢ [] }
         ensures refusal { IfErr result (IsMarkRefusal self.old.history) }
         ensures same { OnErr result (self.new ≡ self.old) }
@@ -112,6 +130,11 @@ impl<'b, R: MapRule, J: Naming> Memory<'b, R, J> {
             return Err(Refusal::Stale(Cause::of(front)));
         }
         self.writer.tell();
+        self.cut = n;
+        if n == self.writer.count() {
+            self.covered.cut = self.writer.len();
+        }
+        self.covered.marked = self.covered.cut;
         Ok(())
     }
 }

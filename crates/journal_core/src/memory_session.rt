@@ -18,6 +18,7 @@ impl<'b, R: MapRule, J: Naming> Memory<'b, R, J> {
         ensures fresh { commits_of self.old.next self.old.history ≡ [] }
         ensures others { OnOk result (self.new ≡ record self.old { next = self.old.next + 1 }) }
         ensures history { self.new.history ≡ self.old.history }
+        ensures cut { self.new.cut ≡ self.old.cut }
         ensures refusal { IfErr result (IsNumberRefusal self.old.next) }
         ensures same { OnErr result (self.new ≡ self.old) }
     {
@@ -63,7 +64,10 @@ impl<'b, R: MapRule, J: Naming> Memory<'b, R, J> {
     }
 
     // Refuses by J9 where the history is longer, or the session has seen more, then by J10.
-    fn check_session(&self, session: &Session<'b, J, R>) -> Result<(), Refusal<Cause<'b, J, R>>>
+    pub(crate) fn check_session(
+        &self,
+        session: &Session<'b, J, R>,
+    ) -> Result<(), Refusal<Cause<'b, J, R>>>
         ensures seen { OnOk result (IsPrefix session.now.seen self.now.history) }
         ensures own { OnOk result (length (commits_of session.now.number self.now.history) ≡ made session.now) }
         ensures refusal { IfErr result (IsStrayRefusal self.now.history session.now) }

@@ -77,7 +77,6 @@ impl<'b, D: BlockDisk, R: MapRule, J: Naming> Core<'b, D, R, J> {
             Ok(writer) => Ok(Core {
                 objects,
                 memory: Memory::new(alloc, writer, slots),
-                cut: 0,
                 logged: 0,
             }),
             Err(refusal) => Err(Refused {

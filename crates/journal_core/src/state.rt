@@ -39,8 +39,7 @@ pub struct Stat {
 pub struct Core<'b, D: BlockDisk, R: MapRule, J: Naming> {
     pub(crate) objects: ObjectLog<D>,
     pub(crate) memory: Memory<'b, R, J>,
-    // How many commits there were at the last cut, and at that of the last group whose cycle ended.
-    pub(crate) cut: u64,
+    // How many commits there were at the cut of the last group whose cycle ended.
     pub(crate) logged: u64,
 }
 
@@ -49,9 +48,9 @@ impl<'b, D: BlockDisk, R: MapRule, J: Naming> Model for Core<'b, D, R, J> {
 
     ghost Value = { CoreState };
 
-    ghost view = { λ c. core_of c.objects c.memory c.cut c.logged };
+    ghost view = { λ c. core_of c.objects c.memory c.logged };
 
-    ghost invariant = { λ c. IsCore J.blocks (core_of c.objects c.memory c.cut c.logged) };
+    ghost invariant = { λ c. IsCore J.blocks (core_of c.objects c.memory c.logged) };
 }
 
 impl<'b, D: BlockDisk, R: MapRule, J: Naming> Core<'b, D, R, J> {
@@ -94,7 +93,7 @@ impl<'b, D: BlockDisk, R: MapRule, J: Naming> Core<'b, D, R, J> {
     pub fn is_log_idle(&self) -> bool
         ensures { IsRunning self.now → IsTrue result ↔ IsLogIdle self.now }
     {
-        if !self.objects.is_log_idle() || self.memory.floor() < self.cut {
+        if !self.objects.is_log_idle() || self.memory.floor() < self.memory.cut() {
             return false;
         }
         self.objects.tail_len() > 0 || self.memory.count() <= self.memory.floor()

@@ -28,6 +28,6 @@ count_writes-requires g c =
 pub invariant_of-self-2 : goal.invariant_of-self-2
 invariant_of-self-2 g c =
     let t = next_transaction c.args.session.now c.args.transaction.now.reads c.args.transaction.now.writes in
-    memory_committed _ _ _ c.self.invariant c.reserve.new.self c.count_one.new.self c.count_writes.new.self c.commit.new.self c.max-self-inside.result t c.number-number.result
+    memory_committed _ _ _ _ c.self.invariant c.reserve.new.self c.count_one.new.self c.count_writes.new.self c.commit.new.self c.max-self-inside.result t c.number-number.result
     c.in-Ok.ensures.committed.added c.max-self-inside.ensures c.number-number.ensures c.reserve.ensures.same c.count_one.ensures
     (subst (λ (u : TransactionState). CountsWrites u.writes c.self.inside.slots c.count_writes.new.self) c.transaction.view_is c.count_writes.ensures)

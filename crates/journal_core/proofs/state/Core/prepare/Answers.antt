@@ -27,7 +27,7 @@ returns-then-is_too_large-clause-crash g c =
 
 pub returns-then-len-clause-refusal : goal.returns-then-len-clause-refusal
 returns-then-len-clause-refusal g c = (
-  few_blocks g.J.Naming.blocks (core_of c.self.inside.objects c.self.inside.memory c.self.inside.cut c.self.inside.logged)
+  few_blocks g.J.Naming.blocks (core_of c.self.inside.objects c.self.inside.memory c.self.inside.logged)
       c.args.writes.now c.self.invariant.size (subst IsRunning (sym c.self.view_is) c.requires.running) c.requires.objects c.prepare-prepared.new.self
       c.prepare-prepared.result c.prepare-prepared.ensures.ok c.prepare-prepared.ensures.refusal
       (λ is. false≢true (c.if-is_too_large.ensures.1 is)),
@@ -45,9 +45,9 @@ returns-then-len-clause-crash g c =
 
 pub returns-clause-refusal : goal.returns-clause-refusal
 returns-clause-refusal g c =
-    subst (λ (s : CoreState). IfErr c.raise.result (IsPreparingRefusal s c.args.session.now c.args.writes.now (core_of c.prepare-prepared.new.self c.self.inside.memory c.self.inside.cut c.self.inside.logged)))
+    subst (λ (s : CoreState). IfErr c.raise.result (IsPreparingRefusal s c.args.session.now c.args.writes.now (core_of c.prepare-prepared.new.self c.self.inside.memory c.self.inside.logged)))
     c.self.view_is
-    (prepares_not g.J.Naming.blocks (core_of c.self.inside.objects c.self.inside.memory c.self.inside.cut c.self.inside.logged)
+    (prepares_not g.J.Naming.blocks (core_of c.self.inside.objects c.self.inside.memory c.self.inside.logged)
     c.args.writes.now c.self.invariant.size (subst IsRunning (sym c.self.view_is) c.requires.running) c.requires.objects c.args.session.now
     c.prepare-prepared.new.self
     (omega (arith, c.if-len.false, c.len.ensures.length)) (omega (arith, c.if-number-ge-LIMIT.false, c.number.ensures))

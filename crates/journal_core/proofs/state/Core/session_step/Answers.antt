@@ -4,7 +4,7 @@ use Rattle.journal_core.proofs.Events.{answers_session}
 use Rattle.journal_core.proofs.state.Core.session_step.Goals as goal
 
 pub invariant_of-self : goal.invariant_of-self
-invariant_of-self g c = kept_still g.J.Naming.blocks _ _ _ _ _ c.session.ensures.history c.self.invariant
+invariant_of-self g c = kept_still g.J.Naming.blocks _ _ _ _ c.session.ensures.history c.session.ensures.cut c.self.invariant
 
 pub returns-clause-crash : goal.returns-clause-crash
 returns-clause-crash g c = crashes_seen g.J.Naming.blocks _ _ _ c.self.invariant c.self.view_is (invariant_of-self g c) refl

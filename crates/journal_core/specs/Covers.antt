@@ -1,0 +1,17 @@
+-- Which fronts of a history have only marked commits.
+use Rattle.std.specs.Prelude.{ℕ, ◌≤◌, ◌↔◌, List, length, take}
+use Rattle.journal_world.specs.Histories.{Entry, count, floor}
+use Rattle.journal_core.specs.declared.covered.Covered.{Covered}
+
+-- Of the fronts of the history exactly those of at most so many entries have at most n commits
+pub record Covers (history : List Entry) (n entries : ℕ) : Type 0 where
+  pub within : entries ≤ length history
+  pub fronts : (k : ℕ) → k ≤ length history → (k ≤ entries) ↔ (count (take k history) ≤ n)
+
+-- What is kept of the fronts beside the history: the longest whose commits are all marked, and the longest of the commits
+-- that there were at the last cut
+pub record KeepsCovered (covered : Covered) (history : List Entry) (commits : ℕ) : Type 0 where
+  pub marked : Covers history (floor history) covered.marked
+  pub cut : Covers history commits covered.cut
+  pub rises : floor history ≤ commits
+  pub made : commits ≤ count history
