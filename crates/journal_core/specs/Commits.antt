@@ -10,6 +10,7 @@ use Rattle.journal_wal.specs.Wal.{WalState, Appends}
 use Rattle.journal_objlog.specs.ObjectLogs.{base_of, OnlyReads}
 use Rattle.journal_objlog.specs.Writes.{writes_block, written_blocks, fresh_blocks}
 use Rattle.journal_history.specs.Tokens.{SessionState, made, next_transaction as numbered, Commits}
+use Rattle.journal_core.specs.declared.refusal_number.RefusalNumber.TheVariants.{J11, J12}
 use Rattle.journal_core.specs.Causes.{Told, IsUnexplained}
 use Rattle.journal_core.specs.Cores.{CoreState, IsRunning}
 use Rattle.journal_core.specs.Transactions.{TransactionState, AreUnmoved}
@@ -65,18 +66,18 @@ IsCommitRefusal old s t new (DeviceFailed cause) = IsDeviceRefusal (CanCommit ol
 IsCommitRefusal old s t new (Stale cause) = IsRunning old × IsStale old.history cause
 IsCommitRefusal old s t new (Stranger cause) = IsRunning old × HasSeen old.history s t × IsUnknown old.history s t cause
 IsCommitRefusal old s t new TooLarge = MayCommit old s t × (MAX_UPDATES < written_blocks t.writes)
-IsCommitRefusal old s t new (Worn cause) = MayCommit old s t × (written_blocks t.writes ≤ MAX_UPDATES) × IsWorn old s t.writes × IsUnexplained cause
+IsCommitRefusal old s t new (Worn cause) = MayCommit old s t × (written_blocks t.writes ≤ MAX_UPDATES) × IsWorn old s t.writes × IsUnexplained J11 cause
 IsCommitRefusal old s t new (Full cause) = MayCommit old s t × (written_blocks t.writes ≤ MAX_UPDATES) × (IsWorn old s t.writes → ⊥)
-    × IsFull old t.writes × IsUnexplained cause
+    × IsFull old t.writes × IsUnexplained J12 cause
 IsCommitRefusal old s t new NoMemory = CanCommit old s t
 IsCommitRefusal old s t new other = ⊥
 
 -- Why writes are not made ready
 abbrev pub IsPreparingRefusal : CoreState → SessionState → List Pair → CoreState → Refusal Told → Type 0
 IsPreparingRefusal old s writes new TooLarge = MAX_UPDATES < written_blocks writes
-IsPreparingRefusal old s writes new (Worn cause) = (written_blocks writes ≤ MAX_UPDATES) × IsWorn old s writes × IsUnexplained cause
+IsPreparingRefusal old s writes new (Worn cause) = (written_blocks writes ≤ MAX_UPDATES) × IsWorn old s writes × IsUnexplained J11 cause
 IsPreparingRefusal old s writes new (Full cause) = (written_blocks writes ≤ MAX_UPDATES) × (IsWorn old s writes → ⊥)
-    × IsFull old writes × IsUnexplained cause
+    × IsFull old writes × IsUnexplained J12 cause
 IsPreparingRefusal old s writes new NoMemory = CanPrepare old s writes
 IsPreparingRefusal old s writes new (DeviceFailed cause) = IsDeviceRefusal (CanPrepare old s writes) old new cause
 IsPreparingRefusal old s writes new other = ⊥

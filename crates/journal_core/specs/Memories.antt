@@ -1,13 +1,14 @@
 -- What contracts see of the core's memory part, what its type keeps, and why it refuses. No device is asked for any of it.
-use Rattle.std.specs.Prelude.{ℕ, ◌≡◌, ◌⊎◌, ◌<◌, ◌≤◌, ◌+◌, ◌^◌, Bool, List, [], length, Some}
+use Rattle.std.specs.Prelude.{ℕ, ◌≡◌, ◌⊎◌, ◌<◌, ◌≤◌, ◌+◌, ◌^◌, Bool, List, [], length}
 use mathlib.Core.List.{IsPrefix}
 use Rattle.journal_world.specs.declared.refusal.Refusal.{Refusal}
 use Rattle.journal_world.specs.declared.refusal.Refusal.TheVariants.{NoMemory, Stale, Stranger, Worn}
 use Rattle.journal_world.specs.Histories.{Entry, commits_of}
 use Rattle.journal_history.specs.Soundness.{IsLonger}
 use Rattle.journal_history.specs.Tokens.{SessionState, made}
-use Rattle.journal_core.specs.Causes.{Told, IsUnexplained}
+use Rattle.journal_core.specs.declared.refusal_number.RefusalNumber.TheVariants.{J9, J10, J11}
 use Rattle.journal_core.specs.declared.covered.Covered.{Covered}
+use Rattle.journal_core.specs.Causes.{Told, IsUnexplained, IsExplained}
 use Rattle.journal_core.specs.Tallies.{Pairs}
 use Rattle.journal_core.specs.Covers.{KeepsCovered}
 use Rattle.journal_core.specs.SlotCounts.{Counts, KeepsCounts}
@@ -32,7 +33,7 @@ pub record IsMemory (tally : Pairs) (slots : Counts) (covered : Covered) (m : Me
 
 -- The history is longer than the core's, and was seen
 abbrev pub IsStale : List Entry → Told → Type 0
-IsStale history cause = (longer : List Entry) × (cause ≡ Some longer) × IsLonger history longer
+IsStale history cause = (longer : List Entry) × IsExplained J9 longer cause × IsLonger history longer
 
 -- The history has a commit under the session's number that the session did not make
 abbrev pub IsStrange : List Entry → SessionState → Type 0
@@ -40,11 +41,11 @@ IsStrange history s = made s < length (commits_of s.number history)
 
 -- The transaction has seen more of the history than the core, as this cause has
 abbrev pub IsBehind : List Entry → TransactionState → Told → Type 0
-IsBehind history t cause = (cause ≡ Some t.seen) × IsLonger history t.seen
+IsBehind history t cause = IsExplained J9 t.seen cause × IsLonger history t.seen
 
 -- A commit touched a slot under which the transaction had read
 abbrev pub IsMoved : List Entry → TransactionState → Told → Type 0
-IsMoved history t cause = (cause ≡ Some history) × IsPrefix t.seen history × (AreUnmoved history t → ⊥)
+IsMoved history t cause = IsExplained J10 history cause × IsPrefix t.seen history × (AreUnmoved history t → ⊥)
 
 -- Neither the session nor the transaction has seen more of the history than the core
 pub record HasSeen (history : List Entry) (s : SessionState) (t : TransactionState) : Type 0 where
@@ -53,7 +54,7 @@ pub record HasSeen (history : List Entry) (s : SessionState) (t : TransactionSta
 
 -- The history has a commit that the session or the transaction does not know to be there
 abbrev pub IsUnknown : List Entry → SessionState → TransactionState → Told → Type 0
-IsUnknown history s t cause = ((cause ≡ Some history) × IsStrange history s) ⊎ IsMoved history t cause
+IsUnknown history s t cause = (IsExplained J10 history cause × IsStrange history s) ⊎ IsMoved history t cause
 
 -- J9 lasts: the session has then seen the longer history, by which each later commit of it is refused
 abbrev pub ShowsLonger : List Entry → SessionState → Refusal Told → Type 0
@@ -68,12 +69,12 @@ IsStaleRefusal history other = ⊥
 -- why a session is not shown the history where it is to be exact then
 abbrev pub IsStrayRefusal : List Entry → SessionState → Refusal Told → Type 0
 IsStrayRefusal history s (Stale cause) = IsStale history cause
-IsStrayRefusal history s (Stranger cause) = IsPrefix s.seen history × (cause ≡ Some history) × IsStrange history s
+IsStrayRefusal history s (Stranger cause) = IsPrefix s.seen history × IsExplained J10 history cause × IsStrange history s
 IsStrayRefusal history s other = ⊥
 
 -- why there is no session of this number
 abbrev pub IsNumberRefusal : ℕ → Refusal Told → Type 0
-IsNumberRefusal next (Worn cause) = (2 ^ 62 ≤ next) × IsUnexplained cause
+IsNumberRefusal next (Worn cause) = (2 ^ 62 ≤ next) × IsUnexplained J11 cause
 IsNumberRefusal next other = ⊥
 
 -- why what a transaction has read is not admitted, which has seen no more of the history than the core
@@ -101,6 +102,6 @@ IsAddingRefusal history other = ⊥
 
 -- why a mark is refused
 abbrev pub IsMarkRefusal : List Entry → Refusal Told → Type 0
-IsMarkRefusal history (Worn cause) = (2 ^ 62 ≤ length history + 1) × IsUnexplained cause
+IsMarkRefusal history (Worn cause) = (2 ^ 62 ≤ length history + 1) × IsUnexplained J11 cause
 IsMarkRefusal history (Stale cause) = IsStale history cause
 IsMarkRefusal history other = ⊥

@@ -1,5 +1,5 @@
 -- What a mount begins with, and why a disk is not opened.
-use Rattle.std.specs.Prelude.{◌≡◌, ◌≢◌, ◌⊎◌, ◌≤◌, Bool, IsTrue, List, [], ◌∷◌, Some, Result, Ok, Err}
+use Rattle.std.specs.Prelude.{◌≡◌, ◌≢◌, ◌⊎◌, ◌≤◌, Bool, IsTrue, List, [], ◌∷◌, Result, Ok, Err}
 use Rattle.journal_world.specs.declared.refusal.Refusal.{Refusal}
 use Rattle.journal_world.specs.declared.refusal.Refusal.TheVariants.{NoMemory, DeviceFailed, BadLog, BadSuper, Stale}
 use Rattle.journal_world.specs.declared.layout.TheConstants.{MIN_BLOCKS, MAX_BLOCKS}
@@ -9,10 +9,11 @@ use Rattle.journal_world.specs.Histories.Entry.{opening}
 use Rattle.journal_disk.specs.Disks.{DiskState, Keeps, HasFailed}
 use Rattle.journal_disk.specs.Images.{EveryImage, reading}
 use Rattle.journal_circ.specs.Log.{IsWellFormed}
-use Rattle.journal_wal.specs.Wal.{WalState, IsAtRest as AtRest}
+use Rattle.journal_wal.specs.Wal.{WalState, IsAtRest as AtRest, HasBoundsIn}
 use Rattle.journal_objlog.specs.ObjectLogs.{map_now, disk_of as log_disk}
 use Rattle.journal_objlog.specs.Maps.{OpensAs}
-use Rattle.journal_core.specs.Causes.{Told, IsUnexplained, raised_of}
+use Rattle.journal_core.specs.declared.refusal_number.RefusalNumber.TheVariants.{J6, J9}
+use Rattle.journal_core.specs.Causes.{Told, IsUnexplained, IsExplained, raised_of}
 use Rattle.journal_core.specs.Cores.{CoreState, disk_of, IsRunning}
 
 -- the disk is opened with this map: each image of it opens as the map
@@ -22,6 +23,14 @@ HoldsMap disk m = EveryImage disk.past (OpensAs m)
 -- The number of blocks is one that a disk may have
 abbrev pub IsInRange : DiskState → Type 0
 IsInRange disk = (MIN_BLOCKS ≤ disk.past.size) × (disk.past.size ≤ MAX_BLOCKS)
+
+-- The log's headers on the disk are well formed
+abbrev pub HasWellFormedLog : DiskState → Type 0
+HasWellFormedLog disk = IsWellFormed (reading disk.past)
+
+-- The log begins and ends where the disk tells
+abbrev pub HasBoundsOf : DiskState → CoreState → Type 0
+HasBoundsOf disk c = HasBoundsIn (reading disk.past) c.objects
 
 -- A mount of a disk begins: its history is the opening, and the disk was only read
 pub record Begins (rule : Map → Type 0) (disk : DiskState) (new : CoreState) : Type 0 where
@@ -45,13 +54,13 @@ abbrev pub IsOpenRefusal : (Map → Type 0) → DiskState → DiskState → Refu
 IsOpenRefusal rule old new BadSuper =
     (IsInRange old → ⊥)
     ⊎ (IsInRange old × (IsTrue old.honest → (m : Map) × HoldsMap old m × (rule m → ⊥)))
-IsOpenRefusal rule old new BadLog = IsInRange old × (IsTrue old.honest → IsWellFormed (reading old.past) → ⊥)
+IsOpenRefusal rule old new BadLog = IsInRange old × (IsTrue old.honest → HasWellFormedLog old → ⊥)
 IsOpenRefusal rule old new (Stale cause) =
     IsInRange old
     × (IsTrue old.honest → (m : Map) × HoldsMap old m × rule m)
-    × ((front : List Entry) × (cause ≡ Some front) × (front ≢ []))
+    × ((front : List Entry) × IsExplained J9 front cause × (front ≢ []))
 IsOpenRefusal rule old new NoMemory = IsInRange old
-IsOpenRefusal rule old new (DeviceFailed cause) = IsInRange old × HasFailed old new × IsUnexplained cause
+IsOpenRefusal rule old new (DeviceFailed cause) = IsInRange old × HasFailed old new × IsUnexplained J6 cause
 IsOpenRefusal rule old new other = ⊥
 
 -- A disk that is not opened is handed back as it was
@@ -65,5 +74,5 @@ IsBeginRefusal rule objects (Err refusal) why = why ≡ raised_of refusal
 IsBeginRefusal rule objects (Ok admitted) BadSuper = IsTrue (log_disk objects).honest → rule (map_now objects) → ⊥
 IsBeginRefusal rule objects (Ok admitted) (Stale cause) =
     (IsTrue (log_disk objects).honest → rule (map_now objects))
-    × ((front : List Entry) × (cause ≡ Some front) × (front ≢ []))
+    × ((front : List Entry) × IsExplained J9 front cause × (front ≢ []))
 IsBeginRefusal rule objects (Ok admitted) other = ⊥

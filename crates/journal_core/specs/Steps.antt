@@ -8,12 +8,13 @@ use Rattle.journal_world.specs.Addresses.{is_valid}
 use Rattle.journal_disk.specs.Disks.{HasFailed}
 use Rattle.journal_world.specs.Histories.{count, floor, commits_of}
 use Rattle.journal_world.specs.Histories.Entry.{stable}
-use Rattle.journal_wal.specs.Wal.{log_steps, install_steps, tail_length, free_positions, Cuts, EndsGroup, LogsOn, InstallAnswers as WalInstalls}
-use Rattle.journal_objlog.specs.ObjectLogs.{start_of, end_of, IsCutLogged}
+use Rattle.journal_wal.specs.Wal.{log_steps, install_steps, tail_length, free_positions, TriesDueCall, TriesAhead, log_call, Cuts, EndsGroup, LogsOn, InstallAnswers as WalInstalls}
+use Rattle.journal_objlog.specs.ObjectLogs.{start_of, end_of, KeepsMaps, IsCutLogged}
 use Rattle.journal_history.specs.Tokens.{SessionState}
 use Rattle.journal_wal.specs.declared.step.InstallStep.{InstallStep}
 use Rattle.journal_core.specs.declared.step.LogStep.{LogStep}
 use Rattle.journal_core.specs.declared.step.LogStep.TheVariants.{Idle, Cut, Put, Logged, Marked}
+use Rattle.journal_core.specs.declared.refusal_number.RefusalNumber.TheVariants.{J6, J13}
 use Rattle.journal_core.specs.Causes.{Told, IsUnexplained}
 use Rattle.journal_core.specs.Transactions.{TransactionState, AreUnmoved}
 use Rattle.journal_core.specs.Memories.{IsBehind, IsMoved, IsNumberRefusal, IsStrayRefusal, IsStaleRefusal, IsMarkRefusal}
@@ -87,17 +88,31 @@ LogAnswers old (Marked n) new = MarksDue n old new
 
 -- J13: it was stopped, and is left as it is
 pub record IsStopped (old new : CoreState) (cause : Told) : Type 0 where
-  pub unexplained : IsUnexplained cause
+  pub unexplained : IsUnexplained J13 cause
   pub closed : old.closed ≡ true
   pub same : new ≡ old
 
 -- J6: it was not stopped, and the device failed before, or the step came so far and the device failed in it
 pub record IsDeviceRefusal (reached : Type 0) (old new : CoreState) (cause : Told) : Type 0 where
-  pub unexplained : IsUnexplained cause
+  pub unexplained : IsUnexplained J6 cause
   pub not_closed : old.closed ≡ false
   pub fault : IsTrue (is_faulted old) ⊎ (reached × HasFailed (disk_of old) (disk_of new))
   pub faulted : is_faulted new ≡ true
   pub others : new ≡ record old { objects = new.objects }
+
+-- A refused step of the logger or of the installer leaves the maps and the log in memory as they were
+pub record LeavesLog (old new : CoreState) : Type 0 where
+  pub log : new.objects.log ≡ old.objects.log
+  pub maps : IsTrue (disk_of old).honest → KeepsMaps old.objects new.objects
+  pub others : new ≡ record old { objects = new.objects }
+
+-- It made no device call, or tried the one of the logger that is due
+abbrev pub TriesToLog : CoreState → CoreState → Type 0
+TriesToLog old new = (new ≡ old) ⊎ TriesDueCall (log_call old.objects) (disk_of old) (disk_of new)
+
+-- It made none, or tried the one that the installer has ahead
+abbrev pub TriesToInstall : CoreState → CoreState → Type 0
+TriesToInstall old new = TriesAhead old.objects new.objects
 
 -- why a step of the logger is refused, and what is left: a mark is, or the device failed
 abbrev pub IsLogRefusal : CoreState → CoreState → Refusal Told → Type 0
@@ -157,8 +172,8 @@ pub record Stops (old new : CoreState) : Type 0 where
 
 -- why it goes on no more: it was stopped, or a device call failed before
 abbrev pub IsEndRefusal : CoreState → Refusal Told → Type 0
-IsEndRefusal c (Closed cause) = IsUnexplained cause × (c.closed ≡ true)
-IsEndRefusal c (DeviceFailed cause) = IsUnexplained cause × (c.closed ≡ false) × (is_faulted c ≡ true)
+IsEndRefusal c (Closed cause) = IsUnexplained J13 cause × (c.closed ≡ true)
+IsEndRefusal c (DeviceFailed cause) = IsUnexplained J6 cause × (c.closed ≡ false) × (is_faulted c ≡ true)
 IsEndRefusal c other = ⊥
 
 -- it goes on, or the mark stands already

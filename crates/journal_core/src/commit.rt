@@ -12,6 +12,7 @@ ghost use Rattle.journal_core.specs.Commits.{IsCommitted, IsAdded, CanPrepare, C
 ghost use Rattle.journal_core.specs.Interleavings.{AnswersCommit};
 
 use crate::cause::{Cause, raise};
+use crate::refusal_number::RefusalNumber;
 use crate::state::{Core, LIMIT};
 use crate::transaction::Transaction;
 use journal_disk::BlockDisk;
@@ -86,7 +87,7 @@ impl<'b, D: BlockDisk, R: MapRule, J: Naming> Core<'b, D, R, J> {
             return Err(Refusal::TooLarge);
         }
         if self.memory.len() >= LIMIT - 1 || session.number() >= LIMIT {
-            return Err(Refusal::Worn(Cause::none()));
+            return Err(Refusal::Worn(Cause::none(RefusalNumber::J11)));
         }
         raise(prepared)
     }

@@ -1,7 +1,7 @@
 // A step of the installer.
-ghost use Rattle.std.specs.Prelude.{ℕ, ◌≡◌, true, false, IsTrue, IsErr, IfOk, IfErr, OnOk};
+ghost use Rattle.std.specs.Prelude.{ℕ, ◌≡◌, true, false, IsTrue, IsErr, IfOk, IfErr, OnOk, OnErr};
 ghost use Rattle.journal_core.specs.Cores.{Crashes, IsRunning};
-ghost use Rattle.journal_core.specs.Steps.{InstallAnswers, IsInstallRefusal};
+ghost use Rattle.journal_core.specs.Steps.{InstallAnswers, IsInstallRefusal, LeavesLog, TriesToInstall};
 ghost use Rattle.journal_core.specs.Interleavings.{AnswersInstall};
 
 use crate::cause::{Cause, raise};
@@ -22,6 +22,8 @@ impl<'b, D: BlockDisk, R: MapRule, J: Naming> Core<'b, D, R, J> {
         ensures ok { IfOk result (λ step. InstallAnswers self.old step self.new) }
         ensures running { OnOk result (IsRunning self.old × IsRunning self.new) }
         ensures refusal { IfErr result (IsInstallRefusal self.old self.new) }
+        ensures left { OnErr result (LeavesLog self.old self.new) }
+        ensures tries { OnErr result (TriesToInstall self.old self.new) }
         ensures crash { Crashes self.old self.new }
         ensures event { AnswersInstall self.old result self.new }
     {

@@ -2,7 +2,7 @@
 ghost use Rattle.std.specs.Prelude.{ℕ, ◌≡◌, ◌≤◌, ◌<◌, false, true, IsTrue, IsErr, IfOk, IfErr, OnOk, OnErr};
 ghost use Rattle.journal_world.specs.Histories.{count, floor};
 ghost use Rattle.journal_core.specs.Cores.{Crashes, IsRunning};
-ghost use Rattle.journal_core.specs.Steps.{LogAnswers, Marks, IsLogRefusal, CanMark};
+ghost use Rattle.journal_core.specs.Steps.{LogAnswers, Marks, IsLogRefusal, LeavesLog, TriesToLog, CanMark};
 ghost use Rattle.journal_core.specs.Memories.{IsMarkRefusal};
 ghost use Rattle.journal_core.specs.Interleavings.{AnswersLog};
 
@@ -26,6 +26,8 @@ impl<'b, D: BlockDisk, R: MapRule, J: Naming> Core<'b, D, R, J> {
         ensures ok { IfOk result (λ step. LogAnswers self.old step self.new) }
         ensures running { OnOk result (IsRunning self.old × IsRunning self.new) }
         ensures refusal { IfErr result (IsLogRefusal self.old self.new) }
+        ensures left { OnErr result (LeavesLog self.old self.new) }
+        ensures tries { OnErr result (TriesToLog self.old self.new) }
         ensures crash { Crashes self.old self.new }
         ensures event { AnswersLog self.old result self.new }
     {
@@ -59,6 +61,8 @@ impl<'b, D: BlockDisk, R: MapRule, J: Naming> Core<'b, D, R, J> {
         ensures ok { OnOk result (Marks n self.old self.new) }
         ensures moved { IfOk result (λ step. step ≡ LogStep.Marked n) }
         ensures refusal { IfErr result (λ why. IsMarkRefusal self.old.history why × (self.new ≡ self.old)) }
+        ensures left { OnErr result (LeavesLog self.old self.new) }
+        ensures tries { OnErr result (TriesToLog self.old self.new) }
         ensures crash { Crashes self.old self.new }
     {
         self.memory.mark(n)?;

@@ -11,6 +11,7 @@ ghost use Rattle.journal_core.specs.Transactions.{IsCount, AreUnmoved};
 
 use crate::cause::Cause;
 use crate::covered::Covered;
+use crate::refusal_number::RefusalNumber;
 use crate::slot_counts::SlotCounts;
 use crate::tally::Tally;
 use crate::transaction::Transaction;
@@ -145,7 +146,7 @@ impl<'b, R: MapRule, J: Naming> Memory<'b, R, J> {
         let mut front = self.writer.front();
         front.see(&transaction.front);
         if front.len() > self.writer.len() {
-            return Err(Refusal::Stale(Cause::of(front)));
+            return Err(Refusal::Stale(Cause::of(RefusalNumber::J9, front)));
         }
         self.admit_reads(transaction)
     }
@@ -161,7 +162,7 @@ impl<'b, R: MapRule, J: Naming> Memory<'b, R, J> {
         ensures refusal { IfErr result (IsMovedRefusal self.now.history transaction.now) }
     {
         if !self.unmoved(&transaction.counts) {
-            return Err(Refusal::Stranger(Cause::of(self.writer.front())));
+            return Err(Refusal::Stranger(Cause::of(RefusalNumber::J10, self.writer.front())));
         }
         Ok(())
     }

@@ -9,6 +9,7 @@ ghost use Rattle.journal_core.specs.Transactions.{AreUnmoved};
 
 use crate::cause::Cause;
 use crate::memory::Memory;
+use crate::refusal_number::RefusalNumber;
 use crate::state::LIMIT;
 use crate::transaction::Transaction;
 use journal_history::{Naming, Receipt, Session};
@@ -33,7 +34,7 @@ impl<'b, R: MapRule, J: Naming> Memory<'b, R, J> {
         self.catch_up(session, transaction)?;
         self.admit_reads(transaction)?;
         if self.tally.made(session.number()) != session.made() {
-            return Err(Refusal::Stranger(Cause::of(self.writer.front())));
+            return Err(Refusal::Stranger(Cause::of(RefusalNumber::J10, self.writer.front())));
         }
         Ok(())
     }
@@ -87,7 +88,7 @@ impl<'b, R: MapRule, J: Naming> Memory<'b, R, J> {
             Ok(receipt) => receipt,
             Err(front) => {
                 session.see(&front);
-                return Err(Refusal::Stale(Cause::of(front)));
+                return Err(Refusal::Stale(Cause::of(RefusalNumber::J9, front)));
             }
         };
         // Nothing fails from here on.
@@ -124,10 +125,10 @@ impl<'b, R: MapRule, J: Naming> Memory<'b, R, J> {
         ensures same { OnErr result (self.new ≡ self.old) }
     {
         if self.writer.len() >= LIMIT - 1 {
-            return Err(Refusal::Worn(Cause::none()));
+            return Err(Refusal::Worn(Cause::none(RefusalNumber::J11)));
         }
         if let Err(front) = self.writer.mark(n) {
-            return Err(Refusal::Stale(Cause::of(front)));
+            return Err(Refusal::Stale(Cause::of(RefusalNumber::J9, front)));
         }
         self.writer.tell();
         self.cut = n;

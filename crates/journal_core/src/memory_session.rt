@@ -7,6 +7,7 @@ ghost use Rattle.journal_core.specs.Memories.{ShowsLonger, IsNumberRefusal, IsSt
 
 use crate::cause::Cause;
 use crate::memory::Memory;
+use crate::refusal_number::RefusalNumber;
 use crate::state::LIMIT;
 use journal_history::{Naming, Session};
 use journal_world::{MapRule, Refusal};
@@ -23,7 +24,7 @@ impl<'b, R: MapRule, J: Naming> Memory<'b, R, J> {
         ensures same { OnErr result (self.new ≡ self.old) }
     {
         if self.next >= LIMIT {
-            return Err(Refusal::Worn(Cause::none()));
+            return Err(Refusal::Worn(Cause::none(RefusalNumber::J11)));
         }
         let session = self.writer.session(self.next);
         self.next += 1;
@@ -42,7 +43,7 @@ impl<'b, R: MapRule, J: Naming> Memory<'b, R, J> {
     {
         match self.writer.show(session) {
             Ok(()) => Ok(()),
-            Err(front) => Err(Refusal::Stale(Cause::of(front))),
+            Err(front) => Err(Refusal::Stale(Cause::of(RefusalNumber::J9, front))),
         }
     }
 
@@ -76,10 +77,10 @@ impl<'b, R: MapRule, J: Naming> Memory<'b, R, J> {
         front.see(&session.front());
         front.observe();
         if front.len() > self.writer.len() {
-            return Err(Refusal::Stale(Cause::of(front)));
+            return Err(Refusal::Stale(Cause::of(RefusalNumber::J9, front)));
         }
         if self.tally.made(session.number()) != session.made() {
-            return Err(Refusal::Stranger(Cause::of(self.writer.front())));
+            return Err(Refusal::Stranger(Cause::of(RefusalNumber::J10, self.writer.front())));
         }
         Ok(())
     }

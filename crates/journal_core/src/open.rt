@@ -4,10 +4,11 @@ ghost use Rattle.journal_world.specs.Histories.Entry.{opening};
 ghost use Rattle.journal_wal.specs.Wal.{size_of};
 ghost use Rattle.journal_objlog.specs.ObjectLogs.{map_now, disk_of};
 ghost use Rattle.journal_disk.specs.Disks.{IsSettled};
-ghost use Rattle.journal_core.specs.Openings.{Begins, IsBeginRefusal, IsOpenRefusal, OnlyReadsDisk};
+ghost use Rattle.journal_core.specs.Openings.{HasWellFormedLog, HasBoundsOf, Begins, IsBeginRefusal, IsOpenRefusal, OnlyReadsDisk};
 
 use crate::cause::{Cause, raise, raised};
 use crate::memory::Memory;
+use crate::refusal_number::RefusalNumber;
 use crate::slot_counts::SlotCounts;
 use crate::state::Core;
 use journal_disk::BlockDisk;
@@ -48,6 +49,8 @@ impl<'b, D: BlockDisk, R: MapRule, J: Naming> Core<'b, D, R, J> {
         requires blocks { (D.state disk).past.size ≡ J.blocks }
         requires settled { IsTrue (D.state disk).honest → IsSettled (D.state disk).past }
         ensures begun { IfOk result (Begins R.statement (D.state disk)) }
+        ensures well_formed { IsTrue (D.state disk).honest → OnOk result (HasWellFormedLog (D.state disk)) }
+        ensures bounds { IsTrue (D.state disk).honest → IfOk result (HasBoundsOf (D.state disk)) }
         ensures refusal { IfErr result (λ refused. IsOpenRefusal R.statement (D.state disk) (D.state refused.disk) refused.refusal) }
         ensures left { IfErr result (λ refused. OnlyReadsDisk (D.state disk) (D.state refused.disk)) }
     {
@@ -107,6 +110,6 @@ fn begin<'b, D: BlockDisk, R: MapRule, J: Naming>(
     let now = MapNow { objects };
     match Writer::begin(book, &now) {
         Ok(writer) => Ok(writer),
-        Err(front) => Err(Refusal::Stale(Cause::of(front))),
+        Err(front) => Err(Refusal::Stale(Cause::of(RefusalNumber::J9, front))),
     }
 }

@@ -12,6 +12,7 @@ ghost use Rattle.journal_core.specs.Transactions.{IsCount};
 
 use crate::cause::Cause;
 use crate::memory::Memory;
+use crate::refusal_number::RefusalNumber;
 use journal_disk::{BlockDisk, MemDisk};
 use journal_history::{Front, Naming};
 use journal_objlog::ObjectLog;
@@ -80,10 +81,10 @@ impl<'b, D: BlockDisk, R: MapRule, J: Naming> Core<'b, D, R, J> {
         ensures crash { Crashes self.now self.now }
     {
         if self.memory.is_closed() {
-            return Err(Refusal::Closed(Cause::none()));
+            return Err(Refusal::Closed(Cause::none(RefusalNumber::J13)));
         }
         if self.objects.is_faulted() {
-            return Err(Refusal::DeviceFailed(Cause::none()));
+            return Err(Refusal::DeviceFailed(Cause::none(RefusalNumber::J6)));
         }
         Ok(())
     }

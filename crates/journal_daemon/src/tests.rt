@@ -2,6 +2,7 @@
 mod beside_daemon;
 mod gated_disk;
 mod one_thread;
+mod openings;
 mod steps;
 mod threads;
 mod waits;

@@ -3,6 +3,7 @@ use Rattle.journal_world.specs.declared.address.Addr.{Addr}
 use Rattle.journal_world.specs.declared.refusal.Refusal.{Refusal}
 use Rattle.journal_world.specs.declared.refusal.Refusal.TheVariants.{NoMemory, BadAddress, Busy, DeviceFailed, Stale, Stranger, Worn, Closed}
 use Rattle.journal_history.specs.Tokens.{SessionState}
+use Rattle.journal_core.specs.declared.refusal_number.RefusalNumber.TheVariants.{J6, J9, J10, J11, J13}
 use Rattle.journal_core.specs.Causes.{Told, IsUnexplained}
 use Rattle.journal_twophase.specs.Journals.{IsShown}
 use Rattle.journal_twophase.specs.Waits.{IsWaitRefusal}
@@ -16,11 +17,11 @@ abbrev pub IsFilesRefusal : Refusal Told → Type 0
 IsFilesRefusal NoMemory = Unit {0}
 IsFilesRefusal BadAddress = Unit {0}
 IsFilesRefusal Busy = Unit {0}
-IsFilesRefusal (DeviceFailed cause) = IsUnexplained cause
-IsFilesRefusal (Stale cause) = IsShown cause
-IsFilesRefusal (Stranger cause) = IsShown cause
-IsFilesRefusal (Worn cause) = IsUnexplained cause
-IsFilesRefusal (Closed cause) = IsUnexplained cause
+IsFilesRefusal (DeviceFailed cause) = IsUnexplained J6 cause
+IsFilesRefusal (Stale cause) = IsShown J9 cause
+IsFilesRefusal (Stranger cause) = IsShown J10 cause
+IsFilesRefusal (Worn cause) = IsUnexplained J11 cause
+IsFilesRefusal (Closed cause) = IsUnexplained J13 cause
 IsFilesRefusal other = ⊥
 
 -- Why an operation has no answer: it is refused, or its wait until it is stable is, after which the session has seen this

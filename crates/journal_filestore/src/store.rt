@@ -6,7 +6,7 @@ ghost use Rattle.journal_disk.specs.Disks.{IsSettled};
 ghost use Rattle.journal_disk.specs.Images.{EveryImage};
 ghost use Rattle.journal_history.specs.Tokens.{OnlyExtends, IsExact};
 ghost use Rattle.journal_core.specs.Cores.{Leaves};
-ghost use Rattle.journal_core.specs.Openings.{IsOpenRefusal, OnlyReadsDisk};
+ghost use Rattle.journal_core.specs.Openings.{HasWellFormedLog, IsOpenRefusal, OnlyReadsDisk};
 ghost use Rattle.journal_inode.specs.Sound.{HasSoundFiles};
 ghost use Rattle.journal_twophase.specs.Journals.{BeginsWith, IsCloseRefusal};
 ghost use Rattle.journal_twophase.specs.Waits.{IsWaitRefusal};
@@ -76,6 +76,7 @@ impl<'b, D: BlockDisk, J: Naming> FileStore<'b, D, J> {
         requires blocks { (D.state disk).past.size ≡ J.blocks }
         requires settled { IsTrue (D.state disk).honest → IsSettled (D.state disk).past }
         ensures begun { IfOk result (λ store. BeginsWith HasSoundFiles (D.state disk) store.start) }
+        ensures well_formed { IsTrue (D.state disk).honest → OnOk result (HasWellFormedLog (D.state disk)) }
         ensures refusal { IfErr result (λ refused. IsOpenRefusal HasSoundFiles (D.state disk) (D.state refused.disk) refused.refusal) }
         ensures left { IfErr result (λ refused. OnlyReadsDisk (D.state disk) (D.state refused.disk)) }
     {

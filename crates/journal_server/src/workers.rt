@@ -4,6 +4,7 @@ ghost use Rattle.crossbeam_channel.specs.Claims.{view, IsSeatAt};
 ghost use Rattle.crossbeam_channel.specs.Ends.{sends_on, receives_on};
 ghost use Rattle.journal_server.specs.Lines.{hand, both, below, numbers_by, outcome_numbers, times, HasEachOnce, IsFresh, IsWork, IsTeam, ArePasses};
 ghost use Rattle.std.specs.Option.{ForSome};
+ghost use Rattle.journal_core.specs.declared.refusal_number.RefusalNumber.TheVariants.{J11};
 ghost use Rattle.journal_core.specs.Causes.{IsUnexplained};
 ghost use Rattle.journal_server.specs.Refusals.{IsWorkersRefusal};
 
@@ -79,7 +80,7 @@ trait Serve<S> {
 #[derive(Drop)]
 struct Refused<'b, J: Naming> {
     cause: Option<Cause<'b, J, SoundFiles>>,
-    ghost unexplained: { ForSome cause IsUnexplained },
+    ghost unexplained: { ForSome cause (IsUnexplained J11) },
 }
 
 // What the workers share.

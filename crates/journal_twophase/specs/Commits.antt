@@ -1,5 +1,5 @@
 -- What a commit is, and why one is refused.
-use Rattle.std.specs.Prelude.{ℕ, ◌≡◌, ◌⊎◌, ◌<◌, ◌≤◌, IsTrue, List, length, Some}
+use Rattle.std.specs.Prelude.{ℕ, ◌≡◌, ◌⊎◌, ◌<◌, ◌≤◌, IsTrue, List, length}
 use mathlib.Core.List.{IsPrefix}
 use Rattle.journal_world.specs.declared.refusal.Refusal.{Refusal}
 use Rattle.journal_world.specs.declared.refusal.Refusal.TheVariants.{NoMemory, TooLarge, DeviceFailed, Stale, Stranger, Worn, Full, Closed}
@@ -7,7 +7,8 @@ use Rattle.journal_world.specs.Maps.{Map, Agrees}
 use Rattle.journal_world.specs.Histories.{Entry, is_trusted, latest, commits_of}
 use Rattle.journal_objlog.specs.Writes.{written_blocks}
 use Rattle.journal_history.specs.Tokens.{SessionState, CommitPlace, made, next_transaction, IsExact, Commits, IsReceiptFor}
-use Rattle.journal_core.specs.Causes.{Told, IsUnexplained}
+use Rattle.journal_core.specs.declared.refusal_number.RefusalNumber.TheVariants.{J6, J9, J10, J11, J12, J13}
+use Rattle.journal_core.specs.Causes.{Told, IsUnexplained, IsExplained}
 use Rattle.journal_core.specs.Transactions.{TransactionState}
 use Rattle.journal_twophase.specs.Journals.{IsKnown, IsShown}
 use Rattle.journal_twophase.specs.Transactions.{ShowsMoved}
@@ -32,17 +33,17 @@ pub record IsCommitted (rule : Map → Type 0) (blocks : ℕ) (began : List Entr
 
 -- The cause shows a history that has a commit under the session's number which the session did not make
 abbrev pub ShowsStrange : SessionState → Told → Type 0
-ShowsStrange s cause = (history : List Entry) × (cause ≡ Some history) × (made s < length (commits_of s.number history))
+ShowsStrange s cause = (history : List Entry) × IsExplained J10 history cause × (made s < length (commits_of s.number history))
 
 -- Why a transaction is not committed at once
 abbrev pub IsTryRefusal : TransactionState → SessionState → Refusal Told → Type 0
-IsTryRefusal t s (Closed cause) = IsUnexplained cause
-IsTryRefusal t s (DeviceFailed cause) = IsUnexplained cause
-IsTryRefusal t s (Stale cause) = IsShown cause
+IsTryRefusal t s (Closed cause) = IsUnexplained J13 cause
+IsTryRefusal t s (DeviceFailed cause) = IsUnexplained J6 cause
+IsTryRefusal t s (Stale cause) = IsShown J9 cause
 IsTryRefusal t s (Stranger cause) = ShowsStrange s cause ⊎ ShowsMoved t cause
 IsTryRefusal t s TooLarge = MAX_UPDATES < written_blocks t.writes
-IsTryRefusal t s (Worn cause) = (written_blocks t.writes ≤ MAX_UPDATES) × IsUnexplained cause
-IsTryRefusal t s (Full cause) = (written_blocks t.writes ≤ MAX_UPDATES) × IsUnexplained cause
+IsTryRefusal t s (Worn cause) = (written_blocks t.writes ≤ MAX_UPDATES) × IsUnexplained J11 cause
+IsTryRefusal t s (Full cause) = (written_blocks t.writes ≤ MAX_UPDATES) × IsUnexplained J12 cause
 IsTryRefusal t s NoMemory = Unit {0}
 IsTryRefusal t s other = ⊥
 

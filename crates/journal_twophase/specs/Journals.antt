@@ -1,5 +1,5 @@
 -- What contracts see of a journal that threads share, and why it refuses what is no transaction's.
-use Rattle.std.specs.Prelude.{ℕ, ◌≡◌, IsTrue, List, [], ◌∷◌, Some}
+use Rattle.std.specs.Prelude.{ℕ, ◌≡◌, IsTrue, List, [], ◌∷◌}
 use Rattle.journal_world.specs.declared.refusal.Refusal.{Refusal}
 use Rattle.journal_world.specs.declared.refusal.Refusal.TheVariants.{NoMemory, DeviceFailed, Stale, Worn, Closed}
 use Rattle.journal_world.specs.Maps.{Map, are_objects}
@@ -7,7 +7,9 @@ use Rattle.journal_world.specs.Histories.{Entry, opened, is_trusted, IsLegal}
 use Rattle.journal_world.specs.Histories.Entry.{opening}
 use Rattle.journal_disk.specs.Disks.{DiskState}
 use Rattle.journal_history.specs.Soundness.{IsSound}
-use Rattle.journal_core.specs.Causes.{Told, IsUnexplained}
+use Rattle.journal_core.specs.declared.refusal_number.RefusalNumber.{RefusalNumber}
+use Rattle.journal_core.specs.declared.refusal_number.RefusalNumber.TheVariants.{J6, J9, J11, J13}
+use Rattle.journal_core.specs.Causes.{Told, IsUnexplained, IsExplained}
 use Rattle.journal_core.specs.Openings.{HoldsMap}
 
 -- A journal, by what is known of it outside its lock
@@ -33,34 +35,34 @@ pub record IsKnown (rule : Map → Type 0) (blocks : ℕ) (history : List Entry)
   -- and what holds whatever the disk does
   pub sound : IsSound rule history
 
--- A cause that shows a history
-abbrev pub IsShown : Told → Type 0
-IsShown cause = (history : List Entry) × (cause ≡ Some history)
+-- A cause of the refusal of this number that shows a history
+abbrev pub IsShown : RefusalNumber → Told → Type 0
+IsShown number cause = (history : List Entry) × IsExplained number history cause
 
 -- why there is no further session
 abbrev pub IsSessionRefusal : Refusal Told → Type 0
-IsSessionRefusal (Worn cause) = IsUnexplained cause
+IsSessionRefusal (Worn cause) = IsUnexplained J11 cause
 IsSessionRefusal other = ⊥
 
 -- why a step of the logger is refused
 abbrev pub IsLogRefusal : Refusal Told → Type 0
-IsLogRefusal (Closed cause) = IsUnexplained cause
+IsLogRefusal (Closed cause) = IsUnexplained J13 cause
 IsLogRefusal NoMemory = Unit {0}
-IsLogRefusal (DeviceFailed cause) = IsUnexplained cause
-IsLogRefusal (Stale cause) = IsShown cause
-IsLogRefusal (Worn cause) = IsUnexplained cause
+IsLogRefusal (DeviceFailed cause) = IsUnexplained J6 cause
+IsLogRefusal (Stale cause) = IsShown J9 cause
+IsLogRefusal (Worn cause) = IsUnexplained J11 cause
 IsLogRefusal other = ⊥
 
 -- why one of the installer is
 abbrev pub IsInstallRefusal : Refusal Told → Type 0
-IsInstallRefusal (Closed cause) = IsUnexplained cause
+IsInstallRefusal (Closed cause) = IsUnexplained J13 cause
 IsInstallRefusal NoMemory = Unit {0}
-IsInstallRefusal (DeviceFailed cause) = IsUnexplained cause
+IsInstallRefusal (DeviceFailed cause) = IsUnexplained J6 cause
 IsInstallRefusal other = ⊥
 
 -- why a journal is not closed
 abbrev pub IsCloseRefusal : Refusal Told → Type 0
-IsCloseRefusal (Stale cause) = IsShown cause
+IsCloseRefusal (Stale cause) = IsShown J9 cause
 IsCloseRefusal other = ⊥
 
 -- why no image of the disk is made

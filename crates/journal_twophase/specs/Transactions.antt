@@ -1,5 +1,5 @@
 -- What contracts see of an open transaction, what its calls do, and why they are refused.
-use Rattle.std.specs.Prelude.{ℕ, ◌≡◌, ◌==◌, nat_lt, Bool, false, if◌then◌else◌, IsTrue, List, [], ◌∷◌, ◌++◌, Some, MatchOption}
+use Rattle.std.specs.Prelude.{ℕ, ◌≡◌, ◌==◌, nat_lt, Bool, false, if◌then◌else◌, IsTrue, List, [], ◌∷◌, ◌++◌, MatchOption}
 use Rattle.std.specs.List.{list_any}
 use mathlib.Core.List.{IsPrefix}
 use Rattle.journal_world.specs.declared.address.Addr.{Addr}
@@ -8,7 +8,8 @@ use Rattle.journal_world.specs.declared.refusal.Refusal.TheVariants.{NoMemory, B
 use Rattle.journal_world.specs.Addresses.{Value, kind_of, is_valid, slot_of}
 use Rattle.journal_world.specs.Maps.{Pair, SamePairs, value_among, value_at, is_value_at, is_object}
 use Rattle.journal_world.specs.Histories.{Entry, is_trusted, latest}
-use Rattle.journal_core.specs.Causes.{Told, IsUnexplained}
+use Rattle.journal_core.specs.declared.refusal_number.RefusalNumber.TheVariants.{J6, J9, J10, J13}
+use Rattle.journal_core.specs.Causes.{Told, IsUnexplained, IsExplained}
 use Rattle.journal_core.specs.Transactions.{TransactionState, FoundState, AreUnmoved}
 
 pub record TxnState : Type 0 where
@@ -67,7 +68,7 @@ pub record Overwrites (old : TxnState) (a : Addr) (v : Value) (new : TxnState) :
 
 -- The cause shows a history in which a commit touched a slot under which the transaction had read
 abbrev pub ShowsMoved : TransactionState → Told → Type 0
-ShowsMoved t cause = (history : List Entry) × (cause ≡ Some history) × IsPrefix t.seen history × (AreUnmoved history t → ⊥)
+ShowsMoved t cause = (history : List Entry) × IsExplained J10 history cause × IsPrefix t.seen history × (AreUnmoved history t → ⊥)
 
 -- What a read found for the transaction: the address's value at the end of a history that goes on from what it has seen,
 -- in which no commit touched a slot under which it read
@@ -78,8 +79,8 @@ pub record Finds (t : TransactionState) (a : Addr) (found : FoundState) : Type 0
 
 -- why the journal goes on no more: it was stopped, or the device failed before
 abbrev pub IsEndRefusal : Refusal Told → Type 0
-IsEndRefusal (Closed cause) = IsUnexplained cause
-IsEndRefusal (DeviceFailed cause) = IsUnexplained cause
+IsEndRefusal (Closed cause) = IsUnexplained J13 cause
+IsEndRefusal (DeviceFailed cause) = IsUnexplained J6 cause
 IsEndRefusal other = ⊥
 
 -- Why a slot is not taken
@@ -90,17 +91,17 @@ IsSlotRefusal held slot other = ⊥
 
 -- Why an object whose slot is held is not read
 abbrev pub IsLookRefusal : TransactionState → Refusal Told → Type 0
-IsLookRefusal t (Closed cause) = IsUnexplained cause
-IsLookRefusal t (DeviceFailed cause) = IsUnexplained cause
-IsLookRefusal t (Stale cause) = cause ≡ Some t.seen
+IsLookRefusal t (Closed cause) = IsUnexplained J13 cause
+IsLookRefusal t (DeviceFailed cause) = IsUnexplained J6 cause
+IsLookRefusal t (Stale cause) = IsExplained J9 t.seen cause
 IsLookRefusal t (Stranger cause) = ShowsMoved t cause
 IsLookRefusal t NoMemory = Unit {0}
 IsLookRefusal t other = ⊥
 
 -- Why an address is not read
 abbrev pub IsReadRefusal : ℕ → TxnState → Addr → Refusal Told → Type 0
-IsReadRefusal blocks t a (Closed cause) = IsUnexplained cause
-IsReadRefusal blocks t a (DeviceFailed cause) = IsUnexplained cause
+IsReadRefusal blocks t a (Closed cause) = IsUnexplained J13 cause
+IsReadRefusal blocks t a (DeviceFailed cause) = IsUnexplained J6 cause
 IsReadRefusal blocks t a BadAddress = is_valid blocks a ≡ false
 IsReadRefusal blocks t a Busy = IsTrue (is_valid blocks a) × IsBelowHeld (slot_of a) t.held
 IsReadRefusal blocks t a other = IsTrue (is_valid blocks a) × IsLookRefusal (core_of t) other

@@ -5,6 +5,7 @@ use Rattle.journal_world.specs.declared.refusal.Refusal.TheVariants.{DeviceFaile
 use Rattle.journal_world.specs.Maps.{Map}
 use Rattle.journal_world.specs.Histories.{Entry, floor}
 use Rattle.journal_history.specs.Tokens.{SessionState, CommitPlace, StableCount, OnlyExtends, IsExact}
+use Rattle.journal_core.specs.declared.refusal_number.RefusalNumber.TheVariants.{J6, J9, J13}
 use Rattle.journal_core.specs.Causes.{Told, IsUnexplained}
 use Rattle.journal_core.specs.Transactions.{TransactionState}
 use Rattle.journal_twophase.specs.declared.waiting.WaitFault.{WaitFault}
@@ -28,9 +29,9 @@ pub record CommitsAndWaits (rule : Map → Type 0) (blocks : ℕ) (began : List 
 
 -- why a session that waits is not told that a mark stands
 abbrev pub IsWaitRefusal : SessionState → Refusal Told → Type 0
-IsWaitRefusal s (Closed cause) = IsUnexplained cause
-IsWaitRefusal s (DeviceFailed cause) = IsUnexplained cause
-IsWaitRefusal s (Stale cause) = IsShown cause
+IsWaitRefusal s (Closed cause) = IsUnexplained J13 cause
+IsWaitRefusal s (DeviceFailed cause) = IsUnexplained J6 cause
+IsWaitRefusal s (Stale cause) = IsShown J9 cause
 IsWaitRefusal s (Stranger cause) = ShowsStrange s cause
 IsWaitRefusal s other = ⊥
 

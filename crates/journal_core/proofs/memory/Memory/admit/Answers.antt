@@ -1,5 +1,7 @@
-use Rattle.std.proofs.Common.{inl, Some, List, ap, subst, rules, ◌∙◌}
+use Rattle.std.proofs.Common.{inl, List, ap, subst, rules, ◌∙◌}
 use Rattle.journal_world.specs.Histories.{Entry}
+use Rattle.journal_core.specs.declared.refusal_number.RefusalNumber.TheVariants.{J10}
+use Rattle.journal_core.specs.Causes.{explained}
 use Rattle.journal_core.specs.Memories.{MemoryState}
 use Rattle.journal_core.specs.Memories.{IsStrange}
 use Rattle.journal_core.proofs.Committing.{is_strange}
@@ -9,7 +11,7 @@ pub returns-then-made-clause-refusal : goal.returns-then-made-clause-refusal
 returns-then-made-clause-refusal g c = (
   search rules,
   inl (
-    c.of.ensures ∙ ap (λ (h : List Entry). Some h) (c.front.ensures ∙ ap (λ (s : MemoryState). s.history) c.self.view_is),
+    c.of.ensures ∙ ap (explained J10) (c.front.ensures ∙ ap (λ (s : MemoryState). s.history) c.self.view_is),
     subst (λ (s : MemoryState). IsStrange s.history c.args.session.now) c.self.view_is
         (is_strange c.self.inside.writer
         c.args.session.now c.catch_up.new.session c.self.inside.tally c.number.result c.made.result c.made-2.result c.catch_up.ensures.session

@@ -1,6 +1,8 @@
-use Rattle.std.proofs.Common.{List, Some, refl, ap, ◌∙◌}
+use Rattle.std.proofs.Common.{List, refl, ap, ◌∙◌}
 use Rattle.std.proofs.lemmas.Bool.{false≢true}
 use Rattle.journal_world.specs.Histories.{Entry}
+use Rattle.journal_core.specs.declared.refusal_number.RefusalNumber.TheVariants.{J10}
+use Rattle.journal_core.specs.Causes.{explained}
 use Rattle.journal_core.specs.Memories.{MemoryState}
 use Rattle.journal_core.proofs.Remembering.{of_slots, has_not_moved, has_moved, agrees_as}
 use Rattle.journal_core.proofs.memory.Memory.admit_reads.Goals as goal
@@ -10,7 +12,7 @@ unmoved-requires g c = record { slots = of_slots g.J.Naming.blocks c.transaction
 
 pub returns-then-not-unmoved-clause-refusal : goal.returns-then-not-unmoved-clause-refusal
 returns-then-not-unmoved-clause-refusal g c = (
-  c.of.ensures ∙ ap (λ (h : List Entry). Some h) (c.front.ensures ∙ ap (λ (s : MemoryState). s.history) c.self.view_is),
+  c.of.ensures ∙ ap (explained J10) (c.front.ensures ∙ ap (λ (s : MemoryState). s.history) c.self.view_is),
   c.requires.later,
   has_moved g.J.Naming.blocks c.transaction.inside.counts.items c.deref.result.now _ c.args.transaction.now c.transaction.invariant c.deref.ensures.value c.transaction.view_is c.args.self.now.history
       (λ all. false≢true (c.if-not-unmoved.ensures.1 all)),

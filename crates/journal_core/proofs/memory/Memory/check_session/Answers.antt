@@ -1,7 +1,9 @@
-use Rattle.std.proofs.Common.{◌≡◌, List, length, Some, ap, sym, subst, ◌∙◌, arith, refl}
+use Rattle.std.proofs.Common.{◌≡◌, List, length, ap, sym, subst, ◌∙◌, arith, refl}
 use mathlib.Core.List.{IsPrefix}
 use Rattle.journal_world.specs.Histories.{Entry}
 use Rattle.journal_world.proofs.Prefixes.{IsPrefix-whole, IsPrefix-trans}
+use Rattle.journal_core.specs.declared.refusal_number.RefusalNumber.TheVariants.{J10}
+use Rattle.journal_core.specs.Causes.{explained}
 use Rattle.journal_core.specs.Memories.{MemoryState}
 use Rattle.journal_core.specs.Memories.{IsStrange}
 use Rattle.journal_core.proofs.Committing.{is_strange}
@@ -27,7 +29,7 @@ returns-then-made-clause-refusal g c =
     let seen : IsPrefix c.args.session.now.seen c.args.self.now.history = subst (λ (h : List Entry). IsPrefix c.args.session.now.seen h) (sym whole ∙ history)
     (IsPrefix-trans c.args.session.now.seen c.see-2.new.self c.observe.new.self (subst (λ (h : List Entry). IsPrefix h c.see-2.new.self) c.front.ensures c.see-2.ensures.that) c.observe.ensures) in (
       seen,
-      c.of-then-made.ensures ∙ ap (λ (h : List Entry). Some h) (c.front-then-made.ensures ∙ ap (λ (s : MemoryState). s.history) c.self.view_is),
+      c.of-then-made.ensures ∙ ap (explained J10) (c.front-then-made.ensures ∙ ap (λ (s : MemoryState). s.history) c.self.view_is),
       subst (λ (s : MemoryState). IsStrange s.history c.args.session.now) c.self.view_is
           (is_strange c.self.inside.writer
           c.args.session.now (record c.args.session.now { seen = c.args.self.now.history }) c.self.inside.tally c.number.result c.made.result c.made-2.result

@@ -1,0 +1,165 @@
+// Refused openings of one book.
+ghost use Rattle.std.specs.Prelude.{◌≡◌, ◌<◌};
+ghost use Rattle.journal_disk.specs.Disks.{IsSettled};
+
+use super::*;
+use journal_block::Block;
+use journal_world::{BITMAP, MapRule, ObjectReader, Refused};
+
+/// The first bit is clear.
+struct FirstBitIsClear;
+
+impl MapRule for FirstBitIsClear {
+    ghost use Rattle.std.specs.Prelude.{◌≡◌, ◌∷◌, [], refl};
+    ghost use Rattle.std.proofs.Common.{sym, ◌∙◌};
+    ghost use Rattle.journal_world.specs.Maps.{value_at};
+
+    ghost statement = { λ m. value_at m (record { block = 514; off = 0 }) ≡ 0 ∷ [] };
+
+    ghost respects = { λ m n same holds. sym (same.values (record { block = 514; off = 0 }) refl) ∙ holds };
+
+    fn admit<O: ObjectReader>(&self, reader: &mut O) -> Result<bool, Refusal<O::Cause>> {
+        let bit = reader.read(Addr {
+            block: BITMAP,
+            off: 0,
+        })?;
+        Ok(matches!(bit.bytes(), [0]))
+    }
+}
+
+type Ruled = Book<FirstBitIsClear>;
+
+/// What an opening comes to.
+#[derive(Clone, Copy, Debug, PartialEq, Eq)]
+enum Came {
+    /// It was opened, with so many commits, so much of the history shown to a session, and the log empty or not.
+    Opened {
+        commits: u64,
+        seen: u64,
+        log_is_empty: bool,
+    },
+    /// It was refused, and a history of so many entries explains that, or none of any.
+    Refused {
+        number: &'static str,
+        shown: u64,
+    },
+}
+
+/// A disk of zeros, but for the front of one block.
+fn filled<H: Abort>(rt: &H, alloc: Global, block: u64, number: u64) -> MemDisk
+    requires { block < 800 }
+    ensures settled { IsSettled result.past }
+{
+    let mut disk = MemDisk::new::<()>(alloc, BLOCKS).expect(rt, "a disk");
+    let mut bytes = Block::try_new::<()>(alloc).expect(rt, "a block");
+    bytes.put_u64(0, number);
+    disk.write(block, &bytes).ok().expect(rt, "a write");
+    disk.crash(&[1])
+}
+
+/// A disk of zeros, whose first device call fails where it is to.
+fn blank<H: Abort>(rt: &H, alloc: Global, fails: bool) -> MemDisk
+    ensures settled { IsSettled result.past }
+{
+    let mut disk = MemDisk::new::<()>(alloc, BLOCKS).expect(rt, "a disk");
+    if fails {
+        disk.fail_in(1);
+    }
+    disk
+}
+
+/// Opens the book over the disk.
+fn opening<H: Abort + Wait>(rt: &H, alloc: Global, book: &Ruled, disk: MemDisk) -> Came
+    requires settled { IsSettled disk.past }
+{
+    opening_in::<Brand, _>(rt, alloc, book, disk)
+}
+
+fn opening_in<J: Naming, H: Abort + Wait>(
+    rt: &H,
+    alloc: Global,
+    book: &Ruled,
+    disk: MemDisk,
+) -> Came
+    requires book { book.now ≡ J.book }
+    requires blocks { disk.past.size ≡ J.blocks }
+    requires settled { IsSettled disk.past }
+{
+    let answer: Result<Journal<MemDisk, FirstBitIsClear, J>, _> = Journal::open(
+        alloc,
+        book,
+        disk,
+        &FirstBitIsClear,
+    );
+    match answer {
+        Ok(journal) => stands(rt, journal),
+        Err(Refused { refusal, .. }) => refused(refusal),
+    }
+}
+
+/// What the opened journal begins with.
+fn stands<J: Naming, H: Abort + Wait>(
+    rt: &H,
+    journal: Journal<MemDisk, FirstBitIsClear, J>,
+) -> Came {
+    let stat = journal.stat(rt);
+    let session = journal.session(rt).ok().expect(rt, "a session");
+    let seen = session.seen();
+    let _disk = journal.into_disk();
+    Came::Opened {
+        commits: stat.commits,
+        seen,
+        log_is_empty: stat.start == stat.end,
+    }
+}
+
+/// Why it was refused.
+fn refused<J: Naming>(why: Why<J, FirstBitIsClear>) -> Came {
+    let number = why.name();
+    let shown = match why {
+        Refusal::Stale(cause) => cause.front().map_or(0, |front| front.len()),
+        _ => 0,
+    };
+    Came::Refused { number, shown }
+}
+
+/// A disk whose first bit is set, one whose log begins past all positions, and one whose device fails, each over the
+/// same book.
+fn refused_openings<H: Abort + Wait>(rt: &H, alloc: Global, book: &Ruled) -> [Came; 3] {
+    let ruled_out = filled(rt, alloc, BITMAP, 1);
+    let bad_log = filled(rt, alloc, 0, u64::MAX);
+    let failing = blank(rt, alloc, true);
+    [
+        opening(rt, alloc, book, ruled_out),
+        opening(rt, alloc, book, bad_log),
+        opening(rt, alloc, book, failing),
+    ]
+}
+
+/// A book that no refusal begins is opened, and then no more.
+#[test]
+fn a_refused_opening_leaves_the_book_as_it_was(rt: HostRuntime) {
+    let alloc = rt.alloc();
+    let book: Ruled = Book::open::<()>().ok().expect(&rt, "a book");
+    let none = |number| Came::Refused { number, shown: 0 };
+    assert_eq!(rt;
+        refused_openings(&rt, alloc, &book),
+        [
+            none("J8 BadSuper"),
+            none("J7 BadLog"),
+            none("J6 DeviceFailed")
+        ]
+    );
+    let good = opening(&rt, alloc, &book, blank(&rt, alloc, false));
+    let again = opening(&rt, alloc, &book, blank(&rt, alloc, false));
+    let fresh = Came::Opened {
+        commits: 0,
+        seen: 1,
+        log_is_empty: true,
+    };
+    let taken = Came::Refused {
+        number: "J9 Stale",
+        shown: 1,
+    };
+    assert_eq!(rt; (good, again), (fresh, taken));
+}
