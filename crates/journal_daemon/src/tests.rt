@@ -64,6 +64,7 @@ enum Trial {
     WaitForRoom,
     BreakTheWaitForRoom,
     AnswerWaits,
+    FlushAfterTheEnd(bool),
     LeaveEither,
 }
 
@@ -109,6 +110,9 @@ fn try_on<J: Naming + Send + Sync, H: Abort + Threads + Wait + Sync>(
         Trial::WaitForRoom => threads::wait_for_room(rt, alloc, journal, false, 0),
         Trial::BreakTheWaitForRoom => threads::wait_for_room(rt, alloc, journal, true, 6),
         Trial::AnswerWaits => waits::answer_waits(rt, alloc, journal),
+        Trial::FlushAfterTheEnd(by_fault) => {
+            waits::flush_after_the_end(rt, alloc, journal, by_fault);
+        }
         Trial::LeaveEither => waits::leave_either(rt, alloc, journal),
     }
 }

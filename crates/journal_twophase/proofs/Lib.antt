@@ -1,4 +1,3 @@
 pub mod Knowing
 pub mod Looking
-pub mod Flushing
 pub mod Committing

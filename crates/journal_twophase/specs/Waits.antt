@@ -1,9 +1,9 @@
 -- What a call that waited for a mark tells, and why one is refused.
-use Rattle.std.specs.Prelude.{ℕ, ◌≡◌, ◌≤◌, List}
+use Rattle.std.specs.Prelude.{ℕ, ◌≡◌, ◌<◌, ◌≤◌, List}
 use Rattle.journal_world.specs.declared.refusal.Refusal.{Refusal}
 use Rattle.journal_world.specs.declared.refusal.Refusal.TheVariants.{DeviceFailed, Stale, Stranger, Closed}
 use Rattle.journal_world.specs.Maps.{Map}
-use Rattle.journal_world.specs.Histories.{Entry, floor}
+use Rattle.journal_world.specs.Histories.{Entry, count, floor}
 use Rattle.journal_history.specs.Tokens.{SessionState, CommitPlace, StableCount, OnlyExtends, IsExact}
 use Rattle.journal_core.specs.declared.refusal_number.RefusalNumber.TheVariants.{J6, J9, J13}
 use Rattle.journal_core.specs.Causes.{Told, IsUnexplained}
@@ -34,6 +34,13 @@ IsWaitRefusal s (DeviceFailed cause) = IsUnexplained J6 cause
 IsWaitRefusal s (Stale cause) = IsShown J9 cause
 IsWaitRefusal s (Stranger cause) = ShowsStrange s cause
 IsWaitRefusal s other = ⊥
+
+-- a stop or a fault ends a flush only where not all commits are marked that the session had seen: it has then seen a history
+-- that has no such mark
+abbrev pub IsEndedUnmarked : SessionState → SessionState → Refusal Told → Type 0
+IsEndedUnmarked old new (Closed cause) = floor new.seen < count old.seen
+IsEndedUnmarked old new (DeviceFailed cause) = floor new.seen < count old.seen
+IsEndedUnmarked old new other = Unit {0}
 
 -- Why a commit that waits for its mark has none: the history lacks it, or it stands there and is not known to be stable
 abbrev pub IsWaitFault : (Map → Type 0) → ℕ → List Entry → TransactionState → SessionState → SessionState → WaitFault CommitPlace Told → Type 0

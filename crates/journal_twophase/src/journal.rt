@@ -8,7 +8,7 @@ ghost use Rattle.journal_history.specs.Tokens.{made, IsExact, OnlyExtends};
 ghost use Rattle.journal_core.specs.Cores.{Leaves};
 ghost use Rattle.journal_core.specs.Openings.{HasWellFormedLog, IsOpenRefusal, OnlyReadsDisk};
 ghost use Rattle.journal_twophase.specs.Journals.{BeginsWith, IsKnown, IsSessionRefusal, IsLogRefusal, IsInstallRefusal, IsCloseRefusal, IsImageRefusal};
-ghost use Rattle.journal_twophase.specs.Waits.{IsStable, IsWaitRefusal};
+ghost use Rattle.journal_twophase.specs.Waits.{IsStable, IsWaitRefusal, IsEndedUnmarked};
 ghost use Rattle.journal_twophase.specs.Transactions.{begun};
 
 use crate::shared::{SharedCore, Why};
@@ -188,10 +188,14 @@ impl<'b, D: BlockDisk, R: MapRule, J: Naming> Journal<'b, D, R, J> {
         self.core.wait_stable(rt, session, receipt.count())
     }
 
-    /// Waits until all commits are stable that the session has seen, as `wait_stable` does, and those that the journal
-    /// has besides. Where the session has seen no more than the opening, it waits for nothing.
+    /// Waits until all commits are stable that the session has seen, as `wait_stable` does, and for no others. The
+    /// session has then seen such a mark, and is exact. Where they are marked already it waits for nothing, also after a
+    /// stop or a fault of the device.
     ///
-    /// It is refused as `wait_stable` is.
+    /// The first that applies of these refuses it: J9 `Stale` where the history is longer than the core's, J10 `Stranger`
+    /// where it has a commit under the session's number that the session did not make; J13 `Closed` where the journal was
+    /// stopped and J6 `DeviceFailed` where the device failed, both only where not all of these commits are marked: the
+    /// session has then seen a history in which they are not.
     pub fn flush<W: Wait>(
         &self,
         rt: &W,
@@ -201,6 +205,7 @@ impl<'b, D: BlockDisk, R: MapRule, J: Naming> Journal<'b, D, R, J> {
         ensures exact { OnOk result (IsExact session.new) }
         ensures session { OnlyExtends session.old session.new }
         ensures refusal { IfErr result (IsWaitRefusal session.new) }
+        ensures unmarked { IfErr result (IsEndedUnmarked session.old session.new) }
     {
         self.core.flush(rt, session)
     }

@@ -1,10 +1,10 @@
 // Waiting for a mark.
-ghost use Rattle.std.specs.Prelude.{◌≡◌, ◌≤◌, ◌↔◌, IsTrue, IfOk, IfErr, OnOk, OnErr};
+ghost use Rattle.std.specs.Prelude.{◌≡◌, ◌≤◌, ◌↔◌, IsTrue, IfOk, IfErr, OnOk, OnErr, IfSome, IsSome, IsNone};
 ghost use Rattle.journal_world.specs.Maps.{Map, Agrees, overwritten};
 ghost use Rattle.journal_world.specs.Histories.{count, floor};
 ghost use Rattle.journal_history.specs.Tokens.{IsExact, OnlyExtends};
 ghost use Rattle.journal_twophase.specs.Journals.{IsKnown};
-ghost use Rattle.journal_twophase.specs.Waits.{IsStable, CommitsAndWaits, IsWaitRefusal, IsWaitFault};
+ghost use Rattle.journal_twophase.specs.Waits.{IsStable, CommitsAndWaits, IsWaitRefusal, IsEndedUnmarked, IsWaitFault};
 
 use crate::shared::{Shared, SharedCore, Why};
 use crate::txn::release_all;
@@ -48,8 +48,7 @@ impl<'b, D: BlockDisk, R: MapRule, J: Naming> SharedCore<'b, D, R, J> {
         self.wait_in(rt, shared, session, commits)
     }
 
-    // Waits until all commits are marked that the history has now, or none where the session has seen none. Answers
-    // J13, J6, J9 and J10.
+    // Waits until all commits are marked that the session has seen, and for no others. Answers J9, J10, J13 and J6.
     pub(crate) fn flush<W: Wait>(
         &self,
         rt: &W,
@@ -59,10 +58,16 @@ impl<'b, D: BlockDisk, R: MapRule, J: Naming> SharedCore<'b, D, R, J> {
         ensures exact { OnOk result (IsExact session.new) }
         ensures session { OnlyExtends session.old session.new }
         ensures refusal { IfErr result (IsWaitRefusal session.new) }
+        ensures unmarked { IfErr result (IsEndedUnmarked session.old session.new) }
     {
-        let shared = self.shared.lock(rt);
-        let commits = commits_to_flush(&shared.core, session)?;
-        self.wait_in(rt, shared, session, commits)
+        let mut shared = self.shared.lock(rt);
+        for _ in rt.forever() {
+            if let Some(note) = flush_step(&shared.core, session)? {
+                return Ok(note);
+            }
+            shared = self.sleep(rt, shared);
+        }
+        unreachable!()
     }
 
     // Waits, with the lock held at first, until so many commits are marked.
@@ -153,20 +158,21 @@ fn wait_step<'b, D: BlockDisk, R: MapRule, J: Naming>(
     core.wait_step(session, commits)
 }
 
-// How many commits a session waits for that is to have all stable that it has seen: all that there are, which it has
-// then seen, or none where it had seen the opening alone.
-fn commits_to_flush<'b, D: BlockDisk, R: MapRule, J: Naming>(
+// Asks the core whether all commits are marked that the session has seen, and notes it. If not, the session stays as it
+// was, so that it is asked of the same commits again.
+fn flush_step<'b, D: BlockDisk, R: MapRule, J: Naming>(
     core: &Core<'b, D, R, J>,
     session: &mut Session<'b, J, R>,
-) -> Result<u64, Why<'b, J, R>>
-    ensures all { IfOk result (λ commits. count session.old.seen ≤ commits) }
+) -> Result<Option<StableNote<'b, J, R>>, Why<'b, J, R>>
+    ensures stable { IfOk result (λ noted. IfSome noted (λ note. IsStable (count session.old.seen) note session.new)) }
+    ensures exact { IfOk result (λ noted. IsSome noted → IsExact session.new) }
+    ensures stays { IfOk result (λ noted. IsNone noted → session.new ≡ session.old) }
     ensures session { OnlyExtends session.old session.new }
     ensures refusal { IfErr result (IsWaitRefusal session.new) }
+    ensures unmarked { IfErr result (IsEndedUnmarked session.old session.new) }
 {
-    let seen = session.seen();
-    wait_step(core, session, 0)?;
-    if seen <= 1 {
-        return Ok(0);
+    if !core.flush_step(session)? {
+        return Ok(None);
     }
-    Ok(core.stat().commits)
+    Ok(Some(StableNote::new(&session.front(), core.stat().floor)))
 }

@@ -116,6 +116,52 @@ fn a_mark_is_told_and_a_stop_ends_the_rest(rt: HostRuntime) {
     try_out(&rt, rt.alloc(), Trial::AnswerWaits);
 }
 
+/// Ends the journal by a fault of the device or by a stop. Answers by which refusal.
+fn ends<'b, J: Naming, W: Wait>(rt: &W, journal: &Open<'b, MemDisk, J>, by_fault: bool) -> u64 {
+    if by_fault {
+        journal.fail_in(rt, 1);
+        let _moved = logs(rt, journal, 100);
+    } else {
+        journal.stop(rt);
+    }
+    number_of(journal.log_step(rt))
+}
+
+/// One session's commit is marked, another's is not, and then the journal ends. The first has all stable that it has seen,
+/// and the second has not.
+pub(super) fn flush_after_the_end<J: Naming + Send + Sync, H: Abort + Threads + Wait + Sync>(
+    rt: &H,
+    alloc: Global,
+    journal: &Open<MemDisk, J>,
+    by_fault: bool,
+) {
+    let mut session = client(rt, journal);
+    let mut other = client(rt, journal);
+    let receipt = committed(rt, alloc, journal, &mut session);
+    let moved = logs(rt, journal, 100);
+    let waited = noted(journal.wait_stable(rt, &mut session, &receipt));
+    let late = put(rt, alloc, journal, &mut other, INODE, &[2; 128]);
+    let end = ends(rt, journal, by_fault);
+    let flushed = noted(journal.flush(rt, &mut session));
+    let stands = noted(journal.wait_stable(rt, &mut session, &receipt));
+    let refused = noted(journal.flush(rt, &mut other));
+    let number = if by_fault { 6 } else { 13 };
+    assert_eq!(rt;
+        (moved, waited, late, end, flushed, stands, refused),
+        (6, (0, 1), (0, 2), number, (0, 1), (0, 1), (number, 0))
+    );
+}
+
+#[test]
+fn a_flush_of_what_is_marked_outlasts_a_fault(rt: HostRuntime) {
+    try_out(&rt, rt.alloc(), Trial::FlushAfterTheEnd(true));
+}
+
+#[test]
+fn a_flush_of_what_is_marked_outlasts_a_stop(rt: HostRuntime) {
+    try_out(&rt, rt.alloc(), Trial::FlushAfterTheEnd(false));
+}
+
 /// Where block 0 was written and no barrier made, a crash leaves the old map or the new one.
 pub(super) fn leave_either<J: Naming + Send + Sync, H: Abort + Threads + Wait + Sync>(
     rt: &H,
