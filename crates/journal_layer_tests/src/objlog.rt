@@ -16,6 +16,7 @@ use std::alloc::Global;
 use std::process::Abort;
 
 mod crashes;
+mod tails;
 
 type Log = ObjectLog<MemDisk>;
 

@@ -26,6 +26,8 @@ pub(crate) const DEVICE_FAILED: u64 = REFUSED + 6;
 
 pub(crate) const BAD_LOG: u64 = REFUSED + 7;
 
+pub(crate) const WORN: u64 = REFUSED + 11;
+
 pub(crate) const FULL: u64 = REFUSED + 12;
 
 /// What was answered, or the refusal.
@@ -39,6 +41,7 @@ pub(crate) fn told(ran: Run<u64>) -> u64 {
         Err(Refusal::Busy) => BUSY,
         Err(Refusal::DeviceFailed(())) => DEVICE_FAILED,
         Err(Refusal::BadLog) => BAD_LOG,
+        Err(Refusal::Worn(())) => WORN,
         Err(Refusal::Full(())) => FULL,
         Err(_) => REFUSED,
     }
