@@ -165,10 +165,6 @@ module _ (old : CoreState) (s seen : SessionState) (t : TransactionState) (exten
   refuses_writes new may (Closed cause) why = absurd why
   refuses_writes new may Fenced why = absurd why
 
-  -- nothing but memory and the device can refuse it
-  pub can_commit : MayCommit old s t → CanPrepare old seen t.writes → CanCommit old s t
-  can_commit may can = can_after old s seen t extends may can
-
 -- a session that has seen more commits the same
 commits_from : (reads writes : List Pair) (s seen after : SessionState) (before longer : List Entry) → OnlyExtends s seen
     → Commits (numbered seen reads writes) seen after before longer → Commits (numbered s reads writes) s after before longer

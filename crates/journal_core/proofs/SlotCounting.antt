@@ -42,21 +42,6 @@ pub record AreCountedBut (writes left : List Pair) (commit : ℕ) (old now : Lis
   pub all : length now ≡ length old
   pub each : (slot : ℕ) (d : Slot) → slot < length now → IsCountedBut slot writes left commit (get_or old slot d) (get_or now slot d)
 
--- at first all are left
-pub counts_first : (writes left : List Pair) (commits commit : ℕ) (slots : List Slot) → left ≡ writes → commit ≡ commits + 1
-    → All (λ (s : Slot). s.last ≤ commits) slots → AreCountedBut writes left commit slots slots
-counts_first writes left commits commit slots all next bounded = record {
-  all = refl;
-  each = λ slot d lt.
-      let earlier : (get_or slots slot d).last ≤ commits = bounded slot d lt in
-      let other : ((get_or slots slot d).last == commit) ≡ false = ne_eqb (get_or slots slot d).last commit (λ is. omega (arith, is, earlier, next)) in
-      record {
-        which = sym (ap (λ (b : Bool). b || list_any (in_slot slot) left) other ∙ ap (list_any (in_slot slot)) all);
-        touched = sym (ap (λ (b : Bool). cond b ((get_or slots slot d).touched + 1) (get_or slots slot d).touched) other);
-        last = omega (arith, earlier, next);
-      };
-}
-
 -- a slot of another address
 counts_other : (slot : ℕ) (p : Pair) (writes left rest : List Pair) (commit : ℕ) (old now : Slot) → left ≡ p ∷ rest → slot_of p.0 ≢ slot
     → IsCountedBut slot writes left commit old now → IsCountedBut slot writes rest commit old now
@@ -97,29 +82,6 @@ counts_own slot p writes left rest commit old now is own was = by (now.last == c
           ∙ sym (ap (λ (b : Bool). cond b (old.touched + 1) old.touched) same);
       last = omega arith;
     }
-
--- the next write is counted
-pub counts_next : (p : Pair) (writes left rest : List Pair) (commit slot : ℕ) (old now : List Slot) (before after : Slot) → left ≡ p ∷ rest
-    → slot ≡ slot_of p.0 → slot < length now → before ≡ get_or now slot before → after ≡ touched_by commit before
-    → AreCountedBut writes left commit old now → AreCountedBut writes rest commit old (set now slot after)
-counts_next p writes left rest commit slot old now before after is own lt there counted was = record {
-  all = length-set now slot after ∙ was.all;
-  each = λ other d below. at other d (omega (arith, below, length-set now slot after)) (other == slot) refl;
-}
-  where
-    at : (other : ℕ) (d : Slot) → other < length now → (b : Bool) → (other == slot) ≡ b
-        → IsCountedBut other writes rest commit (get_or old other d) (get_or (set now slot after) other d)
-    at other d below true same =
-        let here : other ≡ slot = eqb-true other slot same in
-        let was_there : before ≡ get_or now other d = there ∙ get_or_default now slot before d lt ∙ ap (λ (k : ℕ). get_or now k d) (sym here) in
-        subst (λ (s : Slot). IsCountedBut other writes rest commit (get_or old other d) s)
-        (sym (get_or-set_at now slot other after d here lt ∙ counted ∙ ap (touched_by commit) was_there))
-        (counts_own other p writes left rest commit (get_or old other d) (get_or now other d) is (sym (here ∙ own)) (was.each other d below))
-    at other d below false differs =
-        let apart : other ≢ slot = eqb-false other slot differs in
-        subst (λ (s : Slot). IsCountedBut other writes rest commit (get_or old other d) s)
-        (sym (get_or-set_other now slot other after d apart))
-        (counts_other other p writes left rest commit (get_or old other d) (get_or now other d) is (λ same. apart (sym same ∙ sym own)) (was.each other d below))
 
 -- once none is left, the commit is counted
 pub counts_last : (writes left : List Pair) (commits commit : ℕ) (old now : List Slot) → left ≡ [] → length old ≡ SLOTS → commit ≡ commits + 1

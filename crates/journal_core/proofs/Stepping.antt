@@ -37,10 +37,6 @@ module _ (blocks : ℕ) (c : CoreState) (kept : IsCore blocks c) (objects : WalS
   pub kept_put : LogsOn c.objects objects → (IsTrue (disk_of c).honest → KeepsMaps c.objects objects) → IsCore blocks (record c { objects = objects })
   kept_put puts maps = kept_on blocks c kept objects crash maps (λ fine none. absurd (omega (arith, puts.left, none)))
 
-  -- nothing to do
-  pub kept_idle : objects ≡ c.objects → IsCore blocks (record c { objects = objects })
-  kept_idle same = subst (λ (w : WalState). IsCore blocks (record c { objects = w })) (sym same) kept
-
 -- where something was read, no group came or went
 pub rests_read : (old new : WalState) → OnlyReads old new → (IsTrue (is_log_faulted old) → new ≡ old) → Rests old new
 rests_read old new reads stays fine none = by (is_log_faulted old) refl

@@ -38,18 +38,6 @@ pub no_root : (m : Map) (j : ℕ) (t : Time) → HasSoundFiles m → is_file_num
 no_root m j t sound number is =
     not_root j t (IsFileNumber-test j number).from (subst (IsInPlace j) is (sound.placed j (IsFileNumber-test j number).to))
 
--- Blocks, bits and the files' inodes are unread where only one inode was read
-pub unread-block : (t0 t1 : TxnState) (i b : ℕ) → IsNotYetRead t0 (block b) → i < INODES → ReadsOnly t0 t1 (inode i) → FIRST_DATA ≤ b → IsNotYetRead t1 (block b)
-unread-block t0 t1 i b unread low only from = IsUnread-other (suc b) t0 t1 (block b) (inode i) (from, omega arith) low refl only unread
-
-pub unread-bit : (t0 t1 : TxnState) (i k : ℕ) → IsNotYetRead t0 (bit k) → i < INODES → ReadsOnly t0 t1 (inode i) → k < BLOCK_BITS → IsNotYetRead t1 (bit k)
-unread-bit t0 t1 i k unread low only below = IsUnread-other 0 t0 t1 (bit k) (inode i) below low refl only unread
-
-pub unread-node : (t0 t1 : TxnState) (i j : ℕ) → t0.reads ≡ [] → i ≡ 1 → is_file_number j ≡ true → ReadsOnly t0 t1 (inode i) → IsNotYetRead t1 (inode j)
-unread-node t0 t1 i j none one number only =
-    IsUnread-other 0 t0 t1 (inode j) (inode i) (IsFileNumber-test j number).to (omega (arith, one))
-    (ne_eqb j i (λ is. absurd (omega (arith, (IsFileNumber-test j number).from, is, one)))) only (IsUnread-first t0 (inode j) none)
-
 module _ {A : Type 0} (blocks : ℕ) (k : Files → FileTarget → Outcome A) (i generation : ℕ) (p : Place) (t0 t1 : TxnState) (fresh : t0.writes ≡ []) (found : LearnsThat blocks t0 t1 (λ m. IsAt i generation m p)) where
   abbrev pub case_of : Files → Result A Status → Files → Type 0
   case_of F r F2 = (r, F2) ≡ k F (file_target F i generation)

@@ -71,19 +71,6 @@ Tells-object blocks old new o a v is none unread read =
     subst (λ b. LearnsThat blocks old new (λ m. value_at m b ≡ v)) is
     (Tells-read blocks old new a v (ap (value_among old.reads) is ∙ unread) (Learns-first old new a v none read))
 
--- and nothing else is read
-pub ReadsOnly-object : (old new : TxnState) (o : Object) (a : Addr) (v : Value) → a ≡ addr_of o → old.writes ≡ [] → ReadsValue (holding old a) a v new → ReadsOnly old new o
-ReadsOnly-object old new o a v is none read b other =
-    (Learns-first old new a v none read).reads b ∙ ap (λ t. cond t (Some v) (value_among old.reads b)) (ap (is_same b) is ∙ other)
-
--- an object is unread still where another was read
-pub IsUnread-other : (blocks : ℕ) (old new : TxnState) (o p : Object) → IsOnDisk blocks o → IsOnDisk blocks p → is_same_object o p ≡ false → ReadsOnly old new p → IsNotYetRead old o → IsNotYetRead new o
-IsUnread-other blocks old new o p here there other only unread = only (addr_of o) (same_addr_of blocks o p here there ∙ other) ∙ unread
-
--- at first all objects are unread
-pub IsUnread-first : (t : TxnState) (o : Object) → t.reads ≡ [] → IsNotYetRead t o
-IsUnread-first t o none = ap (λ rs. value_among rs (addr_of o)) none
-
 -- two reads tell both
 pub Tells-both : (blocks : ℕ) (t0 t1 t2 : TxnState) (P Q : Map → Type 0) → LearnsThat blocks t0 t1 P → LearnsThat blocks t1 t2 Q → LearnsThat blocks t0 t2 (λ m. P m × Q m)
 Tells-both blocks t0 t1 t2 P Q first second = record {
@@ -197,24 +184,6 @@ Does-told blocks case old t answer P none told shows =
           (seen.sound, shows m seen.sound (told.now m seen));
     })
     (λ m n sound nothing both. both)
-
--- an overwritten address is an object of the disk
-pub Writes-overwritten : (blocks : ℕ) (old new : TxnState) (o : Object) (v : Value) → OverwritesAddr (holding old (addr_of o)) (addr_of o) v new → IsOnDisk blocks o → WritesObject blocks old new o v
-Writes-overwritten blocks old new o v over here = record {
-  reads = ap (λ t. t.reads) over.others;
-  pairs = over.writes;
-  on_disk = here;
-}
-
--- a block with a valid address is on the disk
-pub on_disk_block : (blocks b : ℕ) (v : Value) → FIRST_DATA ≤ b → IsTrue (is_object blocks (addr_of (block b), v)) → IsOnDisk blocks (block b)
-on_disk_block blocks b v from is = (from, to)
-  where
-    valid : IsTrue (is_valid blocks (addr_of (block b)))
-    valid = (and_parts (is_valid blocks (addr_of (block b))) (is_value_at (kind_of blocks b) v) is).0
-
-    to : b < blocks
-    to = grind (arith, nat_tests)
 
 -- what holds of each value that a call answers
 pub IfOk-like : {A E : Type 0} (r : Result A E) (P Q : A → Type 0) → ((x : A) → P x → Q x) → IfOk r P → IfOk r Q

@@ -16,11 +16,6 @@ script_is_no_format words n path m asks other =
     let same : 2 ≡ 3 = ap length (sym asks.1 ∙ other.1) in
     absurd (omega (arith, same))
 
-pub script_is_no_service : (words : List (List ℕ)) (n : ℕ) (path : List ℕ) (port k : ℕ) → AsksScript words n → AsksServe words path port k → ⊥
-script_is_no_service words n path port k asks other =
-    let same : 2 ≡ 4 = ap length (sym asks.1 ∙ other.2) in
-    absurd (omega (arith, same))
-
 -- words that ask for a script begin one
 pub can_begin : (words : List (List ℕ)) (fault : AskFault) → CannotBegin words fault → (n : ℕ) → AsksScript words n → IsSize n → ⊥
 can_begin words asks_for.Usage none n asks size = none.0 n asks
