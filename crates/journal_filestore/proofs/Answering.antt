@@ -1,14 +1,12 @@
 -- What an operation answers that was told what its handle names.
 use Rattle.std.proofs.Common.{ℕ, zero, suc, ◌≡◌, ◌<◌, ◌≤◌, true, [], Some, Result, Ok, refl, sym, ap, subst, ◌∙◌, arith}
 use Rattle.std.proofs.lemmas.Bool.{ne_eqb}
-use Rattle.journal_world.specs.declared.layout.TheConstants.{FIRST_DATA, BLOCK_BITS}
 use Rattle.journal_world.specs.Maps.{Map}
 use Rattle.journal_twophase.specs.Transactions.{TxnState}
 use Rattle.journal_inode.specs.declared.node.Time.{Time}
 use Rattle.journal_inode.specs.declared.node.FileNode.{FileNode}
 use Rattle.journal_inode.specs.declared.node.Node.{Node}
 use Rattle.journal_inode.specs.declared.node.Node.TheVariants.{Root, File}
-use Rattle.journal_inode.specs.declared.place.TheConstants.{INODES}
 use Rattle.journal_inode.specs.Places.Object.{inode, block, bit}
 use Rattle.journal_inode.specs.Sound.{node_at, IsInPlace, IsSoundFile, HasSoundFiles}
 use Rattle.journal_filestore.specs.declared.reply.Attributes.{Attributes}
@@ -19,8 +17,8 @@ use Rattle.journal_filestore.specs.Files.{FileData, Files, is_file_number, with_
 use Rattle.journal_filestore.specs.Operations.{FileTarget, Outcome, file_target, attributes, attributes_of_node, changed}
 use Rattle.journal_filestore.specs.Operations.FileTarget.{gone, root, file}
 use Rattle.journal_filestore.specs.Handles.{data_of, IsAt}
-use Rattle.journal_filestore.specs.Doing.{IsNotYetRead, ReadsOnly, LearnsThat, Puts, Makes, Does}
-use Rattle.journal_filestore.proofs.Doings.{IsUnread-first, IsUnread-other, Tells-both, Does-told, Does-made}
+use Rattle.journal_filestore.specs.Doing.{LearnsThat, Puts, Makes, Does}
+use Rattle.journal_filestore.proofs.Doings.{Tells-both, Does-told, Does-made}
 use Rattle.journal_filestore.proofs.FilesReplaced.{IsFileNumber-test}
 use Rattle.journal_filestore.proofs.Finding.{case-gone, case-directory, case-regular, IsAt-is, entry_at}
 

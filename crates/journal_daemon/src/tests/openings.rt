@@ -115,11 +115,11 @@ fn stands<J: Naming, H: Abort + Wait>(
 
 /// Why it was refused.
 fn refused<J: Naming>(why: Why<J, FirstBitIsClear>) -> Came {
-    let number = why.name();
-    let shown = match why {
+    let shown = match &why {
         Refusal::Stale(cause) => cause.front().map_or(0, |front| front.len()),
         _ => 0,
     };
+    let number = why.with_cause(()).name();
     Came::Refused { number, shown }
 }
 
