@@ -133,6 +133,17 @@ pub(crate) fn bytes_of(alloc: Global, text: &str, n: u32) -> Result<Vec<u8>, Wro
     Ok(bytes)
 }
 
+// The bytes of texts one behind the other, of which the first has the number 0.
+pub(crate) fn numbered(alloc: Global, texts: &[&str]) -> Result<Vec<u8>, Wrong> {
+    let mut bytes = Vec::new(alloc);
+    let mut n = 0u32;
+    for text in texts {
+        push_text(&mut bytes, text, n)?;
+        n = n.saturating_add(1);
+    }
+    Ok(bytes)
+}
+
 // The reply to a record, or nothing where it is no call.
 pub(crate) fn reply<'b, D: BlockDisk, J: Naming, W: Wait>(
     rt: &W,
@@ -199,7 +210,7 @@ pub(crate) fn ask<'b, D: BlockDisk, J: Naming, W: Wait>(
 }
 
 // All commits since then are the session's.
-fn made_all<J: Naming>(before: u64, session: &Client<'_, J>, after: u64) -> Told {
+pub(crate) fn made_all<J: Naming>(before: u64, session: &Client<'_, J>, after: u64) -> Told {
     if after.checked_sub(before) == Some(session.made()) {
         Ok(())
     } else {

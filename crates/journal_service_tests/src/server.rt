@@ -1,9 +1,11 @@
+mod moments;
 mod peers;
 mod sockets;
 mod streams;
 mod wire;
 mod workers;
 
+pub(crate) use moments::write_in_one_piece;
 pub(crate) use sockets::{Visit, serve_visit};
 pub(crate) use wire::serve_all;
 pub(crate) use workers::{Team, serve_team};

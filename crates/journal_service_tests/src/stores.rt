@@ -29,6 +29,8 @@ pub(crate) enum Wrong {
     Table,
     // A commit is not of the session that made the calls.
     Commits,
+    // A gate was passed by somebody else, or by another call.
+    Passing,
     // Memory was refused.
     Memory,
     // The journal refused.

@@ -2,7 +2,7 @@
 use crate::calls::{ask, ask_cut};
 use crate::filestore::{fill_all, storm};
 use crate::nfs3::{Cause, call_while};
-use crate::server::{Team, Visit, serve_all, serve_team, serve_visit};
+use crate::server::{Team, Visit, serve_all, serve_team, serve_visit, write_in_one_piece};
 use crate::stores::{Files, Told, beside};
 use journal_history::Naming;
 use std::alloc::Global;
@@ -38,6 +38,8 @@ pub(crate) enum Errand {
     Storm,
     // Files are made until no block is free.
     Fill,
+    // A file is made, and written by calls that come in one piece.
+    Moments,
 }
 
 pub(crate) fn tell<
@@ -66,5 +68,6 @@ pub(crate) fn run<'b, J: Naming + Send + Sync, H: Threads + Wait + Sync>(
         Errand::Table(table) => ask(rt, alloc, files, table),
         Errand::Storm => storm(rt, alloc, files),
         Errand::Fill => fill_all(rt, alloc, files),
+        Errand::Moments => write_in_one_piece(rt, alloc, files),
     }
 }

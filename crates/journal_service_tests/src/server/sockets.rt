@@ -1,5 +1,5 @@
 // Connections over TCP on this machine.
-use super::peers::{CALL, HeldGate, Still, is_as, replies_of};
+use super::peers::{CALL, HeldGate, Still, call_of, is_as, replies_of};
 use crate::calls::{VERIFIER, bytes_of};
 use crate::stores::{Files, Told, Wrong, on_new_disk};
 use crate::stories::Story;
@@ -11,7 +11,7 @@ use std::io::{Read, Write};
 use std::net::{Net, Shutdown, SocketAddr, TcpListener, TcpStream};
 use std::sync::Wait;
 use std::test::*;
-use std::thread::{Threads, join};
+use std::thread::{Threads, join, map_indices};
 
 // Reads until the peer sends no more, or resets.
 fn hear(mut stream: &TcpStream, alloc: Global) -> Vec<u8> {
@@ -93,12 +93,43 @@ fn stay_silent<H: Net<Listener = TcpListener, Stream = TcpStream>>(
     Ok((Vec::new(alloc), hear(&caller, alloc)))
 }
 
+// How many peers call at once.
+const CALLERS: usize = 50;
+
+// Peers that call at once, each in a thread of its own: what they hear, in the order of their numbers.
+fn call_at_once<H: Net<Listener = TcpListener, Stream = TcpStream> + Threads + Sync>(
+    rt: &H,
+    alloc: Global,
+    there: SocketAddr,
+) -> io::Result<Replies> {
+    let calls = |n: usize| -> Vec<u8> { call_alone(rt, alloc, there, n) };
+    let mut replies = Vec::new(alloc);
+    for heard in &map_indices(rt, alloc, CALLERS, &calls)? {
+        replies.extend_from_slice(heard)?;
+    }
+    Ok((replies, Vec::new(alloc)))
+}
+
+// What a peer hears to the call with its number.
+fn call_alone<H: Net<Listener = TcpListener, Stream = TcpStream>>(
+    rt: &H,
+    alloc: Global,
+    there: SocketAddr,
+    number: usize,
+) -> Vec<u8> {
+    match (call_of(alloc, number), TcpStream::connect(rt, there)) {
+        (Ok(call), Ok(stream)) if say(&stream, &call).is_ok() => hear(&stream, alloc),
+        _ => Vec::new(alloc),
+    }
+}
+
 // How peers behave.
 #[derive(Clone, Copy)]
 pub(crate) enum Manner {
     CallTwice,
     LeaveEarly,
     StaySilent,
+    CallAtOnce,
 }
 
 // Peers that come to a port, what two of them send, how their connections end where that is known, and how many replies the
@@ -124,7 +155,7 @@ pub(crate) fn serve_visit<
     };
     let call = bytes_of(alloc, visit.sent.0, 0)?;
     let other = bytes_of(alloc, visit.sent.1, 0)?;
-    let gate = HeldGate::new(!matches!(visit.manner, Manner::CallTwice), false);
+    let gate = HeldGate::new(alloc, !matches!(visit.manner, Manner::CallTwice), false);
     let come = Coming {
         manner: visit.manner,
         call: &call,
@@ -172,7 +203,7 @@ fn meet<
     )
 }
 
-fn come_to<H: Net<Listener = TcpListener, Stream = TcpStream>>(
+fn come_to<H: Net<Listener = TcpListener, Stream = TcpStream> + Threads + Sync>(
     rt: &H,
     alloc: Global,
     come: &Coming<'_>,
@@ -183,6 +214,7 @@ fn come_to<H: Net<Listener = TcpListener, Stream = TcpStream>>(
         Manner::CallTwice => call_twice(rt, alloc, there, come.call, come.other, gate),
         Manner::LeaveEarly => leave_early(rt, alloc, there, come.call, come.other),
         Manner::StaySilent => stay_silent(rt, alloc, there, come.other),
+        Manner::CallAtOnce => call_at_once(rt, alloc, there),
     }
 }
 
@@ -281,6 +313,21 @@ fn silent_peers_make_room(rt: HostRuntime) {
         sent: ("", CALL),
         ends: &[None, None, None, None, Some((1, End::EndOfInput))],
         replies: (0, 1),
+    };
+    assert_eq!(rt;
+        on_new_disk(&rt, rt.alloc(), 532, &Story::Visit(visit)),
+        Ok(())
+    );
+}
+
+// Each of fifty peers gets the reply to its own call.
+#[test]
+fn fifty_sockets_get_their_own_replies(rt: HostRuntime) {
+    let visit = Visit {
+        manner: Manner::CallAtOnce,
+        sent: ("", ""),
+        ends: &[Some((1, End::EndOfInput)); CALLERS],
+        replies: (50, 0),
     };
     assert_eq!(rt;
         on_new_disk(&rt, rt.alloc(), 532, &Story::Visit(visit)),

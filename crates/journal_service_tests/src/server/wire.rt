@@ -164,3 +164,16 @@ fn replies_that_are_ready_go_out_together(rt: HostRuntime) {
     let story = Story::Connections(HUNDRED);
     assert_eq!(rt; on_new_disk(&rt, rt.alloc(), 532, &story), Ok(()));
 }
+
+// A call behind 5500 empty fragments comes in 22044 pieces of one byte, and the replies to a hundred calls go out byte by byte:
+// no count of pieces is a ground to give up.
+const SPELLED: &str = "
+1 0 9999 9999 0 0 : 0*5500 0x80000028 0 0 2 0x186a3 3 0 0 0 0 0 = EndOfInput 1 1
+9999 0 1 9999 100 0 : = EndOfInput 100 2800
+";
+
+#[test]
+fn many_small_pieces_are_served(rt: HostRuntime) {
+    let story = Story::Connections(SPELLED);
+    assert_eq!(rt; on_new_disk(&rt, rt.alloc(), 532, &story), Ok(()));
+}

@@ -79,14 +79,18 @@ pub(crate) fn serve_team<'b, J: Naming + Send + Sync, H: Threads + Wait + Sync>(
     team: Team,
 ) -> Told {
     let call = calls_of(alloc, 1)?;
-    let gate = HeldGate::new(!team.is_held, true);
+    let gate = HeldGate::new(alloc, !team.is_held, true);
     let Some(outcomes) = serve_callers(rt, alloc, files, &call, team.callers, &gate) else {
         return Err(Wrong::Refused);
     };
     if gate.has_given_up() || !is_each_answered(&outcomes, team.callers) {
         return Err(Wrong::At(outcomes.len()));
     }
-    Ok(())
+    if gate.was_passed_by(rt, team.callers) {
+        Ok(())
+    } else {
+        Err(Wrong::Passing)
+    }
 }
 
 // The outcomes of so many callers.
