@@ -83,6 +83,58 @@ const NO_SPACE: &[u32] = &[0x8000_0024, 3, 1, 0, 0, 0, 0, 28, 0, 0];
 /// That it was made, NFS3_OK, and with which handle.
 const MADE: &[u32] = &[0x8000_00fc, 2, 1, 0, 0, 0, 0, 0, 1, 12, 0x4a4e_4c31, 2, 1];
 
+/// WRITE UNSTABLE of one byte at the front of the first file (RFC 1813, section 3.3.7).
+const WRITE: &[u32] = &[
+    0x8000_0050,
+    4,
+    0,
+    2,
+    0x186a3,
+    3,
+    7,
+    0,
+    0,
+    0,
+    0,
+    12,
+    0x4a4e_4c31,
+    2,
+    1,
+    0,
+    0,
+    1,
+    0,
+    1,
+    0x6100_0000,
+];
+
+/// READ of it (RFC 1813, section 3.3.6), and how the reply ends: one byte was read, it is the file's last, and this one.
+const READ: &[u32] = &[
+    0x8000_0044,
+    5,
+    0,
+    2,
+    0x186a3,
+    3,
+    6,
+    0,
+    0,
+    0,
+    0,
+    12,
+    0x4a4e_4c31,
+    2,
+    1,
+    0,
+    0,
+    1,
+];
+
+const READ_BYTE: &[u32] = &[1, 1, 1, 0x6100_0000];
+
+/// Its header, the status, that there are attributes, these, and what was read, of which all are words.
+const READ_REPLY_BYTES: usize = 4 * (7 + 1 + 1 + 21 + 4);
+
 fn bytes_of(alloc: Global, words: &[u32]) -> Result<Vec<u8>, AllocError> {
     let mut bytes = Vec::new(alloc);
     for word in words {
@@ -383,6 +435,101 @@ fn what_was_served_is_there_again(rt: HostRuntime) -> Result<(), Fail> {
     let path = path_of(&rt, "palkhuveg-served-disk")?;
     let path = text_of(&path)?;
     serves_twice(&rt, rt.alloc(), path)?;
+    fs::remove_file(&rt, path)?;
+    Ok(())
+}
+
+/// The verifier at the end of what is heard, where the reply to a WRITE comes last. Wants that it is not zero.
+fn verifier_in(rt: &impl Abort, heard: &[u8]) -> Result<u64, Fail> {
+    let (_, last) = heard.split_last_chunk::<8>().ok_or("a verifier")?;
+    let verifier = u64::from_be_bytes(*last);
+    assert!(rt; verifier != 0);
+    Ok(verifier)
+}
+
+/// Makes a file and writes it, by calls that come together, and ends the service at once. The verifier that it told.
+fn serves_write<
+    H: Abort
+        + Files<File = File>
+        + Net<Listener = TcpListener, Stream = TcpStream>
+        + Clock
+        + Threads
+        + Wait
+        + Sync,
+>(rt: &H, alloc: Global, path: &str) -> Result<u64, Fail> {
+    let mut sent = bytes_of(alloc, CREATE_F002)?;
+    sent.extend_from_slice(&bytes_of(alloc, WRITE)?)?;
+    verifier_in(rt, &calls(rt, alloc, path, ONE_PEER, &sent)?)
+}
+
+/// Reads and writes it in a service. Wants that what was written is read, and answers the verifier.
+fn serves_read<
+    H: Abort
+        + Files<File = File>
+        + Net<Listener = TcpListener, Stream = TcpStream>
+        + Clock
+        + Threads
+        + Wait
+        + Sync,
+>(rt: &H, alloc: Global, path: &str) -> Result<u64, Fail> {
+    let mut sent = bytes_of(alloc, READ)?;
+    sent.extend_from_slice(&bytes_of(alloc, WRITE)?)?;
+    let wanted = bytes_of(alloc, READ_BYTE)?;
+    let heard = calls(rt, alloc, path, ONE_PEER, &sent)?;
+    let (read, _) = heard
+        .split_at_checked(READ_REPLY_BYTES)
+        .ok_or("a reply to READ")?;
+    assert!(rt; read.ends_with(&wanted));
+    verifier_in(rt, &heard)
+}
+
+/// Writes in one service of a new disk, and reads in the next one, which tells another verifier.
+fn writes_and_reads<
+    H: Abort
+        + Files<File = File>
+        + Net<Listener = TcpListener, Stream = TcpStream>
+        + Clock
+        + Threads
+        + Wait
+        + Sync,
+>(rt: &H, alloc: Global, path: &str) -> Result<(), Fail> {
+    makes_disk(rt, alloc, path)?;
+    let first = serves_write(rt, alloc, path)?;
+    assert!(rt; serves_read(rt, alloc, path)? != first);
+    Ok(())
+}
+
+// Of what was written and need not be stable nothing is lost where the service ends well.
+#[test]
+fn what_was_written_is_there_after_a_clean_end(rt: HostRuntime) -> Result<(), Fail> {
+    let path = path_of(&rt, "palkhuveg-written-disk")?;
+    let path = text_of(&path)?;
+    writes_and_reads(&rt, rt.alloc(), path)?;
+    fs::remove_file(&rt, path)?;
+    Ok(())
+}
+
+/// Wants the bits of a disk of 532 blocks from byte 514 * 4096 of its file on: one of a block that is free, and then those of
+/// no block.
+fn has_bits<R: Abort + Files<File = File> + AllocGlobal>(rt: &R, path: &str) -> Result<(), Fail> {
+    let bytes = fs::read(rt, path)?;
+    let bits = bytes
+        .get(514 * 4096..515 * 4096)
+        .ok_or("the block of the bits")?;
+    let (first, others) = bits.split_first().ok_or("bits")?;
+    assert_eq!(rt;
+        (*first, others.iter().all(|byte| *byte == 0xff)),
+        (0xfe, true)
+    );
+    Ok(())
+}
+
+#[test]
+fn each_block_stands_at_its_place(rt: HostRuntime) -> Result<(), Fail> {
+    let path = path_of(&rt, "palkhuveg-placed-disk")?;
+    let path = text_of(&path)?;
+    begins(&rt, rt.alloc(), &["format", path, "532"], "", 0)?;
+    has_bits(&rt, path)?;
     fs::remove_file(&rt, path)?;
     Ok(())
 }
