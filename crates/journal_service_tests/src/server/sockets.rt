@@ -117,10 +117,16 @@ fn call_alone<H: Net<Listener = TcpListener, Stream = TcpStream>>(
     there: SocketAddr,
     number: usize,
 ) -> Vec<u8> {
-    match (call_of(alloc, number), TcpStream::connect(rt, there)) {
-        (Ok(call), Ok(stream)) if say(&stream, &call).is_ok() => hear(&stream, alloc),
-        _ => Vec::new(alloc),
+    let Ok(call) = call_of(alloc, number) else {
+        return Vec::new(alloc);
+    };
+    let Ok(stream) = TcpStream::connect(rt, there) else {
+        return Vec::new(alloc);
+    };
+    if say(&stream, &call).is_err() {
+        return Vec::new(alloc);
     }
+    hear(&stream, alloc)
 }
 
 // How peers behave.

@@ -1,5 +1,4 @@
-use Rattle.std.proofs.Common.{inl, List, ap, subst, rules, ◌∙◌}
-use Rattle.journal_world.specs.Histories.{Entry}
+use Rattle.std.proofs.Common.{inl, ap, subst, rules, ◌∙◌}
 use Rattle.journal_core.specs.declared.refusal_number.RefusalNumber.TheVariants.{J10}
 use Rattle.journal_core.specs.Causes.{explained}
 use Rattle.journal_core.specs.Memories.{MemoryState}

@@ -1,6 +1,5 @@
-use Rattle.std.proofs.Common.{List, refl, ap, ◌∙◌}
+use Rattle.std.proofs.Common.{refl, ap, ◌∙◌}
 use Rattle.std.proofs.lemmas.Bool.{false≢true}
-use Rattle.journal_world.specs.Histories.{Entry}
 use Rattle.journal_core.specs.declared.refusal_number.RefusalNumber.TheVariants.{J10}
 use Rattle.journal_core.specs.Causes.{explained}
 use Rattle.journal_core.specs.Memories.{MemoryState}
