@@ -6,3 +6,5 @@ pub mod Calling
 pub mod Fitting
 pub mod ResultFacts
 pub mod Marked
+pub mod Standings
+pub mod Owed

@@ -6,6 +6,8 @@ use Rattle.journal_filestore.specs.declared.reply.Found.{Found}
 use Rattle.journal_filestore.specs.Operations.{PortionState}
 use Rattle.journal_nfs3.specs.declared.arguments.StableHow.{StableHow}
 use Rattle.journal_nfs3.specs.declared.arguments.StableHow.TheVariants.{Unstable, DataSync, FileSync}
+use Rattle.journal_nfs3.specs.declared.procedure.Procedure.{Procedure}
+use Rattle.journal_nfs3.specs.declared.procedure.Procedure.TheVariants as procedure
 use Rattle.journal_nfs3.specs.declared.results.NfsError.{NfsError}
 use Rattle.journal_nfs3.specs.declared.results.Results as code_results
 use Rattle.journal_nfs3.specs.declared.results.Results.TheVariants as code_result
@@ -99,3 +101,15 @@ results_of (code_result.Write r count how verifier) = Write (outcome_of (write_o
 results_of (code_result.Create r) = Create (outcome_of create_of no_change r)
 results_of (code_result.Remove r) = Remove (outcome_of unchanged_of no_change r)
 results_of (code_result.Commit r verifier) = Commit (outcome_of (commit_of verifier.0) no_change r)
+
+-- the results of a procedure that is refused so, of which nothing is told
+abbrev pub refused_results : Procedure → NfsError → Results
+refused_results procedure.Null why = Null
+refused_results procedure.GetAttributes why = GetAttributes (Err (why, tt))
+refused_results procedure.SetAttributes why = SetAttributes (Err (why, no_change))
+refused_results procedure.Lookup why = Lookup (Err (why, None))
+refused_results procedure.Read why = Read (Err (why, None))
+refused_results procedure.Write why = Write (Err (why, no_change))
+refused_results procedure.Create why = Create (Err (why, no_change))
+refused_results procedure.Remove why = Remove (Err (why, no_change))
+refused_results procedure.Commit why = Commit (Err (why, no_change))

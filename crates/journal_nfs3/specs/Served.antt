@@ -1,16 +1,19 @@
 -- What an operation does, and what it answers.
-use Rattle.std.specs.Prelude.{ℕ, ◌≡◌, ◌≤◌, ◌+◌, Bool, true, false, List, [], ◌∷◌, ◌++◌, length, take, slice_get, Option, Some, None, Result, Ok, Err}
+use Rattle.std.specs.Prelude.{ℕ, ◌≡◌, ◌≤◌, ◌+◌, Bool, true, false, IsTrue, List, [], ◌∷◌, ◌++◌, length, take, slice_get, Option, Some, None, Result, Ok, Err, OnOk}
 use Rattle.std.specs.Result.{is_ok}
 use Rattle.journal_world.specs.declared.refusal.Refusal.{Refusal}
 use Rattle.journal_world.specs.declared.refusal.Refusal.TheVariants.{Busy, DeviceFailed}
 use Rattle.journal_world.specs.Maps.{Transaction}
 use Rattle.journal_world.specs.Histories.{Entry, commits_of, count, floor}
 use Rattle.journal_world.specs.Histories.Entry.{commit}
-use Rattle.journal_history.specs.Tokens.{SessionState}
+use Rattle.journal_history.specs.Tokens.{SessionState, OnlyExtends, IsExact, CommitPlace}
 use Rattle.journal_core.specs.Causes.{Told}
 use Rattle.journal_inode.specs.declared.node.Time.{Time}
 use Rattle.journal_filestore.specs.declared.fault.Fault.{Fault}
 use Rattle.journal_filestore.specs.declared.fault.Fault.TheVariants.{Refused, Unsure}
+use Rattle.journal_filestore.specs.declared.owed.Committed.{Committed}
+use Rattle.journal_filestore.specs.declared.owed.Owed.{Owed}
+use Rattle.journal_filestore.specs.declared.owed.Owed.TheVariants.{Nothing}
 use Rattle.journal_filestore.specs.declared.settings.Settings.{Settings}
 use Rattle.journal_filestore.specs.declared.settings.How as file_how
 use Rattle.journal_filestore.specs.declared.settings.How.TheVariants as file_ways
@@ -18,7 +21,7 @@ use Rattle.journal_filestore.specs.declared.status.Status.{Status}
 use Rattle.journal_filestore.specs.declared.status.Status.TheVariants as status
 use Rattle.journal_filestore.specs.Files.{Files}
 use Rattle.journal_filestore.specs.Operations.{Op, Call as call, Reply as reply}
-use Rattle.journal_filestore.specs.Done.{IsAnswered}
+use Rattle.journal_filestore.specs.Done.{IsMadeAt, IsOwed}
 use Rattle.journal_nfs3.specs.declared.arguments.NewAttributes.{NewAttributes}
 use Rattle.journal_nfs3.specs.declared.arguments.StableHow.{StableHow}
 use Rattle.journal_nfs3.specs.declared.arguments.StableHow.TheVariants.{Unstable, DataSync, FileSync}
@@ -65,52 +68,103 @@ refusal_error Busy = Jukebox
 refusal_error (DeviceFailed cause) = Io
 refusal_error other = ServerFault
 
--- an answer of the file store, or that it has none, as it is told
+-- an answer of the file store as it is told
+abbrev pub answer_told : {A : Type 0} → Result A Status → Result A NfsError
+answer_told (Ok value) = Ok value
+answer_told (Err why) = Err (error_of why)
+
+-- the same, or that it has none
 abbrev pub told : {A C : Type 0} → Result (Result A Status) (Fault C) → Result A NfsError
-told (Ok (Ok value)) = Ok value
-told (Ok (Err why)) = Err (error_of why)
+told (Ok answer) = answer_told answer
 told (Err (Refused why)) = Err (refusal_error why)
 told (Err (Unsure why)) = Err (refusal_error why)
+
+-- an answer that is not waited for: as one that was, and what is owed for it
+abbrev pub soon_answer : {A P C : Type 0} → Result (Committed A P) (Refusal C) → Result (Result A Status) (Fault C)
+soon_answer (Ok done) = Ok done.answer
+soon_answer (Err why) = Err (Refused why)
+
+abbrev pub soon_owed : {A P C : Type 0} → Result (Committed A P) (Refusal C) → Owed P
+soon_owed (Ok done) = done.owed
+soon_owed (Err why) = Nothing
+
+-- ---- what is stable of an answer
+
+-- How far an answer is: what waits is marked in this history, or this is owed for it
+pub data Standing : Type 0 where
+  marked : List Entry → Standing
+  owing : Owed CommitPlace → Standing
+
+abbrev pub OwesNothing : Standing → Type 0
+OwesNothing (marked history) = Unit {0}
+OwesNothing (owing owed) = owed ≡ Nothing
+
+-- So far is an answer whose commit stands at this place of the history that is seen then
+abbrev pub IsSoFar : {A : Type 0} → Standing → Bool → Result A Status → List Entry → ℕ → Type 0
+IsSoFar (marked history) waits answer seen place = IsTrue waits → OnOk answer (count (take (place + 1) seen) ≤ floor history)
+IsSoFar (owing owed) waits answer seen place = IsOwed waits answer seen place owed
+
+-- The operation was done, and answered
+pub record IsDoneAs {A : Type 0} (standing : Standing) (waits : Bool) (case : Files → Result A Status → Files → Type 0) (old new : SessionState) (answer : Result A Status) : Type 0 where
+  pub place : ℕ
+  pub made : IsMadeAt case old new answer place
+  -- the session has no other commits
+  pub exact : IsExact new
+  pub so_far : IsSoFar standing waits answer new.seen place
+
+-- Refused, it was not done. In doubt, it was done with some answer that the case gives, and is not known to be stable
+abbrev pub IsFaultAs : {A : Type 0} → Standing → Bool → (Files → Result A Status → Files → Type 0) → SessionState → SessionState → Fault Told → Type 0
+IsFaultAs standing waits case old new (Refused why) = OnlyExtends old new × OwesNothing standing
+IsFaultAs {A} (marked history) waits case old new (Unsure why) = IsTrue waits × ((answer : Result A Status) × (place : ℕ) × IsMadeAt case old new answer place)
+IsFaultAs (owing owed) waits case old new (Unsure why) = ⊥
+
+abbrev pub IsAnsweredAs : {A : Type 0} → Standing → Bool → (Files → Result A Status → Files → Type 0) → SessionState → SessionState → Result (Result A Status) (Fault Told) → Type 0
+IsAnsweredAs standing waits case old new (Ok answer) = IsDoneAs standing waits case old new answer
+IsAnsweredAs standing waits case old new (Err fault) = IsFaultAs standing waits case old new fault
 
 -- ---- operations
 
 -- What is told of an operation on what the handle names: that it is none, or what the file store answers by this case
-abbrev pub TellsOutcome : {A : Type 0} → Option FileHandle → Bool → (FileHandle → Files → Result A Status → Files → Type 0) → SessionState → SessionState → Result A NfsError → Type 0
-TellsOutcome None waits case old new outcome = (outcome ≡ Err BadHandle) × (new ≡ old)
-TellsOutcome {A} (Some handle) waits case old new outcome =
-    (answer : Result (Result A Status) (Fault Told)) × IsAnswered waits (case handle) old new answer × (outcome ≡ told answer)
+abbrev pub TellsOutcome : {A : Type 0} → Standing → Option FileHandle → Bool → (FileHandle → Files → Result A Status → Files → Type 0) → SessionState → SessionState → Result A NfsError → Type 0
+TellsOutcome standing None waits case old new outcome = (outcome ≡ Err BadHandle) × (new ≡ old) × OwesNothing standing
+TellsOutcome {A} standing (Some handle) waits case old new outcome =
+    (answer : Result (Result A Status) (Fault Told)) × IsAnsweredAs standing waits (case handle) old new answer × (outcome ≡ told answer)
 
 -- the same, with the results that are made of it
-abbrev pub Performs : {A : Type 0} → Option FileHandle → Bool → (FileHandle → Files → Result A Status → Files → Type 0) → (Result A NfsError → Results) → SessionState → Results → SessionState → Type 0
-Performs {A} handle waits case as_results old results new = (outcome : Result A NfsError) × TellsOutcome handle waits case old new outcome × (results ≡ as_results outcome)
+abbrev pub Performs : {A : Type 0} → Standing → Option FileHandle → Bool → (FileHandle → Files → Result A Status → Files → Type 0) → (Result A NfsError → Results) → SessionState → Results → SessionState → Type 0
+Performs {A} standing handle waits case as_results old results new = (outcome : Result A NfsError) × TellsOutcome standing handle waits case old new outcome × (results ≡ as_results outcome)
 
--- What an operation does at a moment, from what its session had seen to what it then has seen, and its results
-abbrev pub Serves : List ℕ → Time → Operation → SessionState → Results → SessionState → Type 0
-Serves verifier now operation.Null old results new = (results ≡ Null) × (new ≡ old)
-Serves verifier now (operation.GetAttributes h) old results new =
-    Performs (handle_in h) false (λ k F r F2. (t : Time) → Op (call.getattr k.number k.generation) t F (reply.got r) F2)
+-- What an operation does at a moment, from what its session had seen to what it then has seen, its results, and how far they are
+abbrev pub ServesAs : Standing → List ℕ → Time → Operation → SessionState → Results → SessionState → Type 0
+ServesAs standing verifier now operation.Null old results new = (results ≡ Null) × (new ≡ old) × OwesNothing standing
+ServesAs standing verifier now (operation.GetAttributes h) old results new =
+    Performs standing (handle_in h) false (λ k F r F2. (t : Time) → Op (call.getattr k.number k.generation) t F (reply.got r) F2)
     (λ r. GetAttributes (outcome_of fattr_of tt r)) old results new
-Serves verifier now (operation.SetAttributes h a guard) old results new =
-    Performs (handle_in h) true (λ k F r F2. Op (call.setattr k.number k.generation (settings_of a) guard) now F (reply.set r) F2)
+ServesAs standing verifier now (operation.SetAttributes h a guard) old results new =
+    Performs standing (handle_in h) true (λ k F r F2. Op (call.setattr k.number k.generation (settings_of a) guard) now F (reply.set r) F2)
     (λ r. SetAttributes (outcome_of change_of no_change r)) old results new
-Serves verifier now (operation.Lookup e) old results new =
-    Performs (handle_in e.directory) false (λ k F r F2. (t : Time) → Op (call.lookup k.number k.generation e.called) t F (reply.found r) F2)
+ServesAs standing verifier now (operation.Lookup e) old results new =
+    Performs standing (handle_in e.directory) false (λ k F r F2. (t : Time) → Op (call.lookup k.number k.generation e.called) t F (reply.found r) F2)
     (λ r. Lookup (outcome_of lookup_of None r)) old results new
-Serves verifier now (operation.Read h offset count) old results new =
-    Performs (handle_in h) false (λ k F r F2. (t : Time) → Op (call.read k.number k.generation offset count) t F (reply.bytes_read r) F2)
+ServesAs standing verifier now (operation.Read h offset count) old results new =
+    Performs standing (handle_in h) false (λ k F r F2. (t : Time) → Op (call.read k.number k.generation offset count) t F (reply.bytes_read r) F2)
     (λ r. Read (outcome_of read_results_of None r)) old results new
-Serves verifier now (operation.Write h offset count how bytes) old results new =
-    Performs (handle_in h) (waits how) (λ k F r F2. Op (call.write k.number k.generation offset count bytes) now F (reply.wrote r) F2)
+ServesAs standing verifier now (operation.Write h offset count how bytes) old results new =
+    Performs standing (handle_in h) (waits how) (λ k F r F2. Op (call.write k.number k.generation offset count bytes) now F (reply.wrote r) F2)
     (λ r. Write (outcome_of (write_of count how verifier) no_change r)) old results new
-Serves verifier now (operation.Create e how) old results new =
-    Performs (handle_in e.directory) true (λ k F r F2. Op (call.create k.number k.generation e.called (ways_of how)) now F (reply.made r) F2)
+ServesAs standing verifier now (operation.Create e how) old results new =
+    Performs standing (handle_in e.directory) true (λ k F r F2. Op (call.create k.number k.generation e.called (ways_of how)) now F (reply.made r) F2)
     (λ r. Create (outcome_of create_of no_change r)) old results new
-Serves verifier now (operation.Remove e) old results new =
-    Performs (handle_in e.directory) true (λ k F r F2. (t : Time) → Op (call.remove k.number k.generation e.called) t F (reply.removed r) F2)
+ServesAs standing verifier now (operation.Remove e) old results new =
+    Performs standing (handle_in e.directory) true (λ k F r F2. (t : Time) → Op (call.remove k.number k.generation e.called) t F (reply.removed r) F2)
     (λ r. Remove (outcome_of unchanged_of no_change r)) old results new
-Serves verifier now (operation.Commit h offset count) old results new =
-    Performs (handle_in h) true (λ k F r F2. (t : Time) → Op (call.commit k.number k.generation) t F (reply.committed r) F2)
+ServesAs standing verifier now (operation.Commit h offset count) old results new =
+    Performs standing (handle_in h) true (λ k F r F2. (t : Time) → Op (call.commit k.number k.generation) t F (reply.committed r) F2)
     (λ r. Commit (outcome_of (commit_of verifier) no_change r)) old results new
+
+-- the same of an operation that has waited: what is to be stable is marked in what the session then has seen
+abbrev pub Serves : List ℕ → Time → Operation → SessionState → Results → SessionState → Type 0
+Serves verifier now operation old results new = ServesAs (marked new.seen) verifier now operation old results new
 
 -- ---- what is stable once it is answered
 

@@ -1,8 +1,13 @@
 // What holds of all arguments and results.
-ghost use Rattle.std.specs.Prelude.{◌≡◌, ◌↔◌, ℕ, List, IsTrue, Option, Some, Ok, Err};
+ghost use Rattle.std.specs.Prelude.{◌≡◌, ◌↔◌, ◌≤◌, ℕ, List, IsTrue, Option, Result, Some, Ok, Err};
+ghost use Rattle.journal_world.specs.Histories.{Entry, floor};
 ghost use Rattle.journal_history.specs.Tokens.{SessionState};
 ghost use Rattle.journal_inode.specs.declared.node.Time.{Time};
 ghost use Rattle.journal_xdr.specs.Items.{IsGrammar};
+ghost use Rattle.journal_filestore.specs.declared.owed.Owed.{Owed};
+ghost use Rattle.journal_filestore.specs.Done.{IsPaid};
+ghost use Rattle.journal_history.specs.Tokens.{CommitPlace};
+ghost use Rattle.journal_rpc.specs.declared.replies.CallRefused.{CallRefused};
 ghost use Rattle.journal_rpc.specs.declared.replies.CallRefused.TheVariants.{GarbageArguments};
 ghost use Rattle.journal_nfs3.specs.declared.procedure.Procedure.{Procedure};
 ghost use Rattle.journal_nfs3.specs.Arguments.{Operation, arguments};
@@ -10,7 +15,8 @@ ghost use Rattle.journal_nfs3.specs.Whole.{IsSpelling};
 ghost use Rattle.journal_nfs3.specs.Handles.{FileHandle, used_handle, handle_in};
 ghost use Rattle.journal_nfs3.specs.Calls.{called};
 ghost use Rattle.journal_nfs3.specs.Results.{Results, results};
-ghost use Rattle.journal_nfs3.specs.Served.{Serves, has_to_wait, is_accepted, CommitsOnceAt, IsMarked};
+ghost use Rattle.journal_nfs3.specs.Served.{marked, owing, Serves, has_to_wait, is_accepted, CommitsOnceAt, IsMarked};
+ghost use Rattle.journal_nfs3.specs.Answers.{AnswersAs};
 
 /// A procedure's arguments are an item: what is read is spelled so, and what is spelled so is read
 /// (RFC 1813, section 3.3). An operation is run exactly where the arguments are its spelling, and they are
@@ -43,4 +49,15 @@ pub fn answers_that_wait_are_stable()
     ensures { (verifier : List ℕ) (now : Time) (operation : Operation) (old new : SessionState) (r : Results)
         → IsTrue (has_to_wait operation) → IsTrue (is_accepted r) → Serves verifier now operation old r new
         → (place : ℕ) × CommitsOnceAt old new place × IsMarked new.seen place }
+{}
+
+/// A reply that is owed a wait is what the call's reply is to be once a mark covers its receipt: that mark stands for what
+/// is stable of it. It stays so in each history that has greater marks.
+pub fn owed_replies_are_told_once_paid()
+    ensures paid { (verifier : List ℕ) (now : Time) (xid : ℕ) (asked : Result Operation CallRefused) (old new then : SessionState)
+        (owed : Owed CommitPlace) (text : List ℕ)
+        → AnswersAs (owing owed) verifier now xid asked old new text → IsPaid owed then → AnswersAs (marked then.seen) verifier now xid asked old new text }
+    ensures stays { (verifier : List ℕ) (now : Time) (xid : ℕ) (asked : Result Operation CallRefused) (old new : SessionState)
+        (history longer : List Entry) (text : List ℕ)
+        → AnswersAs (marked history) verifier now xid asked old new text → floor history ≤ floor longer → AnswersAs (marked longer) verifier now xid asked old new text }
 {}

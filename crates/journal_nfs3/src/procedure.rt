@@ -3,17 +3,26 @@ ghost use Rattle.std.specs.Prelude.{◌≡◌};
 
 use journal_xdr::Enumeration;
 
-// A procedure of the program (RFC 1813, section 3.3).
+/// A procedure of the program that is served (RFC 1813, section 3.3).
 #[derive(Clone, Copy, Debug, PartialEq, Eq)]
-pub(crate) enum Procedure {
+pub enum Procedure {
+    /// NULL.
     Null,
+    /// GETATTR.
     GetAttributes,
+    /// SETATTR.
     SetAttributes,
+    /// LOOKUP.
     Lookup,
+    /// READ.
     Read,
+    /// WRITE.
     Write,
+    /// CREATE.
     Create,
+    /// REMOVE.
     Remove,
+    /// COMMIT.
     Commit,
 }
 

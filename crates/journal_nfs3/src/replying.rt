@@ -1,19 +1,24 @@
 // The reply to a call.
-ghost use Rattle.std.specs.Prelude.{◌≡◌, ◌<◌, ◌^◌, ℕ, List, length, IfOk, OnErr, IsOkUnless};
+ghost use Rattle.std.specs.Prelude.{◌≡◌, ◌<◌, ◌^◌, ℕ, List, length, Ok, IfOk, OnErr, IsOkUnless};
 ghost use Rattle.std.specs.Result.{ForOk};
+ghost use Rattle.journal_world.specs.Histories.{Entry};
 ghost use Rattle.journal_rpc.specs.CallViews.{asked_of};
 ghost use Rattle.journal_filestore.specs.Handles.{time_of};
 ghost use Rattle.journal_nfs3.specs.Calls.{asks};
 ghost use Rattle.journal_nfs3.specs.Results.{results_text};
-ghost use Rattle.journal_nfs3.specs.Profile.{results_of};
-ghost use Rattle.journal_nfs3.specs.Answers.{ServesCall, Answers, outcome_seen};
+ghost use Rattle.journal_nfs3.specs.Profile.{results_of, refused_results};
+ghost use Rattle.journal_nfs3.specs.Served.{marked, owing, refusal_error};
+ghost use Rattle.journal_nfs3.specs.Answers.{sent, ServesCall, Answers, AnswersAs, AnswersSoon, awaited_of, TakesPlace, outcome_seen};
 
 use crate::decision::decide;
+use crate::procedure::Procedure;
 use crate::results::{Results, Verifier};
-use crate::serving::serve;
+use crate::serving::serve_soon;
+use crate::soon::{Awaited, Due, SoonReply};
+use crate::telling::refusal_error;
 use journal_disk::BlockDisk;
-use journal_filestore::FileStore;
-use journal_history::{Naming, Session};
+use journal_filestore::{FileStore, Owed};
+use journal_history::{Naming, Receipt, Session};
 use journal_inode::SoundFiles;
 use journal_rpc::{Call, CallRefused, write_reply};
 use journal_world::{Moment, Refusal};
@@ -54,26 +59,107 @@ pub fn answer<'b, D: BlockDisk, J: Naming, W: Wait, C>(
         (asks (asked_of call.now.asked)) session.old session.new reply) }
     ensures refusal { IsOkUnless result Refusal.NoMemory }
 {
-    let outcome = run(rt, session, call, files, moment, verifier);
-    Ok(write_reply(alloc, call.xid, &outcome, room_for(&outcome))?)
+    let SoonReply { reply, owed } = answer_soon(rt, alloc, session, call, files, moment, verifier)?;
+    let awaited = match owed {
+        None => return Ok(reply),
+        Some(awaited) => awaited,
+    };
+    let waited = files.journal().wait_stable(rt, session, &awaited.receipt);
+    // It tells the proof what is known of all that the session has then seen.
+    let _seen = session.seen();
+    match waited {
+        Ok(_note) => Ok(reply),
+        Err(why) => refused_reply(alloc, call.xid, awaited.procedure, &why),
+    }
 }
 
-// What a call comes to: why it is refused, or the results of its operation, which is done.
-fn run<'b, D: BlockDisk, J: Naming, W: Wait>(
+/// The reply to a call up to its commit: as `answer` does the call, and before it waits. Where that waits, what is owed
+/// is the wait for its receipt, by `Journal::wait_stable`: the operation stands in the history, and a crash before may
+/// lose it. A mark that covers the receipt makes the reply what `answer` would give; where the wait is refused, the
+/// reply of `refused_reply` is to be told in place of it.
+///
+/// Answers J1 `NoMemory`, and nothing else, where memory for the reply is refused. The operation is done all the
+/// same, and its reply is lost.
+pub fn answer_soon<'b, D: BlockDisk, J: Naming, W: Wait, C>(
+    rt: &W,
+    alloc: Global,
+    session: &mut Session<'b, J, SoundFiles>,
+    call: &Call<'_>,
+    files: &FileStore<'b, D, J>,
+    moment: Moment,
+    verifier: Verifier,
+) -> Result<SoonReply<Receipt<'b, J, SoundFiles>>, Refusal<C>>
+    ensures answered { IfOk result (AnswersSoon verifier.0 (time_of moment) call.now.xid
+        (asks (asked_of call.now.asked)) session.old session.new) }
+    ensures lost { OnErr result ((history : List Entry) → (reply : List ℕ) × AnswersAs (marked history) verifier.0
+        (time_of moment) call.now.xid (asks (asked_of call.now.asked)) session.old session.new reply) }
+    ensures refusal { IsOkUnless result Refusal.NoMemory }
+{
+    let Due { told, owed } = run_soon(rt, session, call, files, moment, verifier);
+    let reply = write_reply(alloc, call.xid, &told, room_for(&told))?;
+    let owed = awaited(&told, owed);
+    Ok(SoonReply { reply, owed })
+}
+
+/// The reply that is told in place of one for which a wait is owed, to a call of this number and procedure, where the wait
+/// is refused: JUKEBOX for J5, IO for J6 and SERVERFAULT for any other refusal. The operation stands, and is not known to
+/// be stable.
+///
+/// Answers J1 `NoMemory`, and nothing else, where memory for the reply is refused.
+pub fn refused_reply<C, E>(
+    alloc: Global,
+    xid: u32,
+    procedure: Procedure,
+    why: &Refusal<C>,
+) -> Result<Vec<u8>, Refusal<E>>
+    ensures text { IfOk result (λ reply. reply.items ≡ sent xid (Ok (refused_results procedure (refusal_error why.now)))) }
+    ensures takes_place { IfOk result (λ reply. TakesPlace xid procedure reply.items) }
+    ensures refusal { IsOkUnless result Refusal.NoMemory }
+{
+    let results = Results::refused(procedure, refusal_error(why));
+    results.are_in_grammar();
+    let outcome = Ok(results);
+    Ok(write_reply(alloc, xid, &outcome, REPLY_BYTES)?)
+}
+
+// What a call comes to that is not waited for: why it is refused, or the results of its operation, which is done.
+fn run_soon<'b, D: BlockDisk, J: Naming, W: Wait>(
     rt: &W,
     session: &mut Session<'b, J, SoundFiles>,
     call: &Call<'_>,
     files: &FileStore<'b, D, J>,
     moment: Moment,
     verifier: Verifier,
-) -> Result<Results, CallRefused>
-    ensures comes { ServesCall verifier.0 (time_of moment) (asks (asked_of call.now.asked)) session.old (outcome_seen result) session.new }
-    ensures short { ForOk result (λ r. length (results_text (results_of r)) < 2 ^ 30) }
+) -> Due<Result<Results, CallRefused>, Receipt<'b, J, SoundFiles>>
+    ensures comes { ServesCall (owing result.owed) verifier.0 (time_of moment) (asks (asked_of call.now.asked)) session.old (outcome_seen result.told) session.new }
+    ensures short { ForOk result.told (λ r. length (results_text (results_of r)) < 2 ^ 30) }
 {
-    let operation = decide(call)?;
-    let results = serve(rt, session, files, &operation, moment, verifier);
+    let operation = match decide(call) {
+        Ok(operation) => operation,
+        Err(why) => return Due::settled(Err(why)),
+    };
+    let Due {
+        told: results,
+        owed,
+    } = serve_soon(rt, session, files, &operation, moment, verifier);
     results.are_in_grammar();
-    Ok(results)
+    Due {
+        told: Ok(results),
+        owed,
+    }
+}
+
+// What is owed, with the procedure of the results that it is owed for.
+fn awaited<P: Drop>(outcome: &Result<Results, CallRefused>, owed: Owed<P>) -> Option<Awaited<P>>
+    ensures { result ≡ awaited_of (outcome_seen outcome.now) owed }
+{
+    match (outcome, owed) {
+        (Ok(results), Owed::Wait(receipt)) => Some(Awaited {
+            procedure: results.procedure(),
+            receipt,
+        }),
+        _ => None,
+    }
 }
 
 // The room that is reserved for a reply.

@@ -1,7 +1,10 @@
 // What procedures answer.
 ghost use Rattle.std.specs.Prelude.{◌≡◌, ◌++◌, OnOk};
+ghost use Rattle.journal_nfs3.specs.Results.{procedure_of_results};
+ghost use Rattle.journal_nfs3.specs.Profile.{results_of, refused_results};
 
 use crate::arguments::StableHow;
+use crate::procedure::Procedure;
 use crate::writing::{
     write_commit, write_create, write_get_attributes, write_lookup, write_read, write_remove,
     write_set_attributes, write_write,
@@ -53,6 +56,50 @@ pub(crate) enum Results {
         outcome: Result<Attributes, NfsError>,
         verifier: Verifier,
     },
+}
+
+impl Results {
+    // The procedure that answers so.
+    pub(crate) fn procedure(&self) -> Procedure
+        ensures { result ≡ procedure_of_results (results_of self.now) }
+    {
+        match self {
+            Results::Null => Procedure::Null,
+            Results::GetAttributes(_) => Procedure::GetAttributes,
+            Results::SetAttributes(_) => Procedure::SetAttributes,
+            Results::Lookup(_) => Procedure::Lookup,
+            Results::Read(_) => Procedure::Read,
+            Results::Write { .. } => Procedure::Write,
+            Results::Create(_) => Procedure::Create,
+            Results::Remove(_) => Procedure::Remove,
+            Results::Commit { .. } => Procedure::Commit,
+        }
+    }
+
+    // What a procedure answers that is refused so: nothing is told of any file, and nothing of what was asked.
+    pub(crate) fn refused(procedure: Procedure, why: NfsError) -> Results
+        ensures { results_of result ≡ refused_results procedure why }
+    {
+        match procedure {
+            Procedure::Null => Results::Null,
+            Procedure::GetAttributes => Results::GetAttributes(Err(why)),
+            Procedure::SetAttributes => Results::SetAttributes(Err(why)),
+            Procedure::Lookup => Results::Lookup(Err(why)),
+            Procedure::Read => Results::Read(Err(why)),
+            Procedure::Write => Results::Write {
+                outcome: Err(why),
+                count: 0,
+                how: StableHow::Unstable,
+                verifier: Verifier([0; 8]),
+            },
+            Procedure::Create => Results::Create(Err(why)),
+            Procedure::Remove => Results::Remove(Err(why)),
+            Procedure::Commit => Results::Commit {
+                outcome: Err(why),
+                verifier: Verifier([0; 8]),
+            },
+        }
+    }
 }
 
 impl journal_rpc::Results for Results {

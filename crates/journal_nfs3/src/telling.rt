@@ -2,11 +2,12 @@
 ghost use Rattle.std.specs.Prelude.{◌≡◌};
 ghost use Rattle.journal_filestore.specs.Operations.{is_waiting};
 ghost use Rattle.journal_nfs3.specs.Arguments.{how_of};
-ghost use Rattle.journal_nfs3.specs.Served.{settings_of, ways_of, waits, error_of, refusal_error, told};
+ghost use Rattle.journal_nfs3.specs.Served.{settings_of, ways_of, waits, error_of, refusal_error, answer_told, told, soon_answer, soon_owed};
 
 use crate::arguments::{CreateHow, NewAttributes, StableHow};
 use crate::results::NfsError;
-use journal_filestore::{Answer, Fault, How, Settings, Stability, Status};
+use crate::soon::Due;
+use journal_filestore::{Answer, Committed, Fault, How, Owed, Settings, Stability, Status};
 use journal_world::Refusal;
 
 // How an answer of the file store is told, or that it has none.
@@ -14,9 +15,36 @@ pub(crate) fn told<A, C: Drop>(answer: Result<Answer<A>, Fault<C>>) -> Result<A,
     ensures { result ≡ told answer }
 {
     match answer {
-        Ok(Ok(value)) => Ok(value),
-        Ok(Err(status)) => Err(error_of(status)),
+        Ok(answer) => told_answer(answer),
         Err(Fault::Refused(why) | Fault::Unsure(why)) => Err(refusal_error(&why)),
+    }
+}
+
+// The same of an answer that is not waited for, with what is owed for it.
+pub(crate) fn told_soon<A, P, C: Drop>(
+    answer: Result<Committed<A, P>, Refusal<C>>,
+) -> Due<Result<A, NfsError>, P>
+    ensures told { result.told ≡ told (soon_answer answer) }
+    ensures owed { result.owed ≡ soon_owed answer }
+{
+    match answer {
+        Ok(done) => {
+            let Committed { answer, owed } = done;
+            Due {
+                told: told_answer(answer),
+                owed,
+            }
+        }
+        Err(why) => Due::settled(Err(refusal_error(&why))),
+    }
+}
+
+fn told_answer<A>(answer: Answer<A>) -> Result<A, NfsError>
+    ensures { result ≡ answer_told answer }
+{
+    match answer {
+        Ok(value) => Ok(value),
+        Err(status) => Err(error_of(status)),
     }
 }
 
@@ -37,7 +65,7 @@ fn error_of(status: Status) -> NfsError
 }
 
 // What the journal refuses, as clients are told: to try again later, a fault of the device, or one of the server.
-fn refusal_error<C>(refusal: &Refusal<C>) -> NfsError
+pub(crate) fn refusal_error<C>(refusal: &Refusal<C>) -> NfsError
     ensures { result ≡ refusal_error refusal.now }
 {
     match refusal {

@@ -1,18 +1,21 @@
-use Rattle.std.proofs.Common.{Result, Ok, Err, OnErr, List, ℕ, refl}
-use Rattle.journal_rpc.specs.CallViews.{asked_of}
-use Rattle.journal_filestore.specs.Handles.{time_of}
-use Rattle.journal_nfs3.specs.Calls.{asks}
-use Rattle.journal_nfs3.specs.Answers.{Answers, outcome_seen, sent}
+use Rattle.journal_nfs3.proofs.Owed.{on_err, settled_soon, waited_soon, unsure_lost, unsure_ok}
 use Rattle.journal_nfs3.proofs.replying.answer.Goals as goal
 
-on_err : {T E P : Type 0} (r : Result T E) → P → OnErr r P
-on_err (Ok v) p = tt
-on_err (Err e) p = p
+pub returns-in_err-reply-clause-lost : goal.returns-in_err-reply-clause-lost
+returns-in_err-reply-clause-lost g c = on_err _ (c.in_err-reply.ensures.lost c.answer_soon.new.session.seen)
 
-pub returns-in_err-write_reply-clause-lost : goal.returns-in_err-write_reply-clause-lost
-returns-in_err-write_reply-clause-lost g c =
-    let outcome = outcome_seen c.run-outcome.result in
-    let text = sent c.args.call.now.xid outcome in
-    let lost : (x : List ℕ) × Answers c.args.verifier.0 (time_of c.args.moment) c.args.call.now.xid (asks (asked_of c.args.call.now.asked)) c.args.session.now c.run-outcome.new.session x =
-    (text, record { outcome = outcome; comes = c.run-outcome.ensures.comes; is_sent = refl }) in
-    on_err _ lost
+pub returns-in-None-clause-answered : goal.returns-in-None-clause-answered
+returns-in-None-clause-answered g c = settled_soon _ _ _ _ _ _ c.in_ok-reply.field-0 c.in_ok-reply.ensures.answered c.in-None.is
+
+pub returns-in-Ok-clause-answered : goal.returns-in-Ok-clause-answered
+returns-in-Ok-clause-answered g c =
+    waited_soon _ _ _ _ _ _ c.in_ok-reply.field-0 c.in_ok-reply.ensures.answered _ c.in-Some.awaited c.in-Some.is c.in-Ok.ensures.session c.seen-seen.ensures.sound.ruled
+    c.in-Ok._note.count c.in-Ok.ensures.stable.covers c.in-Ok.ensures.stable.marked c.in-Ok.ensures.exact
+
+pub returns-in-Err-clause-answered : goal.returns-in-Err-clause-answered
+returns-in-Err-clause-answered g c =
+    unsure_ok _ _ _ _ _ _ c.in_ok-reply.field-0 c.in_ok-reply.ensures.answered _ c.in-Some.awaited c.in-Some.is c.in-Err.ensures.session c.seen-seen.ensures.sound.ruled c.in-Err.why (λ reply. reply.items) _ c.refused_reply.ensures.text
+
+pub returns-in-Err-clause-lost : goal.returns-in-Err-clause-lost
+returns-in-Err-clause-lost g c =
+    unsure_lost _ _ _ _ _ _ c.in_ok-reply.field-0 c.in_ok-reply.ensures.answered _ c.in-Some.awaited c.in-Some.is c.in-Err.ensures.session c.seen-seen.ensures.sound.ruled c.in-Err.why _
