@@ -2,6 +2,8 @@ pub mod Answering
 pub mod Behind
 pub mod Counting
 pub mod Serving
+pub mod Settling
+pub mod Sends
 pub mod Staying
 pub mod Steps
 pub mod Turns

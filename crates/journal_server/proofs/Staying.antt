@@ -1,28 +1,28 @@
 -- What was seen before some replies is seen after them, with its marks.
 use Rattle.std.specs.Prelude.{slice_get, take}
-use Rattle.std.proofs.lemmas.Option.{slice_get_within}
-use Rattle.std.proofs.Common.{◌≡◌, ℕ, ◌+◌, ◌≤◌, Bool, IsTrue, List, [], ◌∷◌, ◌++◌, Option, Some, None, Result, Ok, Err, refl, sym, ap, subst, ◌∙◌, append_assoc, arith}
+use Rattle.std.proofs.lemmas.Option.{slice_get_within, slice_get_past}
+use Rattle.std.proofs.Common.{◌≡◌, ℕ, zero, suc, ◌+◌, ◌≤◌, Bool, IsTrue, List, [], ◌∷◌, ◌++◌, Option, Some, None, Result, Ok, Err, refl, sym, ap, subst, ◌∙◌, append_assoc, arith}
 use Rattle.std.proofs.lemmas.List.{append-nil, take-append-le}
 use mathlib.Core.List.{IsPrefix}
-use Rattle.journal_world.specs.Histories.{Entry, count, floor}
+use Rattle.journal_world.specs.Histories.{Entry, commits_of, count, floor}
+use Rattle.journal_world.specs.Histories.Entry.{commit}
 use Rattle.journal_world.proofs.Marks.{floor-append-le}
-use Rattle.journal_history.specs.Tokens.{SessionState}
+use Rattle.journal_history.specs.Tokens.{SessionState, OnlyExtends}
 use Rattle.journal_core.specs.Causes.{Told}
 use Rattle.journal_inode.specs.declared.node.Time.{Time}
 use Rattle.journal_filestore.specs.declared.fault.Fault.{Fault}
 use Rattle.journal_filestore.specs.declared.fault.Fault.TheVariants.{Refused, Unsure}
 use Rattle.journal_filestore.specs.declared.status.Status.{Status}
 use Rattle.journal_filestore.specs.Files.{Files}
-use Rattle.journal_filestore.specs.Done.{IsAnswered}
 use Rattle.journal_rpc.specs.declared.replies.CallRefused.{CallRefused}
 use Rattle.journal_rpc.specs.Calls.{Message, message}
 use Rattle.journal_nfs3.specs.Arguments.{Operation, Null, GetAttributes, SetAttributes, Lookup, Read, Write, Create, Remove, Commit}
 use Rattle.journal_nfs3.specs.Handles.{FileHandle}
 use Rattle.journal_nfs3.specs.Results.{Results}
 use Rattle.journal_nfs3.specs.Calls.{asks}
-use Rattle.journal_nfs3.specs.Served.{TellsOutcome, Performs, Serves, has_to_wait, is_accepted, CommitsOnceAt, IsMarked}
+use Rattle.journal_nfs3.specs.Served.{Standing, marked, owing, IsAnsweredAs, TellsOutcome, Performs, ServesAs, has_to_wait, is_accepted, CommitsOnceAt, IsMarked}
 use Rattle.journal_nfs3.specs.Answers.{ServesCall}
-use Rattle.journal_nfs3.proofs.Marked.{serves_marked}
+use Rattle.journal_nfs3.proofs.Marked.{HasMarked, serves_marked_in}
 use Rattle.journal_server.specs.Output.{IsReply, IsRepliedUnlessBad, RepliesUpToBad, AllReplies}
 use Rattle.journal_server.proofs.Answering.{then_replies}
 
@@ -35,73 +35,91 @@ grows-same old new e = ([], append-nil old.seen ∙ ap (λ (s : SessionState). s
 grows-trans : (old mid new : SessionState) → Grows old mid → Grows mid new → Grows old new
 grows-trans old mid new p q = (p.0 ++ q.0, sym (append_assoc old.seen p.0 q.0) ∙ ap (λ (h : List Entry). h ++ q.0) p.1 ∙ q.1)
 
-answer_grows : {A : Type 0} (w : Bool) (case : Files → Result A Status → Files → Type 0) (old new : SessionState) (answer : Result (Result A Status) (Fault Told)) → IsAnswered w case old new answer → Grows old new
-answer_grows w case old new (Ok v) d = d.made.extends
-answer_grows w case old new (Err (Refused why)) d = d.seen
-answer_grows w case old new (Err (Unsure why)) d = d.1.2.extends
+answer_grows : {A : Type 0} (standing : Standing) (w : Bool) (case : Files → Result A Status → Files → Type 0) (old new : SessionState) (answer : Result (Result A Status) (Fault Told)) → IsAnsweredAs standing w case old new answer → Grows old new
+answer_grows standing w case old new (Ok v) d = d.made.extends
+answer_grows standing w case old new (Err (Refused why)) d = d.0.seen
+answer_grows (marked history) w case old new (Err (Unsure why)) d = d.1.2.extends
+answer_grows (owing owed) w case old new (Err (Unsure why)) d = absurd d
 
-tells_grows : {A : Type 0} (handle : Option FileHandle) (w : Bool) (case : FileHandle → Files → Result A Status → Files → Type 0) (old new : SessionState) (outcome : _) → TellsOutcome handle w case old new outcome → Grows old new
-tells_grows None w case old new outcome h = grows-same old new h.1
-tells_grows (Some handle) w case old new outcome h = answer_grows w (case handle) old new h.0 h.1
+tells_grows : {A : Type 0} (standing : Standing) (handle : Option FileHandle) (w : Bool) (case : FileHandle → Files → Result A Status → Files → Type 0) (old new : SessionState) (outcome : _) → TellsOutcome standing handle w case old new outcome → Grows old new
+tells_grows standing None w case old new outcome h = grows-same old new h.1
+tells_grows standing (Some handle) w case old new outcome h = answer_grows standing w (case handle) old new h.0 h.1
 
-performs_grows : {A : Type 0} (handle : Option FileHandle) (w : Bool) (case : FileHandle → Files → Result A Status → Files → Type 0) (as_results : _) (old new : SessionState) (r : Results) → Performs handle w case as_results old r new → Grows old new
-performs_grows handle w case as_results old new r h = tells_grows handle w case old new h.0 h.1
+performs_grows : {A : Type 0} (standing : Standing) (handle : Option FileHandle) (w : Bool) (case : FileHandle → Files → Result A Status → Files → Type 0) (as_results : _) (old new : SessionState) (r : Results) → Performs standing handle w case as_results old r new → Grows old new
+performs_grows standing handle w case as_results old new r h = tells_grows standing handle w case old new h.0 h.1
 
-serves_grows : (verifier : List ℕ) (now : Time) (operation : Operation) (old new : SessionState) (r : Results) → Serves verifier now operation old r new → Grows old new
-serves_grows verifier now Null old new r h = grows-same old new h.1
-serves_grows verifier now (GetAttributes k) old new r h = performs_grows _ _ _ _ old new r h
-serves_grows verifier now (SetAttributes k a guard) old new r h = performs_grows _ _ _ _ old new r h
-serves_grows verifier now (Lookup e) old new r h = performs_grows _ _ _ _ old new r h
-serves_grows verifier now (Read k offset n) old new r h = performs_grows _ _ _ _ old new r h
-serves_grows verifier now (Write k offset n how bytes) old new r h = performs_grows _ _ _ _ old new r h
-serves_grows verifier now (Create e how) old new r h = performs_grows _ _ _ _ old new r h
-serves_grows verifier now (Remove e) old new r h = performs_grows _ _ _ _ old new r h
-serves_grows verifier now (Commit k offset n) old new r h = performs_grows _ _ _ _ old new r h
+serves_grows : (standing : Standing) (verifier : List ℕ) (now : Time) (operation : Operation) (old new : SessionState) (r : Results) → ServesAs standing verifier now operation old r new → Grows old new
+serves_grows standing verifier now Null old new r h = grows-same old new h.1
+serves_grows standing verifier now (GetAttributes k) old new r h = performs_grows standing _ _ _ _ old new r h
+serves_grows standing verifier now (SetAttributes k a guard) old new r h = performs_grows standing _ _ _ _ old new r h
+serves_grows standing verifier now (Lookup e) old new r h = performs_grows standing _ _ _ _ old new r h
+serves_grows standing verifier now (Read k offset n) old new r h = performs_grows standing _ _ _ _ old new r h
+serves_grows standing verifier now (Write k offset n how bytes) old new r h = performs_grows standing _ _ _ _ old new r h
+serves_grows standing verifier now (Create e how) old new r h = performs_grows standing _ _ _ _ old new r h
+serves_grows standing verifier now (Remove e) old new r h = performs_grows standing _ _ _ _ old new r h
+serves_grows standing verifier now (Commit k offset n) old new r h = performs_grows standing _ _ _ _ old new r h
 
-call_grows : (verifier : List ℕ) (now : Time) (asked : Result Operation CallRefused) (old new : SessionState) (outcome : Result Results CallRefused) → ServesCall verifier now asked old outcome new → Grows old new
-call_grows verifier now (Err why) old new outcome h = grows-same old new h.1
-call_grows verifier now (Ok operation) old new outcome h = serves_grows verifier now operation old new h.0 h.2
+call_grows : (standing : Standing) (verifier : List ℕ) (now : Time) (asked : Result Operation CallRefused) (old new : SessionState) (outcome : Result Results CallRefused) → ServesCall standing verifier now asked old outcome new → Grows old new
+call_grows standing verifier now (Err why) old new outcome h = grows-same old new h.1
+call_grows standing verifier now (Ok operation) old new outcome h = serves_grows standing verifier now operation old new h.0 h.2
 
-reply_grows : (tells : Time → Type 0) (verifier : List ℕ) (call : Message) (old new : SessionState) (text : List ℕ) → IsReply tells verifier call old new text → Grows old new
-reply_grows tells verifier call old new text h = call_grows verifier h.moment (asks call.asked) old new h.answers.outcome h.answers.comes
+module _ (tells : Time → Type 0) (verifier : List ℕ) (history : List Entry) where
+  reply_grows : (call : Message) (old new : SessionState) (text : List ℕ) → IsReply tells verifier history call old new text → Grows old new
+  reply_grows call old new text h = grows-trans old h.done new (call_grows (marked history) verifier h.moment (asks call.asked) old h.done h.answers.outcome h.answers.comes) h.later.seen
 
-all_grow : (tells : Time → Type 0) (verifier : List ℕ) (records : List (List ℕ)) (old new : SessionState) (text : List ℕ) → RepliesUpToBad (IsReply tells verifier) records old new text → Grows old new
-all_grow tells verifier [] old new text h = grows-same old new h.0
-all_grow tells verifier (r ∷ rs) old new text h = of (λ mid more k. all_grow tells verifier rs mid new more k) (message r) h
-  where
-    of : ((mid : SessionState) (more : List ℕ) → RepliesUpToBad (IsReply tells verifier) rs mid new more → Grows mid new)
-        → (m : Option Message) → IsRepliedUnlessBad (IsReply tells verifier) m old new text (λ mid more. RepliesUpToBad (IsReply tells verifier) rs mid new more) → Grows old new
-    of rest None k = grows-same old new k.0
-    of rest (Some call) k = grows-trans old k.0 new (reply_grows tells verifier call old k.0 k.1 k.3) (rest k.0 k.2 k.4)
+  all_grow : (records : List (List ℕ)) (old new : SessionState) (text : List ℕ) → RepliesUpToBad (IsReply tells verifier history) records old new text → Grows old new
+  all_grow [] old new text h = grows-same old new h.0
+  all_grow (r ∷ rs) old new text h = of (λ mid more k. all_grow rs mid new more k) (message r) h
+    where
+      of : ((mid : SessionState) (more : List ℕ) → RepliesUpToBad (IsReply tells verifier history) rs mid new more → Grows mid new)
+          → (m : Option Message) → IsRepliedUnlessBad (IsReply tells verifier history) m old new text (λ mid more. RepliesUpToBad (IsReply tells verifier history) rs mid new more) → Grows old new
+      of rest None k = grows-same old new k.0
+      of rest (Some call) k = grows-trans old k.0 new (reply_grows call old k.0 k.1 k.3) (rest k.0 k.2 k.4)
 
 floor_grows : (old new : SessionState) → Grows old new → floor old.seen ≤ floor new.seen
 floor_grows old new p = subst (λ (h : List Entry). floor old.seen ≤ floor h) p.1 (floor-append-le old.seen p.0)
 
-pub replies_grow : (tells : Time → Type 0) (verifier : List ℕ) (records : List (List ℕ)) (old new : SessionState) (text : List ℕ) → RepliesUpToBad (IsReply tells verifier) records old new text → IsPrefix old.seen new.seen × (floor old.seen ≤ floor new.seen)
-replies_grow tells verifier records old new text h =
-    let p = all_grow tells verifier records old new text h in
+pub replies_grow : (tells : Time → Type 0) (verifier : List ℕ) (records : List (List ℕ)) (old new : SessionState) (text : List ℕ) (history : List Entry) → RepliesUpToBad (IsReply tells verifier history) records old new text → IsPrefix old.seen new.seen × (floor old.seen ≤ floor new.seen)
+replies_grow tells verifier records old new text history h =
+    let p = all_grow tells verifier history records old new text h in
     (p, floor_grows old new p)
 
-call_marked : (verifier : List ℕ) (now : Time) (asked : Result Operation CallRefused) (operation : Operation) (r : Results) (old new : SessionState) (outcome : Result Results CallRefused) → asked ≡ Ok operation → outcome ≡ Ok r → IsTrue (has_to_wait operation) → IsTrue (is_accepted r) → ServesCall verifier now asked old outcome new → (place : ℕ) × CommitsOnceAt old new place × IsMarked new.seen place
-call_marked verifier now (Err why) operation r old new outcome e f wt ok h = absurd cc
-call_marked verifier now (Ok o) operation r old new outcome e f wt ok h =
+call_marked : (history : List Entry) (verifier : List ℕ) (now : Time) (asked : Result Operation CallRefused) (operation : Operation) (r : Results) (old new : SessionState) (outcome : Result Results CallRefused) → asked ≡ Ok operation → outcome ≡ Ok r → IsTrue (has_to_wait operation) → IsTrue (is_accepted r) → ServesCall (marked history) verifier now asked old outcome new → HasMarked history old new
+call_marked history verifier now (Err why) operation r old new outcome e f wt ok h = absurd cc
+call_marked history verifier now (Ok o) operation r old new outcome e f wt ok h =
     let same : o ≡ operation = cc in
     let results : h.0 ≡ r = cc in
-    serves_marked verifier now o old new h.0 (subst (λ (p : Operation). IsTrue (has_to_wait p)) (sym same) wt) (subst (λ (q : Results). IsTrue (is_accepted q)) (sym results) ok) h.2
+    serves_marked_in history verifier now o old new h.0 (subst (λ (p : Operation). IsTrue (has_to_wait p)) (sym same) wt) (subst (λ (q : Results). IsTrue (is_accepted q)) (sym results) ok) h.2
 
--- what was covered by a mark is covered still
-marked_later : (front whole : List Entry) (place : ℕ) (e : Entry) → IsPrefix front whole → floor front ≤ floor whole → slice_get front place ≡ Some e → IsMarked front place → IsMarked whole place
-marked_later front whole place e p grows there marked =
+-- what stands in a front stands in the whole
+stands_in : {A : Type 0} (front more : List A) (place : ℕ) (e : A) → slice_get front place ≡ Some e → slice_get (front ++ more) place ≡ Some e
+stands_in [] more place e is = let none : None ≡ Some e = sym (slice_get_past [] place (omega arith)) ∙ is in absurd cc
+stands_in (x ∷ xs) more zero e is = is
+stands_in (x ∷ xs) more (suc place) e is = stands_in xs more place e is
+
+-- a commit of a session that has seen more since
+commits_later : (old done mid : SessionState) (place : ℕ) → OnlyExtends done mid → CommitsOnceAt old done place → CommitsOnceAt old mid place
+commits_later old done mid place later c = record {
+  made = c.made;
+  stands = ap (λ (h : List Entry). slice_get h place) (sym later.seen.1) ∙ stands_in done.seen later.seen.0 place (commit c.made) c.stands;
+  later = c.later;
+  one_more = ap (λ (h : List Entry). commits_of mid.number h) later.mine ∙ ap (λ (n : ℕ). commits_of n done.mine) later.number ∙ c.one_more;
+}
+
+-- what a mark of a history covers is covered as long as the front that it counts is a front of it
+marked_whole : (front whole : List Entry) (place : ℕ) (e : Entry) → IsPrefix front whole → slice_get front place ≡ Some e → count (take (place + 1) front) ≤ floor whole → IsMarked whole place
+marked_whole front whole place e p there low =
     let same : take (place + 1) whole ≡ take (place + 1) front = ap (take (place + 1)) (sym p.1) ∙ take-append-le (place + 1) front p.0 (omega (arith, slice_get_within front place e there)) in
-    subst (λ (h : List Entry). count h ≤ floor whole) (sym same) (omega (arith, marked, grows))
+    subst (λ (h : List Entry). count h ≤ floor whole) (sym same) low
 
 pub stays_stable : (tells : Time → Type 0) (verifier : List ℕ) (call : Message) (operation : Operation) (r : Results) (old mid new : SessionState) (reply : List ℕ) (behind : List (List ℕ)) (more : List ℕ)
-    → (replied : IsReply tells verifier call old mid reply) → asks call.asked ≡ Ok operation → replied.answers.outcome ≡ Ok r → IsTrue (has_to_wait operation) → IsTrue (is_accepted r)
-    → RepliesUpToBad (IsReply tells verifier) behind mid new more → (place : ℕ) × CommitsOnceAt old mid place × IsMarked new.seen place
+    → (replied : IsReply tells verifier new.seen call old mid reply) → asks call.asked ≡ Ok operation → replied.answers.outcome ≡ Ok r → IsTrue (has_to_wait operation) → IsTrue (is_accepted r)
+    → RepliesUpToBad (IsReply tells verifier new.seen) behind mid new more → (place : ℕ) × CommitsOnceAt old mid place × IsMarked new.seen place
 stays_stable tells verifier call operation r old mid new reply behind more replied e f wt ok h =
-    let now = call_marked verifier replied.moment (asks call.asked) operation r old mid replied.answers.outcome e f wt ok replied.answers.comes in
-    let grown = replies_grow tells verifier behind mid new more h in
-    (now.0, now.1, marked_later mid.seen new.seen now.0 _ grown.0 grown.1 now.1.stands now.2)
+    let now = call_marked new.seen verifier replied.moment (asks call.asked) operation r old replied.done replied.answers.outcome e f wt ok replied.answers.comes in
+    let grown = replies_grow tells verifier behind mid new more new.seen h in
+    let reach : IsPrefix replied.done.seen new.seen = grows-trans replied.done mid new replied.later.seen grown.0 in
+    (now.0, commits_later old replied.done mid now.0 replied.later now.1, marked_whole replied.done.seen new.seen now.0 _ reach now.1.stands now.2)
 
 pub all_are_replies : {S : Type 0} (answers : Message → S → S → List ℕ → Type 0) (records : List (List ℕ)) (old new : S) (text : List ℕ) → AllReplies answers records old new text → RepliesUpToBad answers records old new text
 all_are_replies answers records old new text h =

@@ -4,12 +4,16 @@ use Rattle.std.proofs.lemmas.Bool.Decides.{nat_tests}
 use Rattle.std.specs.Prelude.{nat_lt, Result, Ok, Err, IfOk}
 use mathlib.Core.Option.{some, some-injective, some-ne-none}
 use lib.ListN.{get_elem?}
+use Rattle.std.specs.List.{All}
+use Rattle.std.proofs.lemmas.List.Elements.{All-head, All-rest}
+use Rattle.crossbeam_channel.specs.Claims.{Pass}
 use Rattle.crossbeam_channel.specs.Fifo.{Pushes, Pops, Forks, Merges, Learns}
 use Rattle.atomic_table.proofs.Lists.{at_set, at_snoc}
 use Rattle.journal_server.specs.declared.line.Hand.{Hand}
 use Rattle.journal_server.specs.declared.line.Job.{Job}
 use Rattle.journal_server.specs.declared.line.Job.TheVariants.{Serve, Stop}
-use Rattle.journal_server.specs.Lines.{hand, both, below, numbers_by, HasEachOnce, numbers, times, total, IdleIsEmpty, IsBalanced}
+use Rattle.journal_server.specs.declared.workers.Work.{Work}
+use Rattle.journal_server.specs.Lines.{IsWork, hand, both, below, numbers_by, HasEachOnce, numbers, times, total, IdleIsEmpty, IsBalanced}
 
 -- the total after a change of one pass
 total_set : (f : Hand → ℕ) (views : List Hand) (port : ℕ) (v w : Hand) → get_elem? views port ≡ some v → total f (set views port w) + f v ≡ total f views + f w
@@ -289,3 +293,13 @@ pub notes_count : {A N E : Type 0} (items : A → List N) (about : N → ℕ) (a
 notes_count {A} {N} {E} items about all ns n is each =
     let sound : HasEachOnce (numbers_by about (items ns)) n = subst (λ (r : Result A E). IfOk r (λ ms. HasEachOnce (numbers_by about (items ms)) n)) is each in
     sym (numbers_count about (items ns)) ∙ each_counts (numbers_by about (items ns)) n sound
+
+-- what each of some threads was promised, the first and the others were
+pub next_promised : {W L : Type 0} (w : W) (all rest : List W) (f : W → L) (line : L) → all ≡ w ∷ rest → All (λ x. f x ≡ line) all → (f w ≡ line) × All (λ x. f x ≡ line) rest
+next_promised {W} w all rest f line is h =
+    let P : W → Type 0 = λ x. f x ≡ line in
+    (All-head P w rest (subst (All P) is h), All-rest P w rest all is h)
+
+-- a worker's work at one end of the queue is that at the other
+pub moved_work : {T N E : Type 0} (a b : E) (is_seat : E → Pass (Job T) Hand → Type 0) (about : N → ℕ) (w : Work T N) → a ≡ b → IsWork (is_seat a) about w → IsWork (is_seat b) about w
+moved_work a b is_seat about w same h = subst (λ x. IsWork (is_seat x) about w) same h

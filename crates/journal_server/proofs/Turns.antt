@@ -19,7 +19,7 @@ snoc_some [] r e = absurd cc
 snoc_some (q ∷ rs) r e = absurd cc
 
 -- so fewer wait
-fewer_wait : (old new : Stream) (answered : List (List ℕ)) → old ≡ record new { records = answered ++ new.records } → answered ≢ [] → length new.records < length old.records
+pub fewer_wait : (old new : Stream) (answered : List (List ℕ)) → old ≡ record new { records = answered ++ new.records } → answered ≢ [] → length new.records < length old.records
 fewer_wait old new [] is some = absurd (some refl)
 fewer_wait old new (r ∷ rs) is some =
     let all : length old.records ≡ length (r ∷ (rs ++ new.records)) = ap (λ (s : Stream). length s.records) is in

@@ -1,4 +1,5 @@
 pub mod Connections
+pub mod Holding
 pub mod Lines
 pub mod Output
 pub mod Refusals

@@ -7,8 +7,6 @@ use Rattle.journal_server.specs.declared.line.Job.{Job}
 use Rattle.journal_server.specs.declared.line.Job.TheVariants.{Serve, Stop}
 use Rattle.journal_server.specs.declared.line.Hand.{Hand}
 use Rattle.journal_server.specs.declared.workers.Work.{Work}
-use Rattle.journal_server.specs.declared.workers.Team.{Team}
-use Rattle.journal_server.specs.declared.workers.Passes.{Passes}
 
 -- ---- lists of numbers
 
@@ -71,16 +69,10 @@ IsBalanced items views =
 abbrev pub IsFresh : {T : Type 0} → (Pass (Job T) Hand → Type 0) → Pass (Job T) Hand → Type 0
 IsFresh is_seat pass = is_seat pass × (view pass ≡ hand 1 [] [])
 
--- the passes before anything is done: a part for each worker, and one for who hands the connections out
-abbrev pub ArePasses : {T : Type 0} → (Pass (Job T) Hand → Type 0) → Passes T → Type 0
-ArePasses is_seat p = IsFresh is_seat p.first × IsFresh is_seat p.second × IsFresh is_seat p.third × IsFresh is_seat p.fourth × IsFresh is_seat p.own
+-- the pass before any part of it is cut off: one for each worker, and one for who hands the connections out
+abbrev pub IsWhole : {T : Type 0} → (Pass (Job T) Hand → Type 0) → Pass (Job T) Hand → Type 0
+IsWhole is_seat pass = is_seat pass × (view pass ≡ hand 5 [] [])
 
 -- What a worker gives back: it has put nothing, and there is a note of each connection that it took, unless memory was refused
 abbrev pub IsWork : {T N : Type 0} → (Pass (Job T) Hand → Type 0) → (N → ℕ) → Work T N → Type 0
 IsWork is_seat about w = is_seat w.pass × ((view w.pass).parts ≡ 1) × ((view w.pass).put ≡ []) × (w.is_whole ≡ true → (view w.pass).taken ≡ numbers_by about w.notes.items)
-
--- What all threads give back: the pass of who put the connections, which took none, and the work of each worker
-abbrev pub IsTeam : {T N : Type 0} → (Pass (Job T) Hand → Type 0) → (N → ℕ) → Team T N → Type 0
-IsTeam is_seat about team =
-    is_seat team.pass × ((view team.pass).parts ≡ 1) × ((view team.pass).taken ≡ [])
-    × IsWork is_seat about team.first × IsWork is_seat about team.second × IsWork is_seat about team.third × IsWork is_seat about team.fourth

@@ -6,6 +6,7 @@ ghost use Rattle.journal_server.specs.Output.{IsReply, RepliesUpToBad, records_o
 ghost use Rattle.journal_server.specs.Connections.{Exchanges, IsEnd, Closes, IsBeginning};
 ghost use Rattle.journal_server.specs.Serving.{Finished, Failed};
 
+use crate::holding::Holding;
 use crate::replying::answer_and_send;
 use crate::service::{Clock, Service};
 use crate::streams::read_piece;
@@ -20,8 +21,9 @@ use std::alloc::{AllocError, Global};
 use std::io::{Read, Write};
 use std::sync::Wait;
 
-// The most bytes that are read at once: as many as a record may have.
-const PIECE_BYTES: usize = 16384;
+// The most bytes that are read at once. The calls of a piece that are to be stable are waited for once: so a piece holds
+// some thirty WRITEs of a whole block.
+const PIECE_BYTES: usize = 131_072;
 
 /// How a connection ended that was served to its end.
 #[derive(Clone, Copy, Debug, PartialEq, Eq)]
@@ -57,8 +59,9 @@ pub enum ConnFault {
 /// Answers the calls that the reader gives, in order, up to the first bad record, each at the clock's moment behind the
 /// gate, which it passes as `number` with the count of the calls before it. The replies go to the writer.
 ///
-/// It reads at most 16 KiB at once. The replies to all calls that are complete then go out before it reads on: with one
-/// write, or, where they come to 64 KiB, with one before further calls are answered. It may wait for the peer, and for the
+/// It reads at most 128 KiB at once, and answers all calls that are complete then, in turns of at most 64 KiB or 1024
+/// replies, before it reads on. Of a turn it does all calls, and waits once until the last of those is stable that are to be:
+/// the replies in front of the first of them go out before, and the others after. It may wait for the peer, and for the
 /// journal.
 ///
 /// Where it gives up, some of the records that it read were answered, from the first on, and their replies were
@@ -77,9 +80,9 @@ pub fn serve<'b, R: Read, W: Write, D: BlockDisk, J: Naming, C: Clock, G: Gate, 
 ) -> Result<Served, ConnFault>
     // What was written is the replies to the records of what was read, in order, up to the first that is no call. Each
     // is what its call comes to at a moment of the clock, and it leads from what the session had seen after the one
-    // before it to what it saw then.
+    // before it to what it saw then. What of a reply is to be stable is marked in what the session has seen at the end.
     ensures replies { IfOk result (λ served. Exchanges (R.remaining reader.old) (R.remaining reader.new) (W.contents writer.old) (W.contents writer.new)
-        (λ input text. RepliesUpToBad (IsReply (C.tells clock.now) verifier.0) (records_of input) session.old session.new text)) }
+        (λ input text. RepliesUpToBad (IsReply (C.tells clock.now) verifier.0 session.new.seen) (records_of input) session.old session.new text)) }
 
     // They are counted.
     ensures counted { IfOk result (λ served. Exchanges (R.remaining reader.old) (R.remaining reader.new) (W.contents writer.old) (W.contents writer.new)
@@ -90,9 +93,9 @@ pub fn serve<'b, R: Read, W: Write, D: BlockDisk, J: Naming, C: Clock, G: Gate, 
         (λ input text. IsEnd served.end input (R.remaining reader.new))) }
 
     // Where it gave up, what was written is a beginning of the replies to a front of the records of what was read, and
-    // the session has seen what these come to.
+    // the session has seen what these come to, with the marks of what was written.
     ensures given_up { OnErr result (Exchanges (R.remaining reader.old) (R.remaining reader.new) (W.contents writer.old) (W.contents writer.new)
-        (λ input text. IsBeginning (IsReply (C.tells clock.now) verifier.0) (records_of input) session.old session.new text)) }
+        (λ input text. IsBeginning (IsReply (C.tells clock.now) verifier.0 session.new.seen) (records_of input) session.old session.new text)) }
 {
     let service = Service {
         alloc,
@@ -118,13 +121,15 @@ fn answer_all<'b, R: Read, W: Write, D: BlockDisk, J: Naming, C: Clock, G: Gate,
     buffer: &mut [u8],
 ) -> Result<Served, ConnFault>
     requires { 0 < length buffer.old }
-    ensures finished { IfOk result (λ served. Finished (IsReply (C.tells service.now.clock.now) service.now.verifier.0)
+    ensures finished { IfOk result (λ served. Finished (IsReply (C.tells service.now.clock.now) service.now.verifier.0 session.new.seen)
         (R.remaining reader.old) (R.remaining reader.new) (W.contents writer.old) (W.contents writer.new) session.old session.new served.answered served.end) }
-    ensures given_up { OnErr result (Failed (IsReply (C.tells service.now.clock.now) service.now.verifier.0)
+    ensures given_up { OnErr result (Failed (IsReply (C.tells service.now.clock.now) service.now.verifier.0 session.new.seen)
         (R.remaining reader.old) (R.remaining reader.new) (W.contents writer.old) (W.contents writer.new) session.old session.new) }
 {
     let mut records = Records::new(service.alloc);
-    let mut replies = Vec::new(service.alloc);
+    let Ok(mut holding) = Holding::new(service.alloc) else {
+        return Err(ConnFault::NoMemory);
+    };
     let mut answered = 0;
     for _ in 0..u64::MAX {
         let Ok(count) = read_piece(reader, buffer) else {
@@ -142,7 +147,7 @@ fn answer_all<'b, R: Read, W: Write, D: BlockDisk, J: Naming, C: Clock, G: Gate,
             service,
             session,
             &mut records,
-            &mut replies,
+            &mut holding,
             &mut answered,
             writer,
         ) {

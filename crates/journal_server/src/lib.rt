@@ -1,10 +1,10 @@
 //! Connections of the file service: calls come in, and their replies go out.
 //!
-//! `serve` answers the calls of one connection, over any reader and any writer. It reads pieces into one buffer, answers
-//! the records that are complete, in order, and sends all their replies, before it reads on: with one write, or one for
-//! each 64 KiB of them. So a client that sends many calls without waiting gets its replies together, no reply waits for a
-//! further call, and few are kept for a client that reads none.
-//! `specs/Output.antt` says which text belongs to which input, and `specs/Connections.antt` when a connection ends.
+//! `serve` answers the calls of one connection, over any reader and any writer. It reads pieces into one buffer, does the
+//! calls that are complete, in order, waits once until the last of those is stable that are to be, and sends all their
+//! replies, before it reads on. So a client that sends many calls without waiting gets its replies together, no reply waits
+//! for a further call, and few are kept for a client that reads none.
+//! `specs/Output.antt` says which text belongs to which input, `specs/Holding.antt` what is told of replies that are held back, and `specs/Connections.antt` when a connection ends.
 //!
 //! `run_workers` hands connections to four threads, by a queue that holds sixteen. A worker serves one connection at a
 //! time, so a peer that is slow or dead holds back its own worker alone. `serve_all` does the same, and keeps nothing of a
@@ -14,6 +14,7 @@
 
 mod connection;
 mod ends;
+mod holding;
 mod laws;
 mod line;
 mod replying;

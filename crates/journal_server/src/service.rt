@@ -1,15 +1,17 @@
 // What the calls of a connection are answered by.
-ghost use Rattle.std.specs.Prelude.{◌≡◌, ℕ, List, IfOk, OnErr};
+ghost use Rattle.std.specs.Prelude.{ℕ, List, IfOk, OnErr};
 ghost use Rattle.journal_rpc.specs.CallViews.{message_of};
 ghost use Rattle.journal_filestore.specs.Handles.{time_of};
+ghost use Rattle.journal_world.specs.Histories.{Entry};
 ghost use Rattle.journal_server.specs.Output.{IsReply};
+ghost use Rattle.journal_server.specs.Holding.{IsSoon};
 
 use journal_daemon::Gate;
 use journal_disk::BlockDisk;
 use journal_filestore::FileStore;
-use journal_history::{Naming, Session};
+use journal_history::{Naming, Receipt, Session};
 use journal_inode::SoundFiles;
-use journal_nfs3::{Verifier, answer};
+use journal_nfs3::{SoonReply, Verifier, answer_soon};
 use journal_rpc::Call;
 use journal_world::Moment;
 use std::alloc::{AllocError, Global};
@@ -53,25 +55,32 @@ impl<'s, 'b, D: BlockDisk, J: Naming, C: Clock, G: Gate> Drop for Service<'s, 'b
 }
 
 impl<'s, 'b, D: BlockDisk, J: Naming, C: Clock, G: Gate> Service<'s, 'b, D, J, C, G> {
-    // Answers the call number `n` of the connection, at the moment at which it has passed the gate. Where memory for
-    // the reply is refused the call is done all the same, and its reply is lost.
-    pub fn answer<H: Wait>(
+    // Answers the call number `n` of the connection up to its commit, at the moment at which it has passed the gate. Where
+    // memory for the reply is refused the call is done all the same, and its reply is lost.
+    pub fn answer_soon<H: Wait>(
         &self,
         rt: &H,
         session: &mut Session<'b, J, SoundFiles>,
         call: &Call<'_>,
         n: u64,
-    ) -> Result<Vec<u8>, AllocError>
-        ensures reply { IfOk result (λ reply. IsReply (C.tells self.now.clock.now) self.now.verifier.0
-            (message_of call.now) session.old session.new reply.items) }
-        ensures lost { OnErr result ((reply : List ℕ) × IsReply (C.tells self.now.clock.now) self.now.verifier.0
-            (message_of call.now) session.old session.new reply) }
+    ) -> Result<SoonReply<Receipt<'b, J, SoundFiles>>, AllocError>
+        ensures reply { IfOk result (IsSoon (C.tells self.now.clock.now) self.now.verifier.0 (message_of call.now) session.old session.new) }
+        ensures lost { OnErr result ((history : List Entry) → (reply : List ℕ) × IsReply (C.tells self.now.clock.now)
+            self.now.verifier.0 history (message_of call.now) session.old session.new reply) }
     {
         let (files, clock) = (self.files, self.clock);
         self.gate.pass(rt, self.number, n);
         let moment = clock.now();
-        match answer::<D, J, H, ()>(rt, self.alloc, session, call, files, moment, self.verifier) {
-            Ok(reply) => Ok(reply),
+        match answer_soon::<D, J, H, ()>(
+            rt,
+            self.alloc,
+            session,
+            call,
+            files,
+            moment,
+            self.verifier,
+        ) {
+            Ok(soon) => Ok(soon),
             Err(_) => Err(AllocError),
         }
     }

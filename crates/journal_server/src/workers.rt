@@ -1,8 +1,9 @@
 // Four workers, and who hands connections to them.
-ghost use Rattle.std.specs.Prelude.{◌≡◌, ◌-◌, ◌<◌, ◌+◌, ◌++◌, [], ℕ, true, Some, Ok, IfOk, IfErr, OnOk, IfSome};
+ghost use Rattle.std.specs.Prelude.{◌≡◌, ◌-◌, ◌<◌, ◌+◌, ◌++◌, [], ℕ, true, Some, Ok, IfOk, IfErr, OnOk, IfSome, length};
+ghost use Rattle.std.specs.List.{All};
 ghost use Rattle.crossbeam_channel.specs.Claims.{view, IsSeatAt};
 ghost use Rattle.crossbeam_channel.specs.Ends.{sends_on, receives_on};
-ghost use Rattle.journal_server.specs.Lines.{hand, both, below, numbers_by, outcome_numbers, times, HasEachOnce, IsFresh, IsWork, IsTeam, ArePasses};
+ghost use Rattle.journal_server.specs.Lines.{hand, both, below, numbers_by, outcome_numbers, times, HasEachOnce, IsFresh, IsWork, IsWhole};
 ghost use Rattle.std.specs.Option.{ForSome};
 ghost use Rattle.journal_core.specs.declared.refusal_number.RefusalNumber.TheVariants.{J11};
 ghost use Rattle.journal_core.specs.Causes.{IsUnexplained};
@@ -26,7 +27,10 @@ use std::alloc::{AllocError, Global};
 use std::snapshot::Snapshot;
 use std::sync::{Mutex, Wait};
 use std::thread;
-use std::thread::{Promise, Threads};
+use std::thread::{Promise, PromisedHandle, Scope, Threads};
+
+// How many workers there are. The queue's rule counts their parts.
+const WORKERS: u64 = 4;
 
 // How many connections wait for a worker at most.
 const WAITING: usize = 16;
@@ -231,11 +235,10 @@ impl<'l, S: Drop, N: Note + Drop> Promise<Work<S, N>> for Works<'l, S> {
     ghost kept_by = { λ p work. IsWork (IsSeatAt (receives_on p.0.now)) N.about work };
 }
 
-// Puts the connections of the source into the queue, each under its number, where the workers are made. Answers how many
-// there were, or `None` where they are not made, or one could not be put.
+// Puts the connections of the source into the queue, each under its number. Answers how many there were, or `None` where
+// one could not be put.
 fn hand_out<I: Source, H: Wait>(
     rt: &H,
-    are_made: bool,
     source: &mut I,
     line: &LineSender<I::Connection>,
     pass: &mut Pass<Job<I::Connection>, Hand>,
@@ -248,9 +251,6 @@ where
     ensures put { IfSome result (λ n. (view pass.new).put ≡ below n) }
     ensures given { IfSome result (λ n. I.given source.new ≡ I.given source.old + n) }
 {
-    if !are_made {
-        return None;
-    }
     for number in 0..u64::MAX {
         let connection = match source.next(rt) {
             Some(connection) => connection,
@@ -282,10 +282,9 @@ fn stop_all<S: Drop, H: Wait>(rt: &H, line: &LineSender<S>, pass: &mut Pass<Job<
     ensures seat { IsSeatAt (sends_on line.now) pass.new }
     ensures same { view pass.new ≡ view pass.old }
 {
-    stop(rt, line, pass);
-    stop(rt, line, pass);
-    stop(rt, line, pass);
-    stop(rt, line, pass);
+    for _ in 0..WORKERS {
+        stop(rt, line, pass);
+    }
 }
 
 // Cuts a part off.
@@ -344,16 +343,6 @@ fn is_drained<S: Drop, H: Wait>(
     ensures { result ≡ true → (x : ℕ) → times x (view pass.old).put ≡ times x (view pass.old).taken }
 {
     line.try_recv_as::<Drains, H>(rt, pass).is_err()
-}
-
-// What all threads give back: who handed the connections out, and the four workers.
-#[derive(Drop)]
-struct Team<S: Drop, N: Drop> {
-    pass: Pass<Job<S>, Hand>,
-    first: Work<S, N>,
-    second: Work<S, N>,
-    third: Work<S, N>,
-    fourth: Work<S, N>,
 }
 
 /// Serves all connections of the source, by four workers in threads of their own, and returns when each has ended, with
@@ -470,29 +459,12 @@ where
             shop,
         };
     };
-    let passes = Passes {
-        first: cut(&sender, &mut pass),
-        second: cut(&sender, &mut pass),
-        third: cut(&sender, &mut pass),
-        fourth: cut(&sender, &mut pass),
-        own: pass,
-    };
-    let (notes, source) = in_threads(rt, alloc, source, &shop, &sender, &receiver, passes);
+    let (notes, source) = in_threads(rt, alloc, source, &shop, &sender, &receiver, pass);
     Ended {
         notes,
         source,
         shop,
     }
-}
-
-// The passes of who hands the connections out, and of the workers.
-#[derive(Drop)]
-struct Passes<S: Drop> {
-    first: Pass<Job<S>, Hand>,
-    second: Pass<Job<S>, Hand>,
-    third: Pass<Job<S>, Hand>,
-    fourth: Pass<Job<S>, Hand>,
-    own: Pass<Job<S>, Hand>,
 }
 
 // Runs the workers, and hands the connections out to them.
@@ -509,11 +481,11 @@ fn in_threads<
     shop: &'s K,
     sender: &'s LineSender<I::Connection>,
     line: &'s LineReceiver<I::Connection>,
-    passes: Passes<I::Connection>,
+    pass: Pass<Job<I::Connection>, Hand>,
 ) -> (Result<Vec<N>, AllocError>, I)
 where
     I::Connection: Drop + Send,
-    requires passes { ArePasses (IsSeatAt (sends_on sender.now)) passes }
+    requires pass { IsWhole (IsSeatAt (sends_on sender.now)) pass }
     requires same { receives_on line.now ≡ sends_on sender.now }
     ensures { IfOk result.0 (λ notes. HasEachOnce (numbers_by N.about notes.items) (I.given result.1 - I.given source)) }
 {
@@ -521,79 +493,87 @@ where
         thread::scope_env(),
         rt,
         |scope| -> (Result<Vec<N>, AllocError>, I)
-            requires { IsFresh (IsSeatAt (sends_on sender.now)) passes.first × IsFresh (IsSeatAt (sends_on sender.now)) passes.second
-                × IsFresh (IsSeatAt (sends_on sender.now)) passes.third × IsFresh (IsSeatAt (sends_on sender.now)) passes.fourth
-                × IsFresh (IsSeatAt (sends_on sender.now)) passes.own × (receives_on line.now ≡ sends_on sender.now) }
+            requires { IsWhole (IsSeatAt (sends_on sender.now)) pass × (receives_on line.now ≡ sends_on sender.now) }
             ensures { IfOk result.0 (λ notes. HasEachOnce (numbers_by N.about notes.items) (I.given result.1 - I.given source)) }
         {
-            let Passes {
-                first,
-                second,
-                third,
-                fourth,
-                own: mut pass,
-            } = passes;
             let mut source = source;
-            let work = move || work_on(rt, alloc, shop, line, first);
-            let first = scope.spawn_with(Works(line), work);
-            let work = move || work_on(rt, alloc, shop, line, second);
-            let second = scope.spawn_with(Works(line), work);
-            let work = move || work_on(rt, alloc, shop, line, third);
-            let third = scope.spawn_with(Works(line), work);
-            let work = move || work_on(rt, alloc, shop, line, fourth);
-            let fourth = scope.spawn_with(Works(line), work);
-            let are_made = first.is_ok() && second.is_ok() && third.is_ok() && fourth.is_ok();
-            let given = hand_out(rt, are_made, &mut source, sender, &mut pass);
-            stop_all(rt, sender, &mut pass);
-            let notes = match (first, second, third, fourth) {
-                (Ok(first), Ok(second), Ok(third), Ok(fourth)) => {
-                    let team = Team {
-                        pass,
-                        first: first.join(rt),
-                        second: second.join(rt),
-                        third: third.join(rt),
-                        fourth: fourth.join(rt),
-                    };
-                    gather(rt, alloc, sender, line, team, given)
+            let mut pass = pass;
+            let crew = match hire(rt, alloc, scope, shop, sender, line, &mut pass) {
+                Ok(crew) => crew,
+                Err(refused) => {
+                    stop_all(rt, sender, &mut pass);
+                    return (Err(refused), source);
                 }
-                _ => Err(AllocError),
             };
+            let given = hand_out(rt, &mut source, sender, &mut pass);
+            stop_all(rt, sender, &mut pass);
+            let notes = gather(rt, alloc, sender, line, pass, crew, given);
             (notes, source)
         },
     )
 }
 
+// The thread of a worker.
+type Worker<'l, S, N> = PromisedHandle<Work<S, N>, Works<'l, S>>;
+
+// Begins the workers, each with a part of the pass. It is refused where a thread or memory is.
+fn hire<
+    's,
+    E,
+    S: Drop + Send + 's,
+    K: Serve<S> + Sync,
+    N: Note + Drop + Send + 's,
+    H: Threads + Wait + Sync,
+>(
+    rt: &'s H,
+    alloc: Global,
+    scope: &Scope<'s, E>,
+    shop: &'s K,
+    sender: &LineSender<S>,
+    line: &'s LineReceiver<S>,
+    pass: &mut Pass<Job<S>, Hand>,
+) -> Result<Vec<Worker<'s, S, N>>, AllocError>
+    requires pass { IsWhole (IsSeatAt (sends_on sender.now)) pass.old }
+    requires same { receives_on line.now ≡ sends_on sender.now }
+    ensures seat { IsSeatAt (sends_on sender.now) pass.new × (0 < (view pass.new).parts) }
+    ensures left { OnOk result (view pass.new ≡ hand 1 [] []) }
+    ensures crew { IfOk result (λ crew. (length crew.items ≡ WORKERS) × All (λ w. w.promise.0.now ≡ line.now) crew.items) }
+{
+    let mut crew = Vec::new(alloc);
+    for _begun in 0..WORKERS {
+        crew.reserve(1)?;
+        let part = cut(sender, pass);
+        let work = move || work_on(rt, alloc, shop, line, part);
+        crew.push_reserved(scope.spawn_with(Works(line), work)?);
+    }
+    Ok(crew)
+}
+
 // The notes of all workers, where so many connections were put. It is refused where one could not be, where a worker was
 // refused, or where memory is now.
-fn gather<S: Drop, N: Note + Drop, H: Wait>(
+fn gather<'l, S: Drop, N: Note + Drop, H: Threads + Wait>(
     rt: &H,
     alloc: Global,
     sender: &LineSender<S>,
-    receiver: &LineReceiver<S>,
-    team: Team<S, N>,
+    line: &'l LineReceiver<S>,
+    mut pass: Pass<Job<S>, Hand>,
+    crew: Vec<Worker<'l, S, N>>,
     given: Option<u64>,
 ) -> Result<Vec<N>, AllocError>
-    requires same { receives_on receiver.now ≡ sends_on sender.now }
-    requires team { IsTeam (IsSeatAt (sends_on sender.now)) N.about team }
-    requires put { IfSome given (λ n. (view team.pass).put ≡ below n) }
+    requires same { receives_on line.now ≡ sends_on sender.now }
+    requires pass { IsSeatAt (sends_on sender.now) pass × ((view pass).parts ≡ 1) × ((view pass).taken ≡ []) }
+    requires crew { (length crew.items ≡ WORKERS) × All (λ w. w.promise.0.now ≡ line.now) crew.items }
+    requires put { IfSome given (λ n. (view pass).put ≡ below n) }
     ensures { IfOk result (λ notes. (n : ℕ) × (given ≡ Some n) × HasEachOnce (numbers_by N.about notes.items) n) }
 {
-    let Team {
-        mut pass,
-        first,
-        second,
-        third,
-        fourth,
-    } = team;
     let Some(_count) = given else {
         return Err(AllocError);
     };
     let mut notes = Vec::new(alloc);
-    take_in(sender, &mut pass, &mut notes, first)?;
-    take_in(sender, &mut pass, &mut notes, second)?;
-    take_in(sender, &mut pass, &mut notes, third)?;
-    take_in(sender, &mut pass, &mut notes, fourth)?;
-    if !is_drained(rt, receiver, &mut pass) {
+    for worker in crew {
+        take_in(sender, &mut pass, &mut notes, worker.join(rt))?;
+    }
+    if !is_drained(rt, line, &mut pass) {
         return Err(AllocError);
     }
     Ok(notes)

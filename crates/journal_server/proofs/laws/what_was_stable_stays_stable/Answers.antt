@@ -9,4 +9,4 @@ pub returns-clause-stable : goal.returns-clause-stable
 returns-clause-stable g c = stays_stable (g.C.Clock.tells c.args.clock.now)
 
 pub returns-clause-front : goal.returns-clause-front
-returns-clause-front g c = λ verifier. all_are_replies (IsReply (g.C.Clock.tells c.args.clock.now) verifier)
+returns-clause-front g c = λ verifier history. all_are_replies (IsReply (g.C.Clock.tells c.args.clock.now) verifier history)
