@@ -2,6 +2,7 @@ mod moments;
 mod peers;
 mod sockets;
 mod streams;
+mod waits;
 mod wire;
 mod workers;
 

@@ -1,0 +1,405 @@
+// Calls that come in one piece, and are waited for once.
+ghost use Rattle.std.specs.Prelude.{◌≡◌};
+ghost use Rattle.journal_disk.specs.Disks.{IsSettled};
+
+use super::peers::Still;
+use super::streams::Dripping;
+use crate::calls::{VERIFIER, numbered};
+use crate::stores::{Told, Wrong, has_moved, on_formatted};
+use crate::stories::{Errand, Story};
+use journal_block::Block;
+use journal_daemon::{Gate, OpenGate};
+use journal_disk::{BlockDisk, DiskFault, MemDisk};
+use journal_filestore::FileStore;
+use journal_history::{Book, Naming, Session};
+use journal_inode::SoundFiles;
+use journal_server::{End, Outcome, Served, serve};
+use std::alloc::Global;
+use std::io;
+use std::io::Write;
+use std::marker::Brand;
+use std::net::{Net, TcpListener, TcpStream};
+use std::sync::Wait;
+use std::sync::atomic::{AtomicBool, Ordering};
+use std::test::*;
+use std::thread::{Threads, join, yield_now};
+
+// WRITE with FILE_SYNC, call N, of the byte 0xff to the front of file 2, as a record of one fragment.
+const WRITE: &str = "0x80000050 N 0 2 0x186a3 3 7 0 0 0 0 FILE 0 0 1 2 1 0xff000000";
+
+// Its reply: the file had no bytes, or one since the moment (5, 0).
+const WROTE_FIRST: &str =
+    "0x800000a0 N 1 0 0 0 0 0 1 0 0 5 0 5 0 1 LOOKS 0 1 USED AT_5 1 2 VERIFIER";
+
+const WROTE: &str = "0x800000a0 N 1 0 0 0 0 0 1 0 1 5 0 5 0 1 LOOKS 0 1 USED AT_5 1 2 VERIFIER";
+
+// IO in place of it.
+const NOT_STABLE: &str = "0x80000024 N 1 0 0 0 0 5 0 0";
+
+// GETATTR of the root, call N, and its reply.
+const GET: &str = "0x80000038 N 0 2 0x186a3 3 1 0 0 0 0 ROOT";
+
+const GOT: &str = "0x80000070 N 1 0 0 0 0 0 ROOT_LOOKS";
+
+const MADE: &str = "
+at 5 0
+CREATE ROOT f002 0 NOTHING = DONE 0 1 FILE 1 LOOKS 0 0 USED AT_5 1 ROOT_WAS 1 ROOT_LOOKS
+";
+
+// What a disk, a gate and threads beside one another tell each other.
+#[derive(Drop)]
+struct Signals {
+    // Barriers go through.
+    is_open: AtomicBool,
+    // A barrier waited so long that it gave up.
+    gave_up: AtomicBool,
+    // Barriers fail.
+    fails: AtomicBool,
+    // The log is kept by a thread of its own.
+    is_kept: AtomicBool,
+    is_done: AtomicBool,
+}
+
+impl Signals {
+    fn new() -> Signals {
+        Signals {
+            is_open: AtomicBool::new(true),
+            gave_up: AtomicBool::new(false),
+            fails: AtomicBool::new(false),
+            is_kept: AtomicBool::new(true),
+            is_done: AtomicBool::new(false),
+        }
+    }
+}
+
+// A disk in memory whose barriers wait until it is open, and fail once they are to.
+#[derive(Drop)]
+struct GatedDisk<'s> {
+    disk: MemDisk,
+    signals: &'s Signals,
+}
+
+impl<'s> BlockDisk for GatedDisk<'s> {
+    ghost use Rattle.journal_disk.specs.MemDisks.{state_of};
+
+    ghost state = { λ gated. state_of gated.disk };
+
+    fn size(&self) -> u64 {
+        self.disk.size()
+    }
+
+    fn failures(&self) -> u64 {
+        self.disk.failures()
+    }
+
+    fn read(&mut self, block: u64, into: &mut Block) -> Result<(), DiskFault> {
+        self.disk.read(block, into)
+    }
+
+    fn write(&mut self, block: u64, from: &Block) -> Result<(), DiskFault> {
+        self.disk.write(block, from)
+    }
+
+    fn barrier(&mut self) -> Result<(), DiskFault> {
+        wait_until_open(self.signals);
+        if self.signals.fails.load(Ordering::SeqCst) {
+            self.disk.fail_in(1);
+        }
+        self.disk.barrier()
+    }
+}
+
+fn wait_until_open(signals: &Signals) {
+    for _ in 0..1_000_000 {
+        if signals.is_open.load(Ordering::SeqCst) {
+            return;
+        }
+        yield_now();
+    }
+    signals.gave_up.store(true, Ordering::SeqCst);
+}
+
+type Gated<'s, 'b, J> = FileStore<'b, GatedDisk<'s>, J>;
+
+// A gate that, before the call with this number, has all that was committed made stable, and lets the device fail from
+// then on.
+struct FailingGate<'f, 's, 'b, J: Naming> {
+    files: &'f Gated<'s, 'b, J>,
+    signals: &'s Signals,
+    at: u64,
+    last: u64,
+}
+
+impl<'f, 's, 'b, J: Naming> Drop for FailingGate<'f, 's, 'b, J> {
+    fn drop(self) {
+        let FailingGate {
+            files: _,
+            signals: _,
+            at: _,
+            last: _,
+        } = self;
+    }
+}
+
+impl<'f, 's, 'b, J: Naming> Gate for FailingGate<'f, 's, 'b, J> {
+    fn pass<W: Wait>(&self, rt: &W, _who: u64, n: u64) {
+        if n == self.at {
+            for _ in 0..1000 {
+                if !has_moved(self.files.journal().log_step(rt)) {
+                    break;
+                }
+            }
+            self.signals.fails.store(true, Ordering::SeqCst);
+        }
+        if n == self.last {
+            self.signals.is_kept.store(true, Ordering::SeqCst);
+        }
+    }
+}
+
+// A writer that opens the disk once it was given so many bytes.
+#[derive(Drop)]
+struct Opener<'s> {
+    taken: Vec<u8>,
+    opens_at: usize,
+    signals: &'s Signals,
+}
+
+impl Write for Opener<'_> {
+    fn write(&mut self, bytes: &[u8]) -> io::Result<usize> {
+        self.taken.extend_from_slice(bytes)?;
+        if self.taken.len() >= self.opens_at {
+            self.signals.is_open.store(true, Ordering::SeqCst);
+        }
+        Ok(bytes.len())
+    }
+
+    fn flush(&mut self) -> io::Result<()> {
+        Ok(())
+    }
+}
+
+// How the calls of a piece come about.
+#[derive(Clone, Copy)]
+enum Way {
+    // So many bytes are read at once.
+    Cut(usize),
+    // All at once, and before this call the device fails.
+    Fails(u64),
+    // All at once, and barriers wait until so many bytes are written.
+    Waits(usize),
+}
+
+// Calls, and what they are to be answered.
+#[derive(Clone, Copy)]
+struct Piece {
+    calls: &'static [&'static str],
+    replies: &'static [&'static str],
+    way: Way,
+}
+
+fn serve_piece<'s, 'b, J: Naming, W: Wait>(
+    rt: &W,
+    alloc: Global,
+    files: &Gated<'s, 'b, J>,
+    session: &mut Session<'b, J, SoundFiles>,
+    signals: &'s Signals,
+    piece: Piece,
+    input: &[u8],
+    writer: &mut Opener<'s>,
+) -> Outcome {
+    let step = match piece.way {
+        Way::Cut(step) => step,
+        _ => input.len(),
+    };
+    let mut reader = Dripping::new(input, step, false);
+    match piece.way {
+        Way::Fails(at) => {
+            let last = (piece.calls.len() as u64).saturating_sub(1);
+            let gate = FailingGate {
+                files,
+                signals,
+                at,
+                last,
+            };
+            serve(
+                rt,
+                alloc,
+                &mut reader,
+                writer,
+                files,
+                session,
+                &Still,
+                VERIFIER,
+                &gate,
+                0,
+            )
+        }
+        _ => serve(
+            rt,
+            alloc,
+            &mut reader,
+            writer,
+            files,
+            session,
+            &Still,
+            VERIFIER,
+            &OpenGate,
+            0,
+        ),
+    }
+}
+
+// Keeps the log while it is asked to, until all is done.
+fn keeps_log<'s, 'b, J: Naming, W: Wait>(rt: &W, files: &Gated<'s, 'b, J>, signals: &Signals) {
+    for _ in 0..100_000_000 {
+        if signals.is_done.load(Ordering::SeqCst) {
+            return;
+        }
+        let is_kept = signals.is_kept.load(Ordering::SeqCst);
+        if !is_kept || !has_moved(files.journal().log_step(rt)) {
+            yield_now();
+        }
+    }
+}
+
+fn tell_piece<'s, 'b, J: Naming + Send + Sync, H: Threads + Wait + Sync>(
+    rt: &H,
+    alloc: Global,
+    files: &Gated<'s, 'b, J>,
+    session: &mut Session<'b, J, SoundFiles>,
+    signals: &'s Signals,
+    piece: Piece,
+) -> Told {
+    let input = numbered(alloc, piece.calls)?;
+    let wanted = numbered(alloc, piece.replies)?;
+    let opens_at = match piece.way {
+        Way::Waits(bytes) => {
+            signals.is_open.store(false, Ordering::SeqCst);
+            bytes
+        }
+        Way::Fails(_) => {
+            signals.is_kept.store(false, Ordering::SeqCst);
+            0
+        }
+        Way::Cut(_) => 0,
+    };
+    let mut writer = Opener {
+        taken: Vec::new(alloc),
+        opens_at,
+        signals,
+    };
+    let (outcome, ()) = join(
+        rt,
+        || {
+            let outcome = serve_piece(
+                rt,
+                alloc,
+                files,
+                session,
+                signals,
+                piece,
+                &input,
+                &mut writer,
+            );
+            signals.is_done.store(true, Ordering::SeqCst);
+            outcome
+        },
+        || keeps_log(rt, files, signals),
+    );
+    let answered = piece.calls.len() as u64;
+    let end = End::EndOfInput;
+    let is_as_wanted = outcome == Ok(Served { answered, end })
+        && writer.taken.as_slice() == wanted.as_slice()
+        && !signals.gave_up.load(Ordering::SeqCst);
+    if is_as_wanted {
+        Ok(())
+    } else {
+        Err(Wrong::At(writer.taken.len()))
+    }
+}
+
+fn over<'s, 'b, J: Naming + Send + Sync, H: Threads + Wait + Sync>(
+    rt: &H,
+    alloc: Global,
+    book: &'b Book<SoundFiles>,
+    disk: GatedDisk<'s>,
+    signals: &'s Signals,
+    piece: Piece,
+) -> Told
+    requires book { book.now ≡ J.book }
+    requires blocks { disk.disk.past.size ≡ J.blocks }
+    requires settled { IsSettled disk.disk.past }
+{
+    let mounted: Result<Gated<'s, 'b, J>, _> = FileStore::mount(alloc, book, disk);
+    match mounted {
+        Ok(files) => match files.journal().session(rt) {
+            Ok(mut session) => tell_piece(rt, alloc, &files, &mut session, signals, piece),
+            Err(_) => Err(Wrong::Refused),
+        },
+        Err(_) => Err(Wrong::Refused),
+    }
+}
+
+fn on_disk<H: Threads + Wait + Sync>(rt: &H, alloc: Global, disk: MemDisk, piece: Piece) -> Told
+    requires settled { IsSettled disk.past }
+{
+    let signals = Signals::new();
+    match Book::<SoundFiles>::open::<()>() {
+        Ok(book) => {
+            let gated = GatedDisk {
+                disk,
+                signals: &signals,
+            };
+            over::<Brand, _>(rt, alloc, &book, gated, &signals, piece)
+        }
+        Err(_) => Err(Wrong::Refused),
+    }
+}
+
+// What comes of the calls of a piece on a disk with one empty file.
+fn run<H: Threads + Wait + Net<Listener = TcpListener, Stream = TcpStream> + Sync>(
+    rt: &H,
+    alloc: Global,
+    piece: Piece,
+) -> Told {
+    match on_formatted(rt, alloc, 532, &Story::Beside(Errand::Table(MADE))) {
+        Ok(disk) => on_disk(rt, alloc, disk, piece),
+        Err(wrong) => Err(wrong),
+    }
+}
+
+// Calls that wait are answered alike however they are cut.
+#[test]
+fn pieces_have_the_same_replies(rt: HostRuntime) {
+    for step in [1, 100, 9999] {
+        let piece = Piece {
+            calls: &[WRITE, GET, WRITE, WRITE],
+            replies: &[WROTE_FIRST, GOT, WROTE, WROTE],
+            way: Way::Cut(step),
+        };
+        assert_eq!(rt; run(&rt, rt.alloc(), piece), Ok(()));
+    }
+}
+
+// The device fails behind the first two of four calls: their mark stands, and the others are answered IO.
+#[test]
+fn what_is_not_stable_is_refused(rt: HostRuntime) {
+    let piece = Piece {
+        calls: &[WRITE, WRITE, WRITE, WRITE],
+        replies: &[WROTE_FIRST, WROTE, NOT_STABLE, NOT_STABLE],
+        way: Way::Fails(2),
+    };
+    assert_eq!(rt; run(&rt, rt.alloc(), piece), Ok(()));
+}
+
+// The reply in front of the first that is owed goes out before the barrier.
+#[test]
+fn what_need_not_wait_goes_out_first(rt: HostRuntime) {
+    let piece = Piece {
+        calls: &[GET, WRITE],
+        replies: &[GOT, WROTE_FIRST],
+        way: Way::Waits(116),
+    };
+    assert_eq!(rt; run(&rt, rt.alloc(), piece), Ok(()));
+}
