@@ -136,6 +136,28 @@ fn what_is_written_is_in_the_file(rt: HostRuntime) -> Result<(), Fail> {
     Ok(())
 }
 
+// What there is of a disk of two blocks whose file was cut to one.
+static CUT: [Row; 4] = [
+    (Size, 2),
+    (Read(0), 0),
+    (Read(1), DEVICE_FAILED),
+    (Failures, 1),
+];
+
+// Who cuts the file of a disk that is used makes its calls fail, and no bytes are made up for what is gone.
+#[test]
+fn a_block_that_was_cut_off_is_not_read(rt: HostRuntime) -> Result<(), Fail> {
+    let path = new_path(&rt, "palkhuveg-cut-disk")?;
+    drop(new_file(&rt, &path, 2 * 4096)?);
+    let name = path.as_path().to_str().ok_or("the path is text")?;
+    let mut disk = FileDisk::open(&rt, name)?;
+    drop(new_file(&rt, &path, 4096)?);
+    let wrong = wrong_row(&rt, rt.alloc(), &mut disk, &CUT);
+    fs::remove_file(&rt, name)?;
+    assert_eq!(rt; wrong, None);
+    Ok(())
+}
+
 static UNEVEN: [Row; 5] = [
     (Write(1, 5), 0),
     (Barrier, 0),
