@@ -11,4 +11,7 @@ pub mod Counting
 pub mod Holding
 pub mod Running
 pub mod Events
+pub mod Fronts
+pub mod Enduring
+pub mod CallsOfLogs
 mod Examples

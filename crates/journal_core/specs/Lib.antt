@@ -8,5 +8,7 @@ pub mod SlotCounts
 pub mod Transactions
 pub mod Memories
 pub mod Commits
+pub mod Updates
+pub mod Durables
 pub mod Openings
 pub mod Interleavings

@@ -9,6 +9,10 @@
 mod cause;
 mod commit;
 mod covered;
+mod durable;
+mod durable_group;
+mod durable_steps;
+mod fetched;
 mod flush;
 mod install;
 mod law;

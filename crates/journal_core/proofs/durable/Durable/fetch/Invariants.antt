@@ -1,0 +1,18 @@
+use Rattle.std.proofs.Common.{◌≡◌, ◌<◌, ◌≤◌, ℕ, IsTrue, List, length, map, All}
+use Rattle.std.specs.List.{AllWithin}
+use Rattle.journal_world.specs.Histories.{is_trusted}
+use Rattle.journal_block.specs.declared.update.Update.{Update}
+use Rattle.journal_objlog.specs.ObjectLogs.{OnlyReads}
+use Rattle.journal_core.specs.Durables.{IsBlockAfter}
+use Rattle.journal_core.proofs.durable.Durable.fetch.Given as goal
+
+-- the log was only read, and the updates before the place have their blocks as they are logged
+abbrev pub invariant-loop-place : goal.invariant-loop-place
+invariant-loop-place g l =
+    (l.self ≡ record l.fn.self { objects = l.self.objects })
+    × OnlyReads l.fn.self.objects l.self.objects
+    × (l.commits ≡ l.fn.self.logged)
+    × (length l.updates.items ≡ l.place-end)
+    × (map (λ u. u.block) l.updates.items ≡ map (λ u. u.block) l.fn.updates.items)
+    × All (λ u. u.block < g.J.Naming.blocks) l.updates.items
+    × (IsTrue (is_trusted l.fn.self.front) → AllWithin (IsBlockAfter g.J.Naming.blocks l.fn.self.front l.fn.self.logged) l.updates.items 0 l.place)

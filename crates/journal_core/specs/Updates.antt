@@ -1,0 +1,21 @@
+-- What updates have of the objects that commits wrote.
+use Rattle.std.specs.Prelude.{ℕ, ◌≡◌, ◌≤◌, IsTrue, List, Option, Some, None}
+use Rattle.journal_world.specs.declared.address.Addr.{Addr}
+use Rattle.journal_world.specs.Addresses.{Value, is_valid}
+use Rattle.journal_world.specs.Maps.{value_at}
+use Rattle.journal_world.specs.Histories.{Entry, count, at, latest}
+use Rattle.journal_block.specs.declared.update.Update.{Update}
+use Rattle.journal_objlog.specs.ObjectTails.{known_object}
+
+-- no commit after the first c changed the value of the address
+abbrev pub IsSince : List Entry → ℕ → Addr → Type 0
+IsSince history c a = (n : ℕ) → c ≤ n → n ≤ count history → value_at (at history n) a ≡ value_at (latest history) a
+
+-- the value is that of the address after all commits; or there is none, and no commit after the first c changed the address's
+abbrev pub IsLastSince : List Entry → ℕ → Addr → Option Value → Type 0
+IsLastSince history c a (Some v) = v ≡ value_at (latest history) a
+IsLastSince history c a None = IsSince history c a
+
+-- On a disk of n blocks, the updates have all that the commits after the first c wrote, and as the last of them left it
+pub record HaveAllSince (n : ℕ) (history : List Entry) (c : ℕ) (updates : List Update) : Type 0 where
+  pub last : (a : Addr) → IsTrue (is_valid n a) → IsLastSince history c a (known_object n updates a)

@@ -1,0 +1,75 @@
+// Blocks that are fetched from the durable part.
+ghost use Rattle.std.specs.Prelude.{◌≡◌, ◌<◌, false, map, IsTrue, OnOk, OnErr, IfOk, IfErr, All};
+ghost use Rattle.journal_world.specs.Histories.{is_trusted, count};
+ghost use Rattle.journal_objlog.specs.ObjectLogs.{OnlyReads};
+ghost use Rattle.journal_core.specs.Durables.{Crashes, IsCallRefusal, IsBlockAfter, is_faulted};
+
+use crate::cause::{Cause, raise};
+use crate::durable::Durable;
+use journal_block::Update;
+use journal_disk::BlockDisk;
+use journal_history::{Front, Naming};
+use journal_world::{MapRule, Refusal};
+use std::marker::Model;
+
+/// Blocks as they are logged, with how many commits they have and the history that has these. That stays true for good,
+/// so what was fetched in a hold of one lock is used in a later hold of another, unless what came since went home by then.
+#[derive(Drop)]
+pub(crate) struct Fetched<'b, J: Naming, R: MapRule> {
+    pub(crate) front: Front<'b, J, R>,
+    pub(crate) commits: u64,
+    pub(crate) updates: Vec<Update>,
+}
+
+impl<'b, J: Naming, R: MapRule> Model for Fetched<'b, J, R> {
+    ghost use Rattle.journal_core.specs.Durables.{FetchedState, IsFetched};
+
+    ghost Value = { FetchedState };
+
+    ghost view = { λ f. record { front = f.front; commits = f.commits; updates = f.updates.items } };
+
+    ghost invariant = { λ f. IsFetched J.blocks (record { front = f.front; commits = f.commits; updates = f.updates.items }) };
+}
+
+impl<'b, D: BlockDisk, R: MapRule, J: Naming> Durable<'b, D, R, J> {
+    /// Reads the block that each of these names, as it is logged, into its bytes. It is read from the device only where
+    /// no logged update of it is in memory. It takes no memory.
+    ///
+    /// Answers J6 `DeviceFailed`, and nothing else, where the device failed in this call or before.
+    pub(crate) fn fetch(
+        &mut self,
+        mut updates: Vec<Update>,
+    ) -> Result<Fetched<'b, J, R>, Refusal<Cause<'b, J, R>>>
+        requires blocks { All (λ u. u.block < J.blocks) updates.items }
+        ensures front { IfOk result (λ fetched. fetched.front ≡ self.old.front) }
+        ensures commits { IfOk result (λ fetched. fetched.commits ≡ self.old.logged) }
+        ensures named { IfOk result (λ fetched. map (λ u. u.block) fetched.updates ≡ map (λ u. u.block) updates.items) }
+        ensures refusal { IfErr result (IsCallRefusal self.old self.new) }
+        ensures reads { OnlyReads self.old.objects self.new.objects }
+        ensures others { self.new ≡ record self.old { objects = self.new.objects } }
+        ensures crash { Crashes self.old self.new }
+    {
+        let commits = self.logged;
+        for place in 0..updates.len() {
+            self.fetch_block(&mut updates[place])?;
+        }
+        Ok(Fetched {
+            front: self.front.again(),
+            commits,
+            updates,
+        })
+    }
+
+    // Reads the block that this names, as it is logged, into its bytes.
+    fn fetch_block(&mut self, update: &mut Update) -> Result<(), Refusal<Cause<'b, J, R>>>
+        requires { update.old.block < J.blocks }
+        ensures block { update.new.block ≡ update.old.block }
+        ensures after { IsTrue (is_trusted self.old.front) → OnOk result (IsBlockAfter J.blocks self.old.front self.old.logged update.new) }
+        ensures refusal { IfErr result (IsCallRefusal self.old self.new) }
+        ensures reads { OnlyReads self.old.objects self.new.objects }
+        ensures others { self.new ≡ record self.old { objects = self.new.objects } }
+        ensures crash { Crashes self.old self.new }
+    {
+        raise(self.objects.read_logged(update.block, &mut update.bytes))
+    }
+}
