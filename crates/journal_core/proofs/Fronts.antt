@@ -18,7 +18,7 @@ count-append-le : (history more : List Entry) → count history ≤ count (histo
 count-append-le history more =
     omega (arith, ap length (filter_map-append committed history more), length-append (commits history) (commits more))
 
-append-some : (history more : List Entry) → history ≢ [] → history ++ more ≢ []
+pub append-some : (history more : List Entry) → history ≢ [] → history ++ more ≢ []
 append-some [] more some = absurd (some refl)
 append-some (e ∷ es) more some = λ is. cc (is)
 

@@ -14,4 +14,8 @@ pub mod Events
 pub mod Fronts
 pub mod Enduring
 pub mod CallsOfLogs
+pub mod Latest
+pub mod Staying
+pub mod Unready
+pub mod Pairing
 mod Examples

@@ -16,7 +16,7 @@ use Rattle.journal_core.specs.Commits.{CanPrepare as CanPrepareWrites}
 use Rattle.journal_core.specs.Cores.{IsRunning}
 
 -- objects have valid addresses
-valid_of : (blocks : ℕ) (ps : List Pair) → IsTrue (are_objects blocks ps) → IsTrue (are_valid blocks ps)
+pub valid_of : (blocks : ℕ) (ps : List Pair) → IsTrue (are_objects blocks ps) → IsTrue (are_valid blocks ps)
 valid_of blocks [] objects = refl
 valid_of blocks (p ∷ later) objects =
     let parts = and_parts (is_object blocks p) (are_objects blocks later) objects in

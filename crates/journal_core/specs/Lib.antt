@@ -10,5 +10,8 @@ pub mod Memories
 pub mod Commits
 pub mod Updates
 pub mod Durables
+pub mod Volatiles
+pub mod VolatileCommits
+pub mod Pairs
 pub mod Openings
 pub mod Interleavings

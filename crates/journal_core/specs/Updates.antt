@@ -2,7 +2,7 @@
 use Rattle.std.specs.Prelude.{ℕ, ◌≡◌, ◌≤◌, IsTrue, List, Option, Some, None}
 use Rattle.journal_world.specs.declared.address.Addr.{Addr}
 use Rattle.journal_world.specs.Addresses.{Value, is_valid}
-use Rattle.journal_world.specs.Maps.{value_at}
+use Rattle.journal_world.specs.Maps.{Map, value_at}
 use Rattle.journal_world.specs.Histories.{Entry, count, at, latest}
 use Rattle.journal_block.specs.declared.update.Update.{Update}
 use Rattle.journal_objlog.specs.ObjectTails.{known_object}
@@ -19,3 +19,12 @@ IsLastSince history c a None = IsSince history c a
 -- On a disk of n blocks, the updates have all that the commits after the first c wrote, and as the last of them left it
 pub record HaveAllSince (n : ℕ) (history : List Entry) (c : ℕ) (updates : List Update) : Type 0 where
   pub last : (a : Addr) → IsTrue (is_valid n a) → IsLastSince history c a (known_object n updates a)
+
+-- there is no value, or it is this one
+abbrev pub IsOrNone : Value → Option Value → Type 0
+IsOrNone v (Some w) = w ≡ v
+IsOrNone v None = Unit {0}
+
+-- On a disk of n blocks, what the updates have of an address is what the map gives it
+pub record AreObjectsOf (n : ℕ) (m : Map) (updates : List Update) : Type 0 where
+  pub values : (a : Addr) → IsTrue (is_valid n a) → IsOrNone (value_at m a) (known_object n updates a)

@@ -125,7 +125,7 @@ impl<'b, D: BlockDisk, R: MapRule, J: Naming> Core<'b, D, R, J> {
 }
 
 // Whether it is refused by J4.
-fn is_too_large<T>(answer: &Result<T, Refusal<()>>) -> bool
+pub(crate) fn is_too_large<T>(answer: &Result<T, Refusal<()>>) -> bool
     ensures { IsTrue result ↔ (answer.now ≡ Err TooLarge) }
 {
     match answer {

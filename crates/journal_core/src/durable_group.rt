@@ -6,7 +6,7 @@ ghost use Rattle.journal_memlog.specs.Logs.{HasDistinctBlocks};
 ghost use Rattle.journal_wal.specs.Wal.{AreHomes, with_room};
 ghost use Rattle.journal_wal.specs.Groups.{FitsGroup, HasGroupRoom};
 ghost use Rattle.journal_wal.specs.declared.append.TheConstants.{MAX_TAIL};
-ghost use Rattle.journal_objlog.specs.ObjectLogs.{IsCutLogged};
+ghost use Rattle.journal_objlog.specs.ObjectLogs.{IsCutLogged, end_of};
 ghost use Rattle.journal_core.specs.Updates.{HaveAllSince};
 ghost use Rattle.journal_core.specs.Durables.{Crashes, TakesCut, IsRoomRefusal};
 
@@ -47,6 +47,7 @@ impl<'b, D: BlockDisk, R: MapRule, J: Naming> Durable<'b, D, R, J> {
         requires counted { commits ≡ count front }
         requires all { IsTrue (is_trusted front) → HaveAllSince J.blocks front self.old.logged group.items }
         ensures takes { TakesCut front.entry group.items self.old self.new }
+        ensures flies { end_of self.new.objects < self.new.objects.log.cut }
         ensures crash { Crashes self.old self.new }
     {
         self.objects.take_reserved(group);

@@ -22,6 +22,7 @@ mod memory_commit;
 mod memory_flush;
 mod memory_session;
 mod open;
+mod pair;
 mod read;
 mod refusal_number;
 mod session;
@@ -30,6 +31,10 @@ mod state;
 mod step;
 mod tally;
 mod transaction;
+mod volatile;
+mod volatile_commit;
+mod volatile_cut;
+mod volatile_read;
 
 pub use cause::Cause;
 pub use journal_objlog::Spares;

@@ -7,6 +7,12 @@ use Rattle.journal_core.specs.Durables.{DurableState}
 use Rattle.journal_core.proofs.Enduring.{kept_take, crashes_call}
 use Rattle.journal_core.proofs.durable.Durable.take.Goals as goal
 
+pub returns-clause-flies : goal.returns-clause-flies
+returns-clause-flies g c = ⊎_elim
+    (λ flies. c.is_logging-flying.ensures.group.0 flies)
+    (λ rests. absurd (omega (arith, rests.0, c.take_reserved.ensures.takes.steps)))
+    c.is_logging-flying.ensures.rest
+
 pub invariant_of-self : goal.invariant_of-self
 invariant_of-self g c =
     let flying : c.take_reserved.new.self.log.logged < c.take_reserved.new.self.log.cut = ⊎_elim

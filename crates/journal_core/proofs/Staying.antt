@@ -1,0 +1,212 @@
+-- Each call keeps what the volatile part keeps.
+use Rattle.std.proofs.Common.{◌≡◌, ◌≢◌, ◌⊎◌, ⊎_elim, ◌<◌, ◌≤◌, ◌-◌, ◌+◌, ℕ, zero, suc, Bool, Some, List, [], ◌∷◌, ◌++◌, drop, length, IsTrue, Result, Ok, Err, OnOk, OnErr, All, refl, sym, ap, subst, ◌∙◌, arith, length-drop}
+use Rattle.std.specs.List.{slice_index_or}
+use Rattle.std.proofs.lemmas.List.{drop_all}
+use Rattle.std.proofs.lemmas.List.Elements.{All-head, All-tail, All-push}
+use mathlib.Core.List.{IsPrefix}
+use Rattle.journal_world.specs.declared.address.Addr.{Addr}
+use Rattle.journal_world.specs.Addresses.{Value, is_valid}
+use Rattle.journal_world.specs.Maps.{Map, Transaction, value_at, overwritten}
+use Rattle.journal_world.specs.Histories.{Entry, opened, is_trusted, count, latest}
+use Rattle.journal_world.specs.Histories.Entry.{commit, stable}
+use Rattle.journal_world.proofs.LongerHistories.{opened-append, count-commit}
+use Rattle.journal_world.proofs.MapsOfHistories.{is_trusted-append}
+use Rattle.journal_world.proofs.Marks.{count-mark}
+use Rattle.journal_block.specs.declared.update.Update.{Update}
+use Rattle.journal_block.specs.Updates.{updates_block}
+use Rattle.journal_memlog.specs.Logs.{LogState, next_position, tail_of, appended}
+use Rattle.journal_memlog.specs.Laws.{next_of-appended, length-absorbed_ge}
+use Rattle.journal_wal.specs.declared.tail.CutPoint.{CutPoint}
+use Rattle.journal_wal.specs.Tails.{TailState, MakeTheSame, cut_points, updates_from, cut_after, DropsCuts}
+use Rattle.journal_objlog.specs.Writes.{writes_block}
+use Rattle.journal_core.specs.Updates.{HaveAllSince, IsOrNone, AreObjectsOf}
+use Rattle.journal_core.specs.Durables.{FetchedState, IsFetched}
+use Rattle.journal_objlog.specs.ObjectTails.{blocks_of, known_updates, known_at}
+use Rattle.journal_core.specs.Memories.{MemoryState}
+use Rattle.journal_core.specs.Volatiles.{VolatileState, IsCutOf, HasUpdates, IsVolatile}
+use Rattle.journal_core.proofs.Fronts.{append-some, trusted-longer}
+use Rattle.journal_core.proofs.Latest.{since_later, since_all, since_alike, since_mark, since_commit, latest_fetched, latest_alone}
+
+-- what holds of each of some holds of each of the last of them
+pub all_behind : {X : Type 0} (P : X → Type 0) (earlier xs : List X) → All P (earlier ++ xs) → All P xs
+all_behind P [] xs all = all
+all_behind P (e ∷ earlier) xs all = all_behind P earlier xs (All-tail P e (earlier ++ xs) all)
+
+-- all updates in memory are those since the last cut whose updates were dropped
+pub all_in_memory : (blocks : ℕ) (v : VolatileState) → HasUpdates blocks v → HaveAllSince blocks v.memory.history v.tail.trimmed v.tail.log.updates
+all_in_memory blocks v has =
+    let none : v.tail.log.start - v.tail.log.start ≡ 0 = omega arith in
+    subst (λ (k : ℕ). HaveAllSince blocks v.memory.history v.tail.trimmed (drop k v.tail.log.updates)) none
+    (All-head (λ c. HaveAllSince blocks v.memory.history c.commits (updates_from v.tail.log c.end)) (record { end = v.tail.log.start; commits = v.tail.trimmed }) v.tail.cuts has.since)
+
+module _ (blocks : ℕ) (v : VolatileState) (kept : IsVolatile blocks v) where
+  -- n commits were marked, those at the last cut or more
+  marked : (n : ℕ) → v.memory.cut ≤ n → n ≤ count v.memory.history
+      → IsVolatile blocks (record v { memory = record v.memory { history = v.memory.history ++ stable n ∷ []; cut = n } })
+  marked n rises made = record {
+    size = kept.size;
+    begun = append-some v.memory.history (stable n ∷ []) kept.begun;
+    on_disk = ap (λ (m : Map). m.blocks) (opened-append v.memory.history (stable n ∷ []) kept.begun) ∙ kept.on_disk;
+    made = omega (arith, made, count-mark v.memory.history n);
+    cut_to_next = kept.cut_to_next;
+    cuts = λ k d lt. let was = kept.cuts k d lt in record { above = was.above; below = was.below; earlier = omega (arith, was.earlier, rises) };
+    updates = λ trusted. let has = kept.updates (subst IsTrue (is_trusted-append v.memory.history (stable n ∷ []) kept.begun) trusted) in record {
+      since = λ k d lt. since_mark blocks v.memory.history n _ _ kept.begun (has.since k d lt);
+      since_last = since_later blocks (v.memory.history ++ stable n ∷ []) v.memory.cut n (tail_of v.tail.log) rises
+          (since_mark blocks v.memory.history n v.memory.cut (tail_of v.tail.log) kept.begun has.since_last);
+    };
+  }
+
+  pub kept_marked : {T E : Type 0} (n : ℕ) (new : MemoryState) (r : Result T E) → n ≤ count v.memory.history
+      → (n ≡ v.memory.cut) ⊎ (n ≡ count v.memory.history)
+      → OnOk r (new ≡ record v.memory { history = v.memory.history ++ stable n ∷ []; cut = n }) → OnErr r (new ≡ v.memory)
+      → IsVolatile blocks (record v { memory = new })
+  kept_marked n new (Ok value) made due added same =
+      subst (λ (m : MemoryState). IsVolatile blocks (record v { memory = m })) (sym added) (marked n rises made)
+    where
+      rises : v.memory.cut ≤ n
+      rises = ⊎_elim (λ is. omega (arith, is)) (λ is. omega (arith, is, kept.made)) due
+  kept_marked n new (Err why) made due added same =
+      subst (λ (m : MemoryState). IsVolatile blocks (record v { memory = m })) (sym same) kept
+
+  -- the tail was cut
+  pub kept_cut : IsVolatile blocks (record v { memory = record v.memory { cut = count v.memory.history }; tail = cut_after v.tail (count v.memory.history) })
+  kept_cut = record {
+    size = kept.size;
+    begun = kept.begun;
+    on_disk = kept.on_disk;
+    made = omega arith;
+    cut_to_next = omega arith;
+    cuts = All-push (IsCutOf later) (cut_points v.tail) p
+        (λ k d lt. let was = kept.cuts k d lt in record { above = was.above; below = omega (arith, was.below, kept.cut_to_next); earlier = omega (arith, was.earlier, kept.made) })
+        (record { above = omega arith; below = omega arith; earlier = omega arith });
+    updates = λ trusted. let has = kept.updates trusted in record {
+      since = All-push (λ c. HaveAllSince blocks v.memory.history c.commits (updates_from v.tail.log c.end)) (cut_points v.tail) p has.since none;
+      since_last = none;
+    };
+  }
+    where
+      p : CutPoint
+      p = record { end = next_position v.tail.log; commits = count v.memory.history }
+
+      later : VolatileState
+      later = record v { memory = record v.memory { cut = count v.memory.history }; tail = cut_after v.tail (count v.memory.history) }
+
+      none : HaveAllSince blocks v.memory.history (count v.memory.history) (drop (next_position v.tail.log - v.tail.log.start) v.tail.log.updates)
+      none = subst (HaveAllSince blocks v.memory.history (count v.memory.history))
+          (sym (drop_all (next_position v.tail.log - v.tail.log.start) v.tail.log.updates (omega arith)))
+          (since_all blocks v.memory.history (count v.memory.history) (omega arith))
+
+  -- the updates of some first cuts were dropped
+  module _ (upto : ℕ) (new : TailState) (drops : DropsCuts v.tail upto new) (left : All (λ c. upto < c.end) new.cuts)
+      (since : (from : ℕ) → new.log.start ≤ from → updates_from new.log from ≡ updates_from v.tail.log from) where
+    were : All (IsCutOf v) (cut_points new)
+    were = all_behind (IsCutOf v) drops.earlier (cut_points new) (subst (All (IsCutOf v)) drops.points kept.cuts)
+
+    start_to_cut : new.log.start ≤ v.tail.log.cut
+    start_to_cut = (were 0 (record { end = 0; commits = 0 }) (omega arith)).below
+
+    same_cut : new.log.cut ≡ v.tail.log.cut
+    same_cut = ap (λ (l : LogState). l.cut) drops.log
+
+    -- those that are left end at the start or behind it
+    are_above : All (λ c. new.log.start ≤ c.end) (cut_points new)
+    are_above zero d lt = omega arith
+    are_above (suc k) d lt = ⊎_elim
+        (λ (is : new ≡ v.tail). subst (λ (t : TailState). t.log.start ≤ (slice_index_or new.cuts k d).end) (sym is) (were (suc k) d lt).above)
+        (λ (le : new.log.start ≤ upto). omega (arith, le, left k d (omega (arith, lt))))
+        drops.by
+
+    pub kept_trim : IsVolatile blocks (record v { tail = new })
+    kept_trim = record {
+      size = ap (λ (l : LogState). l.blocks) drops.log ∙ kept.size;
+      begun = kept.begun;
+      on_disk = kept.on_disk;
+      made = kept.made;
+      cut_to_next = omega (
+        arith,
+        same_cut,
+        kept.cut_to_next,
+        ap next_position drops.log,
+        length-drop (new.log.start - v.tail.log.start) v.tail.log.updates,
+        drops.above,
+      );
+      cuts = λ k d lt. let was = were k d lt in record { above = are_above k d lt; below = omega (arith, was.below, same_cut); earlier = was.earlier };
+      updates = λ trusted. let has = kept.updates trusted in record {
+        since = λ k d lt. subst (HaveAllSince blocks v.memory.history _) (sym (since _ (are_above k d lt)))
+            (all_behind (λ c. HaveAllSince blocks v.memory.history c.commits (updates_from v.tail.log c.end)) drops.earlier (cut_points new)
+            (subst (All (λ c. HaveAllSince blocks v.memory.history c.commits (updates_from v.tail.log c.end))) drops.points has.since) k d lt);
+        since_last = subst (HaveAllSince blocks v.memory.history v.memory.cut)
+            (sym (since new.log.cut (omega (arith, start_to_cut, same_cut)) ∙ ap (λ (n : ℕ). drop (n - v.tail.log.start) v.tail.log.updates) same_cut))
+            has.since_last;
+      };
+    }
+
+-- what is read by updates that have the latest is the map's value
+pub read_latest : (blocks : ℕ) (history : List Entry) (fetched : List Update) (t : TailState) (a : Addr) (value : Value) → blocks_of t ≡ blocks
+    → AreObjectsOf blocks (latest history) (known_updates fetched t) → IsTrue (is_valid (blocks_of t) a) → known_at fetched t a ≡ Some value → value ≡ value_at (latest history) a
+read_latest blocks history fetched t a value size are valid known =
+    subst (IsOrNone (value_at (latest history) a)) known
+    ((subst (λ (n : ℕ). AreObjectsOf n (latest history) (known_updates fetched t)) (sym size) are).values a valid)
+
+-- of the fetched blocks what is usable
+pub usable_latest : (blocks : ℕ) (v : VolatileState) (f : FetchedState) → IsVolatile blocks v → IsFetched blocks f → IsTrue (is_trusted v.memory.history)
+    → IsPrefix f.front v.memory.history → v.tail.trimmed ≤ f.commits → AreObjectsOf blocks (latest v.memory.history) (known_updates f.updates v.tail)
+usable_latest blocks v f kept is trusted begins fresh =
+    latest_fetched blocks v.memory.history v.tail.trimmed v.tail.log.updates (all_in_memory blocks v (kept.updates trusted)) f.front f.commits is.begun begins is.made fresh
+    f.updates (is.objects (subst IsTrue (trusted-longer f.front v.memory.history is.begun begins) trusted))
+
+-- memory alone
+pub unfetched_latest : (blocks : ℕ) (v : VolatileState) → IsVolatile blocks v → IsTrue (is_trusted v.memory.history) → AreObjectsOf blocks (latest v.memory.history) (known_updates [] v.tail)
+unfetched_latest blocks v kept trusted =
+    latest_alone blocks v.memory.history v.tail.trimmed v.tail.log.updates (all_in_memory blocks v (kept.updates trusted))
+
+-- a commit, whose updates come behind
+pub kept_added : (blocks : ℕ) (v : VolatileState) (t : Transaction) (prepared : List Update) (memory : MemoryState) (new : TailState) → IsVolatile blocks v
+    → memory.history ≡ v.memory.history ++ commit t ∷ [] → memory.cut ≡ v.memory.cut → new ≡ record v.tail { log = appended v.tail.log prepared }
+    → ((from : ℕ) → v.tail.log.start ≤ from → from ≤ v.tail.log.cut → MakeTheSame (updates_from new.log from) (updates_from v.tail.log from ++ prepared))
+    → ((b : ℕ) → updates_block prepared b ≡ writes_block t.writes b)
+    → (IsTrue (is_trusted v.memory.history) → AreObjectsOf blocks (overwritten (latest v.memory.history) t.writes) prepared)
+    → IsVolatile blocks (record v { memory = memory; tail = new })
+kept_added blocks v t prepared memory new kept added cut appends since named written = record {
+  size = ap (λ (s : TailState). s.log.blocks) appends ∙ kept.size;
+  begun = subst (λ (h : List Entry). h ≢ []) (sym added) (append-some v.memory.history (commit t ∷ []) kept.begun);
+  on_disk = ap (λ (h : List Entry). (opened h).blocks) added ∙ ap (λ (m : Map). m.blocks) (opened-append v.memory.history (commit t ∷ []) kept.begun) ∙ kept.on_disk;
+  made = omega (arith, cut, kept.made, ap count added, count-commit v.memory.history t);
+  cut_to_next = omega (
+    arith,
+    ap (λ (s : TailState). s.log.cut) appends,
+    ap (λ (s : TailState). next_position s.log) appends,
+    kept.cut_to_next,
+    next_of-appended v.tail.log prepared,
+    length-absorbed_ge (tail_of v.tail.log) prepared,
+  );
+  cuts = subst (All (IsCutOf (record v { memory = memory; tail = new }))) (sym points)
+      (λ k d lt. let was = kept.cuts k d lt in record {
+        above = omega (arith, was.above, ap (λ (s : TailState). s.log.start) appends);
+        below = omega (arith, was.below, ap (λ (s : TailState). s.log.cut) appends);
+        earlier = omega (arith, was.earlier, cut);
+      });
+  updates = λ trusted.
+      let was : IsTrue (is_trusted v.memory.history) = subst IsTrue (ap is_trusted added ∙ is_trusted-append v.memory.history (commit t ∷ []) kept.begun) trusted in
+      let has = kept.updates was in record {
+        since = subst (All (λ c. HaveAllSince blocks memory.history c.commits (updates_from new.log c.end))) (sym points)
+            (λ k d lt. let place = kept.cuts k d lt in after was _ _ place.above place.below (has.since k d lt));
+        since_last = subst (λ (n : ℕ). HaveAllSince blocks memory.history n (tail_of new.log)) (sym cut)
+            (subst (λ (n : ℕ). HaveAllSince blocks memory.history v.memory.cut (drop (n - new.log.start) new.log.updates)) (sym (ap (λ (s : TailState). s.log.cut) appends))
+            (after was v.memory.cut v.tail.log.cut start_to_cut (omega arith) has.since_last));
+      };
+}
+  where
+    points : cut_points new ≡ cut_points v.tail
+    points = ap cut_points appends
+
+    start_to_cut : v.tail.log.start ≤ v.tail.log.cut
+    start_to_cut = (kept.cuts 0 (record { end = 0; commits = 0 }) (omega arith)).below
+
+    after : IsTrue (is_trusted v.memory.history) → (c from : ℕ) → v.tail.log.start ≤ from → from ≤ v.tail.log.cut
+        → HaveAllSince blocks v.memory.history c (updates_from v.tail.log from) → HaveAllSince blocks memory.history c (updates_from new.log from)
+    after trusted c from above below all =
+        since_alike blocks memory.history c (updates_from new.log from) (updates_from v.tail.log from ++ prepared) (since from above below)
+        (subst (λ (h : List Entry). HaveAllSince blocks h c (updates_from v.tail.log from ++ prepared)) (sym added)
+        (since_commit blocks v.memory.history t kept.begun prepared named (written trusted) c (updates_from v.tail.log from) all))

@@ -1,0 +1,129 @@
+-- Why writes are not made ready in memory alone, and what it is where they are.
+use Rattle.std.proofs.Common.{◌≡◌, ◌⊎◌, inr, ⊎_elim, ◌<◌, ◌≤◌, ◌+◌, ◌^◌, ℕ, false, IsTrue, List, length, Result, Ok, Err, IfOk, IfErr, OnOk, refl, sym, ap, subst, ◌∙◌, arith}
+use Rattle.std.proofs.lemmas.Bool.{false≢true}
+use Rattle.journal_world.specs.declared.refusal.Refusal.{Refusal}
+use Rattle.journal_world.specs.declared.refusal.Refusal.TheVariants.{NoMemory, BadAddress, BadSize, TooLarge, Busy, DeviceFailed, BadLog, BadSuper, Stale, Stranger, Worn, Full, Closed, Fenced}
+use mathlib.Core.List.{IsPrefix}
+use Rattle.journal_world.specs.Maps.{Map, Pair, are_objects, overwritten}
+use Rattle.journal_world.specs.Histories.{Entry}
+use Rattle.journal_world.proofs.Prefixes.{IsPrefix-trans, IsPrefix-length}
+use Rattle.journal_block.specs.declared.update.Update.{Update}
+use Rattle.journal_memlog.specs.Logs.{next_position, tail_of}
+use Rattle.journal_wal.specs.Tails.{TailState}
+use Rattle.journal_objlog.specs.declared.tail_prepare.Preparation.{Preparation}
+use Rattle.journal_objlog.specs.declared.tail_prepare.Preparation.TheVariants.{Ready, Missing}
+use Rattle.journal_objlog.specs.ObjectTails.{blocks_of, known_updates, tail_base, with_tail_room, OverwritesKnown, IsTailWriteRefusal, IfReady}
+use Rattle.journal_objlog.specs.Writes.{CanPrepare, IsWriteRefusal, written_blocks, fresh_among}
+use Rattle.journal_history.specs.Tokens.{SessionState}
+use Rattle.journal_core.specs.Causes.{Told, raised_of}
+use Rattle.journal_core.specs.Memories.{ShowsLonger}
+use Rattle.journal_core.specs.Updates.{AreObjectsOf}
+use Rattle.journal_core.specs.Volatiles.{VolatileState, IsFrontRefusal}
+use Rattle.journal_core.specs.VolatileCommits.{IsPreparingRefusal, CanPrepare as CanPrepareWrites}
+use Rattle.journal_core.proofs.Latest.{objects_written}
+use Rattle.journal_core.proofs.Readying.{valid_of}
+
+module _ (blocks : ℕ) (v : VolatileState) (fetched : List Update) (writes : List Pair) (size : blocks_of v.tail ≡ blocks)
+    (given : IsTrue (are_objects blocks writes)) where
+  objects : IsTrue (are_objects (blocks_of v.tail) writes)
+  objects = subst (λ (n : ℕ). IsTrue (are_objects n writes)) (sym size) given
+
+  -- what is known of a refusal but J4
+  early : (refusal : Refusal Unit) → IsWriteRefusal false (tail_base fetched v.tail) writes refusal → (refusal ≡ TooLarge → ⊥) → written_blocks writes ≤ 128
+  early (DeviceFailed cause) why other = absurd (false≢true why)
+  early BadAddress why other = absurd (false≢true (sym why.1 ∙ valid_of (blocks_of v.tail) writes objects))
+  early BadSize why other = absurd (false≢true (sym why.2 ∙ objects))
+  early TooLarge why other = absurd (other refl)
+  early (Worn cause) why other = why.2
+  early (Full cause) why other = why.2
+  early NoMemory why other = absurd why
+  early Busy why other = absurd why
+  early BadLog why other = absurd why
+  early BadSuper why other = absurd why
+  early (Stale cause) why other = absurd why
+  early (Stranger cause) why other = absurd why
+  early (Closed cause) why other = absurd why
+  early Fenced why other = absurd why
+
+  -- where it was not refused by J4, there are few blocks
+  pub few_blocks : {T : Type 0} (answer : Result T (Refusal Unit)) → OnOk answer (CanPrepare (tail_base fetched v.tail) writes)
+      → IfErr answer (IsTailWriteRefusal (tail_base fetched v.tail) writes) → (answer ≡ Err TooLarge → ⊥) → written_blocks writes ≤ 128
+  few_blocks (Ok value) can why other = can.few
+  few_blocks (Err refusal) can why other = ⊎_elim (λ first. early refusal first (λ is. other (ap Err is))) (λ late. late.0.few) why
+
+  module _ (s : SessionState) (room : length v.memory.history + 1 < 2 ^ 62) (small : s.number < 2 ^ 62) where
+    -- the history and the session's number are not worn, so the log is
+    worn_log : (2 ^ 62 ≤ length v.memory.history + 1) ⊎ (2 ^ 62 ≤ s.number) ⊎ (2 ^ 62 ≤ next_position v.tail.log + fresh_among (tail_of v.tail.log) writes)
+        → next_position v.tail.log + fresh_among (tail_of v.tail.log) writes < 2 ^ 62 → ⊥
+    worn_log worn unworn = ⊎_elim
+        (λ (is : 2 ^ 62 ≤ length v.memory.history + 1). omega (arith, is, room))
+        (λ (other : (2 ^ 62 ≤ s.number) ⊎ (2 ^ 62 ≤ next_position v.tail.log + fresh_among (tail_of v.tail.log) writes)). ⊎_elim
+        (λ (is : 2 ^ 62 ≤ s.number). omega (arith, is, small))
+        (λ (is : 2 ^ 62 ≤ next_position v.tail.log + fresh_among (tail_of v.tail.log) writes). omega (arith, is, unworn))
+        other)
+        worn
+
+    can_prepare : CanPrepare (tail_base fetched v.tail) writes → CanPrepareWrites v s writes
+    can_prepare can = record { few = can.few; unworn = λ worn. worn_log worn can.small; room = λ full. omega (arith, full, can.tail) }
+
+    first_of : (refusal : Refusal Unit) → IsWriteRefusal false (tail_base fetched v.tail) writes refusal → IsPreparingRefusal v s writes (raised_of refusal)
+    first_of (DeviceFailed cause) why = absurd (false≢true why)
+    first_of BadAddress why = absurd (false≢true (sym why.1 ∙ valid_of (blocks_of v.tail) writes objects))
+    first_of BadSize why = absurd (false≢true (sym why.2 ∙ objects))
+    first_of TooLarge why = why.2
+    first_of (Worn cause) why = (why.2, inr (inr why.3), refl)
+    first_of (Full cause) why = (why.2, λ worn. worn_log worn why.3, why.4, refl)
+    first_of NoMemory why = absurd why
+    first_of Busy why = absurd why
+    first_of BadLog why = absurd why
+    first_of BadSuper why = absurd why
+    first_of (Stale cause) why = absurd why
+    first_of (Stranger cause) why = absurd why
+    first_of (Closed cause) why = absurd why
+    first_of Fenced why = absurd why
+
+    pub prepares_not : {T : Type 0} (answer : Result T (Refusal Unit)) (result : Result T (Refusal Told)) → IfOk answer (λ value. result ≡ Ok value)
+        → IfErr answer (λ refusal. result ≡ Err (raised_of refusal)) → IfErr answer (IsTailWriteRefusal (tail_base fetched v.tail) writes)
+        → IfErr result (IsPreparingRefusal v s writes)
+    prepares_not (Ok value) result ok err why = subst (λ r. IfErr r (IsPreparingRefusal v s writes)) (sym ok) tt
+    prepares_not (Err refusal) result ok err why = subst (λ r. IfErr r (IsPreparingRefusal v s writes)) (sym err)
+        (⊎_elim (first_of refusal)
+        (λ late. subst (λ (e : Refusal Unit). IsPreparingRefusal v s writes (raised_of e)) (sym late.1) (can_prepare late.0))
+        why)
+
+-- what is prepared has the objects of the map overwritten
+pub raised_written : (blocks : ℕ) (m : Map) (writes : List Pair) (fetched : List Update) (old new : TailState) → blocks_of old ≡ blocks
+    → new ≡ with_tail_room old new.log.room → AreObjectsOf blocks m (known_updates fetched old)
+    → (answer : Result Preparation (Refusal Unit)) (result : Result Preparation (Refusal Told)) → IfOk result (λ value. answer ≡ Ok value)
+    → IfOk answer (IfReady (λ prepared. OverwritesKnown (blocks_of new) (known_updates fetched new) prepared writes))
+    → IfOk result (IfReady (AreObjectsOf blocks (overwritten m writes)))
+raised_written blocks m writes fetched old new size same are answer (Err why) is over = tt
+raised_written blocks m writes fetched old new size same are answer (Ok (Missing missing)) is over = tt
+raised_written blocks m writes fetched old new size same are answer (Ok (Ready prepared)) is over =
+    let here : OverwritesKnown (blocks_of new) (known_updates fetched new) prepared writes =
+    subst (λ (r : Result Preparation (Refusal Unit)). IfOk r (IfReady (λ prepared. OverwritesKnown (blocks_of new) (known_updates fetched new) prepared writes))) is over in
+    let there : OverwritesKnown (blocks_of old) (known_updates fetched old) prepared writes =
+    subst (λ (t : TailState). OverwritesKnown (blocks_of t) (known_updates fetched t) prepared writes) same here in
+    objects_written blocks m writes (known_updates fetched old) prepared are
+    (subst (λ (n : ℕ). OverwritesKnown n (known_updates fetched old) prepared writes) size there)
+
+-- what a session has seen that is shown a longer front
+pub shows_front : (history seen : List Entry) (after : SessionState) (why : Refusal Told) → IsFrontRefusal history seen why → IsPrefix seen after.seen
+    → ShowsLonger history after why
+shows_front history seen after (Stale cause) why begins = (
+  IsPrefix-trans history seen after.seen why.1.0 begins,
+  omega (arith, why.1.1, IsPrefix-length seen after.seen begins),
+)
+shows_front history seen after NoMemory why begins = tt
+shows_front history seen after BadAddress why begins = tt
+shows_front history seen after BadSize why begins = tt
+shows_front history seen after TooLarge why begins = tt
+shows_front history seen after Busy why begins = tt
+shows_front history seen after (DeviceFailed cause) why begins = tt
+shows_front history seen after BadLog why begins = tt
+shows_front history seen after BadSuper why begins = tt
+shows_front history seen after (Stranger cause) why begins = tt
+shows_front history seen after (Worn cause) why begins = tt
+shows_front history seen after (Full cause) why begins = tt
+shows_front history seen after (Closed cause) why begins = tt
+shows_front history seen after Fenced why begins = tt

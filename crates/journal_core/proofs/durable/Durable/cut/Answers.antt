@@ -1,0 +1,90 @@
+use Rattle.std.proofs.Common.{List, IsTrue, ◌≡◌, ◌≤◌, ◌<◌, ◌∙◌, ℕ, length, inl, inr, refl, ap, sym, subst, arith, rules}
+use Rattle.std.proofs.lemmas.Bool.{false≢true}
+use mathlib.Core.List.{IsPrefix}
+use Rattle.journal_world.specs.declared.refusal.Refusal.{Refusal}
+use Rattle.journal_world.specs.Histories.{Entry, is_trusted}
+use Rattle.journal_memlog.specs.Logs.{tail_of}
+use Rattle.journal_wal.specs.Groups.{FitsGroup, HasGroupRoom}
+use Rattle.journal_objlog.proofs.Openings.{OnlyReads-refl}
+use Rattle.journal_objlog.proofs.Refusing.{if_err}
+use Rattle.journal_core.specs.Causes.{Told}
+use Rattle.journal_core.specs.Updates.{HaveAllSince}
+use Rattle.journal_core.specs.Durables.{DurableState, IsDurable, IsRoomRefusal}
+use Rattle.journal_core.specs.Volatiles.{VolatileState, IsVolatile, IsFrontRefusal}
+use Rattle.journal_core.specs.Pairs.{Tied, IsCutRefusal}
+use Rattle.journal_core.proofs.Enduring.{crashes_reads}
+use Rattle.journal_core.proofs.Latest.{since_later}
+use Rattle.journal_core.proofs.Pairing.{tied_roomed, crashes_roomed, cut_flies, cuts_both, tied_cut}
+use Rattle.journal_core.proofs.durable.Durable.cut.Goals as goal
+
+pub returns-in_err-front-clause-refusal : goal.returns-in_err-front-clause-refusal
+returns-in_err-front-clause-refusal g c =
+    if_err c.from_residual.result _ (IsCutRefusal c.args.memory.now c.args.self.now) c.from_residual.ensures.1
+    (λ (e : Refusal Told) is. subst (λ (r : Refusal Told). IsCutRefusal c.args.memory.now c.args.self.now r) (sym is)
+    (inl (subst (λ (d : DurableState). IsFrontRefusal c.args.memory.now.memory.history d.front c.in_err-front.field-0.0) c.self.view_is c.in_err-front.ensures.refusal)))
+
+pub returns-in_err-front-clause-crash : goal.returns-in_err-front-clause-crash
+returns-in_err-front-clause-crash g c =
+    crashes_reads g.J.Naming.blocks _ c.args.self.now c.args.self.now c.self.invariant c.self.view_is (OnlyReads-refl c.args.self.now.objects) refl
+
+pub returns-then-self-cut-clause-only : goal.returns-then-self-cut-clause-only
+returns-then-self-cut-clause-only g c = λ tied fine no fits.
+    cut_flies g.J.Naming.blocks c.args.memory.now c.args.self.now (subst (IsDurable g.J.Naming.blocks) c.self.view_is c.self.invariant) tied
+    (subst (λ (v : VolatileState). c.args.self.now.logged < v.memory.cut) c.memory.view_is
+    (subst (λ (d : DurableState). d.logged < c.memory.inside.memory.cut) c.self.view_is (omega (arith, c.if-self-cut.true, c.cut.ensures))))
+    fine fits.rest
+
+pub returns-then-self-cut-clause-crash : goal.returns-then-self-cut-clause-crash
+returns-then-self-cut-clause-crash g c =
+    crashes_reads g.J.Naming.blocks _ c.args.self.now c.args.self.now c.self.invariant c.self.view_is (OnlyReads-refl c.args.self.now.objects) refl
+
+pub returns-in_err-reserve-clause-refusal : goal.returns-in_err-reserve-clause-refusal
+returns-in_err-reserve-clause-refusal g c =
+    if_err c.from_residual-in_err-reserve.result _ (IsCutRefusal c.args.memory.now c.args.self.now) c.from_residual-in_err-reserve.ensures.1
+    (λ (e : Refusal Told) is. subst (λ (r : Refusal Told). IsCutRefusal c.args.memory.now c.args.self.now r) (sym is)
+    (inr (inl (subst (λ (n : ℕ). IsRoomRefusal c.args.self.now n c.in_err-reserve.field-0.0)
+    (c.tail_len-blocks.ensures.length ∙ ap (λ (v : VolatileState). length (tail_of v.tail.log)) c.memory.view_is) c.in_err-reserve.ensures.refusal))))
+
+pub returns-then-not-branch-clause-only : goal.returns-then-not-branch-clause-only
+returns-then-not-branch-clause-only g c = λ tied fine no fits.
+    let blocks : c.tail_len-blocks.result ≡ length (tail_of c.args.memory.now.tail.log) = c.tail_len-blocks.ensures.length ∙ ap (λ (v : VolatileState). length (tail_of v.tail.log)) c.memory.view_is in
+    false≢true (sym c.if-not-branch.true ∙ c.in_ok-reserve.ensures.fits.1 (subst (FitsGroup c.args.self.now.objects) (sym blocks) fits))
+
+pub returns-in_err-group-clause-tied : goal.returns-in_err-group-clause-tied
+returns-in_err-group-clause-tied g c = λ tied.
+    subst (λ (v : VolatileState). Tied v c.reserve.new.self) (sym c.in_err-group.ensures.err)
+    (tied_roomed c.args.memory.now c.args.self.now c.reserve.new.self c.reserve.ensures.same tied)
+
+pub take-requires-clause-room : goal.take-requires-clause-room
+take-requires-clause-room g c =
+    let blocks : c.tail_len-blocks.result ≡ length (tail_of c.args.memory.now.tail.log) = c.tail_len-blocks.ensures.length ∙ ap (λ (v : VolatileState). length (tail_of v.tail.log)) c.memory.view_is in
+    subst (HasGroupRoom c.reserve.new.self.objects) (blocks ∙ sym (ap length c.in_ok-group.ensures.group)) (c.in_ok-reserve.ensures.room c.if-not-branch.false)
+
+pub take-requires-clause-longer : goal.take-requires-clause-longer
+take-requires-clause-longer g c =
+    subst (λ (h : List Entry). IsPrefix c.reserve.new.self.front h) (sym c.in_ok-front.ensures.whole)
+    (subst (λ (h : List Entry). IsPrefix h c.args.memory.now.memory.history) (ap (λ (d : DurableState). d.front) c.self.view_is ∙ sym (ap (λ (d : DurableState). d.front) c.reserve.ensures.same))
+    c.in_ok-front.ensures.begins)
+
+pub take-requires-clause-all : goal.take-requires-clause-all
+take-requires-clause-all g c = λ trusted.
+    let history : c.in_ok-front.front ≡ c.args.memory.now.memory.history = c.in_ok-front.ensures.whole in
+    subst (λ (h : List Entry). HaveAllSince g.J.Naming.blocks h c.reserve.new.self.logged c.in_ok-group.group.items) (sym history)
+    (since_later g.J.Naming.blocks c.args.memory.now.memory.history c.args.memory.now.memory.cut c.reserve.new.self.logged c.in_ok-group.group.items
+    (subst (λ (v : VolatileState). v.memory.cut ≤ c.reserve.new.self.logged) c.memory.view_is
+    (subst (λ (n : ℕ). c.memory.inside.memory.cut ≤ n) (ap (λ (d : DurableState). d.logged) c.self.view_is ∙ sym (ap (λ (d : DurableState). d.logged) c.reserve.ensures.same))
+    (omega (arith, c.if-self-cut.false, c.cut.ensures))))
+    (c.in_ok-group.ensures.all (subst (λ (h : List Entry). IsTrue (is_trusted h)) history trusted)))
+
+pub returns-clause-cuts : goal.returns-clause-cuts
+returns-clause-cuts g c = λ done.
+    cuts_both c.args.memory.now c.cut-2.new.self c.args.self.now c.reserve.new.self c.take.new.self c.in_ok-front.front c.in_ok-group.group.items
+    c.in_ok-group.ensures.ok c.reserve.ensures.same c.in_ok-front.ensures.whole c.in_ok-group.ensures.group c.take.ensures.takes
+
+pub returns-clause-tied : goal.returns-clause-tied
+returns-clause-tied g c = λ tied.
+    tied_cut g.J.Naming.blocks c.args.memory.now c.cut-2.new.self c.args.self.now c.take.new.self
+    (subst (IsVolatile g.J.Naming.blocks) c.memory.view_is c.memory.invariant) (returns-clause-cuts g c refl) c.take.ensures.flies tied
+
+pub returns-clause-crash : goal.returns-clause-crash
+returns-clause-crash g c = crashes_roomed c.args.self.now c.reserve.new.self c.take.new.self c.reserve.ensures.same c.take.ensures.crash

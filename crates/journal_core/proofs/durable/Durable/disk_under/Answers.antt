@@ -1,0 +1,33 @@
+use Rattle.std.proofs.Common.{List, inl, ◌≤◌, ap, sym, subst, arith}
+use mathlib.Core.List.{IsPrefix}
+use Rattle.journal_world.specs.declared.refusal.Refusal.{Refusal}
+use Rattle.journal_world.specs.Histories.{floor}
+use Rattle.journal_objlog.proofs.Refusing.{if_err}
+use Rattle.journal_core.specs.Causes.{Told}
+use Rattle.journal_core.specs.Durables.{DurableState, IsDurable, disk_of}
+use Rattle.journal_core.specs.Volatiles.{VolatileState, IsFrontRefusal}
+use Rattle.journal_core.specs.Pairs.{IsUntied}
+use Rattle.journal_core.proofs.Enduring.{leaves_disk}
+use Rattle.journal_core.proofs.Pairing.{begins_not, leaves_history}
+use Rattle.journal_core.proofs.durable.Durable.disk_under.Goals as goal
+
+pub returns-in_err-front-clause-refusal : goal.returns-in_err-front-clause-refusal
+returns-in_err-front-clause-refusal g c =
+    if_err c.from_residual.result _ (IsUntied c.args.memory.now c.args.self.now c.args.self.now.marked) c.from_residual.ensures.1
+    (λ (e : Refusal Told) is. subst (λ (r : Refusal Told). IsUntied c.args.memory.now c.args.self.now c.args.self.now.marked r) (sym is)
+    (inl (subst (λ (d : DurableState). IsFrontRefusal c.args.memory.now.memory.history d.front c.in_err-front.field-0.0) c.self.view_is c.in_err-front.ensures.refusal)))
+
+pub returns-in_err-front-clause-only : goal.returns-in_err-front-clause-only
+returns-in_err-front-clause-only g c = λ tied.
+    absurd (begins_not c.args.memory.now.memory.history c.self.inside.front c.in_err-front.field-0.0 c.in_err-front.ensures.refusal
+    (subst (λ (d : DurableState). IsPrefix d.front c.args.memory.now.memory.history) (sym c.self.view_is) tied.begins))
+
+pub returns-clause-images : goal.returns-clause-images
+returns-clause-images g c = λ honest image one.
+    leaves_history g.J.Naming.blocks c.args.self.now c.args.memory.now.memory.history image
+    (subst (IsDurable g.J.Naming.blocks) c.self.view_is c.self.invariant)
+    (subst (λ (d : DurableState). IsPrefix d.front c.args.memory.now.memory.history) c.self.view_is c.in_ok-front.ensures.begins)
+    (subst (λ (v : VolatileState). floor v.memory.history ≤ c.args.self.now.marked) c.memory.view_is
+    (subst (λ (d : DurableState). floor c.memory.inside.memory.history ≤ d.marked) c.self.view_is (omega (arith, c.if-self-floor.false, c.floor.ensures))))
+    (leaves_disk g.J.Naming.blocks _ c.args.self.now (disk_of c.args.self.now) c.self.invariant c.self.view_is
+    (sym (ap disk_of c.self.view_is)) honest image one)

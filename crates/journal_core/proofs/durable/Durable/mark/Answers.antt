@@ -1,0 +1,71 @@
+use Rattle.std.proofs.Common.{List, ◌≡◌, ◌≤◌, ◌<◌, ◌++◌, ◌∷◌, ◌∙◌, [], ℕ, inl, inr, refl, ap, sym, subst, arith, rules}
+use mathlib.Core.List.{IsPrefix}
+use Rattle.journal_world.specs.declared.refusal.Refusal.{Refusal}
+use Rattle.journal_world.specs.Histories.{Entry, floor}
+use Rattle.journal_world.specs.Histories.Entry.{stable}
+use Rattle.journal_world.proofs.Prefixes.{IsPrefix-trans}
+use Rattle.journal_objlog.proofs.Openings.{OnlyReads-refl}
+use Rattle.journal_objlog.proofs.Refusing.{if_err}
+use Rattle.journal_core.specs.Causes.{Told}
+use Rattle.journal_core.specs.Durables.{DurableState}
+use Rattle.journal_core.specs.Volatiles.{VolatileState, IsFrontRefusal}
+use Rattle.journal_core.specs.Pairs.{IsMarkingRefusal, MarksBoth}
+use Rattle.journal_core.proofs.Enduring.{crashes_reads}
+use Rattle.journal_core.proofs.Pairing.{tied_mark}
+use Rattle.journal_core.proofs.durable.Durable.mark.Goals.{then-cut-self-via-then-cut-self, then-cut-self-via-else-cut-self+then-marked-self}
+use Rattle.journal_core.proofs.durable.Durable.mark.Goals as goal
+
+pub returns-in_err-front-clause-refusal : goal.returns-in_err-front-clause-refusal
+returns-in_err-front-clause-refusal g c =
+    if_err c.from_residual.result _ (IsMarkingRefusal c.args.memory.now c.args.self.now) c.from_residual.ensures.1
+    (λ (e : Refusal Told) is. subst (λ (r : Refusal Told). IsMarkingRefusal c.args.memory.now c.args.self.now r) (sym is)
+    (inl (inl (subst (λ (d : DurableState). IsFrontRefusal c.args.memory.now.memory.history d.front c.in_err-front.field-0.0) c.self.view_is c.in_err-front.ensures.refusal))))
+
+pub returns-in_err-front-clause-crash : goal.returns-in_err-front-clause-crash
+returns-in_err-front-clause-crash g c =
+    crashes_reads g.J.Naming.blocks _ c.args.self.now c.args.self.now c.self.invariant c.self.view_is (OnlyReads-refl c.args.self.now.objects) refl
+
+pub returns-then-self-marked-clause-crash : goal.returns-then-self-marked-clause-crash
+returns-then-self-marked-clause-crash g c =
+    crashes_reads g.J.Naming.blocks _ c.args.self.now c.args.self.now c.self.invariant c.self.view_is (OnlyReads-refl c.args.self.now.objects) refl
+
+pub returns-then-cut-self-clause-only : goal.returns-then-cut-self-clause-only
+returns-then-cut-self-clause-only g c = λ tied no.
+    let logged : c.self.inside.logged ≡ c.args.self.now.logged = ap (λ (d : DurableState). d.logged) c.self.view_is in
+    let coming : c.self.inside.coming ≡ c.args.self.now.coming = ap (λ (d : DurableState). d.coming) c.self.view_is in
+    let cut : c.memory.inside.memory.cut ≡ c.args.memory.now.memory.cut = ap (λ (v : VolatileState). v.memory.cut) c.memory.view_is in
+    let marked : floor c.memory.inside.memory.history ≡ floor c.args.memory.now.memory.history = ap (λ (v : VolatileState). floor v.memory.history) c.memory.view_is in
+    elim c.then-cut-self.branch [
+      | then-cut-self-via-then-cut-self w ↦ let h = w.if-cut-self in
+          inl (omega (arith, h.true, c.cut.ensures, cut, logged, coming, tied.cut, c.self.invariant.logged_to_coming))
+      | then-cut-self-via-else-cut-self+then-marked-self w ↦ let h = w.if-marked-self in
+          inr (omega (arith, h.true, c.floor-marked.ensures, marked, logged, tied.marked))
+    ]
+
+pub returns-then-cut-self-clause-crash : goal.returns-then-cut-self-clause-crash
+returns-then-cut-self-clause-crash g c =
+    crashes_reads g.J.Naming.blocks _ c.args.self.now c.args.self.now c.self.invariant c.self.view_is (OnlyReads-refl c.args.self.now.objects) refl
+
+pub returns-in_err-mark-clause-crash : goal.returns-in_err-mark-clause-crash
+returns-in_err-mark-clause-crash g c =
+    crashes_reads g.J.Naming.blocks _ c.args.self.now c.args.self.now c.self.invariant c.self.view_is (OnlyReads-refl c.args.self.now.objects) refl
+
+pub note_mark-requires : goal.note_mark-requires
+note_mark-requires g c =
+    let history : c.front-2.result ≡ c.args.memory.now.memory.history ++ stable c.self.inside.logged ∷ [] =
+    c.front-2.ensures.history ∙ ap (λ (v : VolatileState). v.memory.history) (c.memory-2.view_is ∙ c.in_ok-mark.ensures.added) in
+    record {
+      longer = subst (λ (h : List Entry). IsPrefix c.args.self.now.front h) (sym history)
+          (IsPrefix-trans c.args.self.now.front c.args.memory.now.memory.history (c.args.memory.now.memory.history ++ stable c.self.inside.logged ∷ [])
+          (subst (λ (d : DurableState). IsPrefix d.front c.args.memory.now.memory.history) c.self.view_is c.in_ok-front.ensures.begins)
+          (stable c.self.inside.logged ∷ [], refl));
+    }
+
+pub returns-clause-tied : goal.returns-clause-tied
+returns-clause-tied g c = λ tied.
+    let marks : MarksBoth c.args.memory.now c.args.self.now c.mark.new.self c.note_mark.new.self = search rules in
+    let logged : c.self.inside.logged ≡ c.args.self.now.logged = ap (λ (d : DurableState). d.logged) c.self.view_is in
+    tied_mark c.args.memory.now c.mark.new.self c.args.self.now c.note_mark.new.self
+    (omega (arith, c.if-self-marked.false, c.floor-marked.ensures, logged, ap (λ (v : VolatileState). floor v.memory.history) c.memory.view_is))
+    (omega (arith, c.if-cut-self.false, c.cut.ensures, logged, ap (λ (v : VolatileState). v.memory.cut) c.memory.view_is))
+    marks tied

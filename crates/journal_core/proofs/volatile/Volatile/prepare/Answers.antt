@@ -1,0 +1,37 @@
+use Rattle.std.proofs.Common.{inl, inr, length, IsTrue, IfErr, ◌≡◌, ◌∙◌, ap, sym, subst, arith}
+use Rattle.std.proofs.lemmas.Bool.{false≢true}
+use Rattle.journal_world.specs.Maps.{are_objects, overwritten}
+use Rattle.journal_world.specs.Histories.{is_trusted, latest}
+use Rattle.journal_objlog.specs.ObjectTails.{known_updates}
+use Rattle.journal_core.specs.Updates.{AreObjectsOf}
+use Rattle.journal_core.specs.Volatiles.{VolatileState}
+use Rattle.journal_core.specs.VolatileCommits.{IsPreparingRefusal}
+use Rattle.journal_core.proofs.Unready.{few_blocks, prepares_not, raised_written}
+use Rattle.journal_core.proofs.volatile.Volatile.prepare.Goals.{then-len-via-then-len, then-len-via-else-len+then-number-ge-LIMIT}
+use Rattle.journal_core.proofs.volatile.Volatile.prepare.Goals as goal
+
+pub returns-then-len-clause-refusal : goal.returns-then-len-clause-refusal
+returns-then-len-clause-refusal g c = (
+  few_blocks g.J.Naming.blocks (record { memory = c.self.inside.memory; tail = c.self.inside.tail; faulted = c.self.inside.faulted }) c.args.blocks.now c.args.writes.now c.self.invariant.size c.requires.objects c.prepare-prepared.result c.prepare-prepared.ensures.ok
+      c.prepare-prepared.ensures.refusal (λ is. false≢true (c.if-is_too_large.ensures.1 is)),
+  elim c.then-len.branch [
+    | then-len-via-then-len w ↦ let h = w.if-len in let same = ap (λ (v : VolatileState). length v.memory.history) c.self.view_is in
+        inl (omega (arith, h.true, c.len.ensures.length, same))
+    | then-len-via-else-len+then-number-ge-LIMIT w ↦ let h = w.if-number-ge-LIMIT in inr (inl (omega (arith, h.true, w.number.ensures)))
+  ],
+  c.none.ensures,
+)
+
+pub returns-clause-written : goal.returns-clause-written
+returns-clause-written g c = λ trusted.
+    raised_written g.J.Naming.blocks (latest c.args.self.now.memory.history) c.args.writes.now c.args.blocks.now c.self.inside.tail c.prepare-prepared.new.self
+    c.self.invariant.size c.prepare-prepared.ensures.same
+    (subst (λ (v : VolatileState). AreObjectsOf g.J.Naming.blocks (latest c.args.self.now.memory.history) (known_updates c.args.blocks.now v.tail)) (sym c.self.view_is) (c.requires.latest trusted))
+    c.prepare-prepared.result c.raise.result c.raise.ensures.only_ok c.prepare-prepared.ensures.overwrites
+
+pub returns-clause-refusal : goal.returns-clause-refusal
+returns-clause-refusal g c =
+    subst (λ (v : VolatileState). IfErr c.raise.result (IsPreparingRefusal v c.args.session.now c.args.writes.now)) c.self.view_is
+    (prepares_not g.J.Naming.blocks _ c.args.blocks.now c.args.writes.now c.self.invariant.size c.requires.objects c.args.session.now
+    (omega (arith, c.if-len.false, c.len.ensures.length)) (omega (arith, c.if-number-ge-LIMIT.false, c.number.ensures))
+    c.prepare-prepared.result c.raise.result c.raise.ensures.ok c.raise.ensures.err c.prepare-prepared.ensures.refusal)

@@ -1,0 +1,78 @@
+-- The durable and the volatile part together: what ties them, and what a hold of both does.
+use Rattle.std.specs.Prelude.{ℕ, ◌≡◌, ◌⊎◌, ◌<◌, ◌≤◌, ◌++◌, ◌∷◌, [], length, All}
+use mathlib.Core.List.{IsPrefix}
+use Rattle.journal_world.specs.declared.refusal.Refusal.{Refusal}
+use Rattle.journal_world.specs.declared.refusal.Refusal.TheVariants.{NoMemory, Stale}
+use Rattle.journal_world.specs.Histories.{count, floor}
+use Rattle.journal_world.specs.Histories.Entry.{stable}
+use Rattle.journal_memlog.specs.Logs.{next_position, tail_of}
+use Rattle.journal_wal.specs.Wal.{log_steps}
+use Rattle.journal_wal.specs.Tails.{cut_points, cut_after}
+use Rattle.journal_objlog.specs.ObjectLogs.{end_of}
+use Rattle.journal_core.specs.declared.refusal_number.RefusalNumber.TheVariants.{J9}
+use Rattle.journal_core.specs.Causes.{Told, IsExplained}
+use Rattle.journal_core.specs.Memories.{IsMarkRefusal}
+use Rattle.journal_core.specs.Durables.{DurableState, TakesCut, IsRoomRefusal}
+use Rattle.journal_core.specs.Volatiles.{VolatileState, IsFrontRefusal}
+
+-- What neither part can keep by itself. Each is looked at where a step needs it, and a pair that is tied passes
+pub record Tied (v : VolatileState) (d : DurableState) : Type 0 where
+  -- the history goes on where the durable part's front ends
+  pub begins : IsPrefix d.front v.memory.history
+  pub marked : floor v.memory.history ≡ d.marked
+  -- what is not in memory any more is logged
+  pub trimmed : v.tail.trimmed ≤ d.logged
+  pub cut : v.memory.cut ≡ d.coming
+  -- the next group begins behind the last
+  pub position : v.tail.log.cut ≡ next_position d.objects.log
+  pub logged : All (λ c. c.end ≤ end_of d.objects → c.commits ≤ d.logged) (cut_points v.tail)
+
+-- The tail became the group in flight
+pub record CutsBoth (v : VolatileState) (d : DurableState) (w : VolatileState) (e : DurableState) : Type 0 where
+  pub memory : w ≡ record v { memory = record v.memory { cut = count v.memory.history }; tail = cut_after v.tail (count v.memory.history) }
+  pub group : TakesCut v.memory.history (tail_of v.tail.log) d e
+
+-- What is logged was marked, in the history and beside the log
+pub record MarksBoth (v : VolatileState) (d : DurableState) (w : VolatileState) (e : DurableState) : Type 0 where
+  pub memory : w ≡ record v { memory = record v.memory { history = v.memory.history ++ stable d.logged ∷ []; cut = d.logged } }
+  pub durable : e ≡ record d { front = v.memory.history ++ stable d.logged ∷ []; marked = d.logged }
+
+-- All commits were marked, in the history and beside the log: those since the last cut wrote nothing
+pub record MarksAll (v : VolatileState) (d : DurableState) (w : VolatileState) (e : DurableState) : Type 0 where
+  pub memory : w ≡ record v {
+    memory = record v.memory { history = v.memory.history ++ stable (count v.memory.history) ∷ []; cut = count v.memory.history };
+  }
+  pub durable : e ≡ record d {
+    front = v.memory.history ++ stable (count v.memory.history) ∷ [];
+    marked = count v.memory.history;
+    logged = count v.memory.history;
+    coming = count v.memory.history;
+  }
+
+-- something that commits wrote is not logged yet: a group is in flight, or there is a tail
+abbrev pub AwaitsLogging : VolatileState → DurableState → Type 0
+AwaitsLogging v d = (0 < log_steps d.objects) ⊎ (0 < length (tail_of v.tail.log))
+
+-- J9: the history has a mark above n, as this cause has it
+abbrev pub IsMarkedAbove : VolatileState → ℕ → Refusal Told → Type 0
+IsMarkedAbove v n (Stale cause) = IsExplained J9 v.memory.history cause × (n < floor v.memory.history)
+IsMarkedAbove v n other = ⊥
+
+-- why a hold of both is refused: the durable part's front is the longer, or its mark is the lower
+abbrev pub IsUntied : VolatileState → DurableState → ℕ → Refusal Told → Type 0
+IsUntied v d n refusal = IsFrontRefusal v.memory.history d.front refusal ⊎ IsMarkedAbove v n refusal
+
+-- why the tail is not cut
+abbrev pub IsCutRefusal : VolatileState → DurableState → Refusal Told → Type 0
+IsCutRefusal v d refusal =
+    IsFrontRefusal v.memory.history d.front refusal
+    ⊎ IsRoomRefusal d (length (tail_of v.tail.log)) refusal
+    ⊎ (refusal ≡ NoMemory)
+
+-- why what is logged is not marked
+abbrev pub IsMarkingRefusal : VolatileState → DurableState → Refusal Told → Type 0
+IsMarkingRefusal v d refusal = IsUntied v d d.logged refusal ⊎ IsMarkRefusal v.memory.history refusal
+
+-- why the commits that wrote nothing are not marked
+abbrev pub IsRestRefusal : VolatileState → DurableState → Refusal Told → Type 0
+IsRestRefusal v d refusal = IsFrontRefusal v.memory.history d.front refusal ⊎ IsMarkRefusal v.memory.history refusal

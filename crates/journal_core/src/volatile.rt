@@ -1,0 +1,114 @@
+// The core's volatile part, and what it tells without a step.
+ghost use Rattle.std.specs.Prelude.{◌≡◌, ◌+◌, [], false, true, IfOk, IfErr, OnOk, OnErr};
+ghost use mathlib.Core.List.{IsPrefix};
+ghost use Rattle.journal_world.specs.Histories.{opened, commits_of, count};
+ghost use Rattle.journal_wal.specs.Tails.{empty_tail};
+ghost use Rattle.journal_core.specs.Memories.{IsNumberRefusal};
+ghost use Rattle.journal_core.specs.Volatiles.{IsRunning, IsEndRefusal, IsFrontRefusal};
+
+use crate::cause::Cause;
+use crate::memory::Memory;
+use crate::refusal_number::RefusalNumber;
+use journal_history::{Front, Naming, Session};
+use journal_objlog::ObjectTail;
+use journal_world::{MapRule, Refusal};
+use std::marker::Model;
+
+/// What the core has in memory alone, for a lock of its own: the history, with what is counted beside it, and the objects
+/// that commits wrote and that are not at home yet.
+///
+/// It holds no device, so that none of its functions waits for a device call. A read or a commit that needs a block which
+/// is not here says so. The caller fetches it from the durable part, and makes the call again with what was fetched.
+#[derive(Drop)]
+pub(crate) struct Volatile<'b, R: MapRule, J: Naming> {
+    pub(crate) memory: Memory<'b, R, J>,
+    pub(crate) tail: ObjectTail,
+    // A device call failed.
+    pub(crate) faulted: bool,
+}
+
+impl<'b, R: MapRule, J: Naming> Model for Volatile<'b, R, J> {
+    ghost use Rattle.journal_core.specs.Volatiles.{VolatileState, IsVolatile};
+
+    ghost Value = { VolatileState };
+
+    ghost view = { λ v. record { memory = v.memory; tail = v.tail; faulted = v.faulted } };
+
+    ghost invariant = { λ v. IsVolatile J.blocks (record { memory = v.memory; tail = v.tail; faulted = v.faulted }) };
+}
+
+impl<'b, R: MapRule, J: Naming> Volatile<'b, R, J> {
+    /// That of a mount that begins, over a disk whose log ends at a position: no commit was made.
+    pub(crate) fn new(memory: Memory<'b, R, J>, tail: ObjectTail) -> Volatile<'b, R, J>
+        requires begun { memory.cut ≡ 0 }
+        requires none { count memory.history ≡ 0 }
+        requires blocks { (opened memory.history).blocks ≡ J.blocks }
+        requires empty { tail ≡ empty_tail J.blocks tail.log.start tail.log.room }
+        ensures { result ≡ record { memory = memory.entry; tail = tail; faulted = false } }
+    {
+        // Called for its contract: there is an opening.
+        let _len = memory.len();
+        Volatile {
+            memory,
+            tail,
+            faulted: false,
+        }
+    }
+
+    /// Refuses by J13 `Closed` where it was stopped, else by J6 `DeviceFailed` where the device failed before, and
+    /// by nothing else.
+    pub(crate) fn check_running(&self) -> Result<(), Refusal<Cause<'b, J, R>>>
+        ensures running { OnOk result (IsRunning self.now) }
+        ensures refusal { IfErr result (IsEndRefusal self.now) }
+    {
+        if self.memory.is_closed() {
+            return Err(Refusal::Closed(Cause::none(RefusalNumber::J13)));
+        }
+        if self.faulted {
+            return Err(Refusal::DeviceFailed(Cause::none(RefusalNumber::J6)));
+        }
+        Ok(())
+    }
+
+    /// The whole history, where another part's front begins it. Refuses by J9 where that is the longer.
+    pub(crate) fn front_over(
+        &self,
+        seen: &Front<'b, J, R>,
+    ) -> Result<Front<'b, J, R>, Refusal<Cause<'b, J, R>>>
+        ensures whole { IfOk result (λ front. front ≡ self.now.memory.history) }
+        ensures begins { OnOk result (IsPrefix seen.now self.now.memory.history) }
+        ensures refusal { IfErr result (IsFrontRefusal self.now.memory.history seen.now) }
+    {
+        let mut front = self.memory.front();
+        front.see(seen);
+        if front.len() > self.memory.len() {
+            return Err(Refusal::Stale(Cause::of(RefusalNumber::J9, front)));
+        }
+        Ok(front)
+    }
+
+    /// A session of the next number, that no session had before. Refuses by J11. It takes no memory.
+    pub(crate) fn session(&mut self) -> Result<Session<'b, J, R>, Refusal<Cause<'b, J, R>>>
+        ensures is { IfOk result (λ session. session ≡ record { number = self.old.memory.next; mine = self.old.memory.history; seen = self.old.memory.history }) }
+        ensures fresh { commits_of self.old.memory.next self.old.memory.history ≡ [] }
+        ensures others { OnOk result (self.new ≡ record self.old { memory = record self.old.memory { next = self.old.memory.next + 1 } }) }
+        ensures refusal { IfErr result (IsNumberRefusal self.old.memory.next) }
+        ensures same { OnErr result (self.new ≡ self.old) }
+    {
+        self.memory.session()
+    }
+
+    /// Notes that a device call failed.
+    pub(crate) fn fail(&mut self)
+        ensures { self.new ≡ record self.old { faulted = true } }
+    {
+        self.faulted = true;
+    }
+
+    /// Stops it. Nothing else changes.
+    pub(crate) fn stop(&mut self)
+        ensures { self.new ≡ record self.old { memory = record self.old.memory { closed = true } } }
+    {
+        self.memory.stop();
+    }
+}

@@ -1,0 +1,149 @@
+// Commits in memory.
+ghost use Rattle.std.specs.Prelude.{◌≡◌, ◌≢◌, ◌<◌, ◌+◌, ◌^◌, ℕ, [], true, IsTrue, List, length, IfOk, IfErr, OnOk, OnErr};
+ghost use Rattle.journal_world.specs.Maps.{Map, Agrees, are_objects, overwritten};
+ghost use Rattle.journal_world.specs.Histories.{is_trusted, commits_of, latest};
+ghost use Rattle.journal_block.specs.Updates.{updates_block};
+ghost use Rattle.journal_objlog.specs.ObjectTails.{blocks_of, known_updates, tail_base, missing_blocks, TakesPrepared, IfReady, IfMissing as IfUnready};
+ghost use Rattle.journal_objlog.specs.Writes.{writes_block, written_blocks, IsPrepared};
+ghost use Rattle.journal_history.specs.Tokens.{made, next_transaction, OnlyExtends, IsReceiptFor};
+ghost use Rattle.journal_core.specs.Memories.{ShowsLonger, IsAddingRefusal};
+ghost use Rattle.journal_core.specs.Updates.{AreObjectsOf};
+ghost use Rattle.journal_core.specs.Volatiles.{IsRunning, usable};
+ghost use Rattle.journal_core.specs.VolatileCommits.{IsCommitted, IsAdded, CanPrepare, CanCommit, IsCommitRefusal, IsPreparingRefusal, IfDone, IfMissing, with_room};
+
+use crate::cause::{Cause, raise};
+use crate::commit::is_too_large;
+use crate::fetched::Fetched;
+use crate::refusal_number::RefusalNumber;
+use crate::state::LIMIT;
+use crate::transaction::Transaction;
+use crate::volatile::Volatile;
+use journal_block::Update;
+use journal_history::{Naming, Receipt, Session};
+use journal_objlog::{Preparation, Prepared, Spares};
+use journal_world::{MapRule, Objects, Refusal};
+
+/// What a commit in memory answers.
+#[derive(Drop)]
+pub(crate) enum Committing<T> {
+    /// It was made.
+    Done(T),
+    /// These blocks have to be fetched first, each once, in the order of the writes.
+    Missing(Vec<u64>),
+}
+
+impl<'b, R: MapRule, J: Naming> Volatile<'b, R, J> {
+    /// Commits the session's next transaction: adds it to the history, which the session has then seen, and overwrites
+    /// the map by its writes, in memory. A block that is written, but not as a whole, has to be in memory, or fetched and
+    /// still usable: where some are not, nothing is committed, and the answer is these.
+    ///
+    /// The first that applies of these refuses it: J13 `Closed` where it was stopped, J6 `DeviceFailed` where the device
+    /// failed before, J9 `Stale` where the session, the transaction or the fetch has seen more of the history, or it is
+    /// longer, J10 `Stranger` where the history has a commit under the session's number that the session did not make,
+    /// or a commit touched a slot under which the transaction had read, J4 `TooLarge` where more than 128 distinct blocks
+    /// are written, J11 `Worn` where the history's length, the session's number or a position of the log would reach 2^62,
+    /// J12 `Full` where the tail cannot take the blocks that do not stand in it, then J1 `NoMemory` where memory is
+    /// refused. The history and the objects are then as they were.
+    pub(crate) fn commit(
+        &mut self,
+        session: &mut Session<'b, J, R>,
+        transaction: &Transaction<'b, J, R>,
+        spares: &mut Spares,
+        fetched: &Fetched<'b, J, R>,
+    ) -> Result<Committing<Receipt<'b, J, R>>, Refusal<Cause<'b, J, R>>>
+        requires rule { (m : Map) → m.blocks ≡ J.blocks → R.statement m → Agrees m transaction.now.reads
+            → R.statement (overwritten m transaction.now.writes) }
+        ensures committed { IfOk result (IfDone (λ _. IsCommitted transaction.now.reads transaction.now.writes session.old session.new self.old self.new)) }
+        ensures receipt { IfOk result (IfDone (IsReceiptFor (next_transaction session.old transaction.now.reads transaction.now.writes) self.new.memory.history (length self.old.memory.history))) }
+        ensures can { OnOk result (CanCommit self.old session.old transaction.now) }
+        ensures agrees { OnOk result (IsTrue (is_trusted self.old.memory.history) → Agrees (latest self.old.memory.history) transaction.now.reads) }
+        ensures missing { IfOk result (IfMissing (λ blocks.
+            blocks ≡ missing_blocks J.blocks (known_updates (usable self.old fetched.now) self.old.tail) transaction.now.writes)) }
+        ensures some { IfOk result (IfMissing (λ blocks. blocks ≢ [])) }
+        ensures waits { IfOk result (IfMissing (λ _. (self.new ≡ with_room self.old self.new.tail.log.room) × OnlyExtends session.old session.new)) }
+        ensures refusal { IfErr result (IsCommitRefusal self.old session.old transaction.now) }
+        ensures same { OnErr result (self.new ≡ with_room self.old self.new.tail.log.room) }
+        ensures session { OnErr result (OnlyExtends session.old session.new) }
+        ensures longer { IfErr result (ShowsLonger self.old.memory.history session.new) }
+    {
+        self.check_running()?;
+        self.memory.admit(session, transaction)?;
+        let blocks = match self.usable(fetched) {
+            Ok(blocks) => blocks,
+            Err(why) => {
+                session.see(&fetched.front);
+                return Err(why);
+            }
+        };
+        match self.prepare(session, &transaction.writes, spares, blocks)? {
+            Preparation::Ready(prepared) => {
+                let receipt = self.add(session, transaction, prepared)?;
+                Ok(Committing::Done(receipt))
+            }
+            Preparation::Missing(blocks) => Ok(Committing::Missing(blocks)),
+        }
+    }
+
+    // Makes the writes ready, with all the memory that they take, or tells which blocks have to be fetched first.
+    // Refuses by J4, J11 and J12, then J1.
+    fn prepare(
+        &mut self,
+        session: &Session<'b, J, R>,
+        writes: &Objects,
+        spares: &mut Spares,
+        blocks: &[Update],
+    ) -> Result<Preparation, Refusal<Cause<'b, J, R>>>
+        requires objects { IsTrue (are_objects J.blocks writes.now) }
+        requires latest { IsTrue (is_trusted self.old.memory.history) → AreObjectsOf J.blocks (latest self.old.memory.history) (known_updates blocks.now self.old.tail) }
+        ensures ready { IfOk result (IfReady (TakesPrepared self.new.tail)) }
+        ensures prepared { IfOk result (IfReady (λ prepared. IsPrepared true (tail_base blocks.now self.new.tail) prepared writes.now)) }
+        ensures written { IsTrue (is_trusted self.old.memory.history) → IfOk result (IfReady
+            (AreObjectsOf J.blocks (overwritten (latest self.old.memory.history) writes.now))) }
+        ensures missing { IfOk result (IfUnready (λ missing. missing ≡ missing_blocks J.blocks (known_updates blocks.now self.old.tail) writes.now)) }
+        ensures some { IfOk result (IfUnready (λ missing. missing ≢ [])) }
+        ensures can { OnOk result (CanPrepare self.old session.now writes.now) }
+        ensures room { OnOk result ((length self.old.memory.history + 1 < 2 ^ 62) × (session.now.number < 2 ^ 62)) }
+        ensures refusal { IfErr result (IsPreparingRefusal self.old session.now writes.now) }
+        ensures same { self.new ≡ with_room self.old self.new.tail.log.room }
+    {
+        let prepared = self.tail.prepare(writes, spares, blocks);
+        if is_too_large(&prepared) {
+            return Err(Refusal::TooLarge);
+        }
+        if self.memory.len() >= LIMIT - 1 || session.number() >= LIMIT {
+            return Err(Refusal::Worn(Cause::none(RefusalNumber::J11)));
+        }
+        raise(prepared)
+    }
+
+    // Adds the transaction to the history, and overwrites the objects.
+    fn add(
+        &mut self,
+        session: &mut Session<'b, J, R>,
+        transaction: &Transaction<'b, J, R>,
+        prepared: Prepared,
+    ) -> Result<Receipt<'b, J, R>, Refusal<Cause<'b, J, R>>>
+        requires reads { IsTrue (are_objects J.blocks transaction.now.reads) }
+        requires writes { IsTrue (are_objects J.blocks transaction.now.writes) }
+        requires rule { (m : Map) → m.blocks ≡ J.blocks → R.statement m → Agrees m transaction.now.reads
+            → R.statement (overwritten m transaction.now.writes) }
+        requires agrees { IsTrue (is_trusted self.old.memory.history) → Agrees (latest self.old.memory.history) transaction.now.reads }
+        requires own { length (commits_of session.old.number self.old.memory.history) ≡ made session.old }
+        requires room { length self.old.memory.history + 1 < 2 ^ 62 }
+        requires small { session.old.number < 2 ^ 62 }
+        requires ready { TakesPrepared self.old.tail prepared }
+        requires named { (b : ℕ) → updates_block prepared b ≡ writes_block transaction.now.writes b }
+        requires written { IsTrue (is_trusted self.old.memory.history) → AreObjectsOf J.blocks (overwritten (latest self.old.memory.history) transaction.now.writes) prepared }
+        ensures added { OnOk result (IsAdded (next_transaction session.old transaction.now.reads transaction.now.writes) prepared session.old session.new self.old self.new) }
+        ensures receipt { IfOk result (IsReceiptFor (next_transaction session.old transaction.now.reads transaction.now.writes) self.new.memory.history (length self.old.memory.history)) }
+        ensures refusal { IfErr result (IsAddingRefusal self.old.memory.history) }
+        ensures same { OnErr result (self.new ≡ self.old) }
+        ensures session { OnErr result (OnlyExtends session.old session.new) }
+        ensures longer { IfErr result (ShowsLonger self.old.memory.history session.new) }
+    {
+        let receipt = self.memory.commit(session, transaction)?;
+        // Nothing fails from here on.
+        self.tail.apply(prepared);
+        Ok(receipt)
+    }
+}

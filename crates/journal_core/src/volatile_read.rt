@@ -1,0 +1,90 @@
+// Reads of what lies in memory.
+ghost use Rattle.std.specs.Prelude.{◌≡◌, Some, None, length, IsTrue, IsSome, IfOk, IfErr, IfSome, OnOk};
+ghost use mathlib.Core.List.{IsPrefix};
+ghost use Rattle.journal_world.specs.Addresses.{is_valid};
+ghost use Rattle.journal_world.specs.Maps.{value_at, is_object};
+ghost use Rattle.journal_world.specs.Histories.{is_trusted, latest};
+ghost use Rattle.journal_object.specs.Objects.{size_at};
+ghost use Rattle.journal_objlog.specs.ObjectTails.{known_at, known_updates};
+ghost use Rattle.journal_core.specs.Updates.{AreObjectsOf};
+ghost use Rattle.journal_core.specs.Volatiles.{MayRead, IsLookRefusal, IsReadRefusal, IsFrontRefusal, usable};
+
+use crate::cause::{Cause, raise};
+use crate::fetched::Fetched;
+use crate::transaction::{Found, Transaction};
+use crate::volatile::Volatile;
+use journal_block::Update;
+use journal_history::Naming;
+use journal_world::{Addr, MapRule, Refusal, slot_of};
+
+impl<'b, R: MapRule, J: Naming> Volatile<'b, R, J> {
+    /// Reads what the map after the history gives the address, into bytes that are as many as its object has: as memory
+    /// has it, or where memory has no update of its block, as it was fetched. Answers none where the block is to be
+    /// fetched: it was not, or what commits wrote after the fetch is not in memory any more. It takes no memory.
+    ///
+    /// The first that applies of these refuses it: J13 `Closed` where it was stopped, J6 `DeviceFailed` where the device
+    /// failed before, J2 `BadAddress` where the address is not valid, J9 `Stale` where the transaction or the fetch
+    /// has seen more of the history, J10 `Stranger` where a commit touched a slot under which the transaction had read.
+    pub(crate) fn read(
+        &self,
+        transaction: &Transaction<'b, J, R>,
+        addr: Addr,
+        fetched: &Fetched<'b, J, R>,
+        into: &mut [u8],
+    ) -> Result<Option<Found<'b, J, R>>, Refusal<Cause<'b, J, R>>>
+        requires size { IsTrue (is_valid J.blocks addr) → length into.old ≡ size_at J.blocks addr }
+        ensures value { IsTrue (is_trusted self.now.memory.history) → IfOk result (λ found. IsSome found → into.new ≡ value_at (latest self.now.memory.history) addr) }
+        ensures object { IfOk result (λ found. IsSome found → IsTrue (is_object J.blocks (addr, into.new))) }
+        ensures found { IfOk result (λ found. IfSome found (λ found. found ≡ record { addr = addr; seen = self.now.memory.history })) }
+        ensures lacks { IfOk result (λ found. found ≡ None → known_at (usable self.now fetched.now) self.now.tail addr ≡ None) }
+        ensures may { OnOk result (MayRead J.blocks self.now transaction.now addr) }
+        ensures refusal { IfErr result (IsReadRefusal J.blocks self.now transaction.now addr fetched.now) }
+    {
+        self.check_read(transaction, addr)?;
+        let blocks = self.usable(fetched)?;
+        if !raise(self.tail.read(addr, blocks, into))? {
+            return Ok(None);
+        }
+        Ok(Some(Found {
+            addr,
+            touched: self.memory.touched(slot_of(addr)),
+            front: self.memory.front(),
+        }))
+    }
+
+    /// Refuses a read as `read` does, by what is known before the value is looked for: J13, J6, J2, and by what the
+    /// transaction has seen and read J9 and J10.
+    pub(crate) fn check_read(
+        &self,
+        transaction: &Transaction<'b, J, R>,
+        addr: Addr,
+    ) -> Result<(), Refusal<Cause<'b, J, R>>>
+        ensures may { OnOk result (MayRead J.blocks self.now transaction.now addr) }
+        ensures refusal { IfErr result (IsLookRefusal J.blocks self.now transaction.now addr) }
+    {
+        self.check_running()?;
+        if !self.tail.layout().is_valid(addr) {
+            return Err(Refusal::BadAddress);
+        }
+        self.memory.check_transaction(transaction)
+    }
+
+    // The fetched blocks that may be used. Refuses by J9 where the fetch has seen more of the history.
+    pub(crate) fn usable<'a>(
+        &self,
+        fetched: &'a Fetched<'b, J, R>,
+    ) -> Result<&'a [Update], Refusal<Cause<'b, J, R>>>
+        ensures blocks { IfOk result (λ blocks. blocks.now ≡ usable self.now fetched.now) }
+        ensures latest { IsTrue (is_trusted self.now.memory.history) → IfOk result (λ blocks.
+            AreObjectsOf J.blocks (latest self.now.memory.history) (known_updates blocks.now self.now.tail)) }
+        ensures begins { OnOk result (IsPrefix fetched.now.front self.now.memory.history) }
+        ensures refusal { IfErr result (IsFrontRefusal self.now.memory.history fetched.now.front) }
+    {
+        self.front_over(&fetched.front)?;
+        if self.tail.trimmed() <= fetched.commits {
+            Ok(&fetched.updates)
+        } else {
+            Ok(&[])
+        }
+    }
+}
