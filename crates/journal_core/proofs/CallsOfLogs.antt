@@ -1,15 +1,15 @@
 -- Which calls of an object log let no group come or go.
-use Rattle.std.proofs.Common.{inl, ◌≡◌, ◌≢◌, ◌<◌, ◌≤◌, ◌-◌, ◌+◌, ℕ, zero, suc, Bool, true, false, List, drop, length, IsTrue, Result, Ok, Err, IsErr, IfOk, IfErr, refl, sym, ap, subst, ◌∙◌, arith, length-drop}
+use Rattle.std.proofs.Common.{inl, ◌≡◌, ◌-◌, ℕ, zero, suc, Bool, true, false, drop, length, IsTrue, Result, Ok, Err, IsErr, IfOk, IfErr, refl, sym, ap, subst, ◌∙◌, arith, length-drop}
 use Rattle.std.proofs.lemmas.Bool.{false≢true}
 use Rattle.journal_world.specs.declared.refusal.Refusal.{Refusal}
 use Rattle.journal_world.specs.declared.refusal.Refusal.TheVariants.{NoMemory, BadAddress, BadSize, TooLarge, Busy, DeviceFailed, BadLog, BadSuper, Stale, Stranger, Worn, Full, Closed, Fenced}
-use Rattle.journal_memlog.specs.Logs.{LogState, tail_of, trimmed}
+use Rattle.journal_memlog.specs.Logs.{LogState, next_position, tail_of}
 use Rattle.journal_wal.specs.declared.step.GroupStep.{GroupStep}
 use Rattle.journal_wal.specs.declared.step.GroupStep.TheVariants.{Idle as LogIdle, Cut, Put as LogPut, Logged}
 use Rattle.journal_wal.specs.declared.step.InstallStep.{InstallStep}
 use Rattle.journal_wal.specs.declared.step.InstallStep.TheVariants.{Idle, Put, Freed}
 use Rattle.journal_disk.specs.Disks.{DiskState, Keeps}
-use Rattle.journal_wal.specs.Wal.{WalState, with_room, log_steps, install_steps, tail_length, LogsOn, LogAnswers, Installs, InstallMoves, BeginsInstall, InstallsOn, Frees, InstallAnswers, IsInstallRefusal}
+use Rattle.journal_wal.specs.Wal.{WalState, with_room, log_steps, install_steps, tail_length, LogsOn, LogAnswers, InstallMoves, Frees, InstallAnswers, IsInstallRefusal}
 use Rattle.journal_objlog.specs.ObjectLogs.{OnlyReads, KeepsMaps, LogsMaps, is_faulted}
 use Rattle.journal_core.specs.Durables.{DurableState, LogAnswers as DurableAnswers}
 use Rattle.journal_core.proofs.Enduring.{StaysCut}
@@ -22,6 +22,7 @@ stays_log old new log idle = record {
   tail = λ empty ends. ap (λ (l : LogState). length (tail_of l)) log ∙ empty;
   logged = ap (λ (l : LogState). l.logged) log;
   cut = ap (λ (l : LogState). l.cut) log;
+  next = λ is ends. ap next_position log ∙ is ∙ sym (ap (λ (l : LogState). l.cut) log);
   idle = idle;
 }
 
@@ -39,6 +40,7 @@ stays_read old new reads = record {
   tail = λ empty ends. ap tail_length reads.same ∙ empty;
   logged = ap (λ (w : WalState). w.log.logged) reads.same;
   cut = ap (λ (w : WalState). w.log.cut) reads.same;
+  next = λ is ends. ap (λ (w : WalState). next_position w.log) reads.same ∙ is ∙ sym (ap (λ (w : WalState). w.log.cut) reads.same);
   idle = λ fine none. (by (is_faulted old) refl fine, sym (ap log_steps reads.same) ∙ none);
 }
   where
@@ -62,6 +64,16 @@ stays_freed old new frees idle = record {
   );
   logged = ap (λ (l : LogState). l.logged) frees.log;
   cut = ap (λ (l : LogState). l.cut) frees.log;
+  next = λ is ends. omega (
+    arith,
+    ap next_position frees.log,
+    ap (λ (l : LogState). l.cut) frees.log,
+    length-drop (frees.upto - old.log.start) old.log.updates,
+    is,
+    ends,
+    frees.above,
+    frees.below,
+  );
   idle = idle;
 }
 

@@ -1,9 +1,8 @@
 -- Each call keeps what the durable part keeps, and leaves of its disk only what it may leave.
-use Rattle.std.proofs.Common.{◌≡◌, ◌≢◌, inl, inr, ⊎_elim, ◌<◌, ◌≤◌, ◌-◌, ◌+◌, ℕ, Bool, true, false, cond, List, [], ◌∷◌, ◌++◌, drop, length, IsTrue, Option, Some, None, refl, sym, ap, subst, ◌∙◌, arith, length-drop}
-use Rattle.std.proofs.lemmas.Bool.{false≢true}
+use Rattle.std.proofs.Common.{◌≡◌, inr, ⊎_elim, ◌<◌, ◌≤◌, ℕ, Bool, true, false, cond, List, [], ◌∷◌, length, IsTrue, Some, None, refl, sym, ap, subst, ◌∙◌, arith, length-append}
 use mathlib.Core.List.{IsPrefix}
 use Rattle.journal_world.specs.declared.address.Addr.{Addr}
-use Rattle.journal_world.specs.Addresses.{Value, is_valid}
+use Rattle.journal_world.specs.Addresses.{is_valid}
 use Rattle.journal_world.specs.Maps.{Map, SameMap, value_at}
 use Rattle.journal_world.specs.Histories.{Entry, opened, is_trusted, commits, count, at, latest}
 use Rattle.journal_world.specs.Histories.Entry.{opening}
@@ -16,7 +15,7 @@ use Rattle.journal_block.specs.UpdateLaws.{updated-named, updated-unnamed}
 use Rattle.journal_disk.specs.Disks.{Past, DiskState, Keeps}
 use Rattle.journal_disk.specs.Images.{IsImage, EveryImage}
 use Rattle.journal_disk.specs.Laws.{leaves_also, leaves_none}
-use Rattle.journal_memlog.specs.Logs.{LogState, tail_of}
+use Rattle.journal_memlog.specs.Logs.{LogState, next_position, tail_of}
 use Rattle.journal_object.specs.Objects.{IsMapOf, map_of_blocks}
 use Rattle.journal_wal.specs.Wal.{WalState, size_of, blocks_now, blocks_logged, log_steps, tail_length, IsAtRest, EndsGroup}
 use Rattle.journal_wal.specs.Groups.{TakesGroup, HasGroupRoom}
@@ -28,7 +27,7 @@ use Rattle.journal_objlog.specs.ObjectTails.{known_object}
 use Rattle.journal_objlog.specs.ObjectLogs.{map_now, map_cut, map_logged, IsCutLogged, MayOpenAs, Crashes as MapCrashes, KeepsMaps, EndsMap, OnlyReads, is_faulted as is_log_faulted, disk_of as log_disk}
 use Rattle.journal_objlog.proofs.MapsOfBlocks.{Law, HasObjects-map_of}
 use Rattle.journal_core.specs.Updates.{IsSince, IsLastSince, HaveAllSince}
-use Rattle.journal_core.specs.Durables.{DurableState, disk_of, is_faulted, Leaves, Crashes, IsLoggedAt, IsDurable, IsBlockAfter, begun_durable}
+use Rattle.journal_core.specs.Durables.{DurableState, disk_of, Leaves, Crashes, IsDurable, IsBlockAfter, begun_durable}
 use Rattle.journal_core.proofs.Fronts.{at-longer, count-longer, some-longer, opened-longer, trusted-longer}
 
 -- what a crash may leave is the map after the commits that are logged, or after those that come
@@ -122,6 +121,7 @@ pub record StaysCut (old new : WalState) : Type 0 where
   pub tail : tail_length old ≡ 0 → old.log.logged ≤ old.log.cut → tail_length new ≡ 0
   pub logged : new.log.logged ≡ old.log.logged
   pub cut : new.log.cut ≡ old.log.cut
+  pub next : next_position old.log ≡ old.log.cut → old.log.logged ≤ old.log.cut → next_position new.log ≡ new.log.cut
   pub idle : is_log_faulted new ≡ false → log_steps new ≡ 0 → (is_log_faulted old ≡ false) × (log_steps old ≡ 0)
 
 module _ (blocks : ℕ) (d : DurableState) (kept : IsDurable blocks d) where
@@ -138,6 +138,7 @@ module _ (blocks : ℕ) (d : DurableState) (kept : IsDurable blocks d) where
     coming_to_count = kept.coming_to_count;
     tail = stays.tail kept.tail kept.ends;
     ends = omega (arith, stays.logged, stays.cut, kept.ends);
+    next = stays.next kept.next kept.ends;
     idle = λ fine none. let was = stays.idle fine none in stays.logged ∙ kept.idle was.0 was.1 ∙ sym stays.cut;
     rest = λ none. kept.rest (sym stays.logged ∙ none ∙ stays.cut);
     maps = λ honest. let was : IsTrue (disk_of d).honest = subst IsTrue crash.keeps.honest honest in record {
@@ -161,6 +162,7 @@ module _ (blocks : ℕ) (d : DurableState) (kept : IsDurable blocks d) where
     coming_to_count = kept.coming_to_count;
     tail = ap (λ (log : LogState). length (tail_of log)) end.end ∙ kept.tail;
     ends = omega (arith, ends);
+    next = ap next_position end.end ∙ kept.next ∙ sym (ap (λ (log : LogState). log.cut) end.end);
     idle = λ fine none. ends;
     rest = λ none. refl;
     maps = λ honest. let was : IsTrue (disk_of d).honest = subst IsTrue crash.keeps.honest honest in record {
@@ -186,6 +188,7 @@ module _ (blocks : ℕ) (d : DurableState) (kept : IsDurable blocks d) where
     coming_to_count = omega (arith, kept.coming_to_count, count-longer d.front front kept.begun longer);
     tail = kept.tail;
     ends = kept.ends;
+    next = kept.next;
     idle = kept.idle;
     rest = kept.rest;
     maps = λ honest. record {
@@ -268,6 +271,7 @@ module _ (blocks : ℕ) (d : DurableState) (kept : IsDurable blocks d) (front : 
     coming_to_count = omega (arith, counted);
     tail = takes.tail;
     ends = omega (arith, flies);
+    next = omega (arith, ap next_position takes.log, ap (λ (log : LogState). log.cut) takes.log, length-append d.objects.log.updates group);
     idle = λ fine none. absurd (omega (arith, takes.steps, none));
     rest = λ none. absurd (omega (arith, flies, none));
     maps = λ honest. let was : IsTrue (disk_of d).honest = subst IsTrue crash.keeps.honest honest in record {
@@ -294,6 +298,7 @@ module _ (blocks : ℕ) (d : DurableState) (kept : IsDurable blocks d) (front : 
     coming_to_count = omega (arith, counted);
     tail = kept.tail;
     ends = kept.ends;
+    next = kept.next;
     idle = kept.idle;
     rest = λ _. refl;
     maps = λ honest. record {
@@ -311,11 +316,11 @@ module _ (blocks : ℕ) (d : DurableState) (kept : IsDurable blocks d) (front : 
           open_blocks (all (trusts honest))))
 
 -- what was opened is kept
-pub kept_begun : (blocks : ℕ) (objects : WalState) (front : List Entry) → size_of objects ≡ blocks → IsAtRest objects
+pub kept_begun : (blocks : ℕ) (objects : WalState) (front : List Entry) → size_of objects ≡ blocks → IsAtRest objects → next_position objects.log ≡ objects.log.cut
     → front ≡ opening (map_now objects) (log_disk objects).honest ∷ [] → ((content : Content) → IsMapOf content (map_of_blocks blocks content))
     → (IsTrue (log_disk objects).honest → EveryImage (log_disk objects).past (OpensAs (map_now objects)))
     → IsDurable blocks (begun_durable objects front)
-kept_begun blocks objects front size rest begun law images =
+kept_begun blocks objects front size rest next begun law images =
     subst (λ (h : List Entry). IsDurable blocks (begun_durable objects h)) (sym begun) (record {
       size = size;
       begun = λ is. cc (is);
@@ -326,6 +331,7 @@ kept_begun blocks objects front size rest begun law images =
       coming_to_count = omega arith;
       tail = rest.tail;
       ends = omega (arith, rest.cut);
+      next = next;
       idle = λ fine none. rest.cut;
       rest = λ _. refl;
       maps = λ honest. record {

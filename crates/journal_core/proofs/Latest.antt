@@ -1,13 +1,13 @@
 -- What updates have of the objects that commits wrote, as the history grows.
-use Rattle.std.proofs.Common.{◌≡◌, ◌≢◌, ◌⊎◌, inl, inr, ⊎_elim, ◌<◌, ◌≤◌, ◌+◌, ◌==◌, ◌&&◌, ◌||◌, ℕ, Bool, true, false, cond, List, [], ◌∷◌, ◌++◌, length, IsTrue, Option, Some, None, All, refl, sym, ap, subst, ◌∙◌, arith}
-use Rattle.std.proofs.lemmas.Bool.{false≢true, eqb-true, eq-eqb, cases_lt}
+use Rattle.std.proofs.Common.{◌≡◌, ◌≢◌, ◌⊎◌, inl, inr, ⊎_elim, ◌<◌, ◌≤◌, ◌==◌, ◌&&◌, ◌||◌, ℕ, Bool, true, false, cond, List, [], ◌∷◌, ◌++◌, IsTrue, Option, Some, None, All, refl, sym, ap, subst, ◌∙◌, arith}
+use Rattle.std.proofs.lemmas.Bool.{false≢true, eqb-true, cases_lt}
 use Rattle.std.proofs.lemmas.Cmp.{nat_eq_equiv}
 use Rattle.std.proofs.lemmas.List.Elements.{All-head, All-tail}
 use mathlib.Core.List.{IsPrefix}
 use Rattle.journal_world.specs.declared.address.Addr.{Addr}
 use Rattle.journal_world.specs.Addresses.{Value, is_valid, is_same}
 use Rattle.journal_world.specs.Maps.{Pair, Map, Transaction, value_at, overwritten}
-use Rattle.journal_world.specs.Histories.{Entry, commits, count, opened, after, at, latest}
+use Rattle.journal_world.specs.Histories.{Entry, count, after, at, latest}
 use Rattle.journal_world.specs.Histories.Entry.{commit, stable}
 use Rattle.journal_world.proofs.SameMaps.{value_at-overwritten}
 use Rattle.journal_world.proofs.LongerHistories.{at-count, count-commit, latest-commit, opened-append}

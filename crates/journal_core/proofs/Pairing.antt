@@ -1,27 +1,29 @@
 -- What a hold of both parts finds, and what it keeps of what ties them.
-use Rattle.std.proofs.Common.{◌≡◌, ◌≢◌, ◌⊎◌, inl, inr, ⊎_elim, ◌<◌, ◌≤◌, ◌+◌, ℕ, Bool, true, false, IsTrue, List, [], ◌∷◌, ◌++◌, length, All, ◌-◌, refl, sym, ap, subst, ◌∙◌, arith, length-append, length-drop}
+use Rattle.std.proofs.Common.{◌≡◌, ⊎_elim, ◌<◌, ◌≤◌, ◌+◌, ℕ, false, IsTrue, List, [], ◌∷◌, ◌++◌, length, All, ◌-◌, refl, sym, ap, subst, ◌∙◌, arith, length-append, length-drop}
 use Rattle.std.proofs.lemmas.List.Elements.{All-push}
 use mathlib.Core.List.{IsPrefix}
 use Rattle.journal_world.specs.declared.refusal.Refusal.{Refusal}
 use Rattle.journal_world.specs.declared.refusal.Refusal.TheVariants.{NoMemory, BadAddress, BadSize, TooLarge, Busy, DeviceFailed, BadLog, BadSuper, Stale, Stranger, Worn, Full, Closed, Fenced}
-use Rattle.journal_world.specs.Maps.{Map, SameMap}
-use Rattle.journal_world.specs.Histories.{Entry, is_trusted, count, floor, at}
-use Rattle.journal_world.specs.Histories.Entry.{stable}
-use Rattle.journal_world.proofs.Marks.{floor-mark, count-mark}
-use Rattle.journal_world.proofs.Prefixes.{IsPrefix-refl, IsPrefix-length}
+use Rattle.journal_world.specs.Maps.{Map, Transaction, SameMap}
+use Rattle.journal_world.specs.Histories.{Entry, is_trusted, count, floor}
+use Rattle.journal_world.specs.Histories.Entry.{commit, stable}
+use Rattle.journal_world.proofs.Marks.{floor-mark, floor-commit, count-mark}
+use Rattle.journal_world.proofs.Prefixes.{IsPrefix-refl, IsPrefix-trans, IsPrefix-length}
 use Rattle.journal_block.specs.declared.update.Update.{Update}
 use Rattle.journal_block.specs.Block.{Bytes}
 use Rattle.journal_disk.specs.Laws.{leaves_also}
 use Rattle.journal_memlog.specs.Logs.{LogState, tail_of, next_position}
 use Rattle.journal_wal.specs.Wal.{WalState, with_room, log_steps}
-use Rattle.journal_wal.specs.Groups.{FitsGroup, TakesGroup}
+use Rattle.journal_wal.specs.Groups.{TakesGroup}
 use Rattle.journal_wal.specs.Tails.{TailState, DropsCuts, cut_points, cut_after}
-use Rattle.journal_wal.specs.declared.tail.CutPoint.{CutPoint}
 use Rattle.journal_objlog.specs.ObjectLogs.{end_of}
 use Rattle.journal_core.specs.Causes.{Told}
 use Rattle.journal_core.specs.Cores.{Leaves as LeavesHistory}
-use Rattle.journal_core.specs.Durables.{DurableState, Leaves, Crashes, IsDurable, TakesCut, is_faulted, disk_of}
-use Rattle.journal_core.specs.Volatiles.{VolatileState, IsVolatile, IsCutOf, IsFrontRefusal}
+use Rattle.journal_core.specs.Durables.{DurableState, Leaves, Crashes, IsDurable, TakesCut, LogAnswers, is_faulted, disk_of}
+use Rattle.journal_core.proofs.Enduring.{StaysCut}
+use Rattle.journal_wal.specs.declared.step.GroupStep.{GroupStep}
+use Rattle.journal_wal.specs.declared.step.GroupStep.TheVariants.{Idle, Cut, Put, Logged}
+use Rattle.journal_core.specs.Volatiles.{VolatileState, IsVolatile, IsFrontRefusal}
 use Rattle.journal_core.specs.Pairs.{Tied, CutsBoth, MarksBoth, MarksAll}
 use Rattle.journal_core.specs.Updates.{HaveAllSince}
 use Rattle.journal_core.proofs.Latest.{since_later, since_mark}
@@ -229,3 +231,52 @@ rest_since blocks v n held le empty trusted =
     (since_mark blocks v.memory.history (count v.memory.history) v.memory.cut [] held.begun
     (subst (HaveAllSince blocks v.memory.history v.memory.cut) empty
     (held.updates (subst IsTrue (is_trusted-append v.memory.history (stable (count v.memory.history) ∷ []) held.begun) trusted)).since_last))
+
+-- ---- holds of one part
+
+-- the logger's call
+pub tied_logged : (blocks : ℕ) (v : VolatileState) (d e : DurableState) (step : GroupStep) → IsVolatile blocks v → IsDurable blocks d → LogAnswers d step e
+    → Tied v d → Tied v e
+tied_logged blocks v d e Idle held kept answers tied = subst (Tied v) (sym answers.1) tied
+tied_logged blocks v d e Cut held kept answers tied = absurd answers
+tied_logged blocks v d e Put held kept answers tied = subst (Tied v) (sym answers.1) (record {
+  begins = tied.begins;
+  marked = tied.marked;
+  trimmed = tied.trimmed;
+  cut = tied.cut;
+  position = tied.position ∙ sym (ap next_position answers.0.log);
+  logged = λ k c lt below. tied.logged k c lt (omega (arith, below, ap (λ (l : LogState). l.logged) answers.0.log));
+})
+tied_logged blocks v d e Logged held kept answers tied = subst (Tied v) (sym answers.1) (record {
+  begins = tied.begins;
+  marked = tied.marked;
+  trimmed = omega (arith, tied.trimmed, kept.logged_to_coming);
+  cut = tied.cut;
+  position = tied.position ∙ sym (ap next_position answers.0.end);
+  logged = λ k c lt below. let place = held.cuts k c lt in omega (arith, place.earlier, tied.cut);
+})
+
+-- the installer's call, and one that was refused: no group came or went
+pub tied_stays : (blocks : ℕ) (v : VolatileState) (d e : DurableState) → IsDurable blocks d → e ≡ record d { objects = e.objects } → StaysCut d.objects e.objects
+    → Tied v d → Tied v e
+tied_stays blocks v d e kept same stays tied = subst (Tied v) (sym same) (record {
+  begins = tied.begins;
+  marked = tied.marked;
+  trimmed = tied.trimmed;
+  cut = tied.cut;
+  position = tied.position ∙ kept.next ∙ sym stays.cut ∙ sym (stays.next kept.next kept.ends);
+  logged = λ k c lt below. tied.logged k c lt (omega (arith, below, stays.logged));
+})
+
+-- a commit
+pub tied_committed : (v w : VolatileState) (d : DurableState) (t : Transaction) → w.memory.history ≡ v.memory.history ++ commit t ∷ [] → w.memory.cut ≡ v.memory.cut
+    → w.tail.trimmed ≡ v.tail.trimmed → cut_points w.tail ≡ cut_points v.tail → w.tail.log.cut ≡ v.tail.log.cut → Tied v d → Tied w d
+tied_committed v w d t added cut trimmed points position tied = record {
+  begins = subst (IsPrefix d.front) (sym added)
+      (IsPrefix-trans d.front v.memory.history (v.memory.history ++ commit t ∷ []) tied.begins (commit t ∷ [], refl));
+  marked = ap floor added ∙ floor-commit v.memory.history t ∙ tied.marked;
+  trimmed = omega (arith, trimmed, tied.trimmed);
+  cut = cut ∙ tied.cut;
+  position = position ∙ tied.position;
+  logged = subst (All (λ c. c.end ≤ end_of d.objects → c.commits ≤ d.logged)) (sym points) tied.logged;
+}

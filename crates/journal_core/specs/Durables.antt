@@ -77,6 +77,7 @@ pub record IsDurable (blocks : ℕ) (d : DurableState) : Type 0 where
   -- what commits wrote comes as a group, and never as a tail
   pub tail : tail_length d.objects ≡ 0
   pub ends : end_of d.objects ≤ d.objects.log.cut
+  pub next : next_position d.objects.log ≡ d.objects.log.cut
   -- where no call is due, no group is in flight; and where none is, no more commits come
   pub idle : is_faulted d ≡ false → log_steps d.objects ≡ 0 → IsCutLogged d.objects
   pub rest : IsCutLogged d.objects → d.logged ≡ d.coming

@@ -1,25 +1,21 @@
 -- What contracts see of the core's volatile part, what its type keeps by itself, and what its calls do. No device is asked for
 -- any of it.
-use Rattle.std.specs.Prelude.{ℕ, ◌≡◌, ◌≢◌, ◌⊎◌, ◌<◌, ◌≤◌, ◌+◌, ◌^◌, nat_le, if◌then◌else◌, Bool, true, false, IsTrue, List, [], ◌∷◌, length, All}
+use Rattle.std.specs.Prelude.{ℕ, ◌≡◌, ◌≢◌, ◌⊎◌, ◌≤◌, nat_le, if◌then◌else◌, Bool, true, false, IsTrue, List, [], All}
 use mathlib.Core.List.{IsPrefix}
 use Rattle.journal_world.specs.declared.address.Addr.{Addr}
 use Rattle.journal_world.specs.declared.refusal.Refusal.{Refusal}
-use Rattle.journal_world.specs.declared.refusal.Refusal.TheVariants.{NoMemory, BadAddress, TooLarge, DeviceFailed, Stale, Stranger, Worn, Full, Closed}
+use Rattle.journal_world.specs.declared.refusal.Refusal.TheVariants.{BadAddress, DeviceFailed, Stale, Stranger, Closed}
 use Rattle.journal_world.specs.Addresses.{is_valid}
-use Rattle.journal_world.specs.Maps.{Pair}
-use Rattle.journal_world.specs.Histories.{Entry, opened, is_trusted, commits_of, count}
+use Rattle.journal_world.specs.Histories.{Entry, opened, is_trusted, count}
 use Rattle.journal_block.specs.declared.update.Update.{Update}
 use Rattle.journal_memlog.specs.Logs.{next_position, tail_of}
 use Rattle.journal_wal.specs.Tails.{TailState, cut_points, updates_from}
-use Rattle.journal_wal.specs.declared.append.TheConstants.{MAX_TAIL, MAX_UPDATES}
 use Rattle.journal_wal.specs.declared.tail.CutPoint.{CutPoint}
-use Rattle.journal_objlog.specs.ObjectTails.{blocks_of, tail_base}
-use Rattle.journal_objlog.specs.Writes.{written_blocks, fresh_blocks}
+use Rattle.journal_objlog.specs.ObjectTails.{blocks_of}
 use Rattle.journal_history.specs.Soundness.{IsLonger}
-use Rattle.journal_history.specs.Tokens.{SessionState, made}
-use Rattle.journal_core.specs.declared.refusal_number.RefusalNumber.TheVariants.{J6, J9, J11, J12, J13}
+use Rattle.journal_core.specs.declared.refusal_number.RefusalNumber.TheVariants.{J6, J9, J13}
 use Rattle.journal_core.specs.Causes.{Told, IsUnexplained, IsExplained}
-use Rattle.journal_core.specs.Memories.{MemoryState, HasSeen, IsBehind, IsMoved, IsStale, IsUnknown}
+use Rattle.journal_core.specs.Memories.{MemoryState, IsBehind, IsMoved}
 use Rattle.journal_core.specs.Transactions.{TransactionState, AreUnmoved}
 use Rattle.journal_core.specs.Updates.{HaveAllSince}
 use Rattle.journal_core.specs.Durables.{FetchedState}

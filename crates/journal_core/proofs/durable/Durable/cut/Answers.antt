@@ -1,4 +1,4 @@
-use Rattle.std.proofs.Common.{List, IsTrue, ◌≡◌, ◌≤◌, ◌<◌, ◌∙◌, ℕ, length, inl, inr, refl, ap, sym, subst, arith, rules}
+use Rattle.std.proofs.Common.{List, IsTrue, ◌≡◌, ◌≤◌, ◌<◌, ◌∙◌, ℕ, length, inl, inr, refl, ap, sym, subst, arith}
 use Rattle.std.proofs.lemmas.Bool.{false≢true}
 use mathlib.Core.List.{IsPrefix}
 use Rattle.journal_world.specs.declared.refusal.Refusal.{Refusal}

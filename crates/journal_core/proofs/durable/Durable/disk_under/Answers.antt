@@ -1,4 +1,4 @@
-use Rattle.std.proofs.Common.{List, inl, ◌≤◌, ap, sym, subst, arith}
+use Rattle.std.proofs.Common.{inl, ◌≤◌, ap, sym, subst, arith}
 use mathlib.Core.List.{IsPrefix}
 use Rattle.journal_world.specs.declared.refusal.Refusal.{Refusal}
 use Rattle.journal_world.specs.Histories.{floor}

@@ -1,5 +1,4 @@
-use Rattle.std.proofs.Common.{◌≡◌, ◌<◌, ◌≤◌, ◌+◌, ℕ, IsTrue, List, length, map, get_or, set, All, length-set, refl, sym, ap, subst, ◌∙◌, arith, rules}
-use Rattle.std.specs.List.{AllWithin}
+use Rattle.std.proofs.Common.{◌≡◌, ◌<◌, ℕ, IsTrue, length, get_or, length-set, sym, ap, subst, ◌∙◌, arith}
 use Rattle.std.proofs.Math.Seq.{map-set_same}
 use Rattle.std.proofs.lemmas.List.Elements.{All-set, AllWithin-more_set}
 use Rattle.journal_world.specs.Histories.{is_trusted}

@@ -1,7 +1,6 @@
-use Rattle.std.proofs.Common.{◌≡◌, ◌<◌, ◌≤◌, ℕ, IsTrue, List, length, map, All}
+use Rattle.std.proofs.Common.{◌≡◌, ◌<◌, IsTrue, length, map, All}
 use Rattle.std.specs.List.{AllWithin}
 use Rattle.journal_world.specs.Histories.{is_trusted}
-use Rattle.journal_block.specs.declared.update.Update.{Update}
 use Rattle.journal_objlog.specs.ObjectLogs.{OnlyReads}
 use Rattle.journal_core.specs.Durables.{IsBlockAfter}
 use Rattle.journal_core.proofs.durable.Durable.fetch.Given as goal

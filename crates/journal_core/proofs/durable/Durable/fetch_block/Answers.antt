@@ -1,4 +1,4 @@
-use Rattle.std.proofs.Common.{◌≡◌, Result, Ok, Err, OnOk, IfOk, IsTrue, refl, sym, subst}
+use Rattle.std.proofs.Common.{◌≡◌, Result, Ok, Err, OnOk, IfOk, IsTrue, sym, subst}
 use Rattle.journal_world.specs.Histories.{is_trusted}
 use Rattle.journal_core.specs.Durables.{DurableState, IsBlockAfter}
 use Rattle.journal_core.proofs.Enduring.{crashes_read, logged_block}

@@ -1,11 +1,10 @@
-use Rattle.std.proofs.Common.{List, IsTrue, ◌≡◌, ◌≤◌, ◌<◌, ◌++◌, ◌∷◌, ◌∙◌, [], ℕ, inl, inr, refl, ap, sym, subst, arith, rules}
+use Rattle.std.proofs.Common.{List, IsTrue, ◌≡◌, ◌++◌, ◌∷◌, ◌∙◌, [], ℕ, inl, inr, refl, ap, sym, subst, arith}
 use mathlib.Core.List.{IsPrefix}
 use Rattle.journal_world.specs.declared.refusal.Refusal.{Refusal}
 use Rattle.journal_world.specs.Histories.{Entry, is_trusted, count, floor}
 use Rattle.journal_world.specs.Histories.Entry.{stable}
 use Rattle.journal_world.proofs.Marks.{count-mark}
 use Rattle.journal_world.proofs.Prefixes.{IsPrefix-trans}
-use Rattle.journal_memlog.specs.Logs.{tail_of}
 use Rattle.journal_objlog.proofs.Openings.{OnlyReads-refl}
 use Rattle.journal_objlog.proofs.Refusing.{if_err}
 use Rattle.journal_core.specs.Causes.{Told}

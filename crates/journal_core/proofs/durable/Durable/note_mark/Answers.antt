@@ -1,4 +1,4 @@
-use Rattle.std.proofs.Common.{List, refl, sym, subst}
+use Rattle.std.proofs.Common.{refl, sym, subst}
 use mathlib.Core.List.{IsPrefix}
 use Rattle.journal_core.specs.Durables.{DurableState}
 use Rattle.journal_core.proofs.Enduring.{kept_mark, crashes_noted}

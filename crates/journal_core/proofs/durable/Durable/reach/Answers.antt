@@ -1,4 +1,4 @@
-use Rattle.std.proofs.Common.{List, IsTrue, refl, sym, subst, []}
+use Rattle.std.proofs.Common.{IsTrue, refl, sym, subst, []}
 use mathlib.Core.List.{IsPrefix}
 use Rattle.journal_world.specs.Histories.{is_trusted}
 use Rattle.journal_objlog.specs.ObjectLogs.{IsCutLogged}

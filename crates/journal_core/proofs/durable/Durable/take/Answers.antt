@@ -1,4 +1,4 @@
-use Rattle.std.proofs.Common.{List, ◌<◌, ⊎_elim, IsTrue, length, refl, sym, subst, arith}
+use Rattle.std.proofs.Common.{◌<◌, ⊎_elim, IsTrue, length, sym, subst, arith}
 use mathlib.Core.List.{IsPrefix}
 use Rattle.journal_world.specs.Histories.{is_trusted}
 use Rattle.journal_wal.specs.Groups.{HasGroupRoom}

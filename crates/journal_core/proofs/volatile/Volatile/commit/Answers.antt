@@ -1,4 +1,4 @@
-use Rattle.std.proofs.Common.{List, subst}
+use Rattle.std.proofs.Common.{subst}
 use mathlib.Core.List.{IsPrefix}
 use Rattle.journal_core.specs.Durables.{FetchedState}
 use Rattle.journal_core.proofs.Unready.{shows_front}

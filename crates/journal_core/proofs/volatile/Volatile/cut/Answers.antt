@@ -2,7 +2,7 @@ use Rattle.std.proofs.Common.{◌≡◌, ◌∙◌, ap, refl, sym, subst}
 use Rattle.journal_world.specs.Histories.{count}
 use Rattle.journal_wal.specs.Tails.{TailState, cut_after}
 use Rattle.journal_core.specs.Memories.{MemoryState}
-use Rattle.journal_core.specs.Volatiles.{VolatileState, IsVolatile}
+use Rattle.journal_core.specs.Volatiles.{IsVolatile}
 use Rattle.journal_core.proofs.Staying.{kept_cut}
 use Rattle.journal_core.proofs.Stepping.{of_ok}
 use Rattle.journal_core.proofs.volatile.Volatile.cut.Goals as goal

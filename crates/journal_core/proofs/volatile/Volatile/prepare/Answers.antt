@@ -1,7 +1,6 @@
-use Rattle.std.proofs.Common.{inl, inr, length, IsTrue, IfErr, ◌≡◌, ◌∙◌, ap, sym, subst, arith}
+use Rattle.std.proofs.Common.{inl, inr, length, IfErr, ap, sym, subst, arith}
 use Rattle.std.proofs.lemmas.Bool.{false≢true}
-use Rattle.journal_world.specs.Maps.{are_objects, overwritten}
-use Rattle.journal_world.specs.Histories.{is_trusted, latest}
+use Rattle.journal_world.specs.Histories.{latest}
 use Rattle.journal_objlog.specs.ObjectTails.{known_updates}
 use Rattle.journal_core.specs.Updates.{AreObjectsOf}
 use Rattle.journal_core.specs.Volatiles.{VolatileState}

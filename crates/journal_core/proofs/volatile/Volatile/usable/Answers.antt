@@ -1,4 +1,4 @@
-use Rattle.std.proofs.Common.{IsTrue, List, [], ◌≤◌, sym, subst, arith}
+use Rattle.std.proofs.Common.{IsTrue, List, [], sym, subst, arith}
 use mathlib.Core.List.{IsPrefix}
 use Rattle.journal_world.specs.Histories.{is_trusted, latest}
 use Rattle.journal_block.specs.declared.update.Update.{Update}
