@@ -7,9 +7,12 @@ use Rattle.journal_world.specs.Histories.{count, floor}
 use Rattle.journal_world.specs.Histories.Entry.{stable}
 use Rattle.journal_memlog.specs.Logs.{next_position, tail_of}
 use Rattle.journal_wal.specs.Wal.{log_steps}
+use Rattle.journal_wal.specs.Groups.{FitsGroup}
 use Rattle.journal_wal.specs.Tails.{cut_points, cut_after}
 use Rattle.journal_objlog.specs.ObjectLogs.{end_of}
 use Rattle.journal_core.specs.declared.refusal_number.RefusalNumber.TheVariants.{J9}
+use Rattle.journal_core.specs.declared.step.LogStep.{LogStep}
+use Rattle.journal_core.specs.declared.step.LogStep.TheVariants.{Idle, Cut, Marked}
 use Rattle.journal_core.specs.Causes.{Told, IsExplained}
 use Rattle.journal_core.specs.Memories.{IsMarkRefusal}
 use Rattle.journal_core.specs.Durables.{DurableState, TakesCut, IsRoomRefusal}
@@ -49,9 +52,23 @@ pub record MarksAll (v : VolatileState) (d : DurableState) (w : VolatileState) (
     coming = count v.memory.history;
   }
 
+-- what was done where no device call was due, by what is answered
+abbrev pub Settles : VolatileState → DurableState → LogStep → VolatileState → DurableState → Type 0
+Settles v d Idle w e = (w ≡ v) × (e ≡ d)
+Settles v d Cut w e = CutsBoth v d w e
+Settles v d (Marked n) w e = ((n ≡ d.logged) × MarksBoth v d w e) ⊎ ((n ≡ count v.memory.history) × MarksAll v d w e)
+Settles v d other w e = ⊥
+
 -- something that commits wrote is not logged yet: a group is in flight, or there is a tail
 abbrev pub AwaitsLogging : VolatileState → DurableState → Type 0
 AwaitsLogging v d = (0 < log_steps d.objects) ⊎ (0 < length (tail_of v.tail.log))
+
+-- Nothing of that is due: what is logged is marked, or a group is in flight; the tail has no place, or is empty; and something
+-- awaits logging, or all commits are marked
+pub record IsSettled (v : VolatileState) (d : DurableState) : Type 0 where
+  pub marked : (d.logged < d.coming) ⊎ (d.logged ≡ d.marked)
+  pub cut : FitsGroup d.objects (length (tail_of v.tail.log)) → ⊥
+  pub rest : AwaitsLogging v d ⊎ (count v.memory.history ≤ floor v.memory.history)
 
 -- J9: the history has a mark above n, as this cause has it
 abbrev pub IsMarkedAbove : VolatileState → ℕ → Refusal Told → Type 0
@@ -76,3 +93,7 @@ IsMarkingRefusal v d refusal = IsUntied v d d.logged refusal ⊎ IsMarkRefusal v
 -- why the commits that wrote nothing are not marked
 abbrev pub IsRestRefusal : VolatileState → DurableState → Refusal Told → Type 0
 IsRestRefusal v d refusal = IsFrontRefusal v.memory.history d.front refusal ⊎ IsMarkRefusal v.memory.history refusal
+
+-- why nothing of that is done
+abbrev pub IsSettlingRefusal : VolatileState → DurableState → Refusal Told → Type 0
+IsSettlingRefusal v d refusal = IsMarkingRefusal v d refusal ⊎ IsCutRefusal v d refusal ⊎ IsRestRefusal v d refusal

@@ -9,11 +9,12 @@ ghost use Rattle.journal_wal.specs.Wal.{with_room};
 ghost use Rattle.journal_objlog.specs.ObjectLogs.{end_of, IsCutLogged};
 ghost use Rattle.journal_core.specs.Cores.{Leaves as LeavesHistory};
 ghost use Rattle.journal_core.specs.Durables.{Crashes, disk_of, is_faulted};
-ghost use Rattle.journal_core.specs.Pairs.{Tied, CutsBoth, MarksBoth, MarksAll, AwaitsLogging, IsUntied, IsCutRefusal, IsMarkingRefusal, IsRestRefusal};
+ghost use Rattle.journal_core.specs.Pairs.{Tied, CutsBoth, MarksBoth, MarksAll, Settles, IsSettled, AwaitsLogging, IsUntied, IsCutRefusal, IsMarkingRefusal, IsRestRefusal, IsSettlingRefusal};
 
 use crate::cause::Cause;
 use crate::durable::Durable;
 use crate::refusal_number::RefusalNumber;
+use crate::step::LogStep;
 use crate::volatile::Volatile;
 use journal_disk::BlockDisk;
 use journal_history::Naming;
@@ -132,6 +133,33 @@ impl<'b, D: BlockDisk, R: MapRule, J: Naming> Durable<'b, D, R, J> {
         self.reach(memory.memory.front(), commits);
         self.note_mark(memory.memory.front());
         Ok(true)
+    }
+
+    /// Does what is due of both parts where no device call is: marks what is logged; else cuts; else marks commits that
+    /// wrote nothing. It is idle where there is none of these.
+    pub(crate) fn settle(
+        &mut self,
+        memory: &mut Volatile<'b, R, J>,
+    ) -> Result<LogStep, Refusal<Cause<'b, J, R>>>
+        ensures ok { IfOk result (λ step. Settles memory.old self.old step memory.new self.new) }
+        ensures idle { Tied memory.old self.old → is_faulted self.old ≡ false → IfOk result (λ step. step ≡ LogStep.Idle → IsSettled memory.old self.old) }
+        ensures refusal { IfErr result (IsSettlingRefusal memory.old self.old) }
+        ensures memory { OnErr result (memory.new ≡ memory.old) }
+        ensures tied { Tied memory.old self.old → Tied memory.new self.new }
+        ensures crash { Crashes self.old self.new }
+    {
+        let logged = self.logged;
+        if self.mark(memory)? {
+            return Ok(LogStep::Marked(logged));
+        }
+        if self.cut(memory)? {
+            return Ok(LogStep::Cut);
+        }
+        let commits = memory.memory.count();
+        if self.mark_rest(memory)? {
+            return Ok(LogStep::Marked(commits));
+        }
+        Ok(LogStep::Idle)
     }
 
     // Whether something that commits wrote is not logged yet.
