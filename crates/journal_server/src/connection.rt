@@ -22,8 +22,9 @@ use std::io::{Read, Write};
 use std::sync::Wait;
 
 // The most bytes that are read at once. The calls of a piece that are to be stable are waited for once: so a piece holds
-// some thirty WRITEs of a whole block.
-const PIECE_BYTES: usize = 131_072;
+// fifteen WRITEs of a whole block, and no more records, each of which takes memory however short it is, than four peers may
+// send at one time.
+const PIECE_BYTES: usize = 65_536;
 
 /// How a connection ended that was served to its end.
 #[derive(Clone, Copy, Debug, PartialEq, Eq)]
@@ -59,7 +60,7 @@ pub enum ConnFault {
 /// Answers the calls that the reader gives, in order, up to the first bad record, each at the clock's moment behind the
 /// gate, which it passes as `number` with the count of the calls before it. The replies go to the writer.
 ///
-/// It reads at most 128 KiB at once, and answers all calls that are complete then, in turns of at most 64 KiB or 1024
+/// It reads at most 64 KiB at once, and answers all calls that are complete then, in turns of at most 64 KiB or 1024
 /// replies, before it reads on. Of a turn it does all calls, and waits once until the last of those is stable that are to be:
 /// the replies in front of the first of them go out before, and the others after. It may wait for the peer, and for the
 /// journal.
