@@ -1,6 +1,6 @@
 // Numbers, each out or not.
-ghost use Rattle.std.specs.Prelude.{ℕ, ◌≡◌, ◌+◌, ◌<◌, ◌≤◌, ◌^◌, ◌↔◌, true, false, IsTrue, IfSome, IfNone, Some, vec_len, length, slice_get};
-ghost use Rattle.journal_alloc.specs.Numbers.{IsOut, IsFree, IsLowestFree, AreOutBelow, with_out};
+ghost use Rattle.std.specs.Prelude.{ℕ, ◌≡◌, ◌+◌, ◌<◌, ◌≤◌, ◌^◌, ◌↔◌, true, false, IsTrue, IfSome, IfNone, Some, vec_len, vec_capacity, length, slice_get};
+ghost use Rattle.journal_alloc.specs.Numbers.{IsOut, IsFree, IsLowestFree, TakesMany, AreOutBelow, free_places, free_count, with_out};
 
 use std::marker::Model;
 
@@ -11,18 +11,21 @@ pub struct Alloc {
     out: Vec<bool>,
     // All places below this one are out, so the lowest that is not stands here or above.
     start: usize,
+    // How many are not out.
+    free: usize,
 }
 
 impl Model for Alloc {
-    ghost use Rattle.std.specs.Prelude.{◌+◌, ◌<◌, ◌≤◌, ◌^◌, length};
-    ghost use Rattle.journal_alloc.specs.Numbers.{Numbers, AreOutBelow};
+    ghost use Rattle.std.specs.Prelude.{◌≡◌, ◌+◌, ◌<◌, ◌≤◌, ◌^◌, length};
+    ghost use Rattle.journal_alloc.specs.Numbers.{Numbers, AreOutBelow, free_places};
 
     ghost Value = { Numbers };
 
     ghost view = { λ alloc. record { first = alloc.first; out = alloc.out.items } };
 
     ghost invariant = { λ alloc. (alloc.first + length alloc.out.items < 2 ^ 64)
-        × (alloc.start ≤ length alloc.out.items) × AreOutBelow alloc.out.items alloc.start };
+        × (alloc.start ≤ length alloc.out.items) × AreOutBelow alloc.out.items alloc.start
+        × (alloc.free ≡ free_places alloc.out.items) };
 }
 
 impl Alloc {
@@ -32,10 +35,12 @@ impl Alloc {
         requires in_range { first + vec_len out < 2 ^ 64 }
         ensures numbers { result ≡ record { first = first; out = out.items } }
     {
+        let free = count_free(&out);
         Alloc {
             first,
             out,
             start: 0,
+            free,
         }
     }
 
@@ -48,13 +53,31 @@ impl Alloc {
         ensures none { IfNone result ((n : ℕ) → IsFree self.old n → ⊥) }
         ensures unchanged { IfNone result (self.new ≡ self.old) }
     {
-        let place = first_free(&self.out, self.start);
-        self.start = place;
-        if place == self.out.len() {
+        if self.free == 0 {
             return None;
         }
-        self.out[place] = true;
-        Some(self.first + place as u64)
+        Some(self.take_lowest())
+    }
+
+    /// Hands out so many numbers, or none. Each is the lowest that is not out then, so they rise; they are written
+    /// behind what `out` has, whose room was reserved, and are out then.
+    ///
+    /// No, and nothing changes, where fewer are not out.
+    pub fn take_many(&mut self, n: usize, out: &mut Vec<u64>) -> bool
+        requires room { vec_len out.old + n ≤ vec_capacity out.old }
+        ensures enough { IsTrue result ↔ (n ≤ free_count self.old) }
+        ensures taken { IsTrue result → TakesMany n self.old self.new out.old.items out.new.items }
+        ensures unchanged { result ≡ false → (self.new ≡ self.old) × (out.new ≡ out.old) }
+        ensures length { IsTrue result → vec_len out.new ≡ vec_len out.old + n }
+        ensures capacity { vec_capacity out.new ≡ vec_capacity out.old }
+    {
+        if self.free < n {
+            return false;
+        }
+        for _ in 0..n {
+            out.push_reserved(self.take_lowest());
+        }
+        true
     }
 
     /// Takes a number back, and says whether it was out. It is not out then, and the others stay.
@@ -73,7 +96,21 @@ impl Alloc {
         }
         self.out[place] = false;
         self.start = self.start.min(place);
+        self.free += 1;
         true
+    }
+
+    // Hands out the lowest number that is not out; there is one.
+    fn take_lowest(&mut self) -> u64
+        requires { 0 < free_count self.old }
+        ensures lowest { IsLowestFree self.old result }
+        ensures taken { self.new ≡ with_out self.old result true }
+    {
+        let place = first_free(&self.out, self.start);
+        self.out[place] = true;
+        self.start = place;
+        self.free -= 1;
+        self.first + place as u64
     }
 
     // Where the number stands in the list.
@@ -102,4 +139,11 @@ fn first_free(out: &[bool], start: usize) -> usize
         }
     }
     out.len()
+}
+
+// How many places are not out.
+fn count_free(out: &[bool]) -> usize
+    ensures { result ≡ free_places out.now }
+{
+    out.iter().filter(|is_out| !**is_out).count()
 }

@@ -55,6 +55,20 @@ fn a_number_that_came_back_goes_again(rt: HostRuntime) -> Result<(), Fail> {
 }
 
 #[test]
+fn so_many_numbers_go_at_once_or_none(rt: HostRuntime) -> Result<(), Fail> {
+    let mut numbers = four(&rt)?;
+    let mut out = Vec::with_capacity(rt.alloc(), 4)?;
+    let too_many = numbers.take_many(4, &mut out);
+    let two = numbers.take_many(2, &mut out);
+    let back = numbers.give(10);
+    let none = numbers.take_many(0, &mut out);
+    let rest = numbers.take_many(2, &mut out);
+    assert_eq!(rt; (too_many, two, back, none, rest), (false, true, true, true, true));
+    assert_eq!(rt; (out.as_slice(), numbers.take()), ([10, 12, 10, 13].as_slice(), None));
+    Ok(())
+}
+
+#[test]
 fn what_is_not_out_is_not_taken_back(rt: HostRuntime) -> Result<(), Fail> {
     let mut numbers = four(&rt)?;
     let taken = give_all(&mut numbers, &[0, 9, 10, 12, 14, u64::MAX]);

@@ -1,0 +1,3 @@
+pub mod Counting
+pub mod Taking
+pub mod Keeping
