@@ -54,17 +54,29 @@ fn a_number_that_came_back_goes_again(rt: HostRuntime) -> Result<(), Fail> {
     Ok(())
 }
 
+// Whether so many are handed out.
+fn take(numbers: &mut Alloc, n: usize, out: &mut Vec<u64>) -> Result<bool, Fail> {
+    out.reserve(n)?;
+    Ok(numbers.take_many(n, out))
+}
+
 #[test]
 fn so_many_numbers_go_at_once_or_none(rt: HostRuntime) -> Result<(), Fail> {
     let mut numbers = four(&rt)?;
-    let mut out = Vec::with_capacity(rt.alloc(), 4)?;
-    let too_many = numbers.take_many(4, &mut out);
-    let two = numbers.take_many(2, &mut out);
+    let mut out = Vec::new(rt.alloc());
+    let too_many = take(&mut numbers, 4, &mut out)?;
+    let two = take(&mut numbers, 2, &mut out)?;
     let back = numbers.give(10);
-    let none = numbers.take_many(0, &mut out);
-    let rest = numbers.take_many(2, &mut out);
-    assert_eq!(rt; (too_many, two, back, none, rest), (false, true, true, true, true));
-    assert_eq!(rt; (out.as_slice(), numbers.take()), ([10, 12, 10, 13].as_slice(), None));
+    let none = take(&mut numbers, 0, &mut out)?;
+    let rest = take(&mut numbers, 2, &mut out)?;
+    assert_eq!(rt;
+        (too_many, two, back, none, rest),
+        (false, true, true, true, true)
+    );
+    assert_eq!(rt;
+        (out.as_slice(), numbers.take()),
+        ([10, 12, 10, 13].as_slice(), None)
+    );
     Ok(())
 }
 
