@@ -8,7 +8,7 @@ use anyhow::{Result, bail};
 use journal_disk::{BlockDisk, MemDisk};
 use journal_filestore::{FileStore, Found, Handle, How, NewTime, Settings};
 use journal_history::{Book, Naming, Session};
-use journal_inode::{SoundFiles, format};
+use journal_inode::{FormatVersion, SoundFiles, format};
 use journal_nfs3::{Verifier, answer};
 use journal_rpc::read_call;
 use journal_world::{Moment, Refused};
@@ -46,7 +46,7 @@ pub fn measure<R: Threads + Wait + Clock + Sync>(
     calls: u32,
 ) -> Result<CallFigures> {
     let disk = MemDisk::new::<()>(alloc, DISK_BLOCKS).map_err(refused)?;
-    let disk = match format(alloc, disk, NOW) {
+    let disk = match format(alloc, disk, NOW, FormatVersion::One) {
         Ok(disk) => disk,
         Err(Refused { refusal, disk: _ }) => return Err(refused(refusal)),
     };

@@ -3,6 +3,7 @@ use Rattle.std.proofs.Common.{ℕ, zero, suc, ◌≡◌, ◌<◌, ◌≤◌, tru
 use Rattle.std.proofs.lemmas.Bool.{ne_eqb}
 use Rattle.journal_world.specs.Maps.{Map}
 use Rattle.journal_twophase.specs.Transactions.{TxnState}
+use Rattle.journal_inode.specs.declared.version.FormatVersion.TheVariants.{One}
 use Rattle.journal_inode.specs.declared.node.Time.{Time}
 use Rattle.journal_inode.specs.declared.node.FileNode.{FileNode}
 use Rattle.journal_inode.specs.declared.node.Node.{Node}
@@ -23,7 +24,7 @@ use Rattle.journal_filestore.proofs.FilesReplaced.{IsFileNumber-test}
 use Rattle.journal_filestore.proofs.Finding.{case-gone, case-directory, case-regular, IsAt-is, entry_at}
 
 -- the attributes of a sound file
-pub attributes-data : (m : Map) (i : ℕ) (f : FileNode) → IsSoundFile m f → attributes i (data_of m f) ≡ attributes_of_node i f
+pub attributes-data : (m : Map) (i : ℕ) (f : FileNode) → IsSoundFile One m f → attributes i (data_of m f) ≡ attributes_of_node i f
 attributes-data m i f sound = ap (λ n. record { number = i; size = n; mtime = f.mtime }) sound.whole
 
 -- the root is at no file's number
@@ -32,7 +33,7 @@ not_root zero t from placed = omega arith
 not_root (suc zero) t from placed = omega arith
 not_root (suc (suc k)) t from placed = placed
 
-pub no_root : (m : Map) (j : ℕ) (t : Time) → HasSoundFiles m → is_file_number j ≡ true → node_at m j ≡ Root t → ⊥
+pub no_root : (m : Map) (j : ℕ) (t : Time) → HasSoundFiles One m → is_file_number j ≡ true → node_at m j ≡ Root t → ⊥
 no_root m j t sound number is =
     not_root j t (IsFileNumber-test j number).from (subst (IsInPlace j) is (sound.placed j (IsFileNumber-test j number).to))
 
@@ -50,7 +51,7 @@ module _ {A : Type 0} (blocks : ℕ) (k : Files → FileTarget → Outcome A) (i
       (λ m sound at. sym (case-directory (k (files_of m)) m i generation p t is at ∙ shows (files_of m) (IsAt-is m i generation p (Directory t) is at).1))
 
   pub Does-regular : (answer : Result A Status) (f : FileNode) → p ≡ Regular f
-      → ((m : Map) → IsSoundFile m f → k (files_of m) (file i (data_of m f)) ≡ (answer, files_of m)) → Does blocks case_of t1.reads t1.writes answer
+      → ((m : Map) → IsSoundFile One m f → k (files_of m) (file i (data_of m f)) ≡ (answer, files_of m)) → Does blocks case_of t1.reads t1.writes answer
   Does-regular answer f is shows =
       Does-told blocks case_of t0 t1 answer _ fresh found
       (λ m sound at.
@@ -59,8 +60,8 @@ module _ {A : Type 0} (blocks : ℕ) (k : Files → FileTarget → Outcome A) (i
 
   -- the file is changed, or its block read
   pub Does-changed : (answer : Result A Status) (f : FileNode) (t2 : TxnState) (Q : Map → Map → Type 0) → p ≡ Regular f → Makes blocks t1 t2 Q
-      → ((m n : Map) → HasSoundFiles m → IsSoundFile m f → is_file_number i ≡ true → node_at m i ≡ File f → Q m n
-      → HasSoundFiles n × ((answer, files_of n) ≡ k (files_of m) (file i (data_of m f))))
+      → ((m n : Map) → HasSoundFiles One m → IsSoundFile One m f → is_file_number i ≡ true → node_at m i ≡ File f → Q m n
+      → HasSoundFiles One n × ((answer, files_of n) ≡ k (files_of m) (file i (data_of m f))))
       → Does blocks case_of t2.reads t2.writes answer
   Does-changed answer f t2 Q is made shows =
       Does-made blocks case_of t0 t1 t2 answer _ Q found made
@@ -71,14 +72,14 @@ module _ {A : Type 0} (blocks : ℕ) (k : Files → FileTarget → Outcome A) (i
 
   -- in the root, an inode was read
   pub Does-in_root : (answer : Result A Status) (t : Time) (j : ℕ) (n : Node) (t2 : TxnState) → p ≡ Directory t → LearnsThat blocks t1 t2 (λ m. node_at m j ≡ n)
-      → ((m : Map) → HasSoundFiles m → (files_of m).root ≡ t → node_at m j ≡ n → k (files_of m) root ≡ (answer, files_of m)) → Does blocks case_of t2.reads t2.writes answer
+      → ((m : Map) → HasSoundFiles One m → (files_of m).root ≡ t → node_at m j ≡ n → k (files_of m) root ≡ (answer, files_of m)) → Does blocks case_of t2.reads t2.writes answer
   Does-in_root answer t j n t2 is read shows =
       Does-told blocks case_of t0 t2 answer _ fresh (Tells-both blocks t0 t1 t2 _ _ found read)
       (λ m sound told. sym (case-directory (k (files_of m)) m i generation p t is told.0 ∙ shows m sound (IsAt-is m i generation p (Directory t) is told.0).1 told.1))
 
   -- in the root, an inode was read, and then something made
   pub Does-made_in_root : (answer : Result A Status) (t : Time) (j : ℕ) (n : Node) (t2 t3 : TxnState) (Q : Map → Map → Type 0) → p ≡ Directory t → LearnsThat blocks t1 t2 (λ m. node_at m j ≡ n) → Makes blocks t2 t3 Q
-      → ((m after : Map) → HasSoundFiles m → (files_of m).root ≡ t → node_at m j ≡ n → Q m after → HasSoundFiles after × ((answer, files_of after) ≡ k (files_of m) root))
+      → ((m after : Map) → HasSoundFiles One m → (files_of m).root ≡ t → node_at m j ≡ n → Q m after → HasSoundFiles One after × ((answer, files_of after) ≡ k (files_of m) root))
       → Does blocks case_of t3.reads t3.writes answer
   Does-made_in_root answer t j n t2 t3 Q is read made shows =
       Does-made blocks case_of t0 t2 t3 answer _ Q (Tells-both blocks t0 t1 t2 _ _ found read) made
@@ -87,7 +88,7 @@ module _ {A : Type 0} (blocks : ℕ) (k : Files → FileTarget → Outcome A) (i
       (both.0, both.1 ∙ sym (case-directory (k (files_of m)) m i generation p t is told.0)))
 
 -- A file that was changed
-pub changed-puts : (m n : Map) (i : ℕ) (f : FileNode) (d : FileData) (before after : Attributes) → IsSoundFile m f → is_file_number i ≡ true → node_at m i ≡ File f
+pub changed-puts : (m n : Map) (i : ℕ) (f : FileNode) (d : FileData) (before after : Attributes) → IsSoundFile One m f → is_file_number i ≡ true → node_at m i ≡ File f
     → before ≡ attributes_of_node i f → after ≡ attributes i d → Puts m n i (record { generation = f.generation; file = Some d })
     → (Ok (record { before = before; after = after }), files_of n) ≡ changed (files_of m) i (data_of m f) d
 changed-puts m n i f d before after sound number is was will puts =

@@ -1,6 +1,6 @@
 -- CREATE, as its transaction makes it.
-use Rattle.std.proofs.Common.{ℕ, ◌≡◌, ◌≢◌, ◌<◌, ◌≤◌, ◌+◌, ◌-◌, Bool, true, false, List, [], ◌∷◌, ◌++◌, length, replicate, Option, Some, None, Result, Ok, Err, refl, sym, ap, subst, ◌∙◌, arith}
-use Rattle.std.specs.Prelude.{unwrap_or}
+use Rattle.std.proofs.Common.{ℕ, ◌≡◌, ◌≢◌, ◌<◌, ◌≤◌, ◌+◌, ◌-◌, ◌^◌, zero, suc, Bool, true, false, List, [], ◌∷◌, ◌++◌, length, replicate, Option, Some, None, Result, Ok, Err, refl, sym, ap, subst, ◌∙◌, arith, lit<}
+use Rattle.std.specs.Prelude.{unwrap_or, slice_index}
 use Rattle.std.proofs.lemmas.Bool.{cond-true, cond-false, eq-eqb, ne_eqb}
 use Rattle.std.proofs.lemmas.List.{replicate-append-replicate, length-replicate}
 use Rattle.journal_world.specs.declared.address.Kind.TheVariants.{Block}
@@ -9,14 +9,15 @@ use Rattle.journal_world.specs.declared.moment.TheConstants.{MAX_NANOS}
 use Rattle.journal_world.specs.Addresses.{Value, zeros_of}
 use Rattle.journal_world.specs.Maps.{Map}
 use Rattle.journal_twophase.specs.Transactions.{TxnState}
+use Rattle.journal_inode.specs.declared.version.FormatVersion.TheVariants.{One}
 use Rattle.journal_inode.specs.declared.node.Time.{Time}
 use Rattle.journal_inode.specs.declared.node.FileNode.{FileNode}
 use Rattle.journal_inode.specs.declared.node.Node.{Node}
 use Rattle.journal_inode.specs.declared.node.Node.TheVariants.{Free, Root, File}
-use Rattle.journal_inode.specs.declared.node.TheConstants.{FILE_BYTES}
+use Rattle.journal_inode.specs.declared.node.TheConstants.{FILE_BYTES, MORE_BLOCKS}
 use Rattle.journal_inode.specs.Places.{object}
 use Rattle.journal_inode.specs.Places.Object.{inode, bit, block}
-use Rattle.journal_inode.specs.Nodes.{inode_bytes, Fits}
+use Rattle.journal_inode.specs.Nodes.{no_more, inode_bytes, Fits}
 use Rattle.journal_inode.specs.Sound.{node_at, IsSoundFile, HasSoundFiles}
 use Rattle.journal_filestore.specs.declared.reply.Found.{Found}
 use Rattle.journal_filestore.specs.declared.status.Status.{Status}
@@ -90,7 +91,7 @@ module _ (blocks : ℕ) (s : Settings) (now : Time) (j : ℕ) (f : FileNode) (t 
   Makes-over g answer free small is told made =
       Makes-like blocks t0 t1 _ _
       (λ m n sound puts here root_is.
-      let whole : IsSoundFile m f = sound.files j f (IsFileNumber-test j number).to here in
+      let whole : IsSoundFile One m f = sound.files j f (IsFileNumber-test j number).to here in
       let same : g.generation ≡ f.generation = ap (λ x. x.generation) is in (
         (puts number here).sound,
         created-puts m n j g t (with_settings (data_of m f) s now) ((files_of m).at j).generation answer root_is told
@@ -103,7 +104,16 @@ module _ (blocks : ℕ) (s : Settings) (now : Time) (j : ℕ) (f : FileNode) (t 
 
 -- the new file's inode
 abbrev pub new_node : ℕ → Settings → Time → ℕ → FileNode
-new_node g s now b = record { generation = g + 1; size = unwrap_or s.size 0; block = b; mtime = time_after (Some 0) s.mtime now now }
+new_node g s now b = record { generation = g + 1; size = unwrap_or s.size 0; block = b; more = no_more; mtime = time_after (Some 0) s.mtime now now }
+
+zero_at : (n k : ℕ) → slice_index (replicate n 0) k ≡ 0
+zero_at zero k = refl
+zero_at (suc n) zero = refl
+zero_at (suc n) (suc k) = zero_at n k
+
+-- the numbers of no blocks fit their bytes
+pub no_more_fits : (k : ℕ) → slice_index no_more k < 2 ^ 64
+no_more_fits k = subst (λ n. n < 2 ^ 64) (sym (zero_at MORE_BLOCKS k)) (lit< tt)
 
 -- without a time given it is the moment's, whether a size is given or not
 pub time_of_new : (size : Option ℕ) (t : NewTime) (now old : Time) → old ≡ now → time_after size t now old ≡ time_after (Some 0) t now now
@@ -162,7 +172,7 @@ module _ (blocks : ℕ) (s : Settings) (now : Time) (j last : ℕ) (t : Time) (n
       (λ m after seen o here root_is.
       let puts : Puts m after j (record { generation = last + 1; file = Some (new_file s now) }) =
       Puts-created m after j last new bytes number seen.sound here wrote_block.on_disk.0 (subst (λ x. b < x) (sym seen.on_disk) wrote_block.on_disk.1) has_bit (read.now m (back m seen) ∙ clear)
-      (omega arith) (sym (length-replicate {A = ℕ} size 0)) (subst (λ x. x ≤ FILE_BYTES) (sym (length-replicate {A = ℕ} size 0)) fits_file)
+      refl (omega arith) (sym (length-replicate {A = ℕ} size 0)) (subst (λ x. x ≤ FILE_BYTES) (sym (length-replicate {A = ℕ} size 0)) fits_file)
       (time_after-timed (Some 0) s.mtime now now timed in_second in_second) (subst (λ x. Fits (File x)) made fits)
       (subst (λ x. comes_as m after new x) (is_zeros ∙ zeros-pad size fits_file) (subst (λ x. comes_as m after x v) made o))
       in (
@@ -216,7 +226,7 @@ Does-room blocks name how now i generation t answer room does = record {
 -- what it does by the inode that it read in the root
 pub Does-tail : (blocks : ℕ) (name : List ℕ) (how : How) (now : Time) (i generation : ℕ) (p : Place) (t : Time) (j : ℕ) (n : Node) (t0 t1 t2 t3 : TxnState) (answer : Result Found Status) (Q : Map → Map → Type 0)
     → LearnsThat blocks t0 t1 (λ m. IsAt i generation m p) → p ≡ Directory t → LearnsThat blocks t1 t2 (λ m. node_at m j ≡ n) → Makes blocks t2 t3 Q
-    → ((m after : Map) → HasSoundFiles m → (files_of m).root ≡ t → node_at m j ≡ n → Q m after → HasSoundFiles after × ((room : Bool) × ((answer, files_of after) ≡ create_how room name how now (files_of m))))
+    → ((m after : Map) → HasSoundFiles One m → (files_of m).root ≡ t → node_at m j ≡ n → Q m after → HasSoundFiles One after × ((room : Bool) × ((answer, files_of after) ≡ create_how room name how now (files_of m))))
     → Does blocks (CaseOf name how now i generation) t3.reads t3.writes answer
 Does-tail blocks name how now i generation p t j n t0 t1 t2 t3 answer Q found is read made shows =
     Does-made blocks (CaseOf name how now i generation) t0 t2 t3 answer _ Q (Tells-both blocks t0 t1 t2 _ _ found read) made
@@ -236,14 +246,14 @@ module _ (name : List ℕ) (how : How) (s : Settings) (guarded : Bool) (now : Ti
       ∙ create-file room guarded s now m j n timed number is
 
   -- no sound map has the root there
-  pub create-at_root : (m after : Map) (t : Time) (answer : Result Found Status) → HasSoundFiles m → node_at m j ≡ Root t
-      → HasSoundFiles after × ((room : Bool) × ((answer, files_of after) ≡ create_how room name how now (files_of m)))
+  pub create-at_root : (m after : Map) (t : Time) (answer : Result Found Status) → HasSoundFiles One m → node_at m j ≡ Root t
+      → HasSoundFiles One after × ((room : Bool) × ((answer, files_of after) ≡ create_how room name how now (files_of m)))
   create-at_root m after t answer sound is = absurd (no_root m j t sound number is)
 
   pub create-at_file : (m after : Map) (f : FileNode) (answer : Result Found Status) → node_at m j ≡ File f → Leads after answer (create_file true guarded s now (files_of m) j (Some (data_of m f)))
-      → HasSoundFiles after × ((room : Bool) × ((answer, files_of after) ≡ create_how room name how now (files_of m)))
+      → HasSoundFiles One after × ((room : Bool) × ((answer, files_of after) ≡ create_how room name how now (files_of m)))
   create-at_file m after f answer is leads = (leads.0, (true, leads.1 ∙ sym (create-node true m (File f) is)))
 
   pub create-at_free : (m after : Map) (last : ℕ) (answer : Result Found Status) → node_at m j ≡ Free last → (room : Bool) × Leads after answer (create_new room s now (files_of m) j)
-      → HasSoundFiles after × ((room : Bool) × ((answer, files_of after) ≡ create_how room name how now (files_of m)))
+      → HasSoundFiles One after × ((room : Bool) × ((answer, files_of after) ≡ create_how room name how now (files_of m)))
   create-at_free m after last answer is leads = (leads.1.0, (leads.0, leads.1.1 ∙ sym (create-node leads.0 m (Free last) is)))

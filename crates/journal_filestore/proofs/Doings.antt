@@ -11,6 +11,7 @@ use Rattle.journal_world.specs.Addresses.{Value, is_value_of, kind_of, is_valid,
 use Rattle.journal_world.specs.Maps.{Map, Pair, Agrees, SamePairs, value_among, value_at, overwritten, is_object, is_value_at}
 use Rattle.journal_world.proofs.Lookups.{same_addr}
 use Rattle.journal_twophase.specs.Transactions.{TxnState, holding, ReadsValue, Learns, Overwrites as OverwritesAddr}
+use Rattle.journal_inode.specs.declared.version.FormatVersion.TheVariants.{One}
 use Rattle.journal_inode.specs.Places.{Object, addr_of, IsOnDisk, is_same_object, object}
 use Rattle.journal_inode.specs.Places.Object.{block}
 use Rattle.journal_inode.specs.Sound.{HasSoundFiles}
@@ -80,7 +81,7 @@ Tells-both blocks t0 t1 t2 P Q first second = record {
 }
 
 -- what is told may be said otherwise
-pub Tells-like : (blocks : ℕ) (old new : TxnState) (P Q : Map → Type 0) → ((m : Map) → HasSoundFiles m → P m → Q m) → LearnsThat blocks old new P → LearnsThat blocks old new Q
+pub Tells-like : (blocks : ℕ) (old new : TxnState) (P Q : Map → Type 0) → ((m : Map) → HasSoundFiles One m → P m → Q m) → LearnsThat blocks old new P → LearnsThat blocks old new Q
 Tells-like blocks old new P Q like told = record {
   writes = told.writes;
   before = told.before;
@@ -123,7 +124,7 @@ Makes-written blocks t0 t1 Q ws written before shows short = record {
 
 -- what it makes that only reads
 pub Makes-told : (blocks : ℕ) (t0 t1 : TxnState) (P : Map → Type 0) (Q : Map → Map → Type 0) → t0.writes ≡ [] → LearnsThat blocks t0 t1 P
-    → ((m : Map) → HasSoundFiles m → P m → Q m m) → Makes blocks t0 t1 Q
+    → ((m : Map) → HasSoundFiles One m → P m → Q m m) → Makes blocks t0 t1 Q
 Makes-told blocks t0 t1 P Q none told shows = record {
   few = few-none t1.writes (told.writes ∙ none);
   before = told.before;
@@ -135,7 +136,7 @@ pub Makes-nothing : (blocks : ℕ) (t : TxnState) → t.writes ≡ [] → Makes 
 Makes-nothing blocks t none = record { before = λ m seen. seen; now = λ m seen. tt; few = few-none t.writes none }
 
 -- what is made may be said otherwise
-pub Makes-like : (blocks : ℕ) (t0 t1 : TxnState) (P Q : Map → Map → Type 0) → ((m n : Map) → HasSoundFiles m → P m n → Q m n) → Makes blocks t0 t1 P → Makes blocks t0 t1 Q
+pub Makes-like : (blocks : ℕ) (t0 t1 : TxnState) (P Q : Map → Map → Type 0) → ((m n : Map) → HasSoundFiles One m → P m n → Q m n) → Makes blocks t0 t1 P → Makes blocks t0 t1 Q
 Makes-like blocks t0 t1 P Q like made = record {
   few = made.few;
   before = made.before;
@@ -145,7 +146,7 @@ Makes-like blocks t0 t1 P Q like made = record {
 -- What a transaction does that was told something, and made something of it
 pub Does-made : {A : Type 0} (blocks : ℕ) (case : Files → A → Files → Type 0) (t0 t1 t2 : TxnState) (answer : A) (P : Map → Type 0) (Q : Map → Map → Type 0)
     → LearnsThat blocks t0 t1 P → Makes blocks t1 t2 Q
-    → ((m n : Map) → HasSoundFiles m → P m → Q m n → HasSoundFiles n × case (files_of m) answer (files_of n))
+    → ((m n : Map) → HasSoundFiles One m → P m → Q m n → HasSoundFiles One n × case (files_of m) answer (files_of n))
     → Does blocks case t2.reads t2.writes answer
 Does-made {A} blocks case t0 t1 t2 answer P Q told made shows = record {
   few = made.few;
@@ -153,8 +154,8 @@ Does-made {A} blocks case t0 t1 t2 answer P Q told made shows = record {
   answers = λ m on_disk sound agrees. (both m on_disk sound agrees).1;
 }
   where
-    both : (m : Map) → m.blocks ≡ blocks → HasSoundFiles m → Agrees m t2.reads
-        → HasSoundFiles (overwritten m t2.writes) × case (files_of m) answer (files_of (overwritten m t2.writes))
+    both : (m : Map) → m.blocks ≡ blocks → HasSoundFiles One m → Agrees m t2.reads
+        → HasSoundFiles One (overwritten m t2.writes) × case (files_of m) answer (files_of (overwritten m t2.writes))
     both m on_disk sound agrees =
         let seen : MayBeRead blocks t2.reads m = record { on_disk = on_disk; sound = sound; gives = Gives-Agrees m t2.reads agrees } in
         shows m (overwritten m t2.writes) sound (told.now m (made.before m seen)) (made.now m seen)
@@ -173,14 +174,14 @@ Tells-nothing blocks t = record { writes = refl; before = λ m seen. seen; now =
 
 -- What a transaction does that was told enough to answer, and only read
 pub Does-told : {A : Type 0} (blocks : ℕ) (case : Files → A → Files → Type 0) (old t : TxnState) (answer : A) (P : Map → Type 0) → old.writes ≡ []
-    → LearnsThat blocks old t P → ((m : Map) → HasSoundFiles m → P m → case (files_of m) answer (files_of m))
+    → LearnsThat blocks old t P → ((m : Map) → HasSoundFiles One m → P m → case (files_of m) answer (files_of m))
     → Does blocks case t.reads t.writes answer
 Does-told blocks case old t answer P none told shows =
     Does-made blocks case t t t answer _ _ (Tells-nothing blocks t)
     (record {
       few = few-none t.writes (told.writes ∙ none);
       before = λ m seen. seen;
-      now = λ m seen. subst (λ ws. HasSoundFiles (overwritten m ws) × case (files_of m) answer (files_of (overwritten m ws))) (sym (told.writes ∙ none))
+      now = λ m seen. subst (λ ws. HasSoundFiles One (overwritten m ws) × case (files_of m) answer (files_of (overwritten m ws))) (sym (told.writes ∙ none))
           (seen.sound, shows m seen.sound (told.now m seen));
     })
     (λ m n sound nothing both. both)

@@ -14,6 +14,7 @@ use Rattle.journal_history.specs.Tokens.{SessionState, OnlyExtends, CommitPlace,
 use Rattle.journal_core.specs.Causes.{Told}
 use Rattle.journal_twophase.specs.Transactions.{TxnState, core_of}
 use Rattle.journal_twophase.specs.Commits.{IsCommitted}
+use Rattle.journal_inode.specs.declared.version.FormatVersion.TheVariants.{One}
 use Rattle.journal_inode.specs.Sound.{HasSoundFiles}
 use Rattle.journal_filestore.specs.declared.fault.Fault.{Fault}
 use Rattle.journal_filestore.specs.declared.fault.Fault.TheVariants.{Refused, Unsure}
@@ -45,7 +46,7 @@ none_true : {A E : Type 0} (r : Result A E) → OnOk r (IsTrue false) → OnOk r
 none_true (Ok x) is = false≢true is
 none_true (Err e) is = tt
 
-module _ {A : Type 0} (blocks : ℕ) (case : Files → Result A Status → Files → Type 0) (t : TxnState) (answer : Result A Status) (old new : SessionState) (receipt : CommitPlace) (c : IsCommitted HasSoundFiles blocks t.began (core_of t) old new receipt) where
+module _ {A : Type 0} (blocks : ℕ) (case : Files → Result A Status → Files → Type 0) (t : TxnState) (answer : Result A Status) (old new : SessionState) (receipt : CommitPlace) (c : IsCommitted (HasSoundFiles One) blocks t.began (core_of t) old new receipt) where
   -- a transaction that does what the case says is such an operation, where its commit stands
   pub IsMadeAt-committed : Does blocks case t.reads t.writes answer → IsMadeAt case old new answer (length c.found)
   IsMadeAt-committed does =
@@ -100,7 +101,7 @@ begun : {A : Type 0} (xs : List A) (n : ℕ) (y : A) → slice_get xs n ≡ Some
 begun xs n y is none = let past : None ≡ Some y = sym (slice_get_past [] n (omega arith)) ∙ ap (λ h. slice_get h n) (sym none) ∙ is in cc
 
 -- A session that has seen more since
-module _ {A : Type 0} (case : Files → Result A Status → Files → Type 0) (old middle new : SessionState) (more : OnlyExtends middle new) (sound : IsTrue (is_trusted new.seen) → (n : ℕ) → HasSoundFiles (at new.seen n)) where
+module _ {A : Type 0} (case : Files → Result A Status → Files → Type 0) (old middle new : SessionState) (more : OnlyExtends middle new) (sound : IsTrue (is_trusted new.seen) → (n : ℕ) → HasSoundFiles One (at new.seen n)) where
   front_is : (answer : Result A Status) (place : ℕ) → IsMadeAt case old middle answer place → (n : ℕ) → n ≤ place + 1 → take n new.seen ≡ take n middle.seen
   front_is answer place is n low =
       ap (take n) (sym more.seen.1) ∙ take-append-le n middle.seen more.seen.0 (omega (arith, low, slice_get_within middle.seen place (commit is.made) is.stands))

@@ -3,6 +3,7 @@ use Rattle.std.proofs.Common.{ℕ, ◌≡◌, ◌<◌, ◌≤◌, ◌⊎◌, inl
 use Rattle.std.proofs.Math.Path.{fun_ext}
 use Rattle.std.proofs.lemmas.Bool.{cases_eq, and_parts, ltb-true, leb-true, eq-eqb, ne_eqb}
 use Rattle.journal_world.specs.Maps.{Map}
+use Rattle.journal_inode.specs.declared.version.FormatVersion.TheVariants.{One}
 use Rattle.journal_inode.specs.declared.node.FileNode.{FileNode}
 use Rattle.journal_inode.specs.declared.node.Node.{Node}
 use Rattle.journal_inode.specs.declared.node.Node.TheVariants.{Free, Root, File}
@@ -21,13 +22,13 @@ IsFileNumber-test i is =
     let parts = and_parts (nat_le 2 i) (nat_lt i INODES) is in
     record { from = leb-true 2 i parts.0; to = ltb-true i INODES parts.1 }
 
-entry_of-same : (m n : Map) (x : Node) → ((f : FileNode) → x ≡ File f → stored n f ≡ stored m f) → entry_of n x ≡ entry_of m x
+entry_of-same : (m n : Map) (x : Node) → ((f : FileNode) → x ≡ File f → stored One n f ≡ stored One m f) → entry_of n x ≡ entry_of m x
 entry_of-same m n (File f) same = ap (λ s. record { generation = f.generation; file = Some (record { bytes = take f.size s; mtime = f.mtime }) }) (same f refl)
 entry_of-same m n (Free g) same = refl
 entry_of-same m n (Root t) same = refl
 
 -- the files are those of before with this one replaced
-pub files_of-replaced : (m n : Map) (i : ℕ) (new : Node) → is_file_number i ≡ true → HasSoundFiles m → Replaces m n i new
+pub files_of-replaced : (m n : Map) (i : ℕ) (new : Node) → is_file_number i ≡ true → HasSoundFiles One m → Replaces m n i new
     → files_of n ≡ with_entry (files_of m) i (entry_of n new)
 unfolding files_of
 files_of-replaced m n i new file_number sound r =

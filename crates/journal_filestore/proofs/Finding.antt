@@ -2,6 +2,7 @@
 use Rattle.std.proofs.Common.{ℕ, zero, suc, ◌≡◌, ◌<◌, ◌≤◌, Bool, true, false, cond, ◌==◌, ◌&&◌, refl, sym, ap, subst, ◌∙◌, arith, nat_le, nat_lt}
 use Rattle.std.proofs.lemmas.Bool.{and_from, le-leb, lt-ltb, eq-eqb, eqb-true, ne_eqb}
 use Rattle.journal_world.specs.Maps.{Map}
+use Rattle.journal_inode.specs.declared.version.FormatVersion.TheVariants.{One}
 use Rattle.journal_inode.specs.declared.node.Time.{Time}
 use Rattle.journal_inode.specs.declared.node.FileNode.{FileNode}
 use Rattle.journal_inode.specs.declared.node.Node.{Node}
@@ -50,7 +51,7 @@ target_of-entry m i generation n from to is =
     ap (λ b. cond b (cond (generation == 1) root gone) (of_generation i generation ((files_of m).at i))) (ne_eqb i 1 (λ e. absurd (omega arith)))
     ∙ ap (of_generation i generation) (entry_at m i n (is_file_number-from i from to) is)
 
-pub IsAt-found : (m : Map) (i generation : ℕ) (n : Node) → HasSoundFiles m → 1 ≤ i → i < INODES → node_at m i ≡ n → IsAt i generation m (place_of n i generation)
+pub IsAt-found : (m : Map) (i generation : ℕ) (n : Node) → HasSoundFiles One m → 1 ≤ i → i < INODES → node_at m i ≡ n → IsAt i generation m (place_of n i generation)
 IsAt-found m i generation n sound from to is = by_node n is (subst (IsInPlace i) is (sound.placed i to))
   where
     by_root : (t : Time) (b : Bool) → (generation == 1) ≡ b → node_at m i ≡ Root t → i ≡ 1 → IsAt i generation m (cond b (Directory t) Gone)

@@ -1,6 +1,7 @@
 -- What is at a number of a file.
 use Rattle.std.proofs.Common.{ℕ, ◌≡◌, true, Some, None, Ok, Err, refl, sym, ap, ◌∙◌}
 use Rattle.journal_world.specs.Maps.{Map}
+use Rattle.journal_inode.specs.declared.version.FormatVersion.TheVariants.{One}
 use Rattle.journal_inode.specs.declared.node.Time.{Time}
 use Rattle.journal_inode.specs.declared.node.FileNode.{FileNode}
 use Rattle.journal_inode.specs.declared.node.Node.{Node}
@@ -16,20 +17,20 @@ use Rattle.journal_filestore.proofs.Finding.{entry_at}
 use Rattle.journal_filestore.proofs.Answering.{attributes-data, no_root}
 
 -- no file is there
-pub lookup-absent : (m : Map) (j : ℕ) (n : Node) → HasSoundFiles m → is_file_number j ≡ true → node_at m j ≡ n → ((f : FileNode) → n ≡ File f → ⊥)
+pub lookup-absent : (m : Map) (j : ℕ) (n : Node) → HasSoundFiles One m → is_file_number j ≡ true → node_at m j ≡ n → ((f : FileNode) → n ≡ File f → ⊥)
     → lookup_number (files_of m) (Some j) ≡ (Err NoEntry, files_of m)
 lookup-absent m j (Free g) sound number is other = ap (lookup_entry (files_of m) j) (entry_at m j (Free g) number is)
 lookup-absent m j (Root t) sound number is other = absurd (no_root m j t sound number is)
 lookup-absent m j (File f) sound number is other = absurd (other f refl)
 
-pub remove-absent : (m : Map) (j : ℕ) (n : Node) → HasSoundFiles m → is_file_number j ≡ true → node_at m j ≡ n → ((f : FileNode) → n ≡ File f → ⊥)
+pub remove-absent : (m : Map) (j : ℕ) (n : Node) → HasSoundFiles One m → is_file_number j ≡ true → node_at m j ≡ n → ((f : FileNode) → n ≡ File f → ⊥)
     → remove_number (files_of m) (Some j) ≡ (Err NoEntry, files_of m)
 remove-absent m j (Free g) sound number is other = ap (remove_entry (files_of m) j) (entry_at m j (Free g) number is)
 remove-absent m j (Root t) sound number is other = absurd (no_root m j t sound number is)
 remove-absent m j (File f) sound number is other = absurd (other f refl)
 
 -- one is
-pub lookup-found : (m : Map) (j : ℕ) (f : FileNode) (t : Time) (of_file the_root : Attributes) → HasSoundFiles m → is_file_number j ≡ true → node_at m j ≡ File f → (files_of m).root ≡ t
+pub lookup-found : (m : Map) (j : ℕ) (f : FileNode) (t : Time) (of_file the_root : Attributes) → HasSoundFiles One m → is_file_number j ≡ true → node_at m j ≡ File f → (files_of m).root ≡ t
     → of_file ≡ attributes_of_node j f → the_root ≡ of_root t
     → lookup_number (files_of m) (Some j) ≡ (Ok (record { generation = f.generation; file = of_file; root = the_root }), files_of m)
 lookup-found m j f t of_file the_root sound number is root_is file_told root_told =
@@ -39,7 +40,7 @@ lookup-found m j f t of_file the_root sound number is root_is file_told root_tol
     ∙ ap (λ x. (Ok (record { generation = f.generation; file = of_file; root = x }), files_of m)) (ap of_root root_is ∙ sym root_told)
 
 -- it is removed
-pub remove-found : (m after : Map) (j : ℕ) (f : FileNode) (t : Time) (the_root : Attributes) → HasSoundFiles m → is_file_number j ≡ true → node_at m j ≡ File f → (files_of m).root ≡ t → the_root ≡ of_root t
+pub remove-found : (m after : Map) (j : ℕ) (f : FileNode) (t : Time) (the_root : Attributes) → HasSoundFiles One m → is_file_number j ≡ true → node_at m j ≡ File f → (files_of m).root ≡ t → the_root ≡ of_root t
     → Puts m after j (record { generation = f.generation; file = None })
     → (Ok the_root, files_of after) ≡ remove_number (files_of m) (Some j)
 remove-found m after j f t the_root sound number is root_is root_told puts =

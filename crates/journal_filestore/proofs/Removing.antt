@@ -3,6 +3,7 @@ use Rattle.std.proofs.Common.{ℕ, ◌≡◌, ◌<◌, ◌≤◌, ◌+◌, ◌-�
 use Rattle.std.proofs.lemmas.Bool.{eq-eqb, ne_eqb}
 use Rattle.journal_world.specs.declared.layout.TheConstants.{FIRST_DATA}
 use Rattle.journal_world.specs.Maps.{Map}
+use Rattle.journal_inode.specs.declared.version.FormatVersion.TheVariants.{One}
 use Rattle.journal_inode.specs.declared.node.FileNode.{FileNode}
 use Rattle.journal_inode.specs.declared.node.Node.TheVariants.{Free, File}
 use Rattle.journal_inode.specs.declared.place.TheConstants.{INODES}
@@ -37,19 +38,19 @@ Replaces-goes m n i f is_file low from fits o = record {
   };
 }
   where
-    own : (b : ℕ) → HasBlock (node_at m i) b → f.block ≡ b
-    own b had = subst (λ x. HasBlock x b) is_file had
+    own : (b : ℕ) → HasBlock One (node_at m i) b → f.block ≡ b
+    own b had = subst (λ x. HasBlock One x b) is_file had
 
-    its : (b : ℕ) → f.block ≡ b → HasBlock (node_at m i) b
-    its b is = subst (λ x. HasBlock x b) (sym is_file) is
+    its : (b : ℕ) → f.block ≡ b → HasBlock One (node_at m i) b
+    its b is = subst (λ x. HasBlock One x b) (sym is_file) is
 
 Free-is-File : (g : ℕ) (f : FileNode) → Free g ≡ File f → ⊥
 Free-is-File g f is = cc
 
 -- REMOVE
-pub Puts-removed : (m n : Map) (i : ℕ) (f : FileNode) → is_file_number i ≡ true → HasSoundFiles m → node_at m i ≡ File f → f.generation < 2 ^ 32 → goes m n i f → Puts m n i (record { generation = f.generation; file = None })
+pub Puts-removed : (m n : Map) (i : ℕ) (f : FileNode) → is_file_number i ≡ true → HasSoundFiles One m → node_at m i ≡ File f → f.generation < 2 ^ 32 → goes m n i f → Puts m n i (record { generation = f.generation; file = None })
 Puts-removed m n i f number sound is_file fits o =
     let among = IsFileNumber-test i number in
     Puts-replaced m n i (Free f.generation) number sound
-    (Replaces-goes m n i f is_file among.to (sound.files i f among.to is_file).data_block fits o)
+    (Replaces-goes m n i f is_file among.to (sound.files i f among.to is_file).on_disk.0.0 fits o)
     (record { placed = IsInPlace-free i f.generation among.from; file = λ g is. absurd (Free-is-File f.generation g is) })

@@ -3,6 +3,7 @@ use Rattle.std.proofs.Common.{ℕ, ◌≡◌, true, false, Option, Err, sym, ap,
 use Rattle.std.specs.Prelude.{unwrap_or}
 use Rattle.std.proofs.lemmas.Bool.{cond-true, cond-false}
 use Rattle.journal_world.specs.Maps.{Map}
+use Rattle.journal_inode.specs.declared.version.FormatVersion.TheVariants.{One}
 use Rattle.journal_inode.specs.declared.node.Time.{Time}
 use Rattle.journal_inode.specs.declared.node.FileNode.{FileNode}
 use Rattle.journal_inode.specs.Sound.{content, IsSoundFile}
@@ -29,9 +30,9 @@ module _ (s : Settings) (guard : Option Time) (now : Time) (F : Files) (i : ℕ)
   set-done same timed small = cond-false _ _ _ same ∙ cond-false _ _ _ timed ∙ cond-false _ _ _ small
 
 -- the attributes of a file that was set
-pub attributes-set : (m : Map) (i : ℕ) (f g : FileNode) (s : Settings) (now : Time) → IsSoundFile m f → g ≡ set_node f s now
+pub attributes-set : (m : Map) (i : ℕ) (f g : FileNode) (s : Settings) (now : Time) → IsSoundFile One m f → g ≡ set_node f s now
     → attributes_of_node i g ≡ attributes i (with_settings (data_of m f) s now)
 attributes-set m i f g s now sound is =
     ap (attributes_of_node i) is
     ∙ ap (λ x. record { number = i; size = unwrap_or s.size x; mtime = time_after s.size s.mtime now f.mtime }) (sym sound.whole)
-    ∙ ap (λ x. record { number = i; size = x; mtime = time_after s.size s.mtime now f.mtime }) (sym (length-resized (content m f) s.size))
+    ∙ ap (λ x. record { number = i; size = x; mtime = time_after s.size s.mtime now f.mtime }) (sym (length-resized (content One m f) s.size))

@@ -5,6 +5,7 @@ use Rattle.std.proofs.lemmas.List.{drop_all, append-nil, length-append, length-r
 use Rattle.journal_world.specs.declared.moment.TheConstants.{MAX_NANOS}
 use Rattle.journal_world.specs.Maps.{Map, value_among}
 use Rattle.journal_twophase.specs.Transactions.{TxnState}
+use Rattle.journal_inode.specs.declared.version.FormatVersion.TheVariants.{One}
 use Rattle.journal_inode.specs.declared.node.Time.{Time}
 use Rattle.journal_inode.specs.declared.node.FileNode.{FileNode}
 use Rattle.journal_inode.specs.declared.node.Node.TheVariants.{File}
@@ -31,7 +32,7 @@ pub write-invalid : (offset count : ℕ) (bs : List ℕ) (now : Time) (F : Files
     → write_case offset count bs now F (file i d) ≡ (Err Invalid, F)
 write-invalid offset count bs now F i d ne = cond-true _ _ _ (not_from_false _ (ne_eqb count (length bs) ne))
 
-pub write-nothing : (offset count : ℕ) (bs : List ℕ) (now : Time) (m : Map) (i : ℕ) (f : FileNode) (before : Attributes) → IsSoundFile m f
+pub write-nothing : (offset count : ℕ) (bs : List ℕ) (now : Time) (m : Map) (i : ℕ) (f : FileNode) (before : Attributes) → IsSoundFile One m f
     → before ≡ attributes_of_node i f → count ≡ length bs → count ≡ 0
     → write_case offset count bs now (files_of m) (file i (data_of m f)) ≡ (Ok (record { before = before; after = before }), files_of m)
 write-nothing offset count bs now m i f before sound was same none =
@@ -55,7 +56,7 @@ write-done offset count bs now F i d same some fits =
 
 -- the file as it is then
 abbrev pub placed_data : Map → FileNode → ℕ → List ℕ → Time → FileData
-placed_data m f offset bs now = record { bytes = placed (content m f) offset bs; mtime = now }
+placed_data m f offset bs now = record { bytes = placed (content One m f) offset bs; mtime = now }
 
 -- a block that the data fill is the data
 with_data-whole : (old bs : List ℕ) → length old ≡ FILE_BYTES → length bs ≡ FILE_BYTES → bs ≡ with_data old 0 bs
@@ -86,9 +87,9 @@ Places-read blocks b offset bs old_block new_block t0 t1 t2 read wrote fresh is_
 }
 
 -- a sound file's block is whole
-stored-whole : (m : Map) (f : FileNode) → IsSoundFile m f → length (stored m f) ≡ FILE_BYTES
+stored-whole : (m : Map) (f : FileNode) → IsSoundFile One m f → length (stored One m f) ≡ FILE_BYTES
 stored-whole m f sound =
-    ap length sound.padded ∙ length-append (content m f) (replicate (FILE_BYTES - f.size) 0)
+    ap length sound.padded ∙ length-append (content One m f) (replicate (FILE_BYTES - f.size) 0)
     ∙ ap (λ n. n + length (replicate {A = ℕ} (FILE_BYTES - f.size) 0)) sound.whole
     ∙ ap (λ n. f.size + n) (length-replicate {A = ℕ} (FILE_BYTES - f.size) 0)
     ∙ (let small : f.size ≤ FILE_BYTES = sound.small in let e : f.size + (FILE_BYTES - f.size) ≡ FILE_BYTES = omega arith in e)
@@ -108,9 +109,9 @@ Makes-write blocks i offset bs now f g t0 t1 t2 fresh placing wrote_node is end 
     }))
     (λ m seen. placing.before m (back m seen))
     (λ m n seen o number is_file.
-    let old : IsSoundFile m f = seen.sound.files i f (IsFileNumber-test i number).to is_file in
+    let old : IsSoundFile One m f = seen.sound.files i f (IsFileNumber-test i number).to is_file in
     Puts-written m n i f offset bs now number seen.sound is_file end timed fits
-    (subst (λ x. stays m n i f x (with_data (stored m f) offset bs)) is
+    (subst (λ x. stays m n i f x (with_data (stored One m f) offset bs)) is
     (subst (λ x. stays m n i f g x) (placing.placed m (back m seen) (stored-whole m f old)) o)))
     (omega arith)
   where
@@ -118,15 +119,15 @@ Makes-write blocks i offset bs now f g t0 t1 t2 fresh placing wrote_node is end 
     back m seen = subst (λ rs. MayBeRead blocks rs m) wrote_node.reads seen
 
 -- the file's attributes then
-pub attributes-written : (m : Map) (i offset : ℕ) (bs : List ℕ) (now : Time) (f g : FileNode) (after : Attributes) → IsSoundFile m f → g ≡ written f offset bs now → after ≡ attributes_of_node i g
+pub attributes-written : (m : Map) (i offset : ℕ) (bs : List ℕ) (now : Time) (f g : FileNode) (after : Attributes) → IsSoundFile One m f → g ≡ written f offset bs now → after ≡ attributes_of_node i g
     → after ≡ attributes i (placed_data m f offset bs now)
 attributes-written m i offset bs now f g after sound is told =
     told ∙ ap (attributes_of_node i) is
     ∙ ap (λ x. record { number = i; size = max x (offset + length bs); mtime = now }) (sym sound.whole)
-    ∙ ap (λ x. record { number = i; size = x; mtime = now }) (sym (length-placed (content m f) offset bs))
+    ∙ ap (λ x. record { number = i; size = x; mtime = now }) (sym (length-placed (content One m f) offset bs))
 
 -- the numbers of its inode fit
 pub written-fits : (f : FileNode) (offset : ℕ) (bs : List ℕ) (now : Time) → Fits (File f) → offset + length bs ≤ FILE_BYTES → IsTime now → Fits (File (written f offset bs now))
 written-fits f offset bs now old end time =
     let low : f.size < 2 ^ 64 = old.1 in
-    (old.0, omega arith, old.2, time)
+    (old.0, omega arith, old.2, time, old.4, old.5)

@@ -9,6 +9,7 @@ use Rattle.journal_history.specs.Tokens.{SessionState, OnlyExtends, IsExact, Com
 use Rattle.journal_core.specs.Causes.{Told}
 use Rattle.journal_twophase.specs.Transactions.{TxnState, core_of}
 use Rattle.journal_twophase.specs.Commits.{IsCommitted}
+use Rattle.journal_inode.specs.declared.version.FormatVersion.TheVariants.{One}
 use Rattle.journal_inode.specs.Sound.{HasSoundFiles}
 use Rattle.journal_filestore.specs.declared.fault.Fault.{Fault}
 use Rattle.journal_filestore.specs.declared.fault.Fault.TheVariants.{Refused, Unsure}
@@ -30,7 +31,7 @@ pub record IsMadeAt {A : Type 0} (case : Files → Result A Status → Files →
   pub one_more : commits_of new.number new.mine ≡ commits_of old.number old.mine ++ made ∷ []
   -- where the disk was honest and settled, the answer fits the files of the maps before and after it, and the map is sound after each number of commits
   pub answers : IsTrue (is_trusted new.seen) → case (files_of (latest (take place new.seen))) answer (files_of (apply made (latest (take place new.seen))))
-  pub ruled : IsTrue (is_trusted new.seen) → (n : ℕ) → HasSoundFiles (at new.seen n)
+  pub ruled : IsTrue (is_trusted new.seen) → (n : ℕ) → HasSoundFiles One (at new.seen n)
 
 -- The operation was done, and answered
 pub record IsDone {A : Type 0} (waits : Bool) (case : Files → Result A Status → Files → Type 0) (old new : SessionState) (answer : Result A Status) : Type 0 where
@@ -93,5 +94,5 @@ owed_for false receipt = Nothing
 -- The transaction was committed, and its receipt is owed where it waits
 pub record Ends (blocks : ℕ) (t : TxnState) (waits : Bool) (old new : SessionState) (owed : Owed CommitPlace) : Type 0 where
   pub receipt : CommitPlace
-  pub committed : IsCommitted HasSoundFiles blocks t.began (core_of t) old new receipt
+  pub committed : IsCommitted (HasSoundFiles One) blocks t.began (core_of t) old new receipt
   pub owes : owed ≡ owed_for waits receipt

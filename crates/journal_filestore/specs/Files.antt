@@ -1,6 +1,7 @@
 -- The files of a map, without blocks and bitmap.
 use Rattle.std.specs.Prelude.{ℕ, Bool, ◌&&◌, ◌==◌, nat_le, nat_lt, if◌then◌else◌, List, Option, Some, None}
 use Rattle.journal_world.specs.Maps.{Map}
+use Rattle.journal_inode.specs.declared.version.FormatVersion.TheVariants.{One}
 use Rattle.journal_inode.specs.declared.node.Time.{Time}
 use Rattle.journal_inode.specs.declared.node.Node.{Node}
 use Rattle.journal_inode.specs.declared.node.Node.TheVariants.{Free, Root, File}
@@ -36,7 +37,7 @@ with_entry F i e = record { root = F.root; at = λ j. if j == i then e else F.at
 
 -- what an inode of the map makes of its number
 abbrev pub entry_of : Map → Node → FileEntry
-entry_of m (File f) = record { generation = f.generation; file = Some (record { bytes = content m f; mtime = f.mtime }) }
+entry_of m (File f) = record { generation = f.generation; file = Some (record { bytes = content One m f; mtime = f.mtime }) }
 entry_of m (Free generation) = record { generation = generation; file = None }
 entry_of m (Root mtime) = no_entry
 

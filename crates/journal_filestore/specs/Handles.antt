@@ -2,6 +2,7 @@
 use Rattle.std.specs.Prelude.{ℕ, ◌≡◌, ◌==◌, ◌&&◌, Bool, true, false, Option, Some, None, unwrap_or, if◌then◌else◌}
 use Rattle.journal_world.specs.declared.moment.Moment.{Moment}
 use Rattle.journal_world.specs.Maps.{Map}
+use Rattle.journal_inode.specs.declared.version.FormatVersion.TheVariants.{One}
 use Rattle.journal_inode.specs.declared.node.Time.{Time}
 use Rattle.journal_inode.specs.declared.node.FileNode.{FileNode}
 use Rattle.journal_inode.specs.declared.node.Node.{Node}
@@ -24,7 +25,7 @@ time_of now = record { secs = now.secs; nanos = now.nanos }
 
 -- the file of an inode
 abbrev pub data_of : Map → FileNode → FileData
-data_of m f = record { bytes = content m f; mtime = f.mtime }
+data_of m f = record { bytes = content One m f; mtime = f.mtime }
 
 -- the inode of a file, with what is asked for
 abbrev pub set_node : FileNode → Settings → Time → FileNode

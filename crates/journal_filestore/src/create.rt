@@ -26,7 +26,7 @@ use crate::{FileStore, Found, Handle, How, Settings, Soon, Status};
 use journal_alloc::Alloc;
 use journal_disk::BlockDisk;
 use journal_history::{Naming, Session};
-use journal_inode::{FileNode, Node, SoundFiles, Time};
+use journal_inode::{FileNode, MORE_BLOCKS, Node, SoundFiles, Time};
 use journal_world::{Kind, Moment};
 use std::alloc::Global;
 use std::sync::{Mutex, Wait};
@@ -158,6 +158,7 @@ impl<'a> Create<'a> {
             generation: last + 1,
             size: settings.size.unwrap_or(0),
             block,
+            more: [0; MORE_BLOCKS],
             mtime: time_after(settings, self.moment, Time::at(self.moment)),
         };
         let zeros = Kind::Block.zeros(self.alloc)?;

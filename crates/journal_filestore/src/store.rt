@@ -7,6 +7,7 @@ ghost use Rattle.journal_disk.specs.Images.{EveryImage};
 ghost use Rattle.journal_history.specs.Tokens.{OnlyExtends, IsExact};
 ghost use Rattle.journal_core.specs.Cores.{Leaves};
 ghost use Rattle.journal_core.specs.Openings.{HasWellFormedLog, IsOpenRefusal, OnlyReadsDisk};
+ghost use Rattle.journal_inode.specs.declared.version.FormatVersion.TheVariants.{One};
 ghost use Rattle.journal_inode.specs.Sound.{HasSoundFiles};
 ghost use Rattle.journal_twophase.specs.Journals.{BeginsWith, IsCloseRefusal};
 ghost use Rattle.journal_twophase.specs.Waits.{IsWaitRefusal};
@@ -75,9 +76,9 @@ impl<'b, D: BlockDisk, J: Naming> FileStore<'b, D, J> {
         requires book { book.now ≡ J.book }
         requires blocks { (D.state disk).past.size ≡ J.blocks }
         requires settled { IsTrue (D.state disk).honest → IsSettled (D.state disk).past }
-        ensures begun { IfOk result (λ store. BeginsWith HasSoundFiles (D.state disk) store.start) }
+        ensures begun { IfOk result (λ store. BeginsWith (HasSoundFiles One) (D.state disk) store.start) }
         ensures well_formed { IsTrue (D.state disk).honest → OnOk result (HasWellFormedLog (D.state disk)) }
-        ensures refusal { IfErr result (λ refused. IsOpenRefusal HasSoundFiles (D.state disk) (D.state refused.disk) refused.refusal) }
+        ensures refusal { IfErr result (λ refused. IsOpenRefusal (HasSoundFiles One) (D.state disk) (D.state refused.disk) refused.refusal) }
         ensures left { IfErr result (λ refused. OnlyReadsDisk (D.state disk) (D.state refused.disk)) }
     {
         let rule = SoundFiles::new(alloc);
@@ -262,7 +263,7 @@ fn end<'j, 'b, D: BlockDisk, J: Naming, W: Wait>(
     txn: FileTxn<'j, 'b, D, J>,
     waits: bool,
 ) -> Result<Owed<Receipt<'b, J, SoundFiles>>, Why<'b, J>>
-    requires rule { (m : Map) → m.blocks ≡ J.blocks → HasSoundFiles m → Agrees m txn.reads → HasSoundFiles (overwritten m txn.writes) }
+    requires rule { (m : Map) → m.blocks ≡ J.blocks → HasSoundFiles One m → Agrees m txn.reads → HasSoundFiles One (overwritten m txn.writes) }
     requires few { written_blocks txn.writes ≤ MAX_UPDATES }
     ensures ended { IfOk result (Ends J.blocks txn.entry waits session.old session.new) }
     ensures session { OnErr result (OnlyExtends session.old session.new) }

@@ -6,6 +6,7 @@ use Rattle.journal_world.specs.declared.layout.TheConstants.{SUPERBLOCK, BITMAP,
 use Rattle.journal_block.specs.Block.{Bytes, bit_of}
 use Rattle.journal_disk.specs.Disks.{Past, read_of, past_after, write, barrier}
 use Rattle.journal_disk.specs.Laws.{read_written, read_other}
+use Rattle.journal_inode.specs.declared.version.FormatVersion.{FormatVersion}
 use Rattle.journal_inode.specs.declared.node.Time.{Time}
 use Rattle.journal_inode.specs.declared.node.Node.TheVariants.{Free, Root}
 use Rattle.journal_inode.specs.Nodes.{inode_bytes}
@@ -14,16 +15,16 @@ use Rattle.journal_inode.specs.Formats.{AreZeros, IsFormatted, inode_in}
 use Rattle.journal_inode.proofs.Zeros.{zero_inode}
 
 -- The three blocks that are not all zeros
-pub record AreMade (blocks : ℕ) (made : Time) (superblock bitmap inodes : Bytes) : Type 0 where
-  pub superblock_is : superblock ≡ superblock_of blocks
+pub record AreMade (version : FormatVersion) (blocks : ℕ) (made : Time) (superblock bitmap inodes : Bytes) : Type 0 where
+  pub superblock_is : superblock ≡ superblock_of version blocks
   pub bits : (k : ℕ) → k < BLOCK_BITS → bit_of bitmap k ≡ nat_le (blocks - FIRST_DATA) k
   pub root : slice_range inodes 128 256 ≡ inode_bytes (Root made)
   pub others : (i : ℕ) → i < 32 → i ≢ 1 → slice_range inodes (i * 128) (i * 128 + 128) ≡ inode_bytes (Free 0)
 
 -- what is read once they are written
-reads : (p : Past) (blocks : ℕ) (made : Time) (sb bm ino : Bytes) → MIN_BLOCKS ≤ blocks → AreZeros blocks (read_of p) → AreMade blocks made sb bm ino
-    → IsFormatted blocks made (read_of (past_after (write FIRST_INODES ino) (past_after (write BITMAP bm) (past_after (write SUPERBLOCK sb) p))))
-reads p blocks made sb bm ino enough zeros are = record {
+reads : (version : FormatVersion) (p : Past) (blocks : ℕ) (made : Time) (sb bm ino : Bytes) → MIN_BLOCKS ≤ blocks → AreZeros blocks (read_of p) → AreMade version blocks made sb bm ino
+    → IsFormatted version blocks made (read_of (past_after (write FIRST_INODES ino) (past_after (write BITMAP bm) (past_after (write SUPERBLOCK sb) p))))
+reads version p blocks made sb bm ino enough zeros are = record {
   superblock = read_other p2 513 515 ino (omega arith) ∙ read_other p1 513 514 bm (omega arith) ∙ read_written p 513 sb ∙ are.superblock_is;
   bits = λ k low. ap (λ (b : Bytes). bit_of b k) (read_other p2 514 515 ino (omega arith) ∙ read_written p1 514 bm) ∙ are.bits k low;
   root = ap (λ (b : Bytes). slice_range b 128 256) (read_written p2 515 ino) ∙ are.root;
@@ -57,11 +58,11 @@ reads p blocks made sb bm ino enough zeros are = record {
         ∙ zero_inode (i % 32 * 128) (omega arith)
 
 -- written one after another, and made stable
-pub formatted : (p0 p1 p2 p3 p4 : Past) (blocks : ℕ) (made : Time) (sb bm ino : Bytes) → MIN_BLOCKS ≤ blocks → AreZeros blocks (read_of p0) → AreMade blocks made sb bm ino
+pub formatted : (version : FormatVersion) (p0 p1 p2 p3 p4 : Past) (blocks : ℕ) (made : Time) (sb bm ino : Bytes) → MIN_BLOCKS ≤ blocks → AreZeros blocks (read_of p0) → AreMade version blocks made sb bm ino
     → p1 ≡ past_after (write SUPERBLOCK sb) p0 → p2 ≡ past_after (write BITMAP bm) p1 → p3 ≡ past_after (write FIRST_INODES ino) p2 → p4 ≡ past_after barrier p3
-    → IsFormatted blocks made (read_of p4)
-formatted p0 p1 p2 p3 p4 blocks made sb bm ino enough zeros are first second third last =
-    subst (λ (p : Past). IsFormatted blocks made (read_of p)) (sym same) (reads p0 blocks made sb bm ino enough zeros are)
+    → IsFormatted version blocks made (read_of p4)
+formatted version p0 p1 p2 p3 p4 blocks made sb bm ino enough zeros are first second third last =
+    subst (λ (p : Past). IsFormatted version blocks made (read_of p)) (sym same) (reads version p0 blocks made sb bm ino enough zeros are)
   where
     same : p4 ≡ past_after barrier (past_after (write FIRST_INODES ino) (past_after (write BITMAP bm) (past_after (write SUPERBLOCK sb) p0)))
     same = last ∙ ap (past_after barrier) (third ∙ ap (past_after (write FIRST_INODES ino)) (second ∙ ap (past_after (write BITMAP bm)) first))

@@ -1,5 +1,6 @@
 -- The map of a disk without files is sound.
 use Rattle.std.proofs.Common.{ℕ, zero, suc, ◌≡◌, ◌≢◌, ◌<◌, ◌≤◌, ◌+◌, ◌-◌, ◌*◌, ◌/◌, ◌%◌, ◌⊎◌, inl, inr, Bool, true, false, cond, [], ◌∷◌, Option, Some, refl, sym, ap, subst, ◌∙◌, arith, lit<}
+use Rattle.journal_inode.specs.declared.version.FormatVersion.{FormatVersion}
 use Rattle.std.specs.Prelude.{nat_le, slice_range}
 use Rattle.std.proofs.lemmas.Bool.{cases_eq}
 use Rattle.std.proofs.lemmas.Bool.Decides.{nat_tests}
@@ -24,84 +25,86 @@ use Rattle.journal_inode.specs.SameFiles.{IsOnDisk-is_valid}
 use Rattle.journal_inode.specs.Sound.{node_at, HasBlock, IsTaken, IsInPlace, IsBit, HasSoundFiles}
 use Rattle.journal_inode.proofs.Fields.{node_of-bytes_of}
 
-superblock_read : (m : Map) (read : ℕ → Bytes) → IsMapOf read m → object m superblock ≡ read 513
-unfolding object_of
-superblock_read m read is = is.values (addr_of superblock) (IsOnDisk-is_valid m.blocks superblock tt)
+module _ (version : FormatVersion) where
+  superblock_read : (m : Map) (read : ℕ → Bytes) → IsMapOf read m → object m superblock ≡ read 513
+  unfolding object_of
+  superblock_read m read is = is.values (addr_of superblock) (IsOnDisk-is_valid m.blocks superblock tt)
 
-bit_read : (m : Map) (read : ℕ → Bytes) (k : ℕ) → IsMapOf read m → k < BLOCK_BITS → object m (bit k) ≡ cond (bit_of (read 514) k) 1 0 ∷ []
-unfolding object_of
-bit_read m read k is low = is.values (addr_of (bit k)) (IsOnDisk-is_valid m.blocks (bit k) low)
+  bit_read : (m : Map) (read : ℕ → Bytes) (k : ℕ) → IsMapOf read m → k < BLOCK_BITS → object m (bit k) ≡ cond (bit_of (read 514) k) 1 0 ∷ []
+  unfolding object_of
+  bit_read m read k is low = is.values (addr_of (bit k)) (IsOnDisk-is_valid m.blocks (bit k) low)
 
-kind_of-inode : (blocks i : ℕ) → i < INODES → kind_of blocks (515 + i / 32) ≡ Some Inode
-kind_of-inode blocks i low = grind (arith, nat_tests)
+  kind_of-inode : (blocks i : ℕ) → i < INODES → kind_of blocks (515 + i / 32) ≡ Some Inode
+  kind_of-inode blocks i low = grind (arith, nat_tests)
 
-of_inode : (bytes : Bytes) (i : ℕ) → object_of (Some Inode) bytes (i % 32 * 1024) ≡ slice_range bytes (i % 32 * 128) (i % 32 * 128 + 128)
-unfolding object_of
-of_inode bytes i = let place : i % 32 * 1024 / 8 ≡ i % 32 * 128 = omega arith in ap (λ at. slice_range bytes at (at + 128)) place
+  of_inode : (bytes : Bytes) (i : ℕ) → object_of (Some Inode) bytes (i % 32 * 1024) ≡ slice_range bytes (i % 32 * 128) (i % 32 * 128 + 128)
+  unfolding object_of
+  of_inode bytes i = let place : i % 32 * 1024 / 8 ≡ i % 32 * 128 = omega arith in ap (λ at. slice_range bytes at (at + 128)) place
 
-inode_read : (m : Map) (read : ℕ → Bytes) (i : ℕ) → IsMapOf read m → i < INODES → object m (inode i) ≡ inode_in read i
-inode_read m read i is low =
-    is.values (addr_of (inode i)) (IsOnDisk-is_valid m.blocks (inode i) low)
-    ∙ ap (λ (kind : Option Kind). object_of kind (read (515 + i / 32)) (i % 32 * 1024)) (kind_of-inode m.blocks i low)
-    ∙ of_inode (read (515 + i / 32)) i
+  inode_read : (m : Map) (read : ℕ → Bytes) (i : ℕ) → IsMapOf read m → i < INODES → object m (inode i) ≡ inode_in read i
+  inode_read m read i is low =
+      is.values (addr_of (inode i)) (IsOnDisk-is_valid m.blocks (inode i) low)
+      ∙ ap (λ (kind : Option Kind). object_of kind (read (515 + i / 32)) (i % 32 * 1024)) (kind_of-inode m.blocks i low)
+      ∙ of_inode (read (515 + i / 32)) i
 
-free_in_place : (i : ℕ) → i ≢ 1 → IsInPlace i (Free 0)
-free_in_place zero ne = refl
-free_in_place (suc zero) ne = absurd (ne refl)
-free_in_place (suc (suc i)) ne = tt
+  free_in_place : (i : ℕ) → i ≢ 1 → IsInPlace i (Free 0)
+  free_in_place zero ne = refl
+  free_in_place (suc zero) ne = absurd (ne refl)
+  free_in_place (suc (suc i)) ne = tt
 
--- neither the root nor a free inode has a block, or is a file's
-abbrev IsBare : Node → Type 0
-IsBare n = ((b : ℕ) → HasBlock n b → ⊥) × ((f : FileNode) → n ≡ File f → ⊥)
+  -- neither the root nor a free inode has a block, or is a file's
+  abbrev IsBare : Node → Type 0
+  IsBare n = ((b : ℕ) → HasBlock version n b → ⊥) × ((f : FileNode) → n ≡ File f → ⊥)
 
-bare_root : (t : Time) → IsBare (Root t)
-bare_root t = ((λ b has. has), λ f is. let impossible : ⊥ = cc in impossible)
+  bare_root : (t : Time) → IsBare (Root t)
+  bare_root t = ((λ b has. has), λ f is. let impossible : ⊥ = cc in impossible)
 
-bare_free : (g : ℕ) → IsBare (Free g)
-bare_free g = ((λ b has. has), λ f is. let impossible : ⊥ = cc in impossible)
+  bare_free : (g : ℕ) → IsBare (Free g)
+  bare_free g = ((λ b has. has), λ f is. let impossible : ⊥ = cc in impossible)
 
-at_or_past : (blocks k : ℕ) → nat_le (blocks - FIRST_DATA) k ≡ true → blocks ≤ FIRST_DATA + k
-at_or_past blocks k is = grind (arith, nat_tests)
+  at_or_past : (blocks k : ℕ) → nat_le (blocks - FIRST_DATA) k ≡ true → blocks ≤ FIRST_DATA + k
+  at_or_past blocks k is = grind (arith, nat_tests)
 
-not_past : (blocks k : ℕ) → nat_le (blocks - FIRST_DATA) k ≡ false → blocks ≤ FIRST_DATA + k → ⊥
-not_past blocks k is past = grind (arith, nat_tests)
+  not_past : (blocks k : ℕ) → nat_le (blocks - FIRST_DATA) k ≡ false → blocks ≤ FIRST_DATA + k → ⊥
+  not_past blocks k is past = grind (arith, nat_tests)
 
-pub IsFormatted-Sound : (m : Map) (made : Time) (read : ℕ → Bytes) → IsTime made → made.nanos ≤ MAX_NANOS → IsFormatted m.blocks made read → IsMapOf read m → HasSoundFiles m
-IsFormatted-Sound m made read fits timed formatted is = record {
-  begins = superblock_read m read is ∙ formatted.superblock;
-  written = λ i low. written_at i low (cases_eq i 1);
-  placed = λ i low. placed_at i low (cases_eq i 1);
-  files = λ i f low file. absurd ((bare i low (cases_eq i 1)).1 f file);
-  apart = λ i j b low_i low_j has_i has_j. absurd ((bare i low_i (cases_eq i 1)).0 b has_i);
-  bits = λ k low. bit_at_place k low (nat_le (m.blocks - FIRST_DATA) k) refl;
-}
-  where
-    root : node_at m 1 ≡ Root made
-    root = ap node_of (inode_read m read 1 is (lit< tt) ∙ formatted.root) ∙ node_of-bytes_of (Root made) fits
+  pub IsFormatted-Sound : (m : Map) (made : Time) (read : ℕ → Bytes) → IsTime made → made.nanos ≤ MAX_NANOS → IsFormatted version m.blocks made read → IsMapOf read m → HasSoundFiles version m
+  IsFormatted-Sound m made read fits timed formatted is = record {
+    begins = superblock_read m read is ∙ formatted.superblock;
+    written = λ i low. written_at i low (cases_eq i 1);
+    placed = λ i low. placed_at i low (cases_eq i 1);
+    files = λ i f low file. absurd ((bare i low (cases_eq i 1)).1 f file);
+    apart = λ i j b low_i low_j has_i has_j. absurd ((bare i low_i (cases_eq i 1)).0 b has_i);
+    distinct = λ i f low file. absurd ((bare i low (cases_eq i 1)).1 f file);
+    bits = λ k low. bit_at_place k low (nat_le (m.blocks - FIRST_DATA) k) refl;
+  }
+    where
+      root : node_at m 1 ≡ Root made
+      root = ap node_of (inode_read m read 1 is (lit< tt) ∙ formatted.root) ∙ node_of-bytes_of (Root made) fits
 
-    free : (i : ℕ) → i < INODES → i ≢ 1 → node_at m i ≡ Free 0
-    free i low ne = ap node_of (inode_read m read i is low ∙ formatted.free i low ne) ∙ node_of-bytes_of (Free 0) (lit< tt)
+      free : (i : ℕ) → i < INODES → i ≢ 1 → node_at m i ≡ Free 0
+      free i low ne = ap node_of (inode_read m read i is low ∙ formatted.free i low ne) ∙ node_of-bytes_of (Free 0) (lit< tt)
 
-    written_at : (i : ℕ) → i < INODES → (i ≡ 1) ⊎ (i ≡ 1 → ⊥) → object m (inode i) ≡ inode_bytes (node_at m i)
-    written_at i low (inl one) =
-        subst (λ j. object m (inode j) ≡ inode_bytes (node_at m j)) (sym one)
-        (inode_read m read 1 is (lit< tt) ∙ formatted.root ∙ sym (ap inode_bytes root))
-    written_at i low (inr ne) = inode_read m read i is low ∙ formatted.free i low ne ∙ sym (ap inode_bytes (free i low ne))
+      written_at : (i : ℕ) → i < INODES → (i ≡ 1) ⊎ (i ≡ 1 → ⊥) → object m (inode i) ≡ inode_bytes (node_at m i)
+      written_at i low (inl one) =
+          subst (λ j. object m (inode j) ≡ inode_bytes (node_at m j)) (sym one)
+          (inode_read m read 1 is (lit< tt) ∙ formatted.root ∙ sym (ap inode_bytes root))
+      written_at i low (inr ne) = inode_read m read i is low ∙ formatted.free i low ne ∙ sym (ap inode_bytes (free i low ne))
 
-    placed_at : (i : ℕ) → i < INODES → (i ≡ 1) ⊎ (i ≡ 1 → ⊥) → IsInPlace i (node_at m i)
-    placed_at i low (inl one) = subst (λ j. IsInPlace j (node_at m j)) (sym one) (subst (IsInPlace 1) (sym root) timed)
-    placed_at i low (inr ne) = subst (IsInPlace i) (sym (free i low ne)) (free_in_place i ne)
+      placed_at : (i : ℕ) → i < INODES → (i ≡ 1) ⊎ (i ≡ 1 → ⊥) → IsInPlace i (node_at m i)
+      placed_at i low (inl one) = subst (λ j. IsInPlace j (node_at m j)) (sym one) (subst (IsInPlace 1) (sym root) timed)
+      placed_at i low (inr ne) = subst (IsInPlace i) (sym (free i low ne)) (free_in_place i ne)
 
-    bare : (i : ℕ) → i < INODES → (i ≡ 1) ⊎ (i ≡ 1 → ⊥) → IsBare (node_at m i)
-    bare i low (inl one) = subst (λ j. IsBare (node_at m j)) (sym one) (subst IsBare (sym root) (bare_root made))
-    bare i low (inr ne) = subst IsBare (sym (free i low ne)) (bare_free 0)
+      bare : (i : ℕ) → i < INODES → (i ≡ 1) ⊎ (i ≡ 1 → ⊥) → IsBare (node_at m i)
+      bare i low (inl one) = subst (λ j. IsBare (node_at m j)) (sym one) (subst IsBare (sym root) (bare_root made))
+      bare i low (inr ne) = subst IsBare (sym (free i low ne)) (bare_free 0)
 
-    not_taken : (k : ℕ) → (m.blocks ≤ FIRST_DATA + k → ⊥) → IsTaken m (FIRST_DATA + k) → ⊥
-    not_taken k there (inl past) = there past
-    not_taken k there (inr owner) = (bare owner.0 owner.1 (cases_eq owner.0 1)).0 (FIRST_DATA + k) owner.2
+      not_taken : (k : ℕ) → (m.blocks ≤ FIRST_DATA + k → ⊥) → IsTaken version m (FIRST_DATA + k) → ⊥
+      not_taken k there (inl past) = there past
+      not_taken k there (inr owner) = (bare owner.0 owner.1 (cases_eq owner.0 1)).0 (FIRST_DATA + k) owner.2
 
-    bit_at_place : (k : ℕ) → k < BLOCK_BITS → (t : Bool) → nat_le (m.blocks - FIRST_DATA) k ≡ t → IsBit (object m (bit k)) (IsTaken m (FIRST_DATA + k))
-    bit_at_place k low true past =
-        inl (bit_read m read k is low ∙ ap (λ (b : Bool). cond b 1 0 ∷ []) (formatted.bits k low ∙ past), inl (at_or_past m.blocks k past))
-    bit_at_place k low false here =
-        inr (bit_read m read k is low ∙ ap (λ (b : Bool). cond b 1 0 ∷ []) (formatted.bits k low ∙ here), not_taken k (not_past m.blocks k here))
+      bit_at_place : (k : ℕ) → k < BLOCK_BITS → (t : Bool) → nat_le (m.blocks - FIRST_DATA) k ≡ t → IsBit (object m (bit k)) (IsTaken version m (FIRST_DATA + k))
+      bit_at_place k low true past =
+          inl (bit_read m read k is low ∙ ap (λ (b : Bool). cond b 1 0 ∷ []) (formatted.bits k low ∙ past), inl (at_or_past m.blocks k past))
+      bit_at_place k low false here =
+          inr (bit_read m read k is low ∙ ap (λ (b : Bool). cond b 1 0 ∷ []) (formatted.bits k low ∙ here), not_taken k (not_past m.blocks k here))

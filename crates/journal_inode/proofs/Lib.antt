@@ -1,8 +1,12 @@
 pub mod Admitted
 pub mod Scanning
+pub mod Marking
+pub mod Blocks
 pub mod Tails
 pub mod Pieces
 pub mod Fields
 pub mod Zeros
 pub mod Formatted
 pub mod FormattedSound
+pub mod Splicing
+pub mod Upgrading

@@ -1,17 +1,15 @@
 -- The bytes after a file's size.
 use Rattle.std.proofs.Common.{ℕ, zero, suc, ◌≡◌, ◌<◌, ◌≤◌, ◌-◌, List, [], ◌∷◌, ◌++◌, length, take, drop, replicate, refl, sym, ap, subst, ◌∙◌, arith, lit≤}
-use Rattle.std.proofs.lemmas.List.{length-take-le, length-drop, take-append-drop, take_at, drop_at}
+use Rattle.std.proofs.lemmas.List.{length-drop, take-append-drop, take_at, drop_at}
 use Rattle.std.proofs.lemmas.List.Elements.{All-head, All-tail, All-nil, All-cons}
 use Rattle.std.specs.Prelude.{◌↔◌, Bool, IsTrue}
 use Rattle.std.proofs.lemmas.Bool.Decides.{nat_tests}
-use Rattle.journal_world.specs.declared.layout.TheConstants.{FIRST_DATA}
-use Rattle.journal_world.specs.declared.moment.TheConstants.{MAX_NANOS}
-use Rattle.journal_world.specs.Maps.{Map, is_object}
-use Rattle.journal_inode.specs.declared.node.FileNode.{FileNode}
-use Rattle.journal_inode.specs.declared.node.TheConstants.{FILE_BYTES}
+use Rattle.journal_world.specs.declared.layout.TheConstants.{BLOCK_BYTES, FIRST_DATA}
+use Rattle.journal_world.specs.Maps.{is_object}
+use Rattle.journal_inode.specs.declared.version.FormatVersion.{FormatVersion}
 use Rattle.journal_inode.specs.Places.{addr_of}
 use Rattle.journal_inode.specs.Places.Object.{block}
-use Rattle.journal_inode.specs.Sound.{superblock_head, superblock_of, stored, IsSoundFile}
+use Rattle.journal_inode.specs.Sound.{superblock_head, superblock_of}
 use Rattle.journal_inode.specs.Admitting.{AllZero}
 
 -- so many zeros
@@ -38,41 +36,23 @@ AllZero-padded v n s whole padded =
     subst AllZero (sym (ap (drop s) padded ∙ drop_at (take s v) (zeros n) s whole)) (AllZero-zeros n)
 
 -- a data block's value has 4096 bytes
-pub length-block : (blocks b : ℕ) (v : List ℕ) → FIRST_DATA ≤ b → b < blocks → IsTrue (is_object blocks (addr_of (block b), v)) → length v ≡ FILE_BYTES
+pub length-block : (blocks b : ℕ) (v : List ℕ) → FIRST_DATA ≤ b → b < blocks → IsTrue (is_object blocks (addr_of (block b), v)) → length v ≡ BLOCK_BYTES
 length-block blocks b v from to is = grind (arith, nat_tests)
 
--- a file whose numbers are within bounds is sound where the bytes from its size on are zero
-pub tail_decides : (m : Map) (f : FileNode) (v tail : List ℕ) (b : Bool) → stored m f ≡ v → length v ≡ FILE_BYTES → 1 ≤ f.generation → f.size ≤ FILE_BYTES
-    → FIRST_DATA ≤ f.block → f.block < m.blocks → f.mtime.nanos ≤ MAX_NANOS → tail ≡ drop f.size v → (IsTrue b ↔ AllZero tail) → IsTrue b ↔ IsSoundFile m f
-tail_decides m f v tail b here whole born small from to timed is_tail decides = (
-  (λ is. record {
-    born = born;
-    small = small;
-    data_block = from;
-    on_disk = to;
-    timed = timed;
-    whole = ap (λ x. length (take f.size x)) here ∙ length-take-le f.size v (subst (λ n. f.size ≤ n) (sym whole) small);
-    padded = here ∙ padded-AllZero v FILE_BYTES f.size whole small (subst AllZero is_tail (decides.0 is)) ∙ ap (λ x. take f.size x ++ zeros (FILE_BYTES - f.size)) (sym here);
-  }),
-  (λ sound. decides.1 (subst AllZero (sym is_tail)
-      (AllZero-padded v (FILE_BYTES - f.size) f.size (subst (λ x. length (take f.size x) ≡ f.size) here sound.whole)
-      (subst (λ x. x ≡ take f.size x ++ zeros (FILE_BYTES - f.size)) here sound.padded)))),
-)
-
-length-front : (blocks : ℕ) → length (superblock_head blocks) ≡ 24
+length-front : (version : FormatVersion) (blocks : ℕ) → length (superblock_head version blocks) ≡ 24
 unfolding superblock_head
-length-front blocks = refl
+length-front version blocks = refl
 
 -- the bytes of the superblock begin with its front
-pub superblock_begins : (bytes : List ℕ) (blocks : ℕ) → bytes ≡ superblock_of blocks → take 24 bytes ≡ superblock_head blocks
+pub superblock_begins : (bytes : List ℕ) (version : FormatVersion) (blocks : ℕ) → bytes ≡ superblock_of version blocks → take 24 bytes ≡ superblock_head version blocks
 unfolding superblock_of
-superblock_begins bytes blocks is = ap (take 24) is ∙ take_at (superblock_head blocks) _ 24 (length-front blocks)
+superblock_begins bytes version blocks is = ap (take 24) is ∙ take_at (superblock_head version blocks) _ 24 (length-front version blocks)
 
 -- with that front, they are the superblock's where the rest is zero
-pub superblock_decides : (bytes tail : List ℕ) (blocks : ℕ) (b : Bool) → length bytes ≡ 4096 → take 24 bytes ≡ superblock_head blocks → tail ≡ drop 24 bytes → (IsTrue b ↔ AllZero tail) → IsTrue b ↔ (bytes ≡ superblock_of blocks)
+pub superblock_decides : (bytes tail : List ℕ) (version : FormatVersion) (blocks : ℕ) (b : Bool) → length bytes ≡ 4096 → take 24 bytes ≡ superblock_head version blocks → tail ≡ drop 24 bytes → (IsTrue b ↔ AllZero tail) → IsTrue b ↔ (bytes ≡ superblock_of version blocks)
 unfolding superblock_of
-superblock_decides bytes tail blocks b whole front is_tail decides = (
+superblock_decides bytes tail version blocks b whole front is_tail decides = (
   (λ is. padded-AllZero bytes 4096 24 whole (lit≤ tt) (subst AllZero is_tail (decides.0 is)) ∙ ap (λ x. x ++ zeros (4096 - 24)) front),
   (λ is. decides.1 (subst AllZero (sym is_tail)
-      (AllZero-padded bytes (4096 - 24) 24 (ap length front ∙ length-front blocks) (is ∙ ap (λ x. x ++ zeros (4096 - 24)) (sym front))))),
+      (AllZero-padded bytes (4096 - 24) 24 (ap length front ∙ length-front version blocks) (is ∙ ap (λ x. x ++ zeros (4096 - 24)) (sym front))))),
 )

@@ -1,5 +1,5 @@
 -- What a block of zeros holds.
-use Rattle.std.proofs.Common.{ℕ, zero, suc, ◌≡◌, ◌<◌, ◌≤◌, ◌+◌, ◌-◌, ◌*◌, ◌/◌, ◌%◌, ◌≢◌, ◌⊎◌, inl, inr, ◌&&◌, nat_lt, false, [], ◌++◌, replicate, take, drop, refl, sym, ap, ◌∙◌, arith}
+use Rattle.std.proofs.Common.{ℕ, zero, suc, ◌≡◌, ◌<◌, ◌≤◌, ◌+◌, ◌-◌, ◌*◌, ◌/◌, ◌%◌, ◌≢◌, ◌⊎◌, inl, inr, ◌&&◌, nat_lt, false, ◌++◌, replicate, take, drop, refl, sym, ap, ◌∙◌, arith}
 use Rattle.std.specs.Prelude.{nat_le, slice_index, slice_range}
 use Rattle.std.proofs.lemmas.List.{take-replicate, drop-replicate}
 use Rattle.std.proofs.lemmas.Nat.Bits.{bit_at-zero}
@@ -8,6 +8,7 @@ use Rattle.std.proofs.lemmas.Bool.Decides.{nat_tests}
 use Rattle.journal_world.specs.declared.address.Kind.TheVariants.{Block}
 use Rattle.journal_world.specs.Addresses.{zeros_of}
 use Rattle.journal_block.specs.Block.{Bytes, bit_of, with_bytes}
+use Rattle.journal_inode.specs.declared.version.FormatVersion.{FormatVersion}
 use Rattle.journal_inode.specs.declared.node.Node.TheVariants.{Free}
 use Rattle.journal_inode.specs.Nodes.{inode_bytes, bytes_of_fields}
 use Rattle.journal_inode.specs.Sound.{superblock_head, superblock_of}
@@ -37,9 +38,9 @@ unfolding zeros_of
 zero_inode i inside = zero_range 4096 i inside ∙ sym free_bytes
 
 -- a block of zeros that begins with the superblock's front is the superblock
-pub zeros-superblock : (blocks : ℕ) → with_bytes (zeros_of Block) 0 (superblock_head blocks) ≡ superblock_of blocks
+pub zeros-superblock : (version : FormatVersion) (blocks : ℕ) → with_bytes (zeros_of Block) 0 (superblock_head version blocks) ≡ superblock_of version blocks
 unfolding with_bytes zeros_of superblock_of superblock_head
-zeros-superblock blocks = ap (λ rest. superblock_head blocks ++ rest) (drop-replicate {X = ℕ} 24 4096 0)
+zeros-superblock version blocks = ap (λ rest. superblock_head version blocks ++ rest) (drop-replicate {X = ℕ} 24 4096 0)
 
 -- no bit is set from a place on and below it
 pub none_between : (place k : ℕ) → (nat_le place k && nat_lt k place) ≡ false

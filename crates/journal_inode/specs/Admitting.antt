@@ -1,64 +1,94 @@
 -- The rule of sound files, inode by inode.
-use Rattle.std.specs.Prelude.{ℕ, ◌≡◌, ◌<◌, ◌≤◌, ◌+◌, ◌-◌, ◌↔◌, Bool, true, false, List, [], ◌∷◌, Some, unwrap_or, if◌then◌else◌, All, IsTrue, length, slice_get, slice_set}
-use Rattle.journal_world.specs.declared.layout.TheConstants.{FIRST_DATA}
+use Rattle.std.specs.Prelude.{ℕ, ◌≡◌, ◌≢◌, ◌<◌, ◌≤◌, ◌+◌, ◌-◌, ◌↔◌, ◌⊎◌, Bool, true, false, List, [], ◌∷◌, Some, unwrap_or, if◌then◌else◌, All, AllPairs, Contains, IsTrue, length, drop, slice_get}
+use Rattle.std.specs.List.{AllByRecursion}
+use Rattle.journal_world.specs.declared.layout.TheConstants.{BLOCK_BYTES, FIRST_DATA}
 use Rattle.journal_world.specs.Addresses.{Value}
 use Rattle.journal_world.specs.Maps.{Map}
+use Rattle.journal_inode.specs.declared.version.FormatVersion.{FormatVersion}
 use Rattle.journal_inode.specs.declared.node.FileNode.{FileNode}
 use Rattle.journal_inode.specs.declared.node.Node.{Node}
 use Rattle.journal_inode.specs.declared.node.Node.TheVariants.{File}
 use Rattle.journal_inode.specs.Places.{object}
-use Rattle.journal_inode.specs.Places.Object.{inode, bit}
+use Rattle.journal_inode.specs.Places.Object.{inode, bit, block}
 use Rattle.journal_inode.specs.Nodes.{inode_bytes}
-use Rattle.journal_inode.specs.Sound.{node_at, HasBlock, IsInPlace, IsSoundFile}
+use Rattle.journal_inode.specs.Sound.{node_at, blocks_of, HasBlock, IsDataBlock, IsInPlace, IsSoundFile, HasDistinctBlocks}
+use Rattle.journal_inode.specs.Versions.{most_bytes}
 
 abbrev pub AllZero : List ℕ → Type 0
 AllZero bytes = All (λ byte. byte ≡ 0) bytes
 
 -- What the rule says of one inode alone
-pub record IsSoundInode (m : Map) (i : ℕ) : Type 0 where
+pub record IsSoundInode (version : FormatVersion) (m : Map) (i : ℕ) : Type 0 where
   pub written : object m (inode i) ≡ inode_bytes (node_at m i)
   pub placed : IsInPlace i (node_at m i)
-  pub file : (f : FileNode) → node_at m i ≡ File f → IsSoundFile m f
+  pub file : (f : FileNode) → node_at m i ≡ File f → IsSoundFile version m f
 
--- What the rule says of the first inodes: each is sound, and no two have one block
-pub record AreSoundBelow (m : Map) (n : ℕ) : Type 0 where
-  pub each : (i : ℕ) → i < n → IsSoundInode m i
-  pub apart : (i j b : ℕ) → i < n → j < n → HasBlock (node_at m i) b → HasBlock (node_at m j) b → i ≡ j
+-- What the rule says of the first inodes: each is sound, no two have one block, and none has one twice
+pub record AreSoundBelow (version : FormatVersion) (m : Map) (n : ℕ) : Type 0 where
+  pub each : (i : ℕ) → i < n → IsSoundInode version m i
+  pub apart : (i j b : ℕ) → i < n → j < n → HasBlock version (node_at m i) b → HasBlock version (node_at m j) b → i ≡ j
+  pub distinct : (i : ℕ) (f : FileNode) → i < n → node_at m i ≡ File f → HasDistinctBlocks version f
 
 -- The table says of each data block whether one of the first inodes has it
-abbrev pub IsOwnedBelow : Map → ℕ → ℕ → Type 0
-IsOwnedBelow m n b = (i : ℕ) × (i < n) × HasBlock (node_at m i) b
+abbrev pub IsOwnedBelow : FormatVersion → Map → ℕ → ℕ → Type 0
+IsOwnedBelow version m n b = (i : ℕ) × (i < n) × HasBlock version (node_at m i) b
 
-abbrev pub AreOwners : Map → ℕ → List Bool → Type 0
-AreOwners m n owners = (k : ℕ) → (slice_get owners k ≡ Some true) ↔ IsOwnedBelow m n (FIRST_DATA + k)
+abbrev pub AreOwners : FormatVersion → Map → ℕ → List Bool → Type 0
+AreOwners version m n owners = (k : ℕ) → (slice_get owners k ≡ Some true) ↔ IsOwnedBelow version m n (FIRST_DATA + k)
 
--- The block is a data block of a disk of so many blocks
-abbrev pub IsDataBlock : ℕ → ℕ → Type 0
-IsDataBlock blocks b = (FIRST_DATA ≤ b) × (b < blocks)
+-- The blocks of the inode are as many as it has room for, and data blocks of a disk of so many blocks
+abbrev pub HasDataBlocks : FormatVersion → ℕ → Node → Type 0
+HasDataBlocks version blocks (File f) = (f.size ≤ most_bytes version) × AllByRecursion (IsDataBlock blocks) (blocks_of version f)
+HasDataBlocks version blocks _ = Unit {0}
 
--- so are the blocks of the inode
-abbrev pub HasDataBlocks : ℕ → Node → Type 0
-HasDataBlocks blocks (File f) = IsDataBlock blocks f.block
-HasDataBlocks blocks _ = Unit {0}
+-- the block was marked by none
+abbrev pub IsUnmarked : List Bool → ℕ → Type 0
+IsUnmarked marks b = slice_get marks (b - FIRST_DATA) ≡ Some false
 
--- A place of the table was free, and now is not; or it was not
-abbrev pub ClaimsPlace : ℕ → List Bool → List Bool → Bool → Type 0
-ClaimsPlace k old new true = (slice_get old k ≡ Some false) × (new ≡ slice_set old k true)
-ClaimsPlace k old new false = slice_get old k ≡ Some true
+-- These blocks were marked by none and are distinct, and the table is marked with them
+pub record Marks (bs : List ℕ) (old new : List Bool) : Type 0 where
+  pub unmarked : All (IsUnmarked old) bs
+  pub distinct : AllPairs ◌≢◌ bs
+  pub marked : (k : ℕ) → (slice_get new k ≡ Some true) ↔ ((slice_get old k ≡ Some true) ⊎ Contains bs (FIRST_DATA + k))
+  pub same_length : length new ≡ length old
 
--- The table was marked with the inode's blocks, or one of them was marked already
-abbrev pub Claims : Node → List Bool → List Bool → Bool → Type 0
-Claims (File f) old new claimed = ClaimsPlace (f.block - FIRST_DATA) old new claimed
-Claims _ old new claimed = (claimed ≡ true) × (new ≡ old)
+-- The table was marked with the blocks, or one of them was marked already
+abbrev pub MarksAll : List ℕ → List Bool → List Bool → Bool → Type 0
+MarksAll bs old new true = Marks bs old new
+MarksAll bs old new false = All (IsUnmarked old) bs → AllPairs ◌≢◌ bs → ⊥
+
+-- so for the blocks of an inode
+abbrev pub Claims : FormatVersion → Node → List Bool → List Bool → Bool → Type 0
+Claims version (File f) old new claimed = MarksAll (blocks_of version f) old new claimed
+Claims version _ old new claimed = (claimed ≡ true) × (new ≡ old)
+
+-- The block is a data block, and its bytes from a size on are zero
+pub record IsSoundBlock (m : Map) (size b : ℕ) : Type 0 where
+  pub on_disk : IsDataBlock m.blocks b
+  pub sized : length (object m (block b)) ≡ BLOCK_BYTES
+  pub padded : AllZero (drop size (object m (block b)))
+
+-- so are blocks that lie one behind another
+abbrev pub AreSoundBlocks : Map → ℕ → List ℕ → Type 0
+AreSoundBlocks m size [] = Unit {0}
+AreSoundBlocks m size (b ∷ bs) = IsSoundBlock m size b × AreSoundBlocks m (size - BLOCK_BYTES) bs
+
+-- What is known once the first blocks of a file were looked at, and so many bytes are left: the map, the trust and the failure as for inodes
+pub record AreBlocksScanned (before now : Map) (trusted still failed fails : Bool) (size left : ℕ) (bs rest : List ℕ) : Type 0 where
+  pub same_map : now ≡ before
+  pub same_trust : still ≡ trusted
+  pub stays_failed : IsTrue failed → IsTrue fails
+  pub in_range : AllByRecursion (IsDataBlock before.blocks) rest → AllByRecursion (IsDataBlock before.blocks) bs
+  pub so_far : IsTrue trusted → AreSoundBlocks before left rest ↔ AreSoundBlocks before size bs
 
 -- What is known once the first inodes were looked at: the map and the trust in the reader are as before, and where it is trusted, these inodes are sound and the table says whose blocks are theirs
-pub record IsScanned (before now : Map) (trusted still failed fails : Bool) (n : ℕ) (owners : List Bool) : Type 0 where
+pub record IsScanned (version : FormatVersion) (before now : Map) (trusted still failed fails : Bool) (n : ℕ) (owners : List Bool) : Type 0 where
   pub same_map : now ≡ before
   pub same_trust : still ≡ trusted
   pub stays_failed : IsTrue failed → IsTrue fails
   pub whole : FIRST_DATA + length owners ≡ before.blocks
-  pub below : IsTrue trusted → AreSoundBelow before n
-  pub owned : IsTrue trusted → AreOwners before n owners
+  pub below : IsTrue trusted → AreSoundBelow version before n
+  pub owned : IsTrue trusted → AreOwners version before n owners
 
 -- the value of a bit that the table asks for: past its end, all are set
 abbrev pub bit_asked : List Bool → ℕ → Value

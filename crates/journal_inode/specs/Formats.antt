@@ -7,6 +7,7 @@ use Rattle.journal_world.specs.declared.refusal.Refusal.TheVariants.{NoMemory, D
 use Rattle.journal_world.specs.Addresses.{zeros_of}
 use Rattle.journal_block.specs.Block.{Bytes, bit_of}
 use Rattle.journal_disk.specs.Disks.{DiskState, HasFailed}
+use Rattle.journal_inode.specs.declared.version.FormatVersion.{FormatVersion}
 use Rattle.journal_inode.specs.declared.node.Time.{Time}
 use Rattle.journal_inode.specs.declared.node.Node.TheVariants.{Free, Root}
 use Rattle.journal_inode.specs.declared.place.TheConstants.{INODES}
@@ -21,9 +22,9 @@ AreZeros blocks read = (b : ℕ) → b < blocks → read b ≡ zeros_of Block
 abbrev pub inode_in : (ℕ → Bytes) → ℕ → Bytes
 inode_in read i = slice_range (read (FIRST_INODES + i / 32)) (i % 32 * 128) (i % 32 * 128 + 128)
 
--- What the blocks of a disk without files read as. The log is empty, since its headers are zeros
-pub record IsFormatted (blocks : ℕ) (made : Time) (read : ℕ → Bytes) : Type 0 where
-  pub superblock : read SUPERBLOCK ≡ superblock_of blocks
+-- What the blocks of a disk of this version without files read as. The log is empty, since its headers are zeros
+pub record IsFormatted (version : FormatVersion) (blocks : ℕ) (made : Time) (read : ℕ → Bytes) : Type 0 where
+  pub superblock : read SUPERBLOCK ≡ superblock_of version blocks
   -- the bit of each data block is clear, and all others are set
   pub bits : (k : ℕ) → k < BLOCK_BITS → bit_of (read BITMAP) k ≡ nat_le (blocks - FIRST_DATA) k
   pub root : inode_in read 1 ≡ inode_bytes (Root made)

@@ -1,47 +1,71 @@
 -- The rule of sound files.
-use Rattle.std.specs.Prelude.{ℕ, zero, suc, ◌≡◌, ◌<◌, ◌≤◌, ◌+◌, ◌-◌, ◌⊎◌, List, [], ◌∷◌, ◌++◌, length, take, replicate}
+use Rattle.std.specs.Prelude.{ℕ, zero, suc, ◌≡◌, ◌≢◌, ◌<◌, ◌≤◌, ◌+◌, ◌-◌, ◌⊎◌, List, [], ◌∷◌, ◌++◌, AllPairs, length, take, drop, replicate}
 use Rattle.std.specs.Int.{w64, to_le_bytes}
-use Rattle.journal_world.specs.declared.layout.TheConstants.{FIRST_DATA, BLOCK_BITS}
+use Rattle.std.specs.List.{AllByRecursion}
+use Rattle.journal_world.specs.declared.layout.TheConstants.{BLOCK_BYTES, FIRST_DATA, BLOCK_BITS}
 use Rattle.journal_world.specs.declared.moment.TheConstants.{MAX_NANOS}
 use Rattle.journal_world.specs.Addresses.{Value}
 use Rattle.journal_world.specs.Maps.{Map}
+use Rattle.journal_inode.specs.declared.version.FormatVersion.{FormatVersion}
 use Rattle.journal_inode.specs.declared.node.FileNode.{FileNode}
 use Rattle.journal_inode.specs.declared.node.Node.{Node}
 use Rattle.journal_inode.specs.declared.node.Node.TheVariants.{Free, Root, File}
-use Rattle.journal_inode.specs.declared.node.TheConstants.{FILE_BYTES}
+use Rattle.journal_inode.specs.declared.node.TheConstants.{MORE_BLOCKS}
 use Rattle.journal_inode.specs.declared.place.TheConstants.{INODES}
 use Rattle.journal_inode.specs.Places.{object}
 use Rattle.journal_inode.specs.Places.Object.{superblock, bit, inode, block}
 use Rattle.journal_inode.specs.Nodes.{inode_bytes, node_of}
+use Rattle.journal_inode.specs.Versions.{number_of, most_bytes, more_count, room_of}
 
--- "GJNLDSK1", the version 1 and the number of blocks
-unfoldable pub superblock_head : ℕ → Value
-superblock_head blocks = (0x47 ∷ 0x4a ∷ 0x4e ∷ 0x4c ∷ 0x44 ∷ 0x53 ∷ 0x4b ∷ 0x31 ∷ []) ++ to_le_bytes w64 1 ++ to_le_bytes w64 blocks
+-- "GJNLDSK1", the number of the version and the number of blocks
+unfoldable pub superblock_head : FormatVersion → ℕ → Value
+superblock_head version blocks =
+    (0x47 ∷ 0x4a ∷ 0x4e ∷ 0x4c ∷ 0x44 ∷ 0x53 ∷ 0x4b ∷ 0x31 ∷ []) ++ to_le_bytes w64 (number_of version) ++ to_le_bytes w64 blocks
 
 -- the rest of the superblock is zero
-unfoldable pub superblock_of : ℕ → Value
-superblock_of blocks = superblock_head blocks ++ replicate (4096 - 24) 0
+unfoldable pub superblock_of : FormatVersion → ℕ → Value
+superblock_of version blocks = superblock_head version blocks ++ replicate (4096 - 24) 0
 
 -- inode i of the map
 abbrev pub node_at : Map → ℕ → Node
 node_at m i = node_of (object m (inode i))
 
+-- the blocks of a file, in the order of its bytes: in version 1 there is one
+abbrev pub blocks_of : FormatVersion → FileNode → List ℕ
+blocks_of version f = f.block ∷ take (more_count version f.size) f.more
+
+-- what blocks hold, one behind another
+abbrev pub held : Map → List ℕ → Value
+held m [] = []
+held m (b ∷ []) = object m (block b)
+held m (b ∷ c ∷ bs) = object m (block b) ++ held m (c ∷ bs)
+
 -- what the blocks of a file hold
-abbrev pub stored : Map → FileNode → Value
-stored m f = object m (block f.block)
+abbrev pub stored : FormatVersion → Map → FileNode → Value
+stored version m f = held m (blocks_of version f)
 
 -- the bytes of a file
-abbrev pub content : Map → FileNode → List ℕ
-content m f = take f.size (stored m f)
+abbrev pub content : FormatVersion → Map → FileNode → List ℕ
+content version m f = take f.size (stored version m f)
+
+-- the block is one of these
+abbrev pub IsAmong : List ℕ → ℕ → Type 0
+IsAmong [] b = ⊥
+IsAmong (x ∷ []) b = x ≡ b
+IsAmong (x ∷ y ∷ ys) b = (x ≡ b) ⊎ IsAmong (y ∷ ys) b
 
 -- the block is one of the inode's
-abbrev pub HasBlock : Node → ℕ → Type 0
-HasBlock (File f) b = f.block ≡ b
-HasBlock _ b = ⊥
+abbrev pub HasBlock : FormatVersion → Node → ℕ → Type 0
+HasBlock version (File f) b = IsAmong (blocks_of version f) b
+HasBlock version _ b = ⊥
 
 -- the block is not there, or a file has it
-abbrev pub IsTaken : Map → ℕ → Type 0
-IsTaken m b = (m.blocks ≤ b) ⊎ ((i : ℕ) × (i < INODES) × HasBlock (node_at m i) b)
+abbrev pub IsTaken : FormatVersion → Map → ℕ → Type 0
+IsTaken version m b = (m.blocks ≤ b) ⊎ ((i : ℕ) × (i < INODES) × HasBlock version (node_at m i) b)
+
+-- the block is a data block of a disk of so many blocks
+abbrev pub IsDataBlock : ℕ → ℕ → Type 0
+IsDataBlock blocks b = (FIRST_DATA ≤ b) × (b < blocks)
 
 -- Inode 0 is all zero, inode 1 is the root, and all others are free or files
 abbrev pub IsInPlace : ℕ → Node → Type 0
@@ -51,31 +75,39 @@ IsInPlace (suc (suc i)) (Free generation) = Unit {0}
 IsInPlace (suc (suc i)) (File f) = Unit {0}
 IsInPlace _ _ = ⊥
 
--- A file has a generation, a size and a time within bounds, and a data block, whose bytes from its size on are zero
-pub record IsSoundFile (m : Map) (f : FileNode) : Type 0 where
+-- A file has a generation, a size and a time within bounds, and data blocks, whose bytes from its size on are zero
+pub record IsSoundFile (version : FormatVersion) (m : Map) (f : FileNode) : Type 0 where
   pub born : 1 ≤ f.generation
-  pub small : f.size ≤ FILE_BYTES
-  pub data_block : FIRST_DATA ≤ f.block
-  pub on_disk : f.block < m.blocks
+  pub small : f.size ≤ most_bytes version
+  pub on_disk : AllByRecursion (IsDataBlock m.blocks) (blocks_of version f)
+  -- where a further block is not there its number is 0
+  pub absent : drop (more_count version f.size) f.more ≡ replicate (MORE_BLOCKS - more_count version f.size) 0
   pub timed : f.mtime.nanos ≤ MAX_NANOS
-  pub whole : length (content m f) ≡ f.size
-  pub padded : stored m f ≡ content m f ++ replicate (FILE_BYTES - f.size) 0
+  -- its blocks are whole, and so are its bytes
+  pub sized : AllByRecursion (λ b. length (object m (block b)) ≡ BLOCK_BYTES) (blocks_of version f)
+  pub whole : length (content version m f) ≡ f.size
+  pub padded : stored version m f ≡ content version m f ++ replicate (room_of version f.size - f.size) 0
+
+-- no two blocks of the file are one
+abbrev pub HasDistinctBlocks : FormatVersion → FileNode → Type 0
+HasDistinctBlocks version f = AllPairs ◌≢◌ (blocks_of version f)
 
 -- the bit is set exactly where P holds
 abbrev pub IsBit : Value → Type 0 → Type 0
 IsBit v P = ((v ≡ 1 ∷ []) × P) ⊎ ((v ≡ 0 ∷ []) × (P → ⊥))
 
--- A map of sound files
-pub record HasSoundFiles (m : Map) : Type 0 where
+-- A map of sound files of this version
+pub record HasSoundFiles (version : FormatVersion) (m : Map) : Type 0 where
   -- the superblock is that of a disk of so many blocks
-  pub begins : object m superblock ≡ superblock_of m.blocks
+  pub begins : object m superblock ≡ superblock_of version m.blocks
   -- the bytes of each inode are those of some inode, so what its kind has not is zero
   pub written : (i : ℕ) → i < INODES → object m (inode i) ≡ inode_bytes (node_at m i)
   -- each is in its place
   pub placed : (i : ℕ) → i < INODES → IsInPlace i (node_at m i)
   -- each file is sound
-  pub files : (i : ℕ) (f : FileNode) → i < INODES → node_at m i ≡ File f → IsSoundFile m f
-  -- no two files have one block
-  pub apart : (i j b : ℕ) → i < INODES → j < INODES → HasBlock (node_at m i) b → HasBlock (node_at m j) b → i ≡ j
+  pub files : (i : ℕ) (f : FileNode) → i < INODES → node_at m i ≡ File f → IsSoundFile version m f
+  -- no two files have one block, and no file has one twice
+  pub apart : (i j b : ℕ) → i < INODES → j < INODES → HasBlock version (node_at m i) b → HasBlock version (node_at m j) b → i ≡ j
+  pub distinct : (i : ℕ) (f : FileNode) → i < INODES → node_at m i ≡ File f → HasDistinctBlocks version f
   -- the set bits are those of the files' blocks and of the blocks that are not there
-  pub bits : (i : ℕ) → i < BLOCK_BITS → IsBit (object m (bit i)) (IsTaken m (FIRST_DATA + i))
+  pub bits : (i : ℕ) → i < BLOCK_BITS → IsBit (object m (bit i)) (IsTaken version m (FIRST_DATA + i))

@@ -16,8 +16,12 @@ mod node;
 mod place;
 mod rule;
 mod superblock;
+mod upgrade;
+mod version;
 
 pub use making::format;
-pub use node::{FILE_BYTES, FileNode, NODE_BYTES, Node, Time};
+pub use node::{FILE_BYTES, FileNode, MORE_BLOCKS, NODE_BYTES, Node, Time};
 pub use place::{INODES, bit_addr, block_addr, inode_addr};
 pub use rule::SoundFiles;
+pub use upgrade::upgraded_files_are_sound;
+pub use version::{FormatVersion, Version, VersionOne, VersionTwo};

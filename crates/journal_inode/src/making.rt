@@ -12,7 +12,7 @@ ghost use Rattle.journal_inode.specs.Sound.{superblock_of, HasSoundFiles};
 ghost use Rattle.journal_inode.specs.Formats.{AreZeros, IsFormatted, IsWritingRefusal};
 
 use crate::superblock::front;
-use crate::{NODE_BYTES, Node, Time};
+use crate::{FormatVersion, NODE_BYTES, Node, Time};
 use journal_block::Block;
 use journal_disk::BlockDisk;
 use journal_world::{
@@ -20,52 +20,62 @@ use journal_world::{
 };
 use std::alloc::Global;
 
-/// Makes a disk without files of a disk of zeros: writes its superblock, the bitmap of its data blocks, and the
+/// Makes a disk of this version without files of a disk of zeros: writes its superblock, the bitmap of its data blocks, and the
 /// root directory's inode, with this moment as its time. The log is empty, since its headers are zeros. Nothing
 /// is pending then.
 ///
 /// Answers J1 `NoMemory` where memory for a block is refused, and J6 `DeviceFailed` where the device failed
 /// meanwhile. The disk is handed back then, and what its blocks hold is not said.
-pub fn format<D: BlockDisk>(alloc: Global, disk: D, moment: Moment) -> Result<D, Refused<D, ()>>
+pub fn format<D: BlockDisk>(
+    alloc: Global,
+    disk: D,
+    moment: Moment,
+    version: FormatVersion,
+) -> Result<D, Refused<D, ()>>
     requires blocks { (MIN_BLOCKS ≤ (D.state disk).past.size) × ((D.state disk).past.size ≤ MAX_BLOCKS) }
     requires zeros { IsTrue (D.state disk).honest →
         AreZeros (D.state disk).past.size (read_of (D.state disk).past) }
     ensures keeps { IfOk result (λ formatted. Keeps (D.state disk) (D.state formatted)) }
     ensures blocks { IsTrue (D.state disk).honest → IfOk result (λ formatted.
-        IsFormatted (D.state disk).past.size (record { secs = moment.secs; nanos = moment.nanos })
+        IsFormatted version (D.state disk).past.size (record { secs = moment.secs; nanos = moment.nanos })
         (read_of (D.state formatted).past)) }
     ensures settled { IsTrue (D.state disk).honest → IfOk result (λ formatted.
         IsSettled (D.state formatted).past) }
 
     // The map that its blocks make is one of sound files.
     ensures sound { IsTrue (D.state disk).honest → IfOk result (λ formatted. (m : Map)
-        → m.blocks ≡ (D.state disk).past.size → IsMapOf (read_of (D.state formatted).past) m → HasSoundFiles m) }
+        → m.blocks ≡ (D.state disk).past.size → IsMapOf (read_of (D.state formatted).past) m → HasSoundFiles version m) }
 
     ensures refusal { IfErr result (λ refused.
         IsWritingRefusal (D.state disk) (D.state refused.disk) refused.refusal) }
     ensures handed_back { IfErr result (λ refused. Keeps (D.state disk) (D.state refused.disk)) }
 {
     let mut disk = disk;
-    match write_all(alloc, &mut disk, moment) {
+    match write_all(alloc, &mut disk, moment, version) {
         Ok(()) => Ok(disk),
         Err(refusal) => Err(Refused { refusal, disk }),
     }
 }
 
 // Writes what is not left as zeros, and makes it stable.
-fn write_all<D: BlockDisk>(alloc: Global, disk: &mut D, moment: Moment) -> Result<(), Refusal<()>>
+fn write_all<D: BlockDisk>(
+    alloc: Global,
+    disk: &mut D,
+    moment: Moment,
+    version: FormatVersion,
+) -> Result<(), Refusal<()>>
     requires blocks { (MIN_BLOCKS ≤ (D.state disk.old).past.size) × ((D.state disk.old).past.size ≤ MAX_BLOCKS) }
     requires zeros { IsTrue (D.state disk.old).honest →
         AreZeros (D.state disk.old).past.size (read_of (D.state disk.old).past) }
     ensures keeps { Keeps (D.state disk.old) (D.state disk.new) }
     ensures blocks { IsTrue (D.state disk.old).honest → OnOk result
-        (IsFormatted (D.state disk.old).past.size (record { secs = moment.secs; nanos = moment.nanos })
+        (IsFormatted version (D.state disk.old).past.size (record { secs = moment.secs; nanos = moment.nanos })
         (read_of (D.state disk.new).past)) }
     ensures settled { IsTrue (D.state disk.old).honest → OnOk result (IsSettled (D.state disk.new).past) }
     ensures refusal { IfErr result (IsWritingRefusal (D.state disk.old) (D.state disk.new)) }
 {
     let blocks = disk.size();
-    let superblock = super_block(alloc, blocks)?;
+    let superblock = super_block(alloc, version, blocks)?;
     let bitmap = bitmap(alloc, blocks)?;
     let inodes = first_inodes(alloc, Time::at(moment))?;
     write(disk, SUPERBLOCK, &superblock)?;
@@ -74,13 +84,13 @@ fn write_all<D: BlockDisk>(alloc: Global, disk: &mut D, moment: Moment) -> Resul
     sync(disk)
 }
 
-// The superblock of a disk of so many blocks.
-fn super_block(alloc: Global, blocks: u64) -> Result<Block, Refusal<()>>
-    ensures bytes { IfOk result (λ block. block ≡ superblock_of blocks) }
+// The superblock of a disk of this version and so many blocks.
+fn super_block(alloc: Global, version: FormatVersion, blocks: u64) -> Result<Block, Refusal<()>>
+    ensures bytes { IfOk result (λ block. block ≡ superblock_of version blocks) }
     ensures refusal { IsOkUnless result Refusal.NoMemory }
 {
     let mut block = Block::try_new(alloc)?;
-    block.copy_range(0, &front(blocks));
+    block.copy_range(0, &front(version, blocks));
     Ok(block)
 }
 

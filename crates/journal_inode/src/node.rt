@@ -1,11 +1,14 @@
 // An inode, and its bytes.
-ghost use Rattle.std.specs.Prelude.{◌≡◌, ◌≤◌, ◌+◌, length};
-ghost use Rattle.journal_inode.specs.Nodes.{with_piece, bytes_of_fields, inode_bytes, word_at, long_at, time_at, node_of, Fits};
+ghost use Rattle.std.specs.Prelude.{ℕ, ◌≡◌, ◌<◌, ◌≤◌, ◌+◌, ◌^◌, ◌∷◌, ◌++◌, take, drop, flat_map, length, slice_index};
+ghost use Rattle.std.specs.Int.{w64, to_le_bytes};
+ghost use Rattle.journal_inode.specs.Nodes.{with_piece, bytes_of_fields, inode_bytes, no_more, word_at, long_at, more_at, time_at, node_of, Fits};
 
 use journal_world::Moment;
 
-/// The most bytes that a file has.
+/// The most bytes that a file of version 1 has.
 pub const FILE_BYTES: u64 = 4096;
+/// How many numbers of blocks an inode has room for beside the first.
+pub const MORE_BLOCKS: usize = 11;
 /// The bytes of an inode.
 pub const NODE_BYTES: usize = 128;
 
@@ -28,6 +31,8 @@ const BLOCK_AT: usize = 16;
 const SECS_AT: usize = 24;
 
 const NANOS_AT: usize = 28;
+
+const MORE_AT: usize = 32;
 
 // The generation of the root directory.
 const ROOT_GENERATION: u32 = 1;
@@ -63,10 +68,23 @@ pub struct FileNode {
     pub generation: u32,
     /// How many bytes the file has.
     pub size: u64,
-    /// The block that holds them.
+    /// The block that holds the first 4096 of them.
     pub block: u64,
+    /// The blocks that hold those behind them, 4096 each. Where there is none, its number is 0.
+    pub more: [u64; MORE_BLOCKS],
     /// When they were last changed.
     pub mtime: Time,
+}
+
+impl FileNode {
+    /// The numbers of blocks that the inode has room for, in the order of the file's bytes.
+    pub fn numbers(&self) -> [u64; 1 + MORE_BLOCKS]
+        ensures { result ≡ self.now.block ∷ self.now.more }
+    {
+        let mut numbers = [self.block; 1 + MORE_BLOCKS];
+        numbers[1..].copy_from_slice(&self.more);
+        numbers
+    }
 }
 
 /// An inode.
@@ -97,6 +115,7 @@ impl Node {
                 generation: word(bytes, GENERATION_AT),
                 size: long(bytes, SIZE_AT),
                 block: long(bytes, BLOCK_AT),
+                more: more(bytes),
                 mtime: mtime(bytes),
             }),
             ROOT => Node::Root(mtime(bytes)),
@@ -115,7 +134,11 @@ impl Node {
         match node {
             Node::Free(generation) => fields(FREE, generation, 0, 0, Time::ZERO),
             Node::Root(mtime) => fields(ROOT, ROOT_GENERATION, 0, 0, mtime),
-            Node::File(file) => fields(FILE, file.generation, file.size, file.block, file.mtime),
+            Node::File(file) => {
+                let mut bytes = fields(FILE, file.generation, file.size, file.block, file.mtime);
+                put_more(&mut bytes, &file.more);
+                bytes
+            }
         }
     }
 }
@@ -156,9 +179,21 @@ fn mtime(bytes: &[u8]) -> Time
     }
 }
 
-// The bytes of an inode with these fields.
+// The numbers of the blocks beside the first in the bytes of an inode.
+fn more(bytes: &[u8]) -> [u64; MORE_BLOCKS]
+    requires { length bytes.now ≡ NODE_BYTES }
+    ensures { result ≡ more_at bytes.now }
+{
+    let mut more = [0; MORE_BLOCKS];
+    for j in 0..MORE_BLOCKS {
+        more[j] = long(bytes, MORE_AT + 8 * j);
+    }
+    more
+}
+
+// The bytes of an inode with these fields, and without blocks beside the first.
 fn fields(kind: u32, generation: u32, size: u64, block: u64, mtime: Time) -> [u8; NODE_BYTES]
-    ensures { result ≡ bytes_of_fields kind generation size block mtime }
+    ensures { result ≡ bytes_of_fields kind generation size block mtime no_more }
 {
     let mut bytes = [0; NODE_BYTES];
     put(&mut bytes, KIND_AT, &kind.to_le_bytes());
@@ -168,6 +203,16 @@ fn fields(kind: u32, generation: u32, size: u64, block: u64, mtime: Time) -> [u8
     put(&mut bytes, SECS_AT, &mtime.secs.to_le_bytes());
     put(&mut bytes, NANOS_AT, &mtime.nanos.to_le_bytes());
     bytes
+}
+
+// Writes the numbers of the blocks beside the first into the bytes of an inode.
+fn put_more(bytes: &mut [u8; NODE_BYTES], more: &[u64; MORE_BLOCKS])
+    ensures written { bytes.new ≡ take 32 bytes.old ++ flat_map (to_le_bytes w64) more.now ++ drop 120 bytes.old }
+    ensures fits { (j : ℕ) → slice_index more.now j < 2 ^ 64 }
+{
+    for (j, number) in more.iter().enumerate() {
+        put(bytes, MORE_AT + 8 * j, &number.to_le_bytes());
+    }
 }
 
 // Writes a piece over the bytes from a place on.

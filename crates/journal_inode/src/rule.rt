@@ -1,42 +1,53 @@
 // Whether the files of a map are sound.
 ghost use Rattle.std.specs.Prelude.{ℕ, ◌≡◌, ◌<◌, ◌≤◌, ◌+◌, ◌↔◌, length, IsTrue, IfOk, IfErr, IfSome, MatchOption};
-ghost use Rattle.journal_inode.specs.Sound.{superblock_of, node_at, IsInPlace, IsSoundFile};
+ghost use Rattle.std.specs.List.{AllByRecursion};
+ghost use Rattle.journal_inode.specs.Sound.{superblock_of, node_at, IsDataBlock, IsInPlace, IsSoundFile};
 ghost use Rattle.journal_world.specs.Refusals.{IsReadingRefusal};
 ghost use Rattle.journal_inode.specs.Places.{object};
 ghost use Rattle.journal_inode.specs.Places.Object.{superblock};
-ghost use Rattle.journal_inode.specs.Admitting.{IsSoundInode, IsDataBlock, HasDataBlocks, AreSoundBelow, AreOwners, Claims, bit_asked, AreBitsBelow};
+ghost use Rattle.journal_inode.specs.Admitting.{AllZero, IsSoundBlock, AreSoundBlocks, MarksAll, IsSoundInode, HasDataBlocks, AreSoundBelow, AreOwners, Claims, bit_asked, AreBitsBelow};
 
 use crate::superblock::{are_zero, is_superblock};
-use crate::{FILE_BYTES, FileNode, INODES, Node, bit_addr, block_addr, inode_addr};
+use crate::{
+    FileNode, FormatVersion, INODES, Node, Version, VersionOne, bit_addr, block_addr, inode_addr,
+};
 use journal_world::{
-    Addr, BLOCK_BITS, FIRST_DATA, MAX_NANOS, MapRule, ObjectReader, Refusal, SUPERBLOCK,
+    Addr, BLOCK_BITS, BLOCK_BYTES, FIRST_DATA, MAX_NANOS, MapRule, ObjectReader, Refusal,
+    SUPERBLOCK,
 };
 use std::alloc::Global;
+use std::marker::PhantomData;
 use std::sync::OnceLock;
 
-/// The rule of sound files: the superblock is the disk's, each inode is in its place, each file is sound, no
+/// The rule of sound files of a version: the superblock is the disk's, each inode is in its place, each file is sound, no
 /// two files have one block, and the bitmap says which data blocks are taken.
 ///
 /// It keeps an allocator, for the table of the blocks that files have, and the first such table that it made.
 #[derive(Drop)]
-pub struct SoundFiles {
+pub struct SoundFiles<V = VersionOne> {
     alloc: Global,
     owners: OnceLock<Vec<bool>>,
+    version: PhantomData<V>,
 }
 
-impl SoundFiles {
+impl<V: Version> SoundFiles<V> {
     /// The rule, with the allocator that `admit` takes memory from.
-    pub fn new(alloc: Global) -> SoundFiles {
+    pub fn new(alloc: Global) -> SoundFiles<V> {
         SoundFiles {
             alloc,
             owners: OnceLock::new(),
+            version: PhantomData,
         }
     }
 
     /// The table that `admit` made of the first map whose inodes were sound: for each data block, whether a file has it.
     /// It is a hint, of which nothing is promised.
     pub fn into_owners(self) -> Option<Vec<bool>> {
-        let SoundFiles { alloc: _, owners } = self;
+        let SoundFiles {
+            alloc: _,
+            owners,
+            version: _,
+        } = self;
         owners.into_inner()
     }
 
@@ -46,19 +57,20 @@ impl SoundFiles {
     }
 }
 
-impl MapRule for SoundFiles {
+impl<V: Version> MapRule for SoundFiles<V> {
     ghost use Rattle.journal_inode.specs.Sound.{HasSoundFiles};
     ghost use Rattle.journal_inode.specs.SameFiles.{Sound-same};
 
-    ghost statement = { HasSoundFiles };
+    ghost statement = { HasSoundFiles V.VERSION };
 
-    ghost respects = { Sound-same };
+    ghost respects = { Sound-same V.VERSION };
 
     fn admit<O: ObjectReader>(&self, reader: &mut O) -> Result<bool, Refusal<O::Cause>> {
-        if !has_superblock(reader)? {
+        let version = V::VERSION;
+        if !has_superblock(reader, version)? {
             return Ok(false);
         }
-        match owners(reader, self.alloc)? {
+        match owners(reader, version, self.alloc)? {
             None => Ok(false),
             Some(owners) => {
                 let answer = are_bits_sound(reader, &owners);
@@ -70,9 +82,12 @@ impl MapRule for SoundFiles {
 }
 
 // Whether the superblock is that of the disk. The map stays.
-fn has_superblock<O: ObjectReader>(reader: &mut O) -> Result<bool, Refusal<O::Cause>>
+fn has_superblock<O: ObjectReader>(
+    reader: &mut O,
+    version: FormatVersion,
+) -> Result<bool, Refusal<O::Cause>>
     ensures sound { IsTrue (O.trusted reader.old) → IfOk result (λ has.
-        IsTrue has ↔ (object (O.map reader.old) superblock ≡ superblock_of (O.map reader.old).blocks)) }
+        IsTrue has ↔ (object (O.map reader.old) superblock ≡ superblock_of version (O.map reader.old).blocks)) }
     ensures refusal { IfErr result (IsReadingRefusal (O.failed reader.new)) }
     ensures stays_failed { IsTrue (O.failed reader.old) → IsTrue (O.failed reader.new) }
     ensures same_map { O.map reader.new ≡ O.map reader.old }
@@ -84,7 +99,7 @@ fn has_superblock<O: ObjectReader>(reader: &mut O) -> Result<bool, Refusal<O::Ca
         off: 0,
     };
     let value = reader.read(addr)?;
-    Ok(is_superblock(value.bytes(), blocks))
+    Ok(is_superblock(value.bytes(), version, blocks))
 }
 
 // Whether the inode may have the number i.
@@ -99,33 +114,96 @@ fn is_in_place(i: u32, node: Node) -> bool
 }
 
 // Whether a file is sound by itself. The map stays.
-fn is_file_sound<O: ObjectReader>(reader: &mut O, file: FileNode) -> Result<bool, Refusal<O::Cause>>
+fn is_file_sound<O: ObjectReader>(
+    reader: &mut O,
+    version: FormatVersion,
+    file: FileNode,
+) -> Result<bool, Refusal<O::Cause>>
     ensures sound { IsTrue (O.trusted reader.old) → IfOk result (λ sound.
-        IsTrue sound ↔ IsSoundFile (O.map reader.old) file) }
-    ensures in_range { IfOk result (λ sound. IsTrue sound → IsDataBlock (O.map reader.old).blocks file.block) }
+        IsTrue sound ↔ IsSoundFile version (O.map reader.old) file) }
+    ensures in_range { IfOk result (λ sound. IsTrue sound → HasDataBlocks version (O.map reader.old).blocks (Node.File file)) }
+    ensures refusal { IfErr result (IsReadingRefusal (O.failed reader.new)) }
+    ensures stays_failed { IsTrue (O.failed reader.old) → IsTrue (O.failed reader.new) }
+    ensures same_map { O.map reader.new ≡ O.map reader.old }
+    ensures same_trust { O.trusted reader.new ≡ O.trusted reader.old }
+{
+    let size = file.size;
+    if file.generation == 0 || size > version.most_bytes() || file.mtime.nanos > MAX_NANOS {
+        return Ok(false);
+    }
+    let more = version.more_count(size);
+    if !are_absent(&file.more[more..]) {
+        return Ok(false);
+    }
+    are_blocks_sound(reader, &file.numbers()[..=more], size)
+}
+
+// Whether all numbers are 0.
+fn are_absent(numbers: &[u64]) -> bool
+    ensures { IsTrue result ↔ AllZero numbers.now }
+{
+    numbers.iter().all(|number| *number == 0)
+}
+
+// Whether these are data blocks, and their bytes from a size on are zero. The map stays.
+fn are_blocks_sound<O: ObjectReader>(
+    reader: &mut O,
+    blocks: &[u64],
+    size: u64,
+) -> Result<bool, Refusal<O::Cause>>
+    ensures sound { IsTrue (O.trusted reader.old) → IfOk result (λ sound.
+        IsTrue sound ↔ AreSoundBlocks (O.map reader.old) size blocks.now) }
+    ensures in_range { IfOk result (λ sound. IsTrue sound
+        → AllByRecursion (IsDataBlock (O.map reader.old).blocks) blocks.now) }
+    ensures refusal { IfErr result (IsReadingRefusal (O.failed reader.new)) }
+    ensures stays_failed { IsTrue (O.failed reader.old) → IsTrue (O.failed reader.new) }
+    ensures same_map { O.map reader.new ≡ O.map reader.old }
+    ensures same_trust { O.trusted reader.new ≡ O.trusted reader.old }
+{
+    let mut left = size;
+    for block in blocks {
+        if !is_block_sound(reader, *block, left)? {
+            return Ok(false);
+        }
+        left = left.saturating_sub(BLOCK_BYTES as u64);
+    }
+    Ok(true)
+}
+
+// Whether this is a data block, and its bytes from a size on are zero. The map stays.
+fn is_block_sound<O: ObjectReader>(
+    reader: &mut O,
+    block: u64,
+    size: u64,
+) -> Result<bool, Refusal<O::Cause>>
+    ensures sound { IsTrue (O.trusted reader.old) → IfOk result (λ sound.
+        IsTrue sound ↔ IsSoundBlock (O.map reader.old) size block) }
+    ensures in_range { IfOk result (λ sound. IsTrue sound → IsDataBlock (O.map reader.old).blocks block) }
     ensures refusal { IfErr result (IsReadingRefusal (O.failed reader.new)) }
     ensures stays_failed { IsTrue (O.failed reader.old) → IsTrue (O.failed reader.new) }
     ensures same_map { O.map reader.new ≡ O.map reader.old }
     ensures same_trust { O.trusted reader.new ≡ O.trusted reader.old }
 {
     let blocks = reader.layout().blocks;
-    if file.generation == 0 || file.size > FILE_BYTES || file.mtime.nanos > MAX_NANOS {
+    if block < FIRST_DATA || block >= blocks {
         return Ok(false);
     }
-    if file.block < FIRST_DATA || file.block >= blocks {
-        return Ok(false);
-    }
-    let value = reader.read(block_addr(file.block))?;
-    Ok(are_zero(&value.bytes()[file.size as usize..]))
+    let value = reader.read(block_addr(block))?;
+    let from = size.min(BLOCK_BYTES as u64) as usize;
+    Ok(are_zero(&value.bytes()[from..]))
 }
 
 // The inode of a number, or `None` where it is not sound. The map stays.
-fn sound_inode<O: ObjectReader>(reader: &mut O, i: u32) -> Result<Option<Node>, Refusal<O::Cause>>
+fn sound_inode<O: ObjectReader>(
+    reader: &mut O,
+    version: FormatVersion,
+    i: u32,
+) -> Result<Option<Node>, Refusal<O::Cause>>
     requires { i < INODES }
     ensures sound { IsTrue (O.trusted reader.old) → IfOk result (λ found.
-        MatchOption found (IsSoundInode (O.map reader.old) i → ⊥)
-        (λ node. (node_at (O.map reader.old) i ≡ node) × IsSoundInode (O.map reader.old) i)) }
-    ensures in_range { IfOk result (λ found. IfSome found (HasDataBlocks (O.map reader.old).blocks)) }
+        MatchOption found (IsSoundInode version (O.map reader.old) i → ⊥)
+        (λ node. (node_at (O.map reader.old) i ≡ node) × IsSoundInode version (O.map reader.old) i)) }
+    ensures in_range { IfOk result (λ found. IfSome found (HasDataBlocks version (O.map reader.old).blocks)) }
     ensures refusal { IfErr result (IsReadingRefusal (O.failed reader.new)) }
     ensures stays_failed { IsTrue (O.failed reader.old) → IsTrue (O.failed reader.new) }
     ensures same_map { O.map reader.new ≡ O.map reader.old }
@@ -137,7 +215,7 @@ fn sound_inode<O: ObjectReader>(reader: &mut O, i: u32) -> Result<Option<Node>, 
         return Ok(None);
     }
     if let Node::File(file) = node {
-        if !is_file_sound(reader, file)? {
+        if !is_file_sound(reader, version, file)? {
             return Ok(None);
         }
     }
@@ -148,11 +226,12 @@ fn sound_inode<O: ObjectReader>(reader: &mut O, i: u32) -> Result<Option<Node>, 
 // two files have one block. The map stays.
 fn owners<O: ObjectReader>(
     reader: &mut O,
+    version: FormatVersion,
     alloc: Global,
 ) -> Result<Option<Vec<bool>>, Refusal<O::Cause>>
     ensures sound { IsTrue (O.trusted reader.old) → IfOk result (λ found.
-        MatchOption found (AreSoundBelow (O.map reader.old) INODES → ⊥)
-        (λ owners. AreSoundBelow (O.map reader.old) INODES × AreOwners (O.map reader.old) INODES owners.items)) }
+        MatchOption found (AreSoundBelow version (O.map reader.old) INODES → ⊥)
+        (λ owners. AreSoundBelow version (O.map reader.old) INODES × AreOwners version (O.map reader.old) INODES owners.items)) }
     ensures whole { IfOk result (λ found. IfSome found (λ owners.
         FIRST_DATA + length owners.items ≡ (O.map reader.old).blocks)) }
     ensures refusal { IfErr result (IsReadingRefusal (O.failed reader.new)) }
@@ -163,10 +242,10 @@ fn owners<O: ObjectReader>(
     let blocks = reader.layout().blocks;
     let mut owners = vec![in alloc; false; (blocks - FIRST_DATA) as usize]?;
     for i in 0..INODES {
-        let Some(node) = sound_inode(reader, i)? else {
+        let Some(node) = sound_inode(reader, version, i)? else {
             return Ok(None);
         };
-        if !claim(&mut owners, node) {
+        if !claim(&mut owners, version, node) {
             return Ok(None);
         }
     }
@@ -174,22 +253,34 @@ fn owners<O: ObjectReader>(
 }
 
 // Notes the blocks of an inode as owned; no where one of them is owned already.
-fn claim(owners: &mut Vec<bool>, node: Node) -> bool
-    requires { HasDataBlocks (FIRST_DATA + length owners.old.items) node }
-    ensures claims { Claims node owners.old.items owners.new.items result }
+fn claim(owners: &mut Vec<bool>, version: FormatVersion, node: Node) -> bool
+    requires { HasDataBlocks version (FIRST_DATA + length owners.old.items) node }
+    ensures claims { Claims version node owners.old.items owners.new.items result }
     ensures length { length owners.new.items ≡ length owners.old.items }
 {
     match node {
         Node::File(file) => {
-            let place = (file.block - FIRST_DATA) as usize;
-            if owners[place] {
-                return false;
-            }
-            owners[place] = true;
-            true
+            let more = version.more_count(file.size);
+            mark(owners, &file.numbers()[..=more])
         }
         _ => true,
     }
+}
+
+// Notes blocks as owned; no where one of them is owned already.
+fn mark(owners: &mut Vec<bool>, blocks: &[u64]) -> bool
+    requires { AllByRecursion (IsDataBlock (FIRST_DATA + length owners.old.items)) blocks.now }
+    ensures marks { MarksAll blocks.now owners.old.items owners.new.items result }
+    ensures length { length owners.new.items ≡ length owners.old.items }
+{
+    for block in blocks {
+        let place = (*block - FIRST_DATA) as usize;
+        if owners[place] {
+            return false;
+        }
+        owners[place] = true;
+    }
+    true
 }
 
 // Whether each bit of the bitmap is as the table says, and set past its end. The map stays.

@@ -4,12 +4,11 @@ ghost use Rattle.journal_world.specs.declared.layout.TheConstants.{BLOCK_BYTES};
 ghost use Rattle.journal_inode.specs.Sound.{superblock_head, superblock_of};
 ghost use Rattle.journal_inode.specs.Admitting.{AllZero};
 
+use crate::FormatVersion;
 use crate::node::put;
 
 /// What a superblock begins with.
 const MAGIC: &[u8; 8] = b"GJNLDSK1";
-/// The version of the format.
-const VERSION: u64 = 1;
 /// Where the version lies.
 const VERSION_AT: usize = 8;
 /// Where the number of blocks lies.
@@ -18,22 +17,22 @@ const BLOCKS_AT: usize = 16;
 pub(crate) const FRONT_BYTES: usize = 24;
 
 // The name of the format, its version and the number of blocks.
-pub(crate) fn front(blocks: u64) -> [u8; FRONT_BYTES]
-    ensures { result ≡ superblock_head blocks }
+pub(crate) fn front(version: FormatVersion, blocks: u64) -> [u8; FRONT_BYTES]
+    ensures { result ≡ superblock_head version blocks }
 {
     let mut front = [0; FRONT_BYTES];
     put(&mut front, 0, MAGIC);
-    put(&mut front, VERSION_AT, &VERSION.to_le_bytes());
+    put(&mut front, VERSION_AT, &version.number().to_le_bytes());
     put(&mut front, BLOCKS_AT, &blocks.to_le_bytes());
     front
 }
 
 // Whether these are the bytes of the superblock.
-pub(crate) fn is_superblock(bytes: &[u8], blocks: u64) -> bool
+pub(crate) fn is_superblock(bytes: &[u8], version: FormatVersion, blocks: u64) -> bool
     requires { length bytes.now ≡ BLOCK_BYTES }
-    ensures { IsTrue result ↔ (bytes.now ≡ superblock_of blocks) }
+    ensures { IsTrue result ↔ (bytes.now ≡ superblock_of version blocks) }
 {
-    let front = front(blocks);
+    let front = front(version, blocks);
     if !are_same(&bytes[..FRONT_BYTES], &front) {
         return false;
     }

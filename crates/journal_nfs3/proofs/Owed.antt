@@ -6,6 +6,7 @@ use Rattle.journal_world.specs.Histories.{Entry, floor, is_trusted, at}
 use Rattle.journal_history.specs.Tokens.{SessionState, OnlyExtends, IsExact, CommitPlace}
 use Rattle.journal_core.specs.declared.refusal_number.RefusalNumber.TheVariants.{J6}
 use Rattle.journal_core.specs.Causes.{Told, unexplained}
+use Rattle.journal_inode.specs.declared.version.FormatVersion.TheVariants.{One}
 use Rattle.journal_inode.specs.declared.node.Time.{Time}
 use Rattle.journal_inode.specs.Sound.{HasSoundFiles}
 use Rattle.journal_rpc.specs.declared.replies.CallRefused.{CallRefused}
@@ -117,7 +118,7 @@ takes_place_so xid p why text is = subst (TakesPlace xid p) (sym is) (takes_plac
 
 -- a session's history has sound files after each number of commits
 abbrev pub IsRuled : SessionState → Type 0
-IsRuled s = IsTrue (is_trusted s.seen) → (n : ℕ) → HasSoundFiles (at s.seen n)
+IsRuled s = IsTrue (is_trusted s.seen) → (n : ℕ) → HasSoundFiles One (at s.seen n)
 
 call_waited : (verifier : List ℕ) (now : Time) (asked : Result Operation CallRefused) (old middle new : SessionState) (receipt : CommitPlace) (outcome : Result Results CallRefused) → OnlyExtends middle new → IsRuled new
     → receipt.count ≤ floor new.seen → IsExact new → ServesCall (owing (Wait receipt)) verifier now asked old outcome middle → ServesCall (marked new.seen) verifier now asked old outcome new

@@ -5,6 +5,7 @@ use Rattle.journal_world.specs.declared.refusal.Refusal.{Refusal}
 use Rattle.journal_world.specs.Histories.{Entry, count, floor, is_trusted, at}
 use Rattle.journal_history.specs.Tokens.{SessionState, OnlyExtends, IsExact, CommitPlace}
 use Rattle.journal_core.specs.Causes.{Told}
+use Rattle.journal_inode.specs.declared.version.FormatVersion.TheVariants.{One}
 use Rattle.journal_inode.specs.declared.node.Time.{Time}
 use Rattle.journal_inode.specs.Sound.{HasSoundFiles}
 use Rattle.journal_filestore.specs.declared.fault.Fault.{Fault}
@@ -85,7 +86,7 @@ answer_refused waits case old new receipt history why (Err (Refused other)) d = 
 answer_refused waits case old new receipt history why (Err (Unsure other)) d = absurd d
 
 -- A session that has seen more since
-module _ (old middle new : SessionState) (receipt : CommitPlace) (more : OnlyExtends middle new) (sound : IsTrue (is_trusted new.seen) → (n : ℕ) → HasSoundFiles (at new.seen n)) where
+module _ (old middle new : SessionState) (receipt : CommitPlace) (more : OnlyExtends middle new) (sound : IsTrue (is_trusted new.seen) → (n : ℕ) → HasSoundFiles One (at new.seen n)) where
   committed : {A : Type 0} (waits : Bool) (case : Files → Result A Status → Files → Type 0) (answer : Result A Status) → IsDoneAs (owing (Wait receipt)) waits case old middle answer
       → IsCommittedBy waits case old middle (record { answer = answer; owed = Wait receipt })
   committed waits case answer d = record { place = d.place; made = d.made; exact = d.exact; owed = d.so_far }
@@ -169,7 +170,7 @@ serves_stays verifier now operation old new history longer r grows h =
     serves_moved (marked history) (marked longer) old new new (λ A waits case answer. answer_stays waits case old new history longer answer grows) (λ same none. (same, tt)) verifier now operation r h
 
 pub serves_waited : (verifier : List ℕ) (now : Time) (operation : Operation) (old middle new : SessionState) (receipt : CommitPlace) (r : Results) → OnlyExtends middle new
-    → (IsTrue (is_trusted new.seen) → (n : ℕ) → HasSoundFiles (at new.seen n)) → receipt.count ≤ floor new.seen → IsExact new
+    → (IsTrue (is_trusted new.seen) → (n : ℕ) → HasSoundFiles One (at new.seen n)) → receipt.count ≤ floor new.seen → IsExact new
     → ServesAs (owing (Wait receipt)) verifier now operation old r middle → ServesAs (marked new.seen) verifier now operation old r new
 serves_waited verifier now operation old middle new receipt r more sound paid exact h =
     serves_moved (owing (Wait receipt)) (marked new.seen) old middle new (λ A waits case answer. answer_waited old middle new receipt more sound waits case answer paid exact)
@@ -182,7 +183,7 @@ serves_takes_place verifier now operation old new receipt history why r h =
     (not_nothing receipt) verifier now operation r h
 
 pub serves_unsure : (verifier : List ℕ) (now : Time) (operation : Operation) (old middle new : SessionState) (receipt : CommitPlace) (history : List Entry) (why : Refusal Told) (r : Results) → OnlyExtends middle new
-    → (IsTrue (is_trusted new.seen) → (n : ℕ) → HasSoundFiles (at new.seen n))
+    → (IsTrue (is_trusted new.seen) → (n : ℕ) → HasSoundFiles One (at new.seen n))
     → ServesAs (owing (Wait receipt)) verifier now operation old r middle → ServesAs (marked history) verifier now operation old (refused_results (procedure_for operation) (refusal_error why)) new
 serves_unsure verifier now operation old middle new receipt history why r more sound h =
     serves_refused (owing (Wait receipt)) (marked history) old middle new why (λ A waits case answer. answer_unsure old middle new receipt more sound waits case history why answer)

@@ -11,7 +11,7 @@ use crate::stop::Stop;
 use crate::up::Opening;
 use crate::{down, up};
 use journal_disk::MemDisk;
-use journal_inode::format;
+use journal_inode::{FormatVersion, format};
 use journal_world::{Moment, Refused};
 use std::alloc::Global;
 use std::io::{Read, Write};
@@ -53,13 +53,18 @@ pub fn run<W: Wait, I: Read, O: Write>(
 fn new_disk(alloc: Global, blocks: u64) -> Result<MemDisk, Stop>
     requires { IsSize blocks }
     ensures settled { IfOk result (λ disk. IsSettled disk.past) }
-    ensures formatted { IfOk result (λ disk. IsFormatted blocks no_time (read_of disk.past)) }
+    ensures formatted { IfOk result (λ disk. IsFormatted FormatVersion.One blocks no_time (read_of disk.past)) }
 {
     let disk = match MemDisk::new::<()>(alloc, blocks) {
         Ok(disk) => disk,
         Err(why) => return Err(Stop::refused(why)),
     };
-    match format(alloc, disk, Moment { secs: 0, nanos: 0 }) {
+    match format(
+        alloc,
+        disk,
+        Moment { secs: 0, nanos: 0 },
+        FormatVersion::One,
+    ) {
         Ok(disk) => Ok(disk),
         Err(Refused { refusal, .. }) => Err(Stop::refused(refusal)),
     }

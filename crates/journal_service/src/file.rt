@@ -5,6 +5,7 @@ ghost use Rattle.journal_world.specs.declared.layout.TheConstants.{MIN_BLOCKS, M
 use crate::clock;
 use crate::fault::ServiceFault;
 use journal_disk::{BlockDisk, FileDisk};
+use journal_inode::FormatVersion;
 use journal_world::{BLOCK_BYTES, Refused};
 use os::RangeLock;
 use std::alloc::Global;
@@ -31,7 +32,7 @@ pub fn format<R: Files<File = File> + Clock>(
         Ok(disk) if disk.size() == blocks => disk,
         _ => return Err(ServiceFault::BadFile),
     };
-    match journal_inode::format(alloc, disk, clock::now(rt)) {
+    match journal_inode::format(alloc, disk, clock::now(rt), FormatVersion::One) {
         Ok(_) => Ok(()),
         Err(Refused { refusal, .. }) => Err(ServiceFault::refused(refusal)),
     }

@@ -7,7 +7,7 @@ use crate::stories::{Errand, Story, run, tell};
 use journal_disk::{BlockDisk, MemDisk};
 use journal_filestore::FileStore;
 use journal_history::{Book, Naming, Session};
-use journal_inode::{SoundFiles, format};
+use journal_inode::{FormatVersion, SoundFiles, format};
 use journal_world::{Moment, Refusal, Step};
 use std::alloc::{AllocError, Global};
 use std::marker::Brand;
@@ -121,7 +121,12 @@ pub(crate) fn on_formatted<
     let Ok(disk) = MemDisk::new::<()>(alloc, blocks) else {
         return Err(Wrong::Memory);
     };
-    match format(alloc, disk, Moment { secs: 0, nanos: 0 }) {
+    match format(
+        alloc,
+        disk,
+        Moment { secs: 0, nanos: 0 },
+        FormatVersion::One,
+    ) {
         Ok(disk) => on_disk(rt, alloc, disk, story),
         Err(_) => Err(Wrong::Refused),
     }

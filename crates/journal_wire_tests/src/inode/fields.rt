@@ -1,18 +1,21 @@
 // Inodes by hand: where the fields lie, and what is read of bytes that are no inode's.
-use journal_inode::{FileNode, NODE_BYTES, Node, Time, bit_addr, block_addr, inode_addr};
+use journal_inode::{
+    FileNode, MORE_BLOCKS, NODE_BYTES, Node, Time, bit_addr, block_addr, inode_addr,
+};
 use journal_world::Addr;
 use std::test::*;
 
 // Inodes, and bytes 0 to 31 of each: kind, generation, size, block, seconds and nanoseconds, the lowest byte first.
-const FILE: Node = Node::File(FileNode {
+const FILE: FileNode = FileNode {
     generation: 0x4433_2211,
     size: 2048,
     block: 531,
+    more: [0; MORE_BLOCKS],
     mtime: Time {
         secs: 5,
         nanos: 0x1000_0007,
     },
-});
+};
 
 const FILE_FRONT: [u8; 32] = [
     2, 0, 0, 0, 0x11, 0x22, 0x33, 0x44, 0, 8, 0, 0, 0, 0, 0, 0, 0x13, 2, 0, 0, 0, 0, 0, 0, 5, 0, 0,
@@ -44,7 +47,27 @@ fn is_inode(bytes: &[u8; NODE_BYTES]) -> bool {
 #[test]
 fn the_fields_of_a_file_lie_lowest_byte_first(rt: HostRuntime) {
     let bytes = filled_up(&FILE_FRONT);
-    assert_eq!(rt; (FILE.bytes(), Node::read(&bytes)), (bytes, FILE));
+    assert_eq!(rt;
+        (Node::File(FILE).bytes(), Node::read(&bytes)),
+        (bytes, Node::File(FILE))
+    );
+}
+
+#[test]
+fn the_further_blocks_of_a_file_lie_behind_its_time(rt: HostRuntime) {
+    let mut bytes = filled_up(&FILE_FRONT);
+    bytes[32] = 0x14;
+    bytes[33] = 2;
+    bytes[112] = 7;
+    bytes[119] = 1;
+    let found = Node::read(&bytes);
+    let mut more = [0; MORE_BLOCKS];
+    more[0] = 532;
+    more[10] = 0x0100_0000_0000_0007;
+    assert_eq!(rt;
+        (found, found.bytes()),
+        (Node::File(FileNode { more, ..FILE }), bytes)
+    );
 }
 
 #[test]

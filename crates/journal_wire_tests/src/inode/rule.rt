@@ -1,7 +1,10 @@
 // A formatted disk, and what the rule admits once objects of it are overwritten.
 use journal_block::Block;
 use journal_disk::{BlockDisk, MemDisk};
-use journal_inode::{FileNode, Node, SoundFiles, Time, format};
+use journal_inode::{
+    FileNode, FormatVersion, MORE_BLOCKS, Node, SoundFiles, Time, Version, VersionOne, VersionTwo,
+    format,
+};
 use journal_object::{load, store};
 use journal_world::{Addr, Layout, MapRule, Moment, ObjectReader, Refusal, Value};
 use std::alloc::Global;
@@ -74,12 +77,12 @@ const MADE: Time = Time { secs: 5, nanos: 6 };
 
 const NOW: Moment = Moment { secs: 5, nanos: 6 };
 
-// A disk of 600 blocks without files.
-fn formatted(alloc: Global) -> Result<Objects, Fail> {
+// A disk of 600 blocks of this version without files.
+fn formatted(alloc: Global, version: FormatVersion) -> Result<Objects, Fail> {
     let layout = Layout::new(600).ok_or("a disk may have 600 blocks")?;
     let block = Block::try_new::<()>(alloc)?;
     let disk = MemDisk::new::<()>(alloc, 600)?;
-    match format(alloc, disk, NOW) {
+    match format(alloc, disk, NOW, version) {
         Ok(disk) => Ok(Objects {
             alloc,
             layout,
@@ -90,12 +93,14 @@ fn formatted(alloc: Global) -> Result<Objects, Fail> {
     }
 }
 
-// Overwrites an object: an inode, under its number; a file's, with its generation, size and block; the bit of the data
-// block that has this place among them; ten bytes at the front of a data block, of which the last is 1.
+// Overwrites an object: an inode, under its number; a file's, with its generation, size and block; file 2, with its size and
+// the numbers of its first and its last further block; the bit of the data block that has this place among them; ten bytes
+// at the front of a data block, of which the last is 1.
 #[derive(Clone, Copy)]
 enum Put {
     Inode(u32, Node),
     File(u32, u32, u64, u64),
+    Long(u64, u64, u64),
     Bit(u32),
     Ten(u64),
 }
@@ -116,9 +121,23 @@ fn overwrite(objects: &mut Objects, what: Put) -> Result<(), Fail> {
                 generation,
                 size,
                 block,
+                more: [0; MORE_BLOCKS],
                 mtime: MADE,
             });
             objects.put(place_of(i), &node.bytes())
+        }
+        Put::Long(size, first, last) => {
+            let mut more = [0; MORE_BLOCKS];
+            more[0] = first;
+            more[10] = last;
+            let node = Node::File(FileNode {
+                generation: 1,
+                size,
+                block: 531,
+                more,
+                mtime: MADE,
+            });
+            objects.put(place_of(2), &node.bytes())
         }
         Put::Bit(off) => objects.put(Addr { block: 514, off }, &[1]),
         Put::Ten(block) => {
@@ -129,19 +148,19 @@ fn overwrite(objects: &mut Objects, what: Put) -> Result<(), Fail> {
     }
 }
 
-// Whether the rule admits the disk without files, once these objects are overwritten.
-fn admits(alloc: Global, written: &[Put]) -> Result<bool, Fail> {
-    let mut objects = formatted(alloc)?;
+// Whether the rule of a version admits the disk of that version without files, once these objects are overwritten.
+fn admits<V: Version>(alloc: Global, written: &[Put]) -> Result<bool, Fail> {
+    let mut objects = formatted(alloc, V::VERSION)?;
     for what in written {
         overwrite(&mut objects, *what)?;
     }
-    Ok(SoundFiles::new(alloc).admit(&mut objects)?)
+    Ok(SoundFiles::<V>::new(alloc).admit(&mut objects)?)
 }
 
-// The first case of which the rule says something else.
-fn first_wrong(alloc: Global, cases: &[(&[Put], bool)]) -> Result<Option<usize>, Fail> {
+// The first case of which the rule of a version says something else.
+fn first_wrong<V: Version>(alloc: Global, cases: &[(&[Put], bool)]) -> Result<Option<usize>, Fail> {
     for (i, (written, is_sound)) in cases.iter().enumerate() {
-        if admits(alloc, written)? != *is_sound {
+        if admits::<V>(alloc, written)? != *is_sound {
             return Ok(Some(i));
         }
     }
@@ -150,7 +169,19 @@ fn first_wrong(alloc: Global, cases: &[(&[Put], bool)]) -> Result<Option<usize>,
 
 #[test]
 fn a_formatted_disk_is_admitted(rt: HostRuntime) -> Result<(), Fail> {
-    assert!(rt; admits(rt.alloc(), &[])?);
+    assert!(rt; admits::<VersionOne>(rt.alloc(), &[])?);
+    assert!(rt; admits::<VersionTwo>(rt.alloc(), &[])?);
+    Ok(())
+}
+
+#[test]
+fn a_disk_of_another_version_is_not_admitted(rt: HostRuntime) -> Result<(), Fail> {
+    let mut one = formatted(rt.alloc(), FormatVersion::One)?;
+    let mut two = formatted(rt.alloc(), FormatVersion::Two)?;
+    assert!(rt; two.has(513, 8, &[2, 0, 0, 0, 0, 0, 0, 0, 0x58, 2]));
+    let first = SoundFiles::<VersionOne>::new(rt.alloc()).admit(&mut two)?;
+    let second = SoundFiles::<VersionTwo>::new(rt.alloc()).admit(&mut one)?;
+    assert_eq!(rt; (first, second), (false, false));
     Ok(())
 }
 
@@ -175,7 +206,7 @@ const PIECES: [(u64, usize, &[u8]); 7] = [
 
 #[test]
 fn a_formatted_disk_has_its_superblock_and_its_bits(rt: HostRuntime) -> Result<(), Fail> {
-    let mut objects = formatted(rt.alloc())?;
+    let mut objects = formatted(rt.alloc(), FormatVersion::One)?;
     for (block, place, bytes) in PIECES {
         assert!(rt; objects.has(block, place, bytes), "block {block}, {place}");
     }
@@ -189,7 +220,7 @@ fn a_file_with_its_bit_is_admitted(rt: HostRuntime) -> Result<(), Fail> {
         (&[Put::File(2, 1, 4096, 531)], false),
         (&[Put::Bit(0)], false),
     ];
-    assert_eq!(rt; first_wrong(rt.alloc(), &CASES)?, None);
+    assert_eq!(rt; first_wrong::<VersionOne>(rt.alloc(), &CASES)?, None);
     Ok(())
 }
 
@@ -206,7 +237,7 @@ fn two_files_do_not_have_one_block(rt: HostRuntime) -> Result<(), Fail> {
             true,
         ),
     ];
-    assert_eq!(rt; first_wrong(rt.alloc(), &CASES)?, None);
+    assert_eq!(rt; first_wrong::<VersionOne>(rt.alloc(), &CASES)?, None);
     Ok(())
 }
 
@@ -222,7 +253,65 @@ fn bytes_past_the_size_are_zero(rt: HostRuntime) -> Result<(), Fail> {
             true,
         ),
     ];
-    assert_eq!(rt; first_wrong(rt.alloc(), &CASES)?, None);
+    assert_eq!(rt; first_wrong::<VersionOne>(rt.alloc(), &CASES)?, None);
+    Ok(())
+}
+
+#[test]
+fn a_file_of_more_blocks_is_of_version_2(rt: HostRuntime) -> Result<(), Fail> {
+    const LONG: &[Put] = &[Put::Long(4097, 540, 0), Put::Bit(0), Put::Bit(9)];
+    const CASES: [(&[Put], bool); 9] = [
+        (&[Put::Long(4097, 540, 0), Put::Bit(0), Put::Bit(9)], true),
+        (&[Put::Long(8192, 540, 0), Put::Bit(0), Put::Bit(9)], true),
+        // It has a block too few, or too many, or one that it does not need, or one twice, or one that is no data block.
+        (&[Put::Long(4097, 0, 0), Put::Bit(0)], false),
+        (&[Put::Long(4096, 540, 0), Put::Bit(0), Put::Bit(9)], false),
+        (&[Put::Long(8193, 540, 0), Put::Bit(0), Put::Bit(9)], false),
+        (
+            &[Put::Long(4097, 540, 541), Put::Bit(0), Put::Bit(9)],
+            false,
+        ),
+        (&[Put::Long(4097, 531, 0), Put::Bit(0)], false),
+        (&[Put::Long(4097, 600, 0), Put::Bit(0)], false),
+        (&[Put::Long(49153, 540, 0), Put::Bit(0), Put::Bit(9)], false),
+    ];
+    assert_eq!(rt; first_wrong::<VersionTwo>(rt.alloc(), &CASES)?, None);
+    assert!(rt; !admits::<VersionOne>(rt.alloc(), LONG)?);
+    Ok(())
+}
+
+#[test]
+fn bytes_past_the_size_of_more_blocks_are_zero(rt: HostRuntime) -> Result<(), Fail> {
+    const CASES: [(&[Put], bool); 3] = [
+        (
+            &[
+                Put::Long(4105, 540, 0),
+                Put::Bit(0),
+                Put::Bit(9),
+                Put::Ten(540),
+            ],
+            false,
+        ),
+        (
+            &[
+                Put::Long(4106, 540, 0),
+                Put::Bit(0),
+                Put::Bit(9),
+                Put::Ten(540),
+            ],
+            true,
+        ),
+        (
+            &[
+                Put::Long(4097, 540, 0),
+                Put::Bit(0),
+                Put::Bit(9),
+                Put::Ten(531),
+            ],
+            true,
+        ),
+    ];
+    assert_eq!(rt; first_wrong::<VersionTwo>(rt.alloc(), &CASES)?, None);
     Ok(())
 }
 
@@ -244,7 +333,7 @@ fn inodes_out_of_place_are_not_admitted(rt: HostRuntime) -> Result<(), Fail> {
         (&[Put::File(511, 1, 0, 530)], false),
         (&[Put::File(511, 1, 0, 600)], false),
     ];
-    assert_eq!(rt; first_wrong(rt.alloc(), &CASES)?, None);
+    assert_eq!(rt; first_wrong::<VersionOne>(rt.alloc(), &CASES)?, None);
     Ok(())
 }
 
@@ -252,7 +341,7 @@ fn inodes_out_of_place_are_not_admitted(rt: HostRuntime) -> Result<(), Fail> {
 fn refused(alloc: Global, call: u64) -> Result<(bool, u64), Fail> {
     let mut disk = MemDisk::new::<()>(alloc, 532)?;
     disk.fail_in(call);
-    Ok(match format(alloc, disk, NOW) {
+    Ok(match format(alloc, disk, NOW, FormatVersion::One) {
         Ok(_) => (false, 0),
         Err(refused) => (
             refused.refusal == Refusal::DeviceFailed(()),

@@ -6,6 +6,6 @@ use Rattle.journal_inode.proofs.making.format.Goals as goal
 
 pub returns-in-Ok-clause-sound : goal.returns-in-Ok-clause-sound
 returns-in-Ok-clause-sound g c = λ honest m blocks is.
-    IsFormatted-Sound m (record { secs = c.args.moment.secs; nanos = c.args.moment.nanos }) _ (search rules, search rules) c.args.moment.in_second
-    (subst (λ n. IsFormatted n (record { secs = c.args.moment.secs; nanos = c.args.moment.nanos }) (read_of (g.D.BlockDisk.state c.write_all.new.disk).past)) (sym blocks)
+    IsFormatted-Sound c.args.version m (record { secs = c.args.moment.secs; nanos = c.args.moment.nanos }) _ (search rules, search rules) c.args.moment.in_second
+    (subst (λ n. IsFormatted c.args.version n (record { secs = c.args.moment.secs; nanos = c.args.moment.nanos }) (read_of (g.D.BlockDisk.state c.write_all.new.disk).past)) (sym blocks)
     (c.in-Ok.ensures.blocks honest)) is

@@ -10,4 +10,4 @@ returns-clause-bytes c =
     c.copy_range.ensures.contents
     ∙ ap (λ (b : Bytes). with_bytes b 0 c.front.result) c.in_ok-block.ensures.contents
     ∙ ap (with_bytes (zeros_of Block) 0) c.front.ensures
-    ∙ zeros-superblock c.args.blocks
+    ∙ zeros-superblock c.args.version c.args.blocks

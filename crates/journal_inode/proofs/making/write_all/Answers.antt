@@ -15,9 +15,9 @@ returns-clause-blocks g c = λ honest.
     let honest_2 = subst IsTrue (sym c.write-2.ensures.keeps.honest) honest_1 in
     let honest_3 = subst IsTrue (sym c.write-3.ensures.keeps.honest) honest_2 in
     on_ok_weaker c.sync.result
-    (λ synced. formatted _ _ _ _ _ _ _ _ _ _ c.requires.blocks.0 (c.requires.zeros honest)
+    (λ synced. formatted _ _ _ _ _ _ _ _ _ _ _ c.requires.blocks.0 (c.requires.zeros honest)
     (record {
-      superblock_is = c.in_ok-superblock.ensures.bytes ∙ ap superblock_of c.size-blocks.ensures;
+      superblock_is = c.in_ok-superblock.ensures.bytes ∙ ap (superblock_of c.args.version) c.size-blocks.ensures;
       bits = λ k low. c.in_ok-bitmap.ensures.bits k low ∙ ap (λ (n : ℕ). nat_le (n - FIRST_DATA) k) c.size-blocks.ensures;
       root = c.in_ok-inodes.ensures.root ∙ ap (λ (t : Time). inode_bytes (Root t)) c.at.ensures;
       others = c.in_ok-inodes.ensures.others;

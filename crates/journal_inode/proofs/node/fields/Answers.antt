@@ -1,12 +1,12 @@
 use Rattle.std.proofs.Common.{ℕ, ◌≡◌, List, replicate, refl, ap, ◌∙◌, w32, w64}
 use Rattle.std.specs.Int.{to_le_bytes}
-use Rattle.journal_inode.specs.Nodes.{with_piece, bytes_of_fields}
+use Rattle.journal_inode.specs.Nodes.{with_piece, bytes_of_fields, no_more}
 use Rattle.journal_inode.proofs.node.fields.Goals as goal
 
 -- the six pieces over zeros are the fields
 pieces : (kind generation size block secs nanos : ℕ)
     → with_piece (with_piece (with_piece (with_piece (with_piece (with_piece (replicate 128 0) 0 (to_le_bytes w32 kind)) 4 (to_le_bytes w32 generation)) 8 (to_le_bytes w64 size)) 16 (to_le_bytes w64 block)) 24 (to_le_bytes w32 secs)) 28 (to_le_bytes w32 nanos)
-    ≡ bytes_of_fields kind generation size block (record { secs = secs; nanos = nanos })
+    ≡ bytes_of_fields kind generation size block (record { secs = secs; nanos = nanos }) no_more
 unfolding bytes_of_fields
 pieces kind generation size block secs nanos = refl
 

@@ -1,16 +1,16 @@
-use Rattle.std.proofs.Common.{◌∙◌, drop, sym, ap, subst, arith}
-use Rattle.std.specs.Prelude.{IsTrue}
+use Rattle.std.proofs.Common.{rules, ◌∙◌, drop, ap, subst, arith}
+use Rattle.std.specs.Prelude.{◌↔◌, IsTrue}
+use Rattle.std.proofs.lemmas.Result.{IfOk-weaker}
 use Rattle.std.proofs.lemmas.List.{take_rest}
-use Rattle.journal_world.specs.Maps.{value_at, is_object}
-use Rattle.journal_inode.proofs.Tails.{length-block, tail_decides}
+use Rattle.journal_inode.specs.Admitting.{AllZero, AreSoundBlocks}
+use Rattle.journal_inode.proofs.Blocks.{file_decides, first_blocks}
 use Rattle.journal_inode.proofs.rule.is_file_sound.Goals as goal
 
 pub returns-clause-sound : goal.returns-clause-sound
 returns-clause-sound g c = λ trusted.
-    let m = g.O.ObjectReader.map c.args.reader.now in
-    tail_decides m c.args.file _ _ _
-    (sym (c.in_ok-value.ensures.value trusted ∙ ap (value_at m) c.block_addr.ensures))
-    (length-block m.blocks c.args.file.block _ (omega arith) (omega (arith, c.layout-blocks.ensures))
-    (subst (λ a. IsTrue (is_object m.blocks (a, c.in_ok-value.value))) c.block_addr.ensures c.in_ok-value.ensures.object))
-    (omega arith) (omega arith) (omega arith) (omega (arith, c.layout-blocks.ensures)) (omega arith)
-    (take_rest c.bytes.result.now c.args.file.size ∙ ap (drop c.args.file.size) c.bytes.ensures) c.are_zero.ensures
+    IfOk-weaker c.are_blocks_sound.result _ _
+    (λ sound told. file_decides c.args.version (g.O.ObjectReader.map c.args.reader.now) c.args.file sound (omega arith) (omega (arith, c.if-size-most_bytes.false, c.most_bytes.ensures)) (omega arith) (search rules)
+    (subst AllZero (take_rest c.args.file.more c.more_count-more.result ∙ ap (λ n. drop n c.args.file.more) c.more_count-more.ensures) (c.are_absent.ensures.0 c.if-not-are_absent.false))
+    (subst (λ bs. IsTrue sound ↔ AreSoundBlocks (g.O.ObjectReader.map c.args.reader.now) c.args.file.size bs)
+    (first_blocks c.args.version c.args.file c.more_count-more.result c.numbers.result c.more_count-more.ensures c.numbers.ensures) told))
+    (c.are_blocks_sound.ensures.sound trusted)

@@ -1,8 +1,9 @@
-use Rattle.std.proofs.Common.{◌<◌, ◌^◌, ◌+◌, ◌-◌, ◌∷◌, [], length, cond, sym, ap, ◌∙◌, arith}
+use Rattle.std.proofs.Common.{◌<◌, ◌^◌, ◌+◌, ◌-◌, ◌∷◌, [], length, cond, refl, sym, ap, ◌∙◌, arith}
 use Rattle.std.specs.Prelude.{unwrap_or}
 use Rattle.journal_world.specs.declared.layout.TheConstants.{FIRST_DATA, BLOCK_BITS}
+use Rattle.journal_inode.specs.Nodes.{no_more}
 use Rattle.journal_filestore.specs.Handles.{time_of}
-use Rattle.journal_filestore.proofs.Creations.{Makes-too_big, Makes-worn, Makes-no_space, Makes-new, time_of_new}
+use Rattle.journal_filestore.proofs.Creations.{Makes-too_big, Makes-worn, Makes-no_space, Makes-new, no_more_fits, time_of_new}
 use Rattle.journal_filestore.proofs.Doings.{Tells-nothing}
 use Rattle.journal_filestore.proofs.Refusing.{length-zero_block}
 use Rattle.journal_filestore.proofs.create.Create.make.Goals as goal
@@ -39,7 +40,7 @@ returns-clause-makes g c =
     c.in_ok-read_bit.ensures.told (ap (λ b. cond b 1 0 ∷ []) c.if-branch.false)
     c.in_ok-write_block.ensures.writes (c.bytes.ensures ∙ c.in_ok-zeros.ensures)
     c.in_ok-write_bit.ensures.writes c.in_ok-write_node.ensures.writes
-    (ap (λ x. record { generation = c.args.last + 1; size = x; block = c.in-Some.block; mtime = c.time_after.result }) c.unwrap_or.ensures
-    ∙ ap (λ x. record { generation = c.args.last + 1; size = unwrap_or c.args.settings.size 0; block = c.in-Some.block; mtime = x }) (c.time_after.ensures.value ∙ time_of_new c.args.settings.size c.args.settings.mtime (time_of c.args.self.now.moment) _ c.at.ensures))
-    (omega (arith, last, c.if-last-eq4294967295.false), c.unwrap_or.type_inv, omega (arith, near), c.time_after.ensures.fits)
+    (ap (λ x. record { generation = c.args.last + 1; size = x; block = c.in-Some.block; more = no_more; mtime = c.time_after.result }) c.unwrap_or.ensures
+    ∙ ap (λ x. record { generation = c.args.last + 1; size = unwrap_or c.args.settings.size 0; block = c.in-Some.block; more = no_more; mtime = x }) (c.time_after.ensures.value ∙ time_of_new c.args.settings.size c.args.settings.mtime (time_of c.args.self.now.moment) _ c.at.ensures))
+    (omega (arith, last, c.if-last-eq4294967295.false), c.unwrap_or.type_inv, omega (arith, near), c.time_after.ensures.fits, refl, no_more_fits)
     c.found.ensures

@@ -1,0 +1,177 @@
+-- What the blocks of a file hold, block by block.
+use Rattle.std.proofs.Common.{ℕ, zero, suc, ◌≡◌, ◌<◌, ◌≤◌, ◌+◌, ◌-◌, ◌*◌, ◌⊎◌, inl, inr, Bool, List, [], ◌∷◌, ◌++◌, length, take, drop, min, refl, sym, ap, subst, ◌∙◌, length-append, add-one, arith, rules}
+use Rattle.std.specs.Prelude.{◌↔◌, IsTrue, Contains, slice_index_or}
+use Rattle.std.specs.List.{AllByRecursion}
+use Rattle.std.proofs.lemmas.List.{same_lists, places, length-take-le, length-drop}
+use Rattle.std.proofs.lemmas.List.Elements.{All-nil, All-cons, All-head, All-tail, All-append}
+use Rattle.journal_world.specs.declared.layout.TheConstants.{BLOCK_BYTES}
+use Rattle.journal_world.specs.declared.moment.TheConstants.{MAX_NANOS}
+use Rattle.journal_world.specs.Maps.{Map}
+use Rattle.journal_inode.specs.declared.version.FormatVersion.{FormatVersion}
+use Rattle.journal_inode.specs.declared.version.FormatVersion.TheVariants.{One, Two}
+use Rattle.journal_inode.specs.declared.node.FileNode.{FileNode}
+use Rattle.journal_inode.specs.declared.node.TheConstants.{MORE_BLOCKS}
+use Rattle.journal_inode.specs.Places.{object}
+use Rattle.journal_inode.specs.Places.Object.{block}
+use Rattle.journal_inode.specs.Versions.{most_bytes, more_count, room_of}
+use Rattle.journal_inode.specs.Sound.{blocks_of, held, stored, IsAmong, IsDataBlock, IsSoundFile}
+use Rattle.journal_inode.specs.Admitting.{AllZero, IsSoundBlock, AreSoundBlocks, AreBlocksScanned}
+use Rattle.journal_inode.proofs.Tails.{zeros, zeros-AllZero, AllZero-zeros, padded-AllZero, AllZero-padded}
+
+-- a block is among these where the list contains it
+pub among : (bs : List ℕ) (b : ℕ) → Contains bs b → IsAmong bs b
+among [] b has = let low : has.0 < 0 = has.1 in omega (arith, low)
+among (x ∷ []) b has = only has.0 has.1 has.2
+  where
+    only : (k : ℕ) → k < 1 → slice_index_or (x ∷ []) k b ≡ b → x ≡ b
+    only zero low is = is
+    only (suc k) low is = absurd (omega (arith, low))
+among (x ∷ y ∷ ys) b has = by_place (λ k low is. among (y ∷ ys) b (k, low, is)) has.0 has.1 has.2
+  where
+    by_place : ((k : ℕ) → k < suc (length ys) → slice_index_or (y ∷ ys) k b ≡ b → IsAmong (y ∷ ys) b)
+        → (k : ℕ) → k < suc (suc (length ys)) → slice_index_or (x ∷ y ∷ ys) k b ≡ b → (x ≡ b) ⊎ IsAmong (y ∷ ys) b
+    by_place rest zero low is = inl is
+    by_place rest (suc k) low is = inr (rest k (omega (arith, low)) is)
+
+pub contained : (bs : List ℕ) (b : ℕ) → IsAmong bs b → Contains bs b
+contained [] b has = absurd has
+contained (x ∷ []) b has = (0, omega arith, has)
+contained (x ∷ y ∷ ys) b (inl is) = (0, omega arith, is)
+contained (x ∷ y ∷ ys) b (inr has) = let rest = contained (y ∷ ys) b has in (suc rest.0, (let low : rest.0 < length (y ∷ ys) = rest.1 in omega (arith, low)), rest.2)
+
+drop_append : (xs ys : List ℕ) (n k : ℕ) → length xs ≡ k → drop n (xs ++ ys) ≡ drop n xs ++ drop (n - k) ys
+drop_append xs ys n k whole = same_lists _ _ (search (rules, places)) (λ i d h. grind (arith, places))
+
+drop_min : (v : List ℕ) (n k : ℕ) → length v ≡ k → drop (min n k) v ≡ drop n v
+drop_min v n k whole = same_lists _ _ (search (rules, places)) (λ i d h. grind (arith, places))
+
+drop_none : (n : ℕ) → drop {A = ℕ} n [] ≡ []
+drop_none zero = refl
+drop_none (suc n) = refl
+
+parts : (xs ys : List ℕ) → AllZero (xs ++ ys) → AllZero xs × AllZero ys
+parts [] ys all = (All-nil (λ (y : ℕ). y ≡ 0), all)
+parts (x ∷ xs) ys all =
+    let rest = parts xs ys (All-tail (λ (y : ℕ). y ≡ 0) x (xs ++ ys) all) in
+    (All-cons (λ (y : ℕ). y ≡ 0) x xs (All-head (λ (y : ℕ). y ≡ 0) x (xs ++ ys) all) rest.0, rest.1)
+
+-- a block whose number is within bounds is sound where the bytes from a size on are zero
+pub block_decides : (m : Map) (b size : ℕ) (v tail : List ℕ) (t : Bool) → object m (block b) ≡ v → length v ≡ BLOCK_BYTES → IsDataBlock m.blocks b → tail ≡ drop (min size BLOCK_BYTES) v
+    → (IsTrue t ↔ AllZero tail) → IsTrue t ↔ IsSoundBlock m size b
+block_decides m b size v tail t here whole range is_tail decides = (
+  (λ is. record { on_disk = range; sized = ap length here ∙ whole; padded = subst AllZero (same ∙ sym (ap (drop size) here)) (decides.0 is) }),
+  (λ sound. decides.1 (subst AllZero (ap (drop size) here ∙ sym same) sound.padded)),
+)
+  where
+    same : tail ≡ drop size v
+    same = is_tail ∙ drop_min v size BLOCK_BYTES whole
+
+abbrev AreWhole : Map → List ℕ → Type 0
+AreWhole m bs = AllByRecursion (λ b. length (object m (block b)) ≡ BLOCK_BYTES) bs
+
+-- whole blocks hold so many bytes
+pub length-held : (m : Map) (bs : List ℕ) → AreWhole m bs → length (held m bs) ≡ BLOCK_BYTES * length bs
+length-held m [] whole = refl
+length-held m (b ∷ []) whole = whole.0
+length-held m (b ∷ c ∷ bs) whole =
+    let rest : length (held m (c ∷ bs)) ≡ BLOCK_BYTES * length (c ∷ bs) = length-held m (c ∷ bs) whole.1 in
+    let first : length (object m (block b)) ≡ BLOCK_BYTES = whole.0 in
+    length-append (object m (block b)) (held m (c ∷ bs)) ∙ (omega (arith, rest, first))
+
+-- what is said of each block is said of all that they hold
+blocks_to : (m : Map) (bs : List ℕ) (size : ℕ) → AreSoundBlocks m size bs → AllByRecursion (IsDataBlock m.blocks) bs × AreWhole m bs × AllZero (drop size (held m bs))
+blocks_to m [] size sound = (tt, tt, subst AllZero (sym (drop_none size)) (All-nil (λ (y : ℕ). y ≡ 0)))
+blocks_to m (b ∷ []) size sound = ((sound.0.on_disk, tt), (sound.0.sized, tt), sound.0.padded)
+blocks_to m (b ∷ c ∷ bs) size sound =
+    let rest = blocks_to m (c ∷ bs) (size - BLOCK_BYTES) sound.1 in (
+      (sound.0.on_disk, rest.0),
+      (sound.0.sized, rest.1),
+      subst AllZero (sym (drop_append (object m (block b)) (held m (c ∷ bs)) size BLOCK_BYTES sound.0.sized))
+          (All-append (λ (y : ℕ). y ≡ 0) (drop size (object m (block b))) (drop (size - BLOCK_BYTES) (held m (c ∷ bs))) sound.0.padded rest.2),
+    )
+
+blocks_from : (m : Map) (bs : List ℕ) (size : ℕ) → AllByRecursion (IsDataBlock m.blocks) bs → AreWhole m bs → AllZero (drop size (held m bs)) → AreSoundBlocks m size bs
+blocks_from m [] size range whole rest_is = tt
+blocks_from m (b ∷ []) size range whole rest_is = (record { on_disk = range.0; sized = whole.0; padded = rest_is }, tt)
+blocks_from m (b ∷ c ∷ bs) size range whole rest_is =
+    let both = parts (drop size (object m (block b))) (drop (size - BLOCK_BYTES) (held m (c ∷ bs)))
+    (subst AllZero (drop_append (object m (block b)) (held m (c ∷ bs)) size BLOCK_BYTES whole.0) rest_is) in
+    (record { on_disk = range.0; sized = whole.0; padded = both.0 }, blocks_from m (c ∷ bs) (size - BLOCK_BYTES) range.1 whole.1 both.1)
+
+-- the further blocks have room in the inode, and all blocks have room for the bytes
+pub more_fits : (version : FormatVersion) (size : ℕ) → size ≤ most_bytes version → more_count version size ≤ MORE_BLOCKS
+more_fits One size small = omega arith
+more_fits Two size small = omega (arith, small)
+
+pub room_enough : (version : FormatVersion) (size : ℕ) → size ≤ most_bytes version → size ≤ room_of version size
+room_enough One size small = small
+room_enough Two size small = omega (arith, small)
+
+pub length-blocks : (version : FormatVersion) (f : FileNode) → length f.more ≡ MORE_BLOCKS → f.size ≤ most_bytes version → length (blocks_of version f) ≡ 1 + more_count version f.size
+length-blocks version f whole small =
+    let fits : more_count version f.size ≤ length f.more = subst (λ n. more_count version f.size ≤ n) (sym whole) (more_fits version f.size small) in
+    let more : length (take (more_count version f.size) f.more) ≡ more_count version f.size = length-take-le (more_count version f.size) f.more fits in
+    omega (arith, more)
+
+-- the blocks of a file are the first of the numbers that its inode has
+pub first_blocks : (version : FormatVersion) (f : FileNode) (more : ℕ) (numbers : List ℕ) → more ≡ more_count version f.size → numbers ≡ f.block ∷ f.more → take (more + 1) numbers ≡ blocks_of version f
+first_blocks version f more numbers count are =
+    ap (λ n. take n numbers) (add-one more) ∙ ap (take (suc more)) are ∙ ap (λ n. f.block ∷ take n f.more) count
+
+-- a file whose numbers are within bounds is sound where its blocks are
+pub file_decides : (version : FormatVersion) (m : Map) (f : FileNode) (t : Bool) → 1 ≤ f.generation → f.size ≤ most_bytes version → f.mtime.nanos ≤ MAX_NANOS
+    → length f.more ≡ MORE_BLOCKS → AllZero (drop (more_count version f.size) f.more)
+    → (IsTrue t ↔ AreSoundBlocks m f.size (blocks_of version f)) → IsTrue t ↔ IsSoundFile version m f
+file_decides version m f t born small timed many absent decides = (
+  (λ is. let told = blocks_to m (blocks_of version f) f.size (decides.0 is) in made told.0 told.1 told.2),
+  (λ sound. decides.1 (blocks_from m (blocks_of version f) f.size sound.on_disk sound.sized
+      (AllZero-padded (stored version m f) (room_of version f.size - f.size) f.size sound.whole sound.padded))),
+)
+  where
+    left : length (drop (more_count version f.size) f.more) ≡ MORE_BLOCKS - more_count version f.size
+    left = length-drop (more_count version f.size) f.more ∙ ap (λ n. n - more_count version f.size) many
+
+    made : AllByRecursion (IsDataBlock m.blocks) (blocks_of version f) → AreWhole m (blocks_of version f) → AllZero (drop f.size (stored version m f)) → IsSoundFile version m f
+    made range whole rest_is = record {
+      born = born;
+      small = small;
+      on_disk = range;
+      absent = zeros-AllZero _ absent ∙ ap zeros left;
+      timed = timed;
+      sized = whole;
+      whole = length-take-le f.size (stored version m f) (subst (λ n. f.size ≤ n) (sym room) (room_enough version f.size small));
+      padded = padded-AllZero (stored version m f) (room_of version f.size) f.size room (room_enough version f.size small) rest_is;
+    }
+      where
+        room : length (stored version m f) ≡ room_of version f.size
+        room = length-held m (blocks_of version f) whole ∙ ap (λ n. BLOCK_BYTES * n) (length-blocks version f many small)
+
+-- a file of further blocks that are not all absent is not sound
+pub not_absent : (version : FormatVersion) (m : Map) (f : FileNode) → (AllZero (drop (more_count version f.size) f.more) → ⊥) → IsSoundFile version m f → ⊥
+not_absent version m f some sound = some (subst AllZero (sym sound.absent) (AllZero-zeros (MORE_BLOCKS - more_count version f.size)))
+
+-- one more block is sound
+pub blocks_more : (before now after : Map) (trusted still later failed fails failing : Bool) (size left b : ℕ) (bs rest : List ℕ) (t : Bool)
+    → AreBlocksScanned before now trusted still failed fails size left bs (b ∷ rest) → after ≡ now → later ≡ still → (IsTrue fails → IsTrue failing)
+    → (IsTrue still → IsTrue t ↔ IsSoundBlock now left b) → (IsTrue t → IsDataBlock now.blocks b) → IsTrue t
+    → AreBlocksScanned before after trusted later failed failing size (left - BLOCK_BYTES) bs rest
+blocks_more before now after trusted still later failed fails failing size left b bs rest t scanned same_map same_trust stays told range is = record {
+  same_map = same_map ∙ scanned.same_map;
+  same_trust = same_trust ∙ scanned.same_trust;
+  stays_failed = λ f. stays (scanned.stays_failed f);
+  in_range = λ others. scanned.in_range (subst (λ m. IsDataBlock m.blocks b) scanned.same_map (range is), others);
+  so_far = λ trust. (
+    (λ others. (scanned.so_far trust).0 (here trust, others)),
+    (λ all. ((scanned.so_far trust).1 all).1),
+  );
+}
+  where
+    here : IsTrue trusted → IsSoundBlock before left b
+    here trust = subst (λ m. IsSoundBlock m left b) scanned.same_map ((told (subst IsTrue (sym scanned.same_trust) trust)).0 is)
+
+-- one is not
+pub blocks_fail : (before now : Map) (trusted still failed fails : Bool) (size left b : ℕ) (bs rest : List ℕ) (t : Bool)
+    → AreBlocksScanned before now trusted still failed fails size left bs (b ∷ rest) → (IsTrue still → IsTrue t ↔ IsSoundBlock now left b) → (IsTrue t → ⊥)
+    → IsTrue trusted → AreSoundBlocks before size bs → ⊥
+blocks_fail before now trusted still failed fails size left b bs rest t scanned told not trust sound =
+    not ((told (subst IsTrue (sym scanned.same_trust) trust)).1 (subst (λ m. IsSoundBlock m left b) (sym scanned.same_map) ((scanned.so_far trust).1 sound).0))
