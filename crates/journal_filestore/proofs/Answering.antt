@@ -43,57 +43,57 @@ module _ {A : Type 0} (blocks : ℕ) (k : Files → FileTarget → Outcome A) (i
 
   pub Does-gone : (answer : Result A Status) → p ≡ Gone → ((F : Files) → k F gone ≡ (answer, F)) → Does blocks case_of t1.reads t1.writes answer
   Does-gone answer is shows =
-      Does-told blocks case_of t0 t1 answer _ fresh found (λ m sound at. sym (case-gone (k (files_of m)) m i generation p is at ∙ shows (files_of m)))
+      Does-told blocks case_of t0 t1 answer _ fresh found (λ m sound at. sym (case-gone (k (files_of One m)) m i generation p is at ∙ shows (files_of One m)))
 
   pub Does-directory : (answer : Result A Status) (t : Time) → p ≡ Directory t → ((F : Files) → F.root ≡ t → k F root ≡ (answer, F)) → Does blocks case_of t1.reads t1.writes answer
   Does-directory answer t is shows =
       Does-told blocks case_of t0 t1 answer _ fresh found
-      (λ m sound at. sym (case-directory (k (files_of m)) m i generation p t is at ∙ shows (files_of m) (IsAt-is m i generation p (Directory t) is at).1))
+      (λ m sound at. sym (case-directory (k (files_of One m)) m i generation p t is at ∙ shows (files_of One m) (IsAt-is m i generation p (Directory t) is at).1))
 
   pub Does-regular : (answer : Result A Status) (f : FileNode) → p ≡ Regular f
-      → ((m : Map) → IsSoundFile One m f → k (files_of m) (file i (data_of m f)) ≡ (answer, files_of m)) → Does blocks case_of t1.reads t1.writes answer
+      → ((m : Map) → IsSoundFile One m f → k (files_of One m) (file i (data_of m f)) ≡ (answer, files_of One m)) → Does blocks case_of t1.reads t1.writes answer
   Does-regular answer f is shows =
       Does-told blocks case_of t0 t1 answer _ fresh found
       (λ m sound at.
       let here : IsAt i generation m (Regular f) = IsAt-is m i generation p (Regular f) is at in
-      sym (case-regular (k (files_of m)) m i generation p f is at ∙ shows m (sound.files i f (IsFileNumber-test i here.2).to here.1)))
+      sym (case-regular (k (files_of One m)) m i generation p f is at ∙ shows m (sound.files i f (IsFileNumber-test i here.2).to here.1)))
 
   -- the file is changed, or its block read
   pub Does-changed : (answer : Result A Status) (f : FileNode) (t2 : TxnState) (Q : Map → Map → Type 0) → p ≡ Regular f → Makes blocks t1 t2 Q
       → ((m n : Map) → HasSoundFiles One m → IsSoundFile One m f → is_file_number i ≡ true → node_at m i ≡ File f → Q m n
-      → HasSoundFiles One n × ((answer, files_of n) ≡ k (files_of m) (file i (data_of m f))))
+      → HasSoundFiles One n × ((answer, files_of One n) ≡ k (files_of One m) (file i (data_of m f))))
       → Does blocks case_of t2.reads t2.writes answer
   Does-changed answer f t2 Q is made shows =
       Does-made blocks case_of t0 t1 t2 answer _ Q found made
       (λ m n sound at q.
       let here : IsAt i generation m (Regular f) = IsAt-is m i generation p (Regular f) is at in
       let both = shows m n sound (sound.files i f (IsFileNumber-test i here.2).to here.1) here.2 here.1 q in
-      (both.0, both.1 ∙ sym (case-regular (k (files_of m)) m i generation p f is at)))
+      (both.0, both.1 ∙ sym (case-regular (k (files_of One m)) m i generation p f is at)))
 
   -- in the root, an inode was read
   pub Does-in_root : (answer : Result A Status) (t : Time) (j : ℕ) (n : Node) (t2 : TxnState) → p ≡ Directory t → LearnsThat blocks t1 t2 (λ m. node_at m j ≡ n)
-      → ((m : Map) → HasSoundFiles One m → (files_of m).root ≡ t → node_at m j ≡ n → k (files_of m) root ≡ (answer, files_of m)) → Does blocks case_of t2.reads t2.writes answer
+      → ((m : Map) → HasSoundFiles One m → (files_of One m).root ≡ t → node_at m j ≡ n → k (files_of One m) root ≡ (answer, files_of One m)) → Does blocks case_of t2.reads t2.writes answer
   Does-in_root answer t j n t2 is read shows =
       Does-told blocks case_of t0 t2 answer _ fresh (Tells-both blocks t0 t1 t2 _ _ found read)
-      (λ m sound told. sym (case-directory (k (files_of m)) m i generation p t is told.0 ∙ shows m sound (IsAt-is m i generation p (Directory t) is told.0).1 told.1))
+      (λ m sound told. sym (case-directory (k (files_of One m)) m i generation p t is told.0 ∙ shows m sound (IsAt-is m i generation p (Directory t) is told.0).1 told.1))
 
   -- in the root, an inode was read, and then something made
   pub Does-made_in_root : (answer : Result A Status) (t : Time) (j : ℕ) (n : Node) (t2 t3 : TxnState) (Q : Map → Map → Type 0) → p ≡ Directory t → LearnsThat blocks t1 t2 (λ m. node_at m j ≡ n) → Makes blocks t2 t3 Q
-      → ((m after : Map) → HasSoundFiles One m → (files_of m).root ≡ t → node_at m j ≡ n → Q m after → HasSoundFiles One after × ((answer, files_of after) ≡ k (files_of m) root))
+      → ((m after : Map) → HasSoundFiles One m → (files_of One m).root ≡ t → node_at m j ≡ n → Q m after → HasSoundFiles One after × ((answer, files_of One after) ≡ k (files_of One m) root))
       → Does blocks case_of t3.reads t3.writes answer
   Does-made_in_root answer t j n t2 t3 Q is read made shows =
       Does-made blocks case_of t0 t2 t3 answer _ Q (Tells-both blocks t0 t1 t2 _ _ found read) made
       (λ m after sound told q.
       let both = shows m after sound (IsAt-is m i generation p (Directory t) is told.0).1 told.1 q in
-      (both.0, both.1 ∙ sym (case-directory (k (files_of m)) m i generation p t is told.0)))
+      (both.0, both.1 ∙ sym (case-directory (k (files_of One m)) m i generation p t is told.0)))
 
 -- A file that was changed
 pub changed-puts : (m n : Map) (i : ℕ) (f : FileNode) (d : FileData) (before after : Attributes) → IsSoundFile One m f → is_file_number i ≡ true → node_at m i ≡ File f
-    → before ≡ attributes_of_node i f → after ≡ attributes i d → Puts m n i (record { generation = f.generation; file = Some d })
-    → (Ok (record { before = before; after = after }), files_of n) ≡ changed (files_of m) i (data_of m f) d
+    → before ≡ attributes_of_node i f → after ≡ attributes i d → Puts One m n i (record { generation = f.generation; file = Some d })
+    → (Ok (record { before = before; after = after }), files_of One n) ≡ changed (files_of One m) i (data_of m f) d
 changed-puts m n i f d before after sound number is was will puts =
-    ap (λ x. (Ok (record { before = x; after = after }), files_of n)) (was ∙ sym (attributes-data m i f sound))
-    ∙ ap (λ x. (Ok (record { before = attributes i (data_of m f); after = x }), files_of n)) will
+    ap (λ x. (Ok (record { before = x; after = after }), files_of One n)) (was ∙ sym (attributes-data m i f sound))
+    ∙ ap (λ x. (Ok (record { before = attributes i (data_of m f); after = x }), files_of One n)) will
     ∙ ap (λ x. (Ok (record { before = attributes i (data_of m f); after = attributes i d }), x)) puts.files
-    ∙ ap (λ x. (Ok (record { before = attributes i (data_of m f); after = attributes i d }), with_entry (files_of m) i (record { generation = x; file = Some d })))
+    ∙ ap (λ x. (Ok (record { before = attributes i (data_of m f); after = attributes i d }), with_entry (files_of One m) i (record { generation = x; file = Some d })))
     (sym (ap (λ e. e.generation) (entry_at m i (File f) number is)))

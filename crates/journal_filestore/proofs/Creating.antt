@@ -19,7 +19,7 @@ use Rattle.journal_filestore.proofs.Replacing.{Replaces}
 use Rattle.journal_filestore.specs.Files.{is_file_number}
 use Rattle.journal_filestore.specs.Doing.{Puts}
 use Rattle.journal_filestore.proofs.FilesReplaced.{IsFileNumber-test}
-use Rattle.journal_filestore.proofs.Writing.{Puts-replaced, file_placed, padded_length}
+use Rattle.journal_filestore.proofs.Becoming.{one_block, padded_length, Puts-becomes}
 
 -- the file f comes at number i, with these bytes in its block
 abbrev pub comes : (m n : Map) (i : ℕ) (f : FileNode) (p : List ℕ) → Type 0
@@ -38,7 +38,7 @@ clear_is_free m b sound from to clear taken =
     by_bit (inr free) = free.1 (subst (IsTaken One m) (sym same) taken)
 
 pub Replaces-comes : (m n : Map) (i : ℕ) (g : ℕ) (f : FileNode) (p : List ℕ) → node_at m i ≡ Free g → i < INODES → FIRST_DATA ≤ f.block
-    → (IsTaken One m f.block → ⊥) → Fits (File f) → comes m n i f p → Replaces m n i (File f)
+    → (IsTaken One m f.block → ⊥) → Fits (File f) → comes m n i f p → Replaces One m n i (File f)
 Replaces-comes m n i g f p was_free low from free fits o = record {
   blocks = o.blocks;
   begins = o.objects superblock tt;
@@ -62,27 +62,21 @@ Replaces-comes m n i g f p was_free low from free fits o = record {
 pub Puts-created : (m n : Map) (i : ℕ) (g : ℕ) (f : FileNode) (p : List ℕ) → is_file_number i ≡ true → HasSoundFiles One m → node_at m i ≡ Free g
     → FIRST_DATA ≤ f.block → f.block < m.blocks → f.block < FIRST_DATA + BLOCK_BITS → object m (bit (f.block - FIRST_DATA)) ≡ 0 ∷ []
     → f.more ≡ no_more → 1 ≤ f.generation → f.size ≡ length p → length p ≤ FILE_BYTES → f.mtime.nanos ≤ MAX_NANOS → Fits (File f)
-    → comes m n i f p → Puts m n i (record { generation = f.generation; file = Some (record { bytes = p; mtime = f.mtime }) })
+    → comes m n i f p → Puts One m n i (record { generation = f.generation; file = Some (record { bytes = p; mtime = f.mtime }) })
 Puts-created m n i g f p number sound was_free from to has_bit clear none_more born size small timed fits o =
-    subst (λ x. Puts m n i (record { generation = f.generation; file = Some (record { bytes = x; mtime = f.mtime }) })) content_is
-    (Puts-replaced m n i (File f) number sound
+    Puts-becomes One m n i f p number sound
     (Replaces-comes m n i g f p was_free (IsFileNumber-test i number).to from (clear_is_free m f.block sound from has_bit clear) fits o)
-    (file_placed n i f number fine))
-  where
-    stored_is : stored One n f ≡ p ++ replicate (FILE_BYTES - length p) 0
-    stored_is = o.objects (block f.block) (from, to) ∙ first_is _ _ _ _ (eq-eqb f.block f.block refl)
-
-    content_is : content One n f ≡ p
-    content_is = ap (take f.size) stored_is ∙ take_at p _ f.size (sym size)
-
-    fine : IsSoundFile One n f
-    fine = record {
+    (record {
       born = born;
-      small = subst (λ x. x ≤ FILE_BYTES) (sym size) small;
-      on_disk = ((from, subst (λ x. f.block < x) (sym o.blocks) to), tt);
-      absent = none_more;
+      size = size;
+      small = small;
       timed = timed;
-      sized = (ap length stored_is ∙ padded_length FILE_BYTES p small, tt);
-      whole = ap length content_is ∙ sym size;
-      padded = stored_is ∙ ap (λ x. x ++ replicate (FILE_BYTES - length p) 0) (sym content_is) ∙ ap (λ x. content One n f ++ replicate (FILE_BYTES - x) 0) (sym size);
-    }
+      on_disk = ((from, subst (λ x. f.block < x) (sym o.blocks) to), tt);
+      distinct = one_block f.block;
+      absent = none_more;
+      sized = (ap length held ∙ padded_length FILE_BYTES p small, tt);
+      held_bytes = held;
+    })
+  where
+    held : stored One n f ≡ p ++ replicate (FILE_BYTES - length p) 0
+    held = o.objects (block f.block) (from, to) ∙ first_is _ _ _ _ (eq-eqb f.block f.block refl)

@@ -57,25 +57,25 @@ create-asked room name (Unchecked s) now F x is =
 
 -- a number with a sound time goes by its file
 pub create-file : (room guarded : Bool) (s : Settings) (now : Time) (m : Map) (j : ℕ) (n : Node) → is_no_time s.mtime ≡ false → is_file_number j ≡ true → node_at m j ≡ n
-    → create_number room guarded s now (files_of m) (Some j) ≡ create_file room guarded s now (files_of m) j (entry_of m n).file
+    → create_number room guarded s now (files_of One m) (Some j) ≡ create_file room guarded s now (files_of One m) j (entry_of One m n).file
 create-file room guarded s now m j n timed number is =
-    cond-false _ _ _ timed ∙ ap (λ e. create_file room guarded s now (files_of m) j e.file) (entry_at m j n number is)
+    cond-false _ _ _ timed ∙ ap (λ e. create_file room guarded s now (files_of One m) j e.file) (entry_at m j n number is)
 
 -- A file that was made or set
-created-puts : (m n : Map) (i : ℕ) (f : FileNode) (t : Time) (d : FileData) (generation : ℕ) (answer : Found) → (files_of m).root ≡ t → answer ≡ found_node i f t → f.generation ≡ generation
-    → attributes_of_node i f ≡ attributes i d → Puts m n i (record { generation = f.generation; file = Some d })
-    → (Ok answer, files_of n) ≡ created (files_of m) i generation d
+created-puts : (m n : Map) (i : ℕ) (f : FileNode) (t : Time) (d : FileData) (generation : ℕ) (answer : Found) → (files_of One m).root ≡ t → answer ≡ found_node i f t → f.generation ≡ generation
+    → attributes_of_node i f ≡ attributes i d → Puts One m n i (record { generation = f.generation; file = Some d })
+    → (Ok answer, files_of One n) ≡ created (files_of One m) i generation d
 created-puts m n i f t d generation answer root_is told same attributes_are puts =
-    ap (λ x. (Ok x, files_of n)) told
-    ∙ ap (λ x. (Ok (record { generation = f.generation; file = x; root = of_root t }), files_of n)) attributes_are
-    ∙ ap (λ x. (Ok (record { generation = f.generation; file = attributes i d; root = of_root x }), files_of n)) (sym root_is)
-    ∙ ap (λ x. (Ok (record { generation = f.generation; file = attributes i d; root = of_root (files_of m).root }), x)) puts.files
-    ∙ ap (λ x. (Ok (record { generation = x; file = attributes i d; root = of_root (files_of m).root }), with_entry (files_of m) i (record { generation = x; file = Some d }))) same
+    ap (λ x. (Ok x, files_of One n)) told
+    ∙ ap (λ x. (Ok (record { generation = f.generation; file = x; root = of_root t }), files_of One n)) attributes_are
+    ∙ ap (λ x. (Ok (record { generation = f.generation; file = attributes i d; root = of_root x }), files_of One n)) (sym root_is)
+    ∙ ap (λ x. (Ok (record { generation = f.generation; file = attributes i d; root = of_root (files_of One m).root }), x)) puts.files
+    ∙ ap (λ x. (Ok (record { generation = x; file = attributes i d; root = of_root (files_of One m).root }), with_entry (files_of One m) i (record { generation = x; file = Some d }))) same
 
 -- what is asked for is set of the file that is there
 module _ (blocks : ℕ) (s : Settings) (now : Time) (j : ℕ) (f : FileNode) (t : Time) (number : is_file_number j ≡ true) (guarded : Bool) (t0 t1 : TxnState) where
   abbrev pub Sets : Result Found Status → Map → Map → Type 0
-  Sets answer m n = node_at m j ≡ File f → (files_of m).root ≡ t → Leads n answer (create_file true guarded s now (files_of m) j (Some (data_of m f)))
+  Sets answer m n = node_at m j ≡ File f → (files_of One m).root ≡ t → Leads n answer (create_file true guarded s now (files_of One m) j (Some (data_of m f)))
 
   pub Makes-over_exists : t0.writes ≡ [] → guarded ≡ true → Makes blocks t0 t0 (Sets (Err Exists))
   Makes-over_exists fresh is_guarded =
@@ -86,7 +86,7 @@ module _ (blocks : ℕ) (s : Settings) (now : Time) (j : ℕ) (f : FileNode) (t 
       Makes-told blocks t0 t0 _ _ fresh (Tells-nothing blocks t0) (λ m sound nothing is root_is. (sound, sym (cond-false _ _ _ free ∙ cond-true _ _ _ big)))
 
   pub Makes-over : (g : FileNode) (answer : Found) → guarded ≡ false → is_too_big s.size ≡ false → g ≡ set_node f s now → answer ≡ found_node j g t
-      → Makes blocks t0 t1 (λ m n. is_file_number j ≡ true → node_at m j ≡ File f → Puts m n j (record { generation = f.generation; file = Some (with_settings (data_of m f) s now) }))
+      → Makes blocks t0 t1 (λ m n. is_file_number j ≡ true → node_at m j ≡ File f → Puts One m n j (record { generation = f.generation; file = Some (with_settings (data_of m f) s now) }))
       → Makes blocks t0 t1 (Sets (Ok answer))
   Makes-over g answer free small is told made =
       Makes-like blocks t0 t1 _ _
@@ -94,10 +94,10 @@ module _ (blocks : ℕ) (s : Settings) (now : Time) (j : ℕ) (f : FileNode) (t 
       let whole : IsSoundFile One m f = sound.files j f (IsFileNumber-test j number).to here in
       let same : g.generation ≡ f.generation = ap (λ x. x.generation) is in (
         (puts number here).sound,
-        created-puts m n j g t (with_settings (data_of m f) s now) ((files_of m).at j).generation answer root_is told
+        created-puts m n j g t (with_settings (data_of m f) s now) ((files_of One m).at j).generation answer root_is told
             (same ∙ sym (ap (λ e. e.generation) (entry_at m j (File f) number here)))
             (attributes-set m j f g s now whole is)
-            (subst (λ x. Puts m n j (record { generation = x; file = Some (with_settings (data_of m f) s now) })) (sym same) (puts number here))
+            (subst (λ x. Puts One m n j (record { generation = x; file = Some (with_settings (data_of m f) s now) })) (sym same) (puts number here))
             ∙ sym (cond-false _ _ _ free ∙ cond-false _ _ _ small),
       ))
       made
@@ -138,9 +138,9 @@ zeros-pad s small = pad FILE_BYTES s small
 
 module _ (blocks : ℕ) (s : Settings) (now : Time) (j last : ℕ) (t : Time) (number : is_file_number j ≡ true) (timed : is_no_time s.mtime ≡ false) (t0 : TxnState) (fresh : t0.writes ≡ []) where
   abbrev pub News : Result Found Status → Map → Map → Type 0
-  News answer m n = node_at m j ≡ Free last → (files_of m).root ≡ t → (room : Bool) × Leads n answer (create_new room s now (files_of m) j)
+  News answer m n = node_at m j ≡ Free last → (files_of One m).root ≡ t → (room : Bool) × Leads n answer (create_new room s now (files_of One m) j)
 
-  generation_is : (m : Map) → node_at m j ≡ Free last → ((files_of m).at j).generation ≡ last
+  generation_is : (m : Map) → node_at m j ≡ Free last → ((files_of One m).at j).generation ≡ last
   generation_is m is = ap (λ e. e.generation) (entry_at m j (Free last) number is)
 
   pub Makes-too_big : is_too_big s.size ≡ true → Makes blocks t0 t0 (News (Err TooBig))
@@ -170,7 +170,7 @@ module _ (blocks : ℕ) (s : Settings) (now : Time) (j last : ℕ) (t : Time) (n
       (HasWritten-more blocks t1 t2 _ _ _ wrote_block (HasWritten-none blocks t1 (read.writes ∙ fresh)))))
       (λ m seen. read.before m (back m seen))
       (λ m after seen o here root_is.
-      let puts : Puts m after j (record { generation = last + 1; file = Some (new_file s now) }) =
+      let puts : Puts One m after j (record { generation = last + 1; file = Some (new_file s now) }) =
       Puts-created m after j last new bytes number seen.sound here wrote_block.on_disk.0 (subst (λ x. b < x) (sym seen.on_disk) wrote_block.on_disk.1) has_bit (read.now m (back m seen) ∙ clear)
       refl (omega arith) (sym (length-replicate {A = ℕ} size 0)) (subst (λ x. x ≤ FILE_BYTES) (sym (length-replicate {A = ℕ} size 0)) fits_file)
       (time_after-timed (Some 0) s.mtime now now timed in_second in_second) (subst (λ x. Fits (File x)) made fits)
@@ -179,10 +179,10 @@ module _ (blocks : ℕ) (s : Settings) (now : Time) (j last : ℕ) (t : Time) (n
         true,
         (
           puts.sound,
-          created-puts m after j f t (new_file s now) (((files_of m).at j).generation + 1) answer root_is told
+          created-puts m after j f t (new_file s now) (((files_of One m).at j).generation + 1) answer root_is told
               (ap (λ x. x.generation) made ∙ sym (ap (λ n. n + 1) (generation_is m here)))
               (ap (attributes_of_node j) made ∙ ap (λ x. record { number = j; size = x; mtime = new.mtime }) (sym (length-replicate {A = ℕ} size 0)))
-              (subst (λ x. Puts m after j (record { generation = x; file = Some (new_file s now) })) (sym (ap (λ x. x.generation) made)) puts)
+              (subst (λ x. Puts One m after j (record { generation = x; file = Some (new_file s now) })) (sym (ap (λ x. x.generation) made)) puts)
               ∙ sym (cond-false _ _ _ small ∙ cond-false _ _ _ (ne_eqb _ 4294967295 (λ e. young (sym (generation_is m here) ∙ e)))),
         ),
       ))
@@ -226,34 +226,34 @@ Does-room blocks name how now i generation t answer room does = record {
 -- what it does by the inode that it read in the root
 pub Does-tail : (blocks : ℕ) (name : List ℕ) (how : How) (now : Time) (i generation : ℕ) (p : Place) (t : Time) (j : ℕ) (n : Node) (t0 t1 t2 t3 : TxnState) (answer : Result Found Status) (Q : Map → Map → Type 0)
     → LearnsThat blocks t0 t1 (λ m. IsAt i generation m p) → p ≡ Directory t → LearnsThat blocks t1 t2 (λ m. node_at m j ≡ n) → Makes blocks t2 t3 Q
-    → ((m after : Map) → HasSoundFiles One m → (files_of m).root ≡ t → node_at m j ≡ n → Q m after → HasSoundFiles One after × ((room : Bool) × ((answer, files_of after) ≡ create_how room name how now (files_of m))))
+    → ((m after : Map) → HasSoundFiles One m → (files_of One m).root ≡ t → node_at m j ≡ n → Q m after → HasSoundFiles One after × ((room : Bool) × ((answer, files_of One after) ≡ create_how room name how now (files_of One m))))
     → Does blocks (CaseOf name how now i generation) t3.reads t3.writes answer
 Does-tail blocks name how now i generation p t j n t0 t1 t2 t3 answer Q found is read made shows =
     Does-made blocks (CaseOf name how now i generation) t0 t2 t3 answer _ Q (Tells-both blocks t0 t1 t2 _ _ found read) made
     (λ m after sound told q.
     let both = shows m after sound (IsAt-is m i generation p (Directory t) is told.0).1 told.1 q in (
       both.0,
-      (both.1.0, both.1.1 ∙ sym (case-directory (create_case both.1.0 name how now (files_of m)) m i generation p t is told.0)),
+      (both.1.0, both.1.1 ∙ sym (case-directory (create_case both.1.0 name how now (files_of One m)) m i generation p t is told.0)),
     ))
 
 -- In the root, with a name and a time, it goes by the number's inode
 module _ (name : List ℕ) (how : How) (s : Settings) (guarded : Bool) (now : Time) (j : ℕ) (how_is : asked how ≡ Some (s, guarded)) (named : Some j ≡ number_of_name name) (timed : is_no_time s.mtime ≡ false) (number : is_file_number j ≡ true) where
   create-node : (room : Bool) (m : Map) (n : Node) → node_at m j ≡ n
-      → create_how room name how now (files_of m) ≡ create_file room guarded s now (files_of m) j (entry_of m n).file
+      → create_how room name how now (files_of One m) ≡ create_file room guarded s now (files_of One m) j (entry_of One m n).file
   create-node room m n is =
-      create-asked room name how now (files_of m) (s, guarded) how_is
-      ∙ ap (create_number room guarded s now (files_of m)) (sym named)
+      create-asked room name how now (files_of One m) (s, guarded) how_is
+      ∙ ap (create_number room guarded s now (files_of One m)) (sym named)
       ∙ create-file room guarded s now m j n timed number is
 
   -- no sound map has the root there
   pub create-at_root : (m after : Map) (t : Time) (answer : Result Found Status) → HasSoundFiles One m → node_at m j ≡ Root t
-      → HasSoundFiles One after × ((room : Bool) × ((answer, files_of after) ≡ create_how room name how now (files_of m)))
+      → HasSoundFiles One after × ((room : Bool) × ((answer, files_of One after) ≡ create_how room name how now (files_of One m)))
   create-at_root m after t answer sound is = absurd (no_root m j t sound number is)
 
-  pub create-at_file : (m after : Map) (f : FileNode) (answer : Result Found Status) → node_at m j ≡ File f → Leads after answer (create_file true guarded s now (files_of m) j (Some (data_of m f)))
-      → HasSoundFiles One after × ((room : Bool) × ((answer, files_of after) ≡ create_how room name how now (files_of m)))
+  pub create-at_file : (m after : Map) (f : FileNode) (answer : Result Found Status) → node_at m j ≡ File f → Leads after answer (create_file true guarded s now (files_of One m) j (Some (data_of m f)))
+      → HasSoundFiles One after × ((room : Bool) × ((answer, files_of One after) ≡ create_how room name how now (files_of One m)))
   create-at_file m after f answer is leads = (leads.0, (true, leads.1 ∙ sym (create-node true m (File f) is)))
 
-  pub create-at_free : (m after : Map) (last : ℕ) (answer : Result Found Status) → node_at m j ≡ Free last → (room : Bool) × Leads after answer (create_new room s now (files_of m) j)
-      → HasSoundFiles One after × ((room : Bool) × ((answer, files_of after) ≡ create_how room name how now (files_of m)))
+  pub create-at_free : (m after : Map) (last : ℕ) (answer : Result Found Status) → node_at m j ≡ Free last → (room : Bool) × Leads after answer (create_new room s now (files_of One m) j)
+      → HasSoundFiles One after × ((room : Bool) × ((answer, files_of One after) ≡ create_how room name how now (files_of One m)))
   create-at_free m after last answer is leads = (leads.1.0, (leads.0, leads.1.1 ∙ sym (create-node leads.0 m (Free last) is)))

@@ -146,7 +146,7 @@ Makes-like blocks t0 t1 P Q like made = record {
 -- What a transaction does that was told something, and made something of it
 pub Does-made : {A : Type 0} (blocks : ℕ) (case : Files → A → Files → Type 0) (t0 t1 t2 : TxnState) (answer : A) (P : Map → Type 0) (Q : Map → Map → Type 0)
     → LearnsThat blocks t0 t1 P → Makes blocks t1 t2 Q
-    → ((m n : Map) → HasSoundFiles One m → P m → Q m n → HasSoundFiles One n × case (files_of m) answer (files_of n))
+    → ((m n : Map) → HasSoundFiles One m → P m → Q m n → HasSoundFiles One n × case (files_of One m) answer (files_of One n))
     → Does blocks case t2.reads t2.writes answer
 Does-made {A} blocks case t0 t1 t2 answer P Q told made shows = record {
   few = made.few;
@@ -155,7 +155,7 @@ Does-made {A} blocks case t0 t1 t2 answer P Q told made shows = record {
 }
   where
     both : (m : Map) → m.blocks ≡ blocks → HasSoundFiles One m → Agrees m t2.reads
-        → HasSoundFiles One (overwritten m t2.writes) × case (files_of m) answer (files_of (overwritten m t2.writes))
+        → HasSoundFiles One (overwritten m t2.writes) × case (files_of One m) answer (files_of One (overwritten m t2.writes))
     both m on_disk sound agrees =
         let seen : MayBeRead blocks t2.reads m = record { on_disk = on_disk; sound = sound; gives = Gives-Agrees m t2.reads agrees } in
         shows m (overwritten m t2.writes) sound (told.now m (made.before m seen)) (made.now m seen)
@@ -174,14 +174,14 @@ Tells-nothing blocks t = record { writes = refl; before = λ m seen. seen; now =
 
 -- What a transaction does that was told enough to answer, and only read
 pub Does-told : {A : Type 0} (blocks : ℕ) (case : Files → A → Files → Type 0) (old t : TxnState) (answer : A) (P : Map → Type 0) → old.writes ≡ []
-    → LearnsThat blocks old t P → ((m : Map) → HasSoundFiles One m → P m → case (files_of m) answer (files_of m))
+    → LearnsThat blocks old t P → ((m : Map) → HasSoundFiles One m → P m → case (files_of One m) answer (files_of One m))
     → Does blocks case t.reads t.writes answer
 Does-told blocks case old t answer P none told shows =
     Does-made blocks case t t t answer _ _ (Tells-nothing blocks t)
     (record {
       few = few-none t.writes (told.writes ∙ none);
       before = λ m seen. seen;
-      now = λ m seen. subst (λ ws. HasSoundFiles One (overwritten m ws) × case (files_of m) answer (files_of (overwritten m ws))) (sym (told.writes ∙ none))
+      now = λ m seen. subst (λ ws. HasSoundFiles One (overwritten m ws) × case (files_of One m) answer (files_of One (overwritten m ws))) (sym (told.writes ∙ none))
           (seen.sound, shows m seen.sound (told.now m seen));
     })
     (λ m n sound nothing both. both)

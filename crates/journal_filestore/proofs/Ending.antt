@@ -63,7 +63,7 @@ module _ {A : Type 0} (blocks : ℕ) (case : Files → Result A Status → Files
         one_more = ap (λ h. commits_of new.number h) (ap (λ s. s.mine) c.committed.session) ∙ ap (λ n. commits_of n new.seen) same_number ∙ c.committed.one_more;
         answers = λ trusted.
             let trusted_found : IsTrue (is_trusted c.found) = sym (trusted_before c.found u []) ∙ ap is_trusted (sym whole) ∙ trusted in
-            subst (λ h. case (files_of (latest h)) answer (files_of (overwritten (latest h) t.writes))) (sym before)
+            subst (λ h. case (files_of One (latest h)) answer (files_of One (overwritten (latest h) t.writes))) (sym before)
             (does.answers (latest c.found) c.on_disk (c.ruled trusted_found) (c.agrees trusted_found));
         ruled = c.known.sound.ruled;
       }
@@ -116,7 +116,7 @@ module _ {A : Type 0} (case : Files → Result A Status → Files → Type 0) (o
     one_more = ap (λ h. commits_of new.number h) more.mine ∙ ap (λ n. commits_of n middle.mine) more.number ∙ is.one_more;
     answers = λ trusted.
         let trusted_middle : IsTrue (is_trusted middle.seen) = sym (is_trusted-append middle.seen more.seen.0 (begun middle.seen place (commit is.made) is.stands)) ∙ ap is_trusted more.seen.1 ∙ trusted in
-        subst (λ h. case (files_of (latest h)) answer (files_of (apply is.made (latest h)))) (sym (front_is answer place is place (omega arith))) (is.answers trusted_middle);
+        subst (λ h. case (files_of One (latest h)) answer (files_of One (apply is.made (latest h)))) (sym (front_is answer place is place (omega arith))) (is.answers trusted_middle);
     ruled = sound;
   }
 

@@ -21,11 +21,11 @@ pub is_file_number-from : (i : ℕ) → 2 ≤ i → i < INODES → is_file_numbe
 is_file_number-from i from to = and_from (nat_le 2 i) (nat_lt i INODES) (le-leb 2 i from) (lt-ltb i INODES to)
 
 -- what a file's number has
-pub entry_at : (m : Map) (i : ℕ) (n : Node) → is_file_number i ≡ true → node_at m i ≡ n → (files_of m).at i ≡ entry_of m n
+pub entry_at : (m : Map) (i : ℕ) (n : Node) → is_file_number i ≡ true → node_at m i ≡ n → (files_of One m).at i ≡ entry_of One m n
 unfolding files_of
-entry_at m i n number is = ap (λ b. cond b (entry_of m (node_at m i)) no_entry) number ∙ ap (entry_of m) is
+entry_at m i n number is = ap (λ b. cond b (entry_of One m (node_at m i)) no_entry) number ∙ ap (entry_of One m) is
 
-root_at : (m : Map) (t : Time) → node_at m 1 ≡ Root t → (files_of m).root ≡ t
+root_at : (m : Map) (t : Time) → node_at m 1 ≡ Root t → (files_of One m).root ≡ t
 unfolding files_of
 root_at m t is = ap root_time is
 
@@ -46,9 +46,9 @@ not_root_free (suc zero) g from placed = absurd placed
 not_root_free (suc (suc i)) g from placed = omega arith
 
 -- a handle of another number than the root's
-target_of-entry : (m : Map) (i generation : ℕ) (n : Node) → 2 ≤ i → i < INODES → node_at m i ≡ n → file_target (files_of m) i generation ≡ of_generation i generation (entry_of m n)
+target_of-entry : (m : Map) (i generation : ℕ) (n : Node) → 2 ≤ i → i < INODES → node_at m i ≡ n → file_target (files_of One m) i generation ≡ of_generation i generation (entry_of One m n)
 target_of-entry m i generation n from to is =
-    ap (λ b. cond b (cond (generation == 1) root gone) (of_generation i generation ((files_of m).at i))) (ne_eqb i 1 (λ e. absurd (omega arith)))
+    ap (λ b. cond b (cond (generation == 1) root gone) (of_generation i generation ((files_of One m).at i))) (ne_eqb i 1 (λ e. absurd (omega arith)))
     ∙ ap (of_generation i generation) (entry_at m i n (is_file_number-from i from to) is)
 
 pub IsAt-found : (m : Map) (i generation : ℕ) (n : Node) → HasSoundFiles One m → 1 ≤ i → i < INODES → node_at m i ≡ n → IsAt i generation m (place_of n i generation)
@@ -56,9 +56,9 @@ IsAt-found m i generation n sound from to is = by_node n is (subst (IsInPlace i)
   where
     by_root : (t : Time) (b : Bool) → (generation == 1) ≡ b → node_at m i ≡ Root t → i ≡ 1 → IsAt i generation m (cond b (Directory t) Gone)
     by_root t true is_one is one =
-        (ap (λ k. file_target (files_of m) k generation) one ∙ ap (λ b. cond b root gone) is_one, root_at m t (ap (node_at m) (sym one) ∙ is))
+        (ap (λ k. file_target (files_of One m) k generation) one ∙ ap (λ b. cond b root gone) is_one, root_at m t (ap (node_at m) (sym one) ∙ is))
     by_root t false is_one is one =
-        ap (λ k. file_target (files_of m) k generation) one ∙ ap (λ b. cond b root gone) is_one
+        ap (λ k. file_target (files_of One m) k generation) one ∙ ap (λ b. cond b root gone) is_one
 
     at_root : (t : Time) → node_at m i ≡ Root t → i ≡ 1 → IsAt i generation m (cond ((i == 1) && (generation == 1)) (Directory t) Gone)
     at_root t is one =
@@ -91,13 +91,13 @@ IsPlace-place_of (File f) i generation fits = by_test (f.generation == generatio
     by_test false = tt
 
 -- what a case is where the handle names this
-pub case-gone : {A : Type 0} (k : FileTarget → A) (m : Map) (i generation : ℕ) (p : Place) → p ≡ Gone → IsAt i generation m p → k (file_target (files_of m) i generation) ≡ k gone
+pub case-gone : {A : Type 0} (k : FileTarget → A) (m : Map) (i generation : ℕ) (p : Place) → p ≡ Gone → IsAt i generation m p → k (file_target (files_of One m) i generation) ≡ k gone
 case-gone k m i generation p is at = ap k (let here : IsAt i generation m Gone = subst (IsAt i generation m) is at in here)
 
-pub case-directory : {A : Type 0} (k : FileTarget → A) (m : Map) (i generation : ℕ) (p : Place) (t : Time) → p ≡ Directory t → IsAt i generation m p → k (file_target (files_of m) i generation) ≡ k root
+pub case-directory : {A : Type 0} (k : FileTarget → A) (m : Map) (i generation : ℕ) (p : Place) (t : Time) → p ≡ Directory t → IsAt i generation m p → k (file_target (files_of One m) i generation) ≡ k root
 case-directory k m i generation p t is at = ap k (let here : IsAt i generation m (Directory t) = subst (IsAt i generation m) is at in here.0)
 
-pub case-regular : {A : Type 0} (k : FileTarget → A) (m : Map) (i generation : ℕ) (p : Place) (f : FileNode) → p ≡ Regular f → IsAt i generation m p → k (file_target (files_of m) i generation) ≡ k (file i (data_of m f))
+pub case-regular : {A : Type 0} (k : FileTarget → A) (m : Map) (i generation : ℕ) (p : Place) (f : FileNode) → p ≡ Regular f → IsAt i generation m p → k (file_target (files_of One m) i generation) ≡ k (file i (data_of m f))
 case-regular k m i generation p f is at = ap k (let here : IsAt i generation m (Regular f) = subst (IsAt i generation m) is at in here.0)
 
 pub IsAt-is : (m : Map) (i generation : ℕ) (p q : Place) → p ≡ q → IsAt i generation m p → IsAt i generation m q

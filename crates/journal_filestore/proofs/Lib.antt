@@ -18,3 +18,4 @@ pub mod SettingCases
 pub mod Removals
 pub mod Portions
 pub mod Creations
+pub mod Becoming

@@ -2,6 +2,7 @@
 use Rattle.std.proofs.Common.{ℕ, ◌≡◌, ◌-◌, true, [], ◌∷◌, None, subst, ◌∙◌, arith}
 use Rattle.journal_world.specs.declared.layout.TheConstants.{FIRST_DATA}
 use Rattle.journal_twophase.specs.Transactions.{TxnState}
+use Rattle.journal_inode.specs.declared.version.FormatVersion.TheVariants.{One}
 use Rattle.journal_inode.specs.declared.node.FileNode.{FileNode}
 use Rattle.journal_inode.specs.declared.node.Node.TheVariants.{Free, File}
 use Rattle.journal_inode.specs.Places.Object.{inode, bit}
@@ -17,7 +18,7 @@ pub Makes-remove : (blocks j : ℕ) (f : FileNode) (t0 t1 t2 : TxnState) → t0.
     → WritesObject blocks t0 t1 (inode j) (inode_bytes (Free f.generation))
     → WritesObject blocks t1 t2 (bit (f.block - FIRST_DATA)) (0 ∷ [])
     → is_file_number j ≡ true → Fits (File f)
-    → Makes blocks t0 t2 (λ m n. node_at m j ≡ File f → Puts m n j (record { generation = f.generation; file = None }))
+    → Makes blocks t0 t2 (λ m n. node_at m j ≡ File f → Puts One m n j (record { generation = f.generation; file = None }))
 Makes-remove blocks j f t0 t1 t2 fresh wrote_node wrote_bit number fits =
     Makes-written blocks t0 t2 _ ((bit (f.block - FIRST_DATA), 0 ∷ []) ∷ (inode j, inode_bytes (Free f.generation)) ∷ [])
     (HasWritten-more blocks t1 t2 _ _ _ wrote_bit

@@ -15,13 +15,13 @@ use Rattle.journal_filestore.proofs.Replacing.{Replaces, IsInPlace-free}
 use Rattle.journal_filestore.specs.Files.{is_file_number}
 use Rattle.journal_filestore.specs.Doing.{Puts}
 use Rattle.journal_filestore.proofs.FilesReplaced.{IsFileNumber-test}
-use Rattle.journal_filestore.proofs.Writing.{Puts-replaced}
+use Rattle.journal_filestore.proofs.Becoming.{Puts-replaced}
 
 -- the file f at number i is removed
 abbrev pub goes : (m n : Map) (i : ℕ) (f : FileNode) → Type 0
 goes m n i f = Overwrites m n ((bit (f.block - FIRST_DATA), 0 ∷ []) ∷ (inode i, inode_bytes (Free f.generation)) ∷ [])
 
-pub Replaces-goes : (m n : Map) (i : ℕ) (f : FileNode) → node_at m i ≡ File f → i < INODES → FIRST_DATA ≤ f.block → f.generation < 2 ^ 32 → goes m n i f → Replaces m n i (Free f.generation)
+pub Replaces-goes : (m n : Map) (i : ℕ) (f : FileNode) → node_at m i ≡ File f → i < INODES → FIRST_DATA ≤ f.block → f.generation < 2 ^ 32 → goes m n i f → Replaces One m n i (Free f.generation)
 Replaces-goes m n i f is_file low from fits o = record {
   blocks = o.blocks;
   begins = o.objects superblock tt;
@@ -48,9 +48,9 @@ Free-is-File : (g : ℕ) (f : FileNode) → Free g ≡ File f → ⊥
 Free-is-File g f is = cc
 
 -- REMOVE
-pub Puts-removed : (m n : Map) (i : ℕ) (f : FileNode) → is_file_number i ≡ true → HasSoundFiles One m → node_at m i ≡ File f → f.generation < 2 ^ 32 → goes m n i f → Puts m n i (record { generation = f.generation; file = None })
+pub Puts-removed : (m n : Map) (i : ℕ) (f : FileNode) → is_file_number i ≡ true → HasSoundFiles One m → node_at m i ≡ File f → f.generation < 2 ^ 32 → goes m n i f → Puts One m n i (record { generation = f.generation; file = None })
 Puts-removed m n i f number sound is_file fits o =
     let among = IsFileNumber-test i number in
-    Puts-replaced m n i (Free f.generation) number sound
+    Puts-replaced One m n i (Free f.generation) number sound
     (Replaces-goes m n i f is_file among.to (sound.files i f among.to is_file).on_disk.0.0 fits o)
-    (record { placed = IsInPlace-free i f.generation among.from; file = λ g is. absurd (Free-is-File f.generation g is) })
+    (record { placed = IsInPlace-free i f.generation among.from; file = λ g is. absurd (Free-is-File f.generation g is); distinct = λ g is. absurd (Free-is-File f.generation g is) })

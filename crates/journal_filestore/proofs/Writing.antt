@@ -1,7 +1,7 @@
 -- A file is changed in its block.
-use Rattle.std.proofs.Common.{ℕ, ◌≡◌, ◌<◌, ◌≤◌, ◌+◌, ◌-◌, max, inl, true, List, [], ◌∷◌, ◌++◌, length, take, replicate, Some, refl, sym, ap, subst, ◌∙◌, arith}
+use Rattle.std.proofs.Common.{ℕ, ◌≡◌, ◌≢◌, ◌<◌, ◌≤◌, ◌+◌, ◌-◌, max, inl, true, List, [], ◌∷◌, ◌++◌, length, take, replicate, Some, refl, sym, ap, subst, ◌∙◌, arith}
 use Rattle.std.proofs.lemmas.Bool.{eq-eqb, ne_eqb}
-use Rattle.std.proofs.lemmas.List.{take_at, length-append, length-replicate}
+use Rattle.std.proofs.lemmas.List.{take_at}
 use Rattle.journal_world.specs.declared.layout.TheConstants.{FIRST_DATA}
 use Rattle.journal_world.specs.declared.moment.TheConstants.{MAX_NANOS}
 use Rattle.journal_world.specs.Addresses.{Value}
@@ -18,34 +18,19 @@ use Rattle.journal_inode.specs.Places.Object.{superblock, bit, inode, block}
 use Rattle.journal_inode.specs.Nodes.{inode_bytes, Fits}
 use Rattle.journal_inode.specs.Sound.{node_at, stored, content, HasBlock, IsSoundFile, HasSoundFiles}
 use Rattle.journal_filestore.proofs.Overwrites.{Overwrites, first_is, first_is_not}
-use Rattle.journal_filestore.proofs.Replacing.{Replaces, IsSoundNode, IsInPlace-file, Sound-replaced}
-use Rattle.journal_filestore.specs.Files.{is_file_number, entry_of}
+use Rattle.journal_filestore.proofs.Replacing.{Replaces}
+use Rattle.journal_filestore.specs.Files.{is_file_number}
 use Rattle.journal_filestore.specs.Doing.{Puts}
 use Rattle.journal_filestore.specs.Operations.{placed, with_data}
-use Rattle.journal_filestore.proofs.FilesReplaced.{IsFileNumber-test, files_of-replaced}
+use Rattle.journal_filestore.proofs.FilesReplaced.{IsFileNumber-test}
+use Rattle.journal_filestore.proofs.Becoming.{one_block, padded_length, Puts-becomes}
 use Rattle.journal_filestore.proofs.Placing.{with_data-placed, length-placed}
-
-pub Puts-replaced : (m n : Map) (i : ℕ) (new : Node) → is_file_number i ≡ true → HasSoundFiles One m → Replaces m n i new → IsSoundNode n i new → Puts m n i (entry_of n new)
-Puts-replaced m n i new number sound r fine = record {
-  sound = Sound-replaced m n i new (IsFileNumber-test i number).to sound r fine;
-  files = files_of-replaced m n i new number sound r;
-}
-
-File-is : (g f : FileNode) → File g ≡ File f → g ≡ f
-File-is g f is = cc
-
--- any file may stand at a file's number
-pub file_placed : (n : Map) (i : ℕ) (g : FileNode) → is_file_number i ≡ true → IsSoundFile One n g → IsSoundNode n i (File g)
-file_placed n i g number sound = record {
-  placed = IsInPlace-file i g (IsFileNumber-test i number).from;
-  file = λ f is. subst (IsSoundFile One n) (File-is g f is) sound;
-}
 
 -- The file at number i, f, becomes g, in the same block
 abbrev pub stays : (m n : Map) (i : ℕ) (f g : FileNode) (v : Value) → Type 0
 stays m n i f g v = Overwrites m n ((inode i, inode_bytes (File g)) ∷ (block f.block, v) ∷ [])
 
-pub Replaces-stays : (m n : Map) (i : ℕ) (f g : FileNode) (v : Value) → node_at m i ≡ File f → i < INODES → g.block ≡ f.block → Fits (File g) → stays m n i f g v → Replaces m n i (File g)
+pub Replaces-stays : (m n : Map) (i : ℕ) (f g : FileNode) (v : Value) → node_at m i ≡ File f → i < INODES → g.block ≡ f.block → Fits (File g) → stays m n i f g v → Replaces One m n i (File g)
 Replaces-stays m n i f g v is_file low same fits o = record {
   blocks = o.blocks;
   begins = o.objects superblock tt;
@@ -73,17 +58,24 @@ pub stored-stays : (m n : Map) (i : ℕ) (f g : FileNode) (v : Value) → FIRST_
 stored-stays m n i f g v from to same o =
     ap (λ b. object n (block b)) same ∙ o.objects (block f.block) (from, to) ∙ first_is _ _ _ _ (eq-eqb f.block f.block refl)
 
--- bytes and zeros behind them fill the room
-pub padded_length : (k : ℕ) (p : List ℕ) → length p ≤ k → length (p ++ replicate (k - length p) 0) ≡ k
-padded_length k p small = simp (length-append, length-replicate) (omega (arith, small))
-
 -- The file becomes sound and has the bytes p, where its block is p and zeros
 pub Puts-stays : (m n : Map) (i : ℕ) (f g : FileNode) (p : List ℕ) → is_file_number i ≡ true → HasSoundFiles One m → node_at m i ≡ File f
     → g.block ≡ f.block → g.more ≡ f.more → g.generation ≡ f.generation → g.size ≡ length p → length p ≤ FILE_BYTES → g.mtime.nanos ≤ MAX_NANOS → Fits (File g)
     → stays m n i f g (p ++ replicate (FILE_BYTES - length p) 0)
-    → Puts m n i (record { generation = f.generation; file = Some (record { bytes = p; mtime = g.mtime }) })
+    → Puts One m n i (record { generation = f.generation; file = Some (record { bytes = p; mtime = g.mtime }) })
 Puts-stays m n i f g p number sound is_file same_block same_more same_generation size small timed fits o =
-    subst (Puts m n i) entry_is (Puts-replaced m n i (File g) number sound (Replaces-stays m n i f g _ is_file low same_block fits o) (file_placed n i g number fine))
+    subst (λ x. Puts One m n i (record { generation = x; file = Some (record { bytes = p; mtime = g.mtime }) })) same_generation
+    (Puts-becomes One m n i g p number sound (Replaces-stays m n i f g _ is_file low same_block fits o) (record {
+      born = subst (λ x. 1 ≤ x) (sym same_generation) old.born;
+      size = size;
+      small = small;
+      timed = timed;
+      on_disk = ((subst (λ x. FIRST_DATA ≤ x) (sym same_block) old.on_disk.0.0, subst (λ x. x < n.blocks) (sym same_block) (subst (λ x. f.block < x) (sym o.blocks) old.on_disk.0.1)), tt);
+      distinct = one_block g.block;
+      absent = same_more ∙ old.absent;
+      sized = (ap length held ∙ padded_length FILE_BYTES p small, tt);
+      held_bytes = held;
+    }))
   where
     low : i < INODES
     low = (IsFileNumber-test i number).to
@@ -91,28 +83,8 @@ Puts-stays m n i f g p number sound is_file same_block same_more same_generation
     old : IsSoundFile One m f
     old = sound.files i f low is_file
 
-    stored_is : stored One n g ≡ p ++ replicate (FILE_BYTES - length p) 0
-    stored_is = stored-stays m n i f g _ old.on_disk.0.0 old.on_disk.0.1 same_block o
-
-    content_is : content One n g ≡ p
-    content_is = ap (take g.size) stored_is ∙ take_at p _ g.size (sym size)
-
-    entry_is : entry_of n (File g) ≡ record { generation = f.generation; file = Some (record { bytes = p; mtime = g.mtime }) }
-    entry_is =
-        ap (λ x. record { generation = x; file = Some (record { bytes = content One n g; mtime = g.mtime }) }) same_generation
-        ∙ ap (λ x. record { generation = f.generation; file = Some (record { bytes = x; mtime = g.mtime }) }) content_is
-
-    fine : IsSoundFile One n g
-    fine = record {
-      born = subst (λ x. 1 ≤ x) (sym same_generation) old.born;
-      small = subst (λ x. x ≤ FILE_BYTES) (sym size) small;
-      on_disk = ((subst (λ x. FIRST_DATA ≤ x) (sym same_block) old.on_disk.0.0, subst (λ x. x < n.blocks) (sym same_block) (subst (λ x. f.block < x) (sym o.blocks) old.on_disk.0.1)), tt);
-      absent = same_more ∙ old.absent;
-      timed = timed;
-      sized = (ap length stored_is ∙ padded_length FILE_BYTES p small, tt);
-      whole = ap length content_is ∙ sym size;
-      padded = stored_is ∙ ap (λ x. x ++ replicate (FILE_BYTES - length p) 0) (sym content_is) ∙ ap (λ x. content One n g ++ replicate (FILE_BYTES - x) 0) (sym size);
-    }
+    held : stored One n g ≡ p ++ replicate (FILE_BYTES - length p) 0
+    held = stored-stays m n i f g _ old.on_disk.0.0 old.on_disk.0.1 same_block o
 
 -- the file after data was written to it
 abbrev pub written : FileNode → ℕ → List ℕ → Time → FileNode
@@ -122,7 +94,7 @@ written f offset bs now = record f { size = max f.size (offset + length bs); mti
 pub Puts-written : (m n : Map) (i : ℕ) (f : FileNode) (offset : ℕ) (bs : List ℕ) (now : Time) → is_file_number i ≡ true → HasSoundFiles One m → node_at m i ≡ File f
     → offset + length bs ≤ FILE_BYTES → now.nanos ≤ MAX_NANOS → Fits (File (written f offset bs now))
     → stays m n i f (written f offset bs now) (with_data (stored One m f) offset bs)
-    → Puts m n i (record { generation = f.generation; file = Some (record { bytes = placed (content One m f) offset bs; mtime = now }) })
+    → Puts One m n i (record { generation = f.generation; file = Some (record { bytes = placed (content One m f) offset bs; mtime = now }) })
 Puts-written m n i f offset bs now number sound is_file end timed fits o =
     Puts-stays m n i f (written f offset bs now) (placed (content One m f) offset bs) number sound is_file refl refl refl size
     (subst (λ x. x ≤ FILE_BYTES) size (omega (arith, old.small))) timed fits

@@ -34,11 +34,11 @@ write-invalid offset count bs now F i d ne = cond-true _ _ _ (not_from_false _ (
 
 pub write-nothing : (offset count : ℕ) (bs : List ℕ) (now : Time) (m : Map) (i : ℕ) (f : FileNode) (before : Attributes) → IsSoundFile One m f
     → before ≡ attributes_of_node i f → count ≡ length bs → count ≡ 0
-    → write_case offset count bs now (files_of m) (file i (data_of m f)) ≡ (Ok (record { before = before; after = before }), files_of m)
+    → write_case offset count bs now (files_of One m) (file i (data_of m f)) ≡ (Ok (record { before = before; after = before }), files_of One m)
 write-nothing offset count bs now m i f before sound was same none =
     cond-false _ _ _ (not_from_true _ (eq-eqb count (length bs) same))
     ∙ cond-true _ _ _ (eq-eqb count 0 none)
-    ∙ ap (λ x. (Ok (record { before = x; after = x }), files_of m)) (attributes-data m i f sound ∙ sym was)
+    ∙ ap (λ x. (Ok (record { before = x; after = x }), files_of One m)) (attributes-data m i f sound ∙ sym was)
 
 pub write-too_big : (offset count : ℕ) (bs : List ℕ) (now : Time) (F : Files) (i : ℕ) (d : FileData) → count ≡ length bs → count ≢ 0 → FILE_BYTES < offset + count
     → write_case offset count bs now F (file i d) ≡ (Err TooBig, F)
@@ -100,7 +100,7 @@ pub Makes-write : (blocks i offset : ℕ) (bs : List ℕ) (now : Time) (f g : Fi
     → WritesObject blocks t1 t2 (inode i) (inode_bytes (File g))
     → g ≡ written f offset bs now
     → offset + length bs ≤ FILE_BYTES → now.nanos ≤ MAX_NANOS → Fits (File (written f offset bs now))
-    → Makes blocks t0 t2 (λ m n. is_file_number i ≡ true → node_at m i ≡ File f → Puts m n i (record { generation = f.generation; file = Some (placed_data m f offset bs now) }))
+    → Makes blocks t0 t2 (λ m n. is_file_number i ≡ true → node_at m i ≡ File f → Puts One m n i (record { generation = f.generation; file = Some (placed_data m f offset bs now) }))
 Makes-write blocks i offset bs now f g t0 t1 t2 fresh placing wrote_node is end timed fits =
     Makes-written blocks t0 t2 _ ((inode i, inode_bytes (File g)) ∷ (block f.block, placing.value) ∷ [])
     (HasWritten-more blocks t1 t2 _ _ _ wrote_node (record {

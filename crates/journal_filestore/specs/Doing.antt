@@ -6,6 +6,7 @@ use Rattle.journal_world.specs.Maps.{Map, Pair, Agrees, SamePairs, value_among, 
 use Rattle.journal_wal.specs.declared.append.TheConstants.{MAX_UPDATES}
 use Rattle.journal_objlog.specs.Writes.{written_blocks}
 use Rattle.journal_twophase.specs.Transactions.{TxnState}
+use Rattle.journal_inode.specs.declared.version.FormatVersion.{FormatVersion}
 use Rattle.journal_inode.specs.declared.version.FormatVersion.TheVariants.{One}
 use Rattle.journal_inode.specs.declared.node.TheConstants.{FILE_BYTES}
 use Rattle.journal_inode.specs.Places.{Object, addr_of, IsOnDisk, object}
@@ -54,13 +55,13 @@ pub record Places (blocks : ℕ) (old new : TxnState) (b offset : ℕ) (bs : Lis
   pub placed : (m : Map) → MayBeRead blocks new.reads m → length (object m (block b)) ≡ FILE_BYTES → value ≡ with_data (object m (block b)) offset bs
 
 -- The map is sound still, and its files are those of before with this entry
-pub record Puts (m n : Map) (i : ℕ) (e : FileEntry) : Type 0 where
-  pub sound : HasSoundFiles One n
-  pub files : files_of n ≡ with_entry (files_of m) i e
+pub record Puts (version : FormatVersion) (m n : Map) (i : ℕ) (e : FileEntry) : Type 0 where
+  pub sound : HasSoundFiles version n
+  pub files : files_of version n ≡ with_entry (files_of version m) i e
 
 -- the map is sound still, and answer and files are what a case comes to
 abbrev pub Leads : {A : Type 0} → Map → Result A Status → Outcome A → Type 0
-Leads n answer outcome = HasSoundFiles One n × ((answer, files_of n) ≡ outcome)
+Leads n answer outcome = HasSoundFiles One n × ((answer, files_of One n) ≡ outcome)
 
 -- P holds of each map that the transaction may have read, and what its writes make of it
 pub record Makes (blocks : ℕ) (old new : TxnState) (P : Map → Map → Type 0) : Type 0 where
@@ -71,6 +72,6 @@ pub record Makes (blocks : ℕ) (old new : TxnState) (P : Map → Map → Type 0
 -- Wherever a sound map gives what was read, the writes leave it sound, and the answer fits the files before and after
 pub record Does {A : Type 0} (blocks : ℕ) (case : Files → A → Files → Type 0) (reads writes : List Pair) (answer : A) : Type 0 where
   pub sound : (m : Map) → m.blocks ≡ blocks → HasSoundFiles One m → Agrees m reads → HasSoundFiles One (overwritten m writes)
-  pub answers : (m : Map) → m.blocks ≡ blocks → HasSoundFiles One m → Agrees m reads → case (files_of m) answer (files_of (overwritten m writes))
+  pub answers : (m : Map) → m.blocks ≡ blocks → HasSoundFiles One m → Agrees m reads → case (files_of One m) answer (files_of One (overwritten m writes))
   -- no more blocks are written than a transaction may write
   pub few : written_blocks writes ≤ MAX_UPDATES

@@ -30,7 +30,7 @@ pub record IsMadeAt {A : Type 0} (case : Files → Result A Status → Files →
   pub number : new.number ≡ old.number
   pub one_more : commits_of new.number new.mine ≡ commits_of old.number old.mine ++ made ∷ []
   -- where the disk was honest and settled, the answer fits the files of the maps before and after it, and the map is sound after each number of commits
-  pub answers : IsTrue (is_trusted new.seen) → case (files_of (latest (take place new.seen))) answer (files_of (apply made (latest (take place new.seen))))
+  pub answers : IsTrue (is_trusted new.seen) → case (files_of One (latest (take place new.seen))) answer (files_of One (apply made (latest (take place new.seen))))
   pub ruled : IsTrue (is_trusted new.seen) → (n : ℕ) → HasSoundFiles One (at new.seen n)
 
 -- The operation was done, and answered

@@ -1,7 +1,7 @@
 -- The files of a map, without blocks and bitmap.
 use Rattle.std.specs.Prelude.{ℕ, Bool, ◌&&◌, ◌==◌, nat_le, nat_lt, if◌then◌else◌, List, Option, Some, None}
 use Rattle.journal_world.specs.Maps.{Map}
-use Rattle.journal_inode.specs.declared.version.FormatVersion.TheVariants.{One}
+use Rattle.journal_inode.specs.declared.version.FormatVersion.{FormatVersion}
 use Rattle.journal_inode.specs.declared.node.Time.{Time}
 use Rattle.journal_inode.specs.declared.node.Node.{Node}
 use Rattle.journal_inode.specs.declared.node.Node.TheVariants.{Free, Root, File}
@@ -36,18 +36,18 @@ abbrev pub with_entry : Files → ℕ → FileEntry → Files
 with_entry F i e = record { root = F.root; at = λ j. if j == i then e else F.at j }
 
 -- what an inode of the map makes of its number
-abbrev pub entry_of : Map → Node → FileEntry
-entry_of m (File f) = record { generation = f.generation; file = Some (record { bytes = content One m f; mtime = f.mtime }) }
-entry_of m (Free generation) = record { generation = generation; file = None }
-entry_of m (Root mtime) = no_entry
+abbrev pub entry_of : FormatVersion → Map → Node → FileEntry
+entry_of version m (File f) = record { generation = f.generation; file = Some (record { bytes = content version m f; mtime = f.mtime }) }
+entry_of version m (Free generation) = record { generation = generation; file = None }
+entry_of version m (Root mtime) = no_entry
 
 abbrev pub root_time : Node → Time
 root_time (Root mtime) = mtime
 root_time _ = no_time
 
--- the files of a map
-unfoldable pub files_of : Map → Files
-files_of m = record {
+-- the files of a map of this version
+unfoldable pub files_of : FormatVersion → Map → Files
+files_of version m = record {
   root = root_time (node_at m 1);
-  at = λ i. if is_file_number i then entry_of m (node_at m i) else no_entry;
+  at = λ i. if is_file_number i then entry_of version m (node_at m i) else no_entry;
 }

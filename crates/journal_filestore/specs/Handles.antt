@@ -49,10 +49,10 @@ place_of (File f) i generation = if f.generation == generation then Regular f el
 
 -- This is what the handle names
 abbrev pub IsAt : ℕ → ℕ → Map → Place → Type 0
-IsAt i generation m Gone = file_target (files_of m) i generation ≡ gone
-IsAt i generation m (Directory t) = (file_target (files_of m) i generation ≡ root) × ((files_of m).root ≡ t)
+IsAt i generation m Gone = file_target (files_of One m) i generation ≡ gone
+IsAt i generation m (Directory t) = (file_target (files_of One m) i generation ≡ root) × ((files_of One m).root ≡ t)
 IsAt i generation m (Regular f) =
-    (file_target (files_of m) i generation ≡ file i (data_of m f)) × (node_at m i ≡ File f) × (is_file_number i ≡ true)
+    (file_target (files_of One m) i generation ≡ file i (data_of m f)) × (node_at m i ≡ File f) × (is_file_number i ≡ true)
 
 -- the numbers of a file's inode fit their bytes, and the root alone is a directory
 abbrev pub IsPlace : ℕ → Place → Type 0

@@ -1,6 +1,7 @@
 // What is asked for of a file is set, as SETATTR and CREATE do.
 ghost use Rattle.std.specs.Prelude.{◌≡◌, ◌<◌, ◌≤◌, ◌-◌, [], ◌++◌, Some, true, false, take, length, replicate, IfOk, IfErr, OnOk};
 ghost use Rattle.journal_world.specs.declared.layout.TheConstants.{FIRST_DATA};
+ghost use Rattle.journal_inode.specs.declared.version.FormatVersion.TheVariants.{One};
 ghost use Rattle.journal_inode.specs.declared.node.Node.TheVariants.{File};
 ghost use Rattle.journal_inode.specs.declared.place.TheConstants.{INODES};
 ghost use Rattle.journal_inode.specs.Nodes.{IsTime, Fits};
@@ -40,7 +41,7 @@ pub(crate) fn set_file<'j, 'b, D: BlockDisk, J: Naming, W: Wait>(
     requires writes { txn.old.writes ≡ [] }
     ensures node { IfOk result (λ after. after ≡ set_node file settings (time_of now)) }
     ensures makes { OnOk result (Makes J.blocks txn.old txn.new (λ m n. is_file_number number ≡ true → node_at m number ≡ File file
-        → Puts m n number (record { generation = file.generation; file = Some (with_settings (data_of m file) settings (time_of now)) }))) }
+        → Puts One m n number (record { generation = file.generation; file = Some (with_settings (data_of m file) settings (time_of now)) }))) }
     ensures refusal { IfErr result IsGivenUp }
 {
     let after = set_node(file, settings, now);

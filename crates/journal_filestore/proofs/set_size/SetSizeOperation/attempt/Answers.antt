@@ -5,6 +5,7 @@ use Rattle.journal_filestore.specs.Operations.{setattr_case, root_set, with_sett
 use Rattle.journal_filestore.proofs.Answering.{Does-gone, Does-directory, Does-regular, Does-changed, changed-puts}
 use Rattle.journal_filestore.proofs.SettingCases.{set-not_sync, set-invalid, set-too_big, set-done, attributes-set}
 use Rattle.journal_filestore.proofs.set_size.SetSizeOperation.attempt.Goals as goal
+use Rattle.journal_inode.specs.declared.version.FormatVersion.TheVariants.{One}
 
 pub returns-in-Gone : goal.returns-in-Gone
 returns-in-Gone g c =
@@ -57,7 +58,7 @@ returns g c =
             (puts number here).sound,
             changed-puts m n _ c.in-Regular.file (with_settings (data_of m c.in-Regular.file) w.settings (time_of w.moment)) _ _ whole number here c.attributes_of.ensures
                 (c.attributes_of-2.ensures ∙ attributes-set m _ _ _ w.settings (time_of w.moment) whole c.in_ok-after.ensures.node) (puts number here)
-                ∙ sym (set-done w.settings w.guard (time_of w.moment) (files_of m) _ _ (sym c.is_other_time.ensures ∙ c.if-is_other_time.false) (sym c.is_no_time.ensures ∙ c.if-is_no_time.false) (sym c.is_too_big.ensures ∙ c.if-is_too_big.false)),
+                ∙ sym (set-done w.settings w.guard (time_of w.moment) (files_of One m) _ _ (sym c.is_other_time.ensures ∙ c.if-is_other_time.false) (sym c.is_no_time.ensures ∙ c.if-is_no_time.false) (sym c.is_too_big.ensures ∙ c.if-is_too_big.false)),
           ));
       refusal = tt;
     }

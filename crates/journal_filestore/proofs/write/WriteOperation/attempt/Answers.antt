@@ -1,4 +1,5 @@
 use Rattle.std.proofs.Common.{◌≡◌, ◌<◌, ◌≤◌, ◌+◌, length, max, refl, sym, ap, subst, ◌∙◌, arith}
+use Rattle.journal_inode.specs.declared.version.FormatVersion.TheVariants.{One}
 use Rattle.journal_inode.specs.declared.node.Node.TheVariants.{File}
 use Rattle.journal_inode.specs.declared.node.FileNode.{FileNode}
 use Rattle.journal_inode.specs.declared.node.TheConstants.{FILE_BYTES}
@@ -75,7 +76,7 @@ returns g c =
             (puts number here).sound,
             changed-puts m n _ f (placed_data m f w.offset w.bytes.now (time_of w.moment)) _ _ whole number here c.attributes_of-before.ensures
                 (attributes-written m _ w.offset w.bytes.now (time_of w.moment) f g_node _ whole is c.attributes_of.ensures) (puts number here)
-                ∙ sym (write-done w.offset w.count w.bytes.now (time_of w.moment) (files_of m) _ _ same c.if-self-eq0.false end),
+                ∙ sym (write-done w.offset w.count w.bytes.now (time_of w.moment) (files_of One m) _ _ same c.if-self-eq0.false end),
           ));
       refusal = tt;
     }
