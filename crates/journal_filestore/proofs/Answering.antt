@@ -37,21 +37,21 @@ pub no_root : (m : Map) (j : ℕ) (t : Time) → HasSoundFiles One m → is_file
 no_root m j t sound number is =
     not_root j t (IsFileNumber-test j number).from (subst (IsInPlace j) is (sound.placed j (IsFileNumber-test j number).to))
 
-module _ {A : Type 0} (blocks : ℕ) (k : Files → FileTarget → Outcome A) (i generation : ℕ) (p : Place) (t0 t1 : TxnState) (fresh : t0.writes ≡ []) (found : LearnsThat blocks t0 t1 (λ m. IsAt i generation m p)) where
+module _ {A : Type 0} (blocks : ℕ) (k : Files → FileTarget → Outcome A) (i generation : ℕ) (p : Place) (t0 t1 : TxnState) (fresh : t0.writes ≡ []) (found : LearnsThat One blocks t0 t1 (λ m. IsAt i generation m p)) where
   abbrev pub case_of : Files → Result A Status → Files → Type 0
   case_of F r F2 = (r, F2) ≡ k F (file_target F i generation)
 
-  pub Does-gone : (answer : Result A Status) → p ≡ Gone → ((F : Files) → k F gone ≡ (answer, F)) → Does blocks case_of t1.reads t1.writes answer
+  pub Does-gone : (answer : Result A Status) → p ≡ Gone → ((F : Files) → k F gone ≡ (answer, F)) → Does One blocks case_of t1.reads t1.writes answer
   Does-gone answer is shows =
       Does-told blocks case_of t0 t1 answer _ fresh found (λ m sound at. sym (case-gone (k (files_of One m)) m i generation p is at ∙ shows (files_of One m)))
 
-  pub Does-directory : (answer : Result A Status) (t : Time) → p ≡ Directory t → ((F : Files) → F.root ≡ t → k F root ≡ (answer, F)) → Does blocks case_of t1.reads t1.writes answer
+  pub Does-directory : (answer : Result A Status) (t : Time) → p ≡ Directory t → ((F : Files) → F.root ≡ t → k F root ≡ (answer, F)) → Does One blocks case_of t1.reads t1.writes answer
   Does-directory answer t is shows =
       Does-told blocks case_of t0 t1 answer _ fresh found
       (λ m sound at. sym (case-directory (k (files_of One m)) m i generation p t is at ∙ shows (files_of One m) (IsAt-is m i generation p (Directory t) is at).1))
 
   pub Does-regular : (answer : Result A Status) (f : FileNode) → p ≡ Regular f
-      → ((m : Map) → IsSoundFile One m f → k (files_of One m) (file i (data_of m f)) ≡ (answer, files_of One m)) → Does blocks case_of t1.reads t1.writes answer
+      → ((m : Map) → IsSoundFile One m f → k (files_of One m) (file i (data_of m f)) ≡ (answer, files_of One m)) → Does One blocks case_of t1.reads t1.writes answer
   Does-regular answer f is shows =
       Does-told blocks case_of t0 t1 answer _ fresh found
       (λ m sound at.
@@ -59,10 +59,10 @@ module _ {A : Type 0} (blocks : ℕ) (k : Files → FileTarget → Outcome A) (i
       sym (case-regular (k (files_of One m)) m i generation p f is at ∙ shows m (sound.files i f (IsFileNumber-test i here.2).to here.1)))
 
   -- the file is changed, or its block read
-  pub Does-changed : (answer : Result A Status) (f : FileNode) (t2 : TxnState) (Q : Map → Map → Type 0) → p ≡ Regular f → Makes blocks t1 t2 Q
+  pub Does-changed : (answer : Result A Status) (f : FileNode) (t2 : TxnState) (Q : Map → Map → Type 0) → p ≡ Regular f → Makes One blocks t1 t2 Q
       → ((m n : Map) → HasSoundFiles One m → IsSoundFile One m f → is_file_number i ≡ true → node_at m i ≡ File f → Q m n
       → HasSoundFiles One n × ((answer, files_of One n) ≡ k (files_of One m) (file i (data_of m f))))
-      → Does blocks case_of t2.reads t2.writes answer
+      → Does One blocks case_of t2.reads t2.writes answer
   Does-changed answer f t2 Q is made shows =
       Does-made blocks case_of t0 t1 t2 answer _ Q found made
       (λ m n sound at q.
@@ -71,16 +71,16 @@ module _ {A : Type 0} (blocks : ℕ) (k : Files → FileTarget → Outcome A) (i
       (both.0, both.1 ∙ sym (case-regular (k (files_of One m)) m i generation p f is at)))
 
   -- in the root, an inode was read
-  pub Does-in_root : (answer : Result A Status) (t : Time) (j : ℕ) (n : Node) (t2 : TxnState) → p ≡ Directory t → LearnsThat blocks t1 t2 (λ m. node_at m j ≡ n)
-      → ((m : Map) → HasSoundFiles One m → (files_of One m).root ≡ t → node_at m j ≡ n → k (files_of One m) root ≡ (answer, files_of One m)) → Does blocks case_of t2.reads t2.writes answer
+  pub Does-in_root : (answer : Result A Status) (t : Time) (j : ℕ) (n : Node) (t2 : TxnState) → p ≡ Directory t → LearnsThat One blocks t1 t2 (λ m. node_at m j ≡ n)
+      → ((m : Map) → HasSoundFiles One m → (files_of One m).root ≡ t → node_at m j ≡ n → k (files_of One m) root ≡ (answer, files_of One m)) → Does One blocks case_of t2.reads t2.writes answer
   Does-in_root answer t j n t2 is read shows =
       Does-told blocks case_of t0 t2 answer _ fresh (Tells-both blocks t0 t1 t2 _ _ found read)
       (λ m sound told. sym (case-directory (k (files_of One m)) m i generation p t is told.0 ∙ shows m sound (IsAt-is m i generation p (Directory t) is told.0).1 told.1))
 
   -- in the root, an inode was read, and then something made
-  pub Does-made_in_root : (answer : Result A Status) (t : Time) (j : ℕ) (n : Node) (t2 t3 : TxnState) (Q : Map → Map → Type 0) → p ≡ Directory t → LearnsThat blocks t1 t2 (λ m. node_at m j ≡ n) → Makes blocks t2 t3 Q
+  pub Does-made_in_root : (answer : Result A Status) (t : Time) (j : ℕ) (n : Node) (t2 t3 : TxnState) (Q : Map → Map → Type 0) → p ≡ Directory t → LearnsThat One blocks t1 t2 (λ m. node_at m j ≡ n) → Makes One blocks t2 t3 Q
       → ((m after : Map) → HasSoundFiles One m → (files_of One m).root ≡ t → node_at m j ≡ n → Q m after → HasSoundFiles One after × ((answer, files_of One after) ≡ k (files_of One m) root))
-      → Does blocks case_of t3.reads t3.writes answer
+      → Does One blocks case_of t3.reads t3.writes answer
   Does-made_in_root answer t j n t2 t3 Q is read made shows =
       Does-made blocks case_of t0 t2 t3 answer _ Q (Tells-both blocks t0 t1 t2 _ _ found read) made
       (λ m after sound told q.

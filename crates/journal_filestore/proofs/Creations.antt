@@ -75,19 +75,19 @@ created-puts m n i f t d generation answer root_is told same attributes_are puts
 -- what is asked for is set of the file that is there
 module _ (blocks : ℕ) (s : Settings) (now : Time) (j : ℕ) (f : FileNode) (t : Time) (number : is_file_number j ≡ true) (guarded : Bool) (t0 t1 : TxnState) where
   abbrev pub Sets : Result Found Status → Map → Map → Type 0
-  Sets answer m n = node_at m j ≡ File f → (files_of One m).root ≡ t → Leads n answer (create_file true guarded s now (files_of One m) j (Some (data_of m f)))
+  Sets answer m n = node_at m j ≡ File f → (files_of One m).root ≡ t → Leads One n answer (create_file true guarded s now (files_of One m) j (Some (data_of m f)))
 
-  pub Makes-over_exists : t0.writes ≡ [] → guarded ≡ true → Makes blocks t0 t0 (Sets (Err Exists))
+  pub Makes-over_exists : t0.writes ≡ [] → guarded ≡ true → Makes One blocks t0 t0 (Sets (Err Exists))
   Makes-over_exists fresh is_guarded =
       Makes-told blocks t0 t0 _ _ fresh (Tells-nothing blocks t0) (λ m sound nothing is root_is. (sound, sym (cond-true _ _ _ is_guarded)))
 
-  pub Makes-over_too_big : t0.writes ≡ [] → guarded ≡ false → is_too_big s.size ≡ true → Makes blocks t0 t0 (Sets (Err TooBig))
+  pub Makes-over_too_big : t0.writes ≡ [] → guarded ≡ false → is_too_big s.size ≡ true → Makes One blocks t0 t0 (Sets (Err TooBig))
   Makes-over_too_big fresh free big =
       Makes-told blocks t0 t0 _ _ fresh (Tells-nothing blocks t0) (λ m sound nothing is root_is. (sound, sym (cond-false _ _ _ free ∙ cond-true _ _ _ big)))
 
   pub Makes-over : (g : FileNode) (answer : Found) → guarded ≡ false → is_too_big s.size ≡ false → g ≡ set_node f s now → answer ≡ found_node j g t
-      → Makes blocks t0 t1 (λ m n. is_file_number j ≡ true → node_at m j ≡ File f → Puts One m n j (record { generation = f.generation; file = Some (with_settings (data_of m f) s now) }))
-      → Makes blocks t0 t1 (Sets (Ok answer))
+      → Makes One blocks t0 t1 (λ m n. is_file_number j ≡ true → node_at m j ≡ File f → Puts One m n j (record { generation = f.generation; file = Some (with_settings (data_of m f) s now) }))
+      → Makes One blocks t0 t1 (Sets (Ok answer))
   Makes-over g answer free small is told made =
       Makes-like blocks t0 t1 _ _
       (λ m n sound puts here root_is.
@@ -138,31 +138,31 @@ zeros-pad s small = pad FILE_BYTES s small
 
 module _ (blocks : ℕ) (s : Settings) (now : Time) (j last : ℕ) (t : Time) (number : is_file_number j ≡ true) (timed : is_no_time s.mtime ≡ false) (t0 : TxnState) (fresh : t0.writes ≡ []) where
   abbrev pub News : Result Found Status → Map → Map → Type 0
-  News answer m n = node_at m j ≡ Free last → (files_of One m).root ≡ t → (room : Bool) × Leads n answer (create_new room s now (files_of One m) j)
+  News answer m n = node_at m j ≡ Free last → (files_of One m).root ≡ t → (room : Bool) × Leads One n answer (create_new room s now (files_of One m) j)
 
   generation_is : (m : Map) → node_at m j ≡ Free last → ((files_of One m).at j).generation ≡ last
   generation_is m is = ap (λ e. e.generation) (entry_at m j (Free last) number is)
 
-  pub Makes-too_big : is_too_big s.size ≡ true → Makes blocks t0 t0 (News (Err TooBig))
+  pub Makes-too_big : is_too_big s.size ≡ true → Makes One blocks t0 t0 (News (Err TooBig))
   Makes-too_big big =
       Makes-told blocks t0 t0 _ _ fresh (Tells-nothing blocks t0) (λ m sound nothing is root_is. (true, (sound, sym (cond-true _ _ _ big))))
 
-  pub Makes-worn : is_too_big s.size ≡ false → last ≡ 4294967295 → Makes blocks t0 t0 (News (Err NoSpace))
+  pub Makes-worn : is_too_big s.size ≡ false → last ≡ 4294967295 → Makes One blocks t0 t0 (News (Err NoSpace))
   Makes-worn small worn =
       Makes-told blocks t0 t0 _ _ fresh (Tells-nothing blocks t0)
       (λ m sound nothing is root_is. (true, (sound, sym (cond-false _ _ _ small ∙ cond-true _ _ _ (eq-eqb _ 4294967295 (generation_is m is ∙ worn))))))
 
-  pub Makes-no_space : (t1 : TxnState) (P : Map → Type 0) → is_too_big s.size ≡ false → LearnsThat blocks t0 t1 P → Makes blocks t0 t1 (News (Err NoSpace))
+  pub Makes-no_space : (t1 : TxnState) (P : Map → Type 0) → is_too_big s.size ≡ false → LearnsThat One blocks t0 t1 P → Makes One blocks t0 t1 (News (Err NoSpace))
   Makes-no_space t1 P small told =
       Makes-told blocks t0 t1 P _ fresh told (λ m sound p is root_is. (false, (sound, sym (cond-false _ _ _ small))))
 
   -- a block is found free; block, bit and inode are overwritten
   pub Makes-new : (b : ℕ) (f : FileNode) (answer : Found) (v w : Value) (t1 t2 t3 t4 : TxnState) → is_too_big s.size ≡ false → last ≢ 4294967295 → now.nanos ≤ MAX_NANOS
-      → LearnsThat blocks t0 t1 (λ m. object m (bit (b - FIRST_DATA)) ≡ w) → w ≡ 0 ∷ []
+      → LearnsThat One blocks t0 t1 (λ m. object m (bit (b - FIRST_DATA)) ≡ w) → w ≡ 0 ∷ []
       → WritesObject blocks t1 t2 (block b) v → v ≡ zeros_of Block
       → WritesObject blocks t2 t3 (bit (b - FIRST_DATA)) (1 ∷ [])
       → WritesObject blocks t3 t4 (inode j) (inode_bytes (File f)) → f ≡ new_node last s now b → Fits (File f) → answer ≡ found_node j f t
-      → Makes blocks t0 t4 (News (Ok answer))
+      → Makes One blocks t0 t4 (News (Ok answer))
   Makes-new b f answer v w t1 t2 t3 t4 small young in_second read clear wrote_block is_zeros wrote_bit wrote_node made fits told =
       Makes-written blocks t0 t4 _ ((inode j, inode_bytes (File f)) ∷ (bit (b - FIRST_DATA), 1 ∷ []) ∷ (block b, v) ∷ [])
       (HasWritten-more blocks t3 t4 _ _ _ wrote_node
@@ -206,8 +206,8 @@ module _ (blocks : ℕ) (s : Settings) (now : Time) (j last : ℕ) (t : Time) (n
       has_bit : b < FIRST_DATA + BLOCK_BITS
       has_bit = let low : b - FIRST_DATA < BLOCK_BITS = wrote_bit.on_disk in omega arith
 
-      back : (m : Map) → MayBeRead blocks t4.reads m → MayBeRead blocks t1.reads m
-      back m seen = subst (λ rs. MayBeRead blocks rs m) (wrote_node.reads ∙ wrote_bit.reads ∙ wrote_block.reads) seen
+      back : (m : Map) → MayBeRead One blocks t4.reads m → MayBeRead One blocks t1.reads m
+      back m seen = subst (λ rs. MayBeRead One blocks rs m) (wrote_node.reads ∙ wrote_bit.reads ∙ wrote_block.reads) seen
 
 -- The case with some room
 abbrev pub CaseOf : List ℕ → How → Time → ℕ → ℕ → Files → Result Found Status → Files → Type 0
@@ -215,8 +215,8 @@ CaseOf name how now i generation F r F2 = (room : Bool) × ((r, F2) ≡ create_c
 
 -- what it does whatever room there is
 pub Does-room : (blocks : ℕ) (name : List ℕ) (how : How) (now : Time) (i generation : ℕ) (t : TxnState) (answer : Result Found Status) (room : Bool)
-    → Does blocks (λ F r F2. (r, F2) ≡ create_case room name how now F (file_target F i generation)) t.reads t.writes answer
-    → Does blocks (CaseOf name how now i generation) t.reads t.writes answer
+    → Does One blocks (λ F r F2. (r, F2) ≡ create_case room name how now F (file_target F i generation)) t.reads t.writes answer
+    → Does One blocks (CaseOf name how now i generation) t.reads t.writes answer
 Does-room blocks name how now i generation t answer room does = record {
   few = does.few;
   sound = does.sound;
@@ -225,9 +225,9 @@ Does-room blocks name how now i generation t answer room does = record {
 
 -- what it does by the inode that it read in the root
 pub Does-tail : (blocks : ℕ) (name : List ℕ) (how : How) (now : Time) (i generation : ℕ) (p : Place) (t : Time) (j : ℕ) (n : Node) (t0 t1 t2 t3 : TxnState) (answer : Result Found Status) (Q : Map → Map → Type 0)
-    → LearnsThat blocks t0 t1 (λ m. IsAt i generation m p) → p ≡ Directory t → LearnsThat blocks t1 t2 (λ m. node_at m j ≡ n) → Makes blocks t2 t3 Q
+    → LearnsThat One blocks t0 t1 (λ m. IsAt i generation m p) → p ≡ Directory t → LearnsThat One blocks t1 t2 (λ m. node_at m j ≡ n) → Makes One blocks t2 t3 Q
     → ((m after : Map) → HasSoundFiles One m → (files_of One m).root ≡ t → node_at m j ≡ n → Q m after → HasSoundFiles One after × ((room : Bool) × ((answer, files_of One after) ≡ create_how room name how now (files_of One m))))
-    → Does blocks (CaseOf name how now i generation) t3.reads t3.writes answer
+    → Does One blocks (CaseOf name how now i generation) t3.reads t3.writes answer
 Does-tail blocks name how now i generation p t j n t0 t1 t2 t3 answer Q found is read made shows =
     Does-made blocks (CaseOf name how now i generation) t0 t2 t3 answer _ Q (Tells-both blocks t0 t1 t2 _ _ found read) made
     (λ m after sound told q.
@@ -250,10 +250,10 @@ module _ (name : List ℕ) (how : How) (s : Settings) (guarded : Bool) (now : Ti
       → HasSoundFiles One after × ((room : Bool) × ((answer, files_of One after) ≡ create_how room name how now (files_of One m)))
   create-at_root m after t answer sound is = absurd (no_root m j t sound number is)
 
-  pub create-at_file : (m after : Map) (f : FileNode) (answer : Result Found Status) → node_at m j ≡ File f → Leads after answer (create_file true guarded s now (files_of One m) j (Some (data_of m f)))
+  pub create-at_file : (m after : Map) (f : FileNode) (answer : Result Found Status) → node_at m j ≡ File f → Leads One after answer (create_file true guarded s now (files_of One m) j (Some (data_of m f)))
       → HasSoundFiles One after × ((room : Bool) × ((answer, files_of One after) ≡ create_how room name how now (files_of One m)))
   create-at_file m after f answer is leads = (leads.0, (true, leads.1 ∙ sym (create-node true m (File f) is)))
 
-  pub create-at_free : (m after : Map) (last : ℕ) (answer : Result Found Status) → node_at m j ≡ Free last → (room : Bool) × Leads after answer (create_new room s now (files_of One m) j)
+  pub create-at_free : (m after : Map) (last : ℕ) (answer : Result Found Status) → node_at m j ≡ Free last → (room : Bool) × Leads One after answer (create_new room s now (files_of One m) j)
       → HasSoundFiles One after × ((room : Bool) × ((answer, files_of One after) ≡ create_how room name how now (files_of One m)))
   create-at_free m after last answer is leads = (leads.1.0, (leads.0, leads.1.1 ∙ sym (create-node leads.0 m (Free last) is)))

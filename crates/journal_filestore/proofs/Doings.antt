@@ -11,7 +11,7 @@ use Rattle.journal_world.specs.Addresses.{Value, is_value_of, kind_of, is_valid,
 use Rattle.journal_world.specs.Maps.{Map, Pair, Agrees, SamePairs, value_among, value_at, overwritten, is_object, is_value_at}
 use Rattle.journal_world.proofs.Lookups.{same_addr}
 use Rattle.journal_twophase.specs.Transactions.{TxnState, holding, ReadsValue, Learns, Overwrites as OverwritesAddr}
-use Rattle.journal_inode.specs.declared.version.FormatVersion.TheVariants.{One}
+use Rattle.journal_inode.specs.declared.version.FormatVersion.{FormatVersion}
 use Rattle.journal_inode.specs.Places.{Object, addr_of, IsOnDisk, is_same_object, object}
 use Rattle.journal_inode.specs.Places.Object.{block}
 use Rattle.journal_inode.specs.Sound.{HasSoundFiles}
@@ -47,8 +47,8 @@ Learns-first old new a v none read =
     subst (λ ws. MatchOption (value_among ws a) (Learns (holding old a) a v new) (λ w. (v ≡ w) × (new ≡ holding old a))) none read
 
 -- a first read tells its value
-Tells-read : (blocks : ℕ) (old new : TxnState) (a : Addr) (v : Value) → value_among old.reads a ≡ None → Learns (holding old a) a v new → LearnsThat blocks old new (λ m. value_at m a ≡ v)
-Tells-read blocks old new a v unread read = record {
+Tells-read : {version : FormatVersion} (blocks : ℕ) (old new : TxnState) (a : Addr) (v : Value) → value_among old.reads a ≡ None → Learns (holding old a) a v new → LearnsThat version blocks old new (λ m. value_at m a ≡ v)
+Tells-read {version} blocks old new a v unread read = record {
   writes = ap (λ t. t.writes) read.others;
   before = λ m seen. record {
     on_disk = seen.on_disk;
@@ -67,22 +67,22 @@ Tells-read blocks old new a v unread read = record {
     kept b w is false other = ap (λ t. cond t (Some v) (value_among old.reads b)) other ∙ is
 
 -- the first read of an object tells its value
-pub Tells-object : (blocks : ℕ) (old new : TxnState) (o : Object) (a : Addr) (v : Value) → a ≡ addr_of o → old.writes ≡ [] → IsNotYetRead old o → ReadsValue (holding old a) a v new → LearnsThat blocks old new (λ m. object m o ≡ v)
-Tells-object blocks old new o a v is none unread read =
-    subst (λ b. LearnsThat blocks old new (λ m. value_at m b ≡ v)) is
+pub Tells-object : {version : FormatVersion} (blocks : ℕ) (old new : TxnState) (o : Object) (a : Addr) (v : Value) → a ≡ addr_of o → old.writes ≡ [] → IsNotYetRead old o → ReadsValue (holding old a) a v new → LearnsThat version blocks old new (λ m. object m o ≡ v)
+Tells-object {version} blocks old new o a v is none unread read =
+    subst (λ b. LearnsThat version blocks old new (λ m. value_at m b ≡ v)) is
     (Tells-read blocks old new a v (ap (value_among old.reads) is ∙ unread) (Learns-first old new a v none read))
 
 -- two reads tell both
-pub Tells-both : (blocks : ℕ) (t0 t1 t2 : TxnState) (P Q : Map → Type 0) → LearnsThat blocks t0 t1 P → LearnsThat blocks t1 t2 Q → LearnsThat blocks t0 t2 (λ m. P m × Q m)
-Tells-both blocks t0 t1 t2 P Q first second = record {
+pub Tells-both : {version : FormatVersion} (blocks : ℕ) (t0 t1 t2 : TxnState) (P Q : Map → Type 0) → LearnsThat version blocks t0 t1 P → LearnsThat version blocks t1 t2 Q → LearnsThat version blocks t0 t2 (λ m. P m × Q m)
+Tells-both {version} blocks t0 t1 t2 P Q first second = record {
   writes = second.writes ∙ first.writes;
   before = λ m seen. first.before m (second.before m seen);
   now = λ m seen. (first.now m (second.before m seen), second.now m seen);
 }
 
 -- what is told may be said otherwise
-pub Tells-like : (blocks : ℕ) (old new : TxnState) (P Q : Map → Type 0) → ((m : Map) → HasSoundFiles One m → P m → Q m) → LearnsThat blocks old new P → LearnsThat blocks old new Q
-Tells-like blocks old new P Q like told = record {
+pub Tells-like : {version : FormatVersion} (blocks : ℕ) (old new : TxnState) (P Q : Map → Type 0) → ((m : Map) → HasSoundFiles version m → P m → Q m) → LearnsThat version blocks old new P → LearnsThat version blocks old new Q
+Tells-like {version} blocks old new P Q like told = record {
   writes = told.writes;
   before = told.before;
   now = λ m seen. like m seen.sound (told.now m seen);
@@ -111,11 +111,11 @@ few-none : (ws : List Pair) → ws ≡ [] → written_blocks ws ≤ MAX_UPDATES
 few-none ws none = subst (λ (qs : List Pair). written_blocks qs ≤ MAX_UPDATES) (sym none) (omega arith)
 
 -- What a transaction makes, by the objects that it overwrote
-pub Makes-written : (blocks : ℕ) (t0 t1 : TxnState) (Q : Map → Map → Type 0) (ws : List Write) → HasWritten blocks t1 ws
-    → ((m : Map) → MayBeRead blocks t1.reads m → MayBeRead blocks t0.reads m)
-    → ((m n : Map) → MayBeRead blocks t1.reads m → Overwrites m n ws → Q m n)
-    → length ws ≤ MAX_UPDATES → Makes blocks t0 t1 Q
-Makes-written blocks t0 t1 Q ws written before shows short = record {
+pub Makes-written : {version : FormatVersion} (blocks : ℕ) (t0 t1 : TxnState) (Q : Map → Map → Type 0) (ws : List Write) → HasWritten blocks t1 ws
+    → ((m : Map) → MayBeRead version blocks t1.reads m → MayBeRead version blocks t0.reads m)
+    → ((m n : Map) → MayBeRead version blocks t1.reads m → Overwrites m n ws → Q m n)
+    → length ws ≤ MAX_UPDATES → Makes version blocks t0 t1 Q
+Makes-written {version} blocks t0 t1 Q ws written before shows short = record {
   before = before;
   few = omega (arith, written-few t1.writes (pairs_of ws) written.pairs, length-pairs_of ws, short);
   now = λ m seen. shows m (overwritten m t1.writes) seen
@@ -123,41 +123,41 @@ Makes-written blocks t0 t1 Q ws written before shows short = record {
 }
 
 -- what it makes that only reads
-pub Makes-told : (blocks : ℕ) (t0 t1 : TxnState) (P : Map → Type 0) (Q : Map → Map → Type 0) → t0.writes ≡ [] → LearnsThat blocks t0 t1 P
-    → ((m : Map) → HasSoundFiles One m → P m → Q m m) → Makes blocks t0 t1 Q
-Makes-told blocks t0 t1 P Q none told shows = record {
+pub Makes-told : {version : FormatVersion} (blocks : ℕ) (t0 t1 : TxnState) (P : Map → Type 0) (Q : Map → Map → Type 0) → t0.writes ≡ [] → LearnsThat version blocks t0 t1 P
+    → ((m : Map) → HasSoundFiles version m → P m → Q m m) → Makes version blocks t0 t1 Q
+Makes-told {version} blocks t0 t1 P Q none told shows = record {
   few = few-none t1.writes (told.writes ∙ none);
   before = told.before;
   now = λ m seen. subst (λ ws. Q m (overwritten m ws)) (sym (told.writes ∙ none)) (shows m seen.sound (told.now m seen));
 }
 
 -- of any transaction nothing is said
-pub Makes-nothing : (blocks : ℕ) (t : TxnState) → t.writes ≡ [] → Makes blocks t t (λ m n. Unit {0})
-Makes-nothing blocks t none = record { before = λ m seen. seen; now = λ m seen. tt; few = few-none t.writes none }
+pub Makes-nothing : {version : FormatVersion} (blocks : ℕ) (t : TxnState) → t.writes ≡ [] → Makes version blocks t t (λ m n. Unit {0})
+Makes-nothing {version} blocks t none = record { before = λ m seen. seen; now = λ m seen. tt; few = few-none t.writes none }
 
 -- what is made may be said otherwise
-pub Makes-like : (blocks : ℕ) (t0 t1 : TxnState) (P Q : Map → Map → Type 0) → ((m n : Map) → HasSoundFiles One m → P m n → Q m n) → Makes blocks t0 t1 P → Makes blocks t0 t1 Q
-Makes-like blocks t0 t1 P Q like made = record {
+pub Makes-like : {version : FormatVersion} (blocks : ℕ) (t0 t1 : TxnState) (P Q : Map → Map → Type 0) → ((m n : Map) → HasSoundFiles version m → P m n → Q m n) → Makes version blocks t0 t1 P → Makes version blocks t0 t1 Q
+Makes-like {version} blocks t0 t1 P Q like made = record {
   few = made.few;
   before = made.before;
   now = λ m seen. like m _ seen.sound (made.now m seen);
 }
 
 -- What a transaction does that was told something, and made something of it
-pub Does-made : {A : Type 0} (blocks : ℕ) (case : Files → A → Files → Type 0) (t0 t1 t2 : TxnState) (answer : A) (P : Map → Type 0) (Q : Map → Map → Type 0)
-    → LearnsThat blocks t0 t1 P → Makes blocks t1 t2 Q
-    → ((m n : Map) → HasSoundFiles One m → P m → Q m n → HasSoundFiles One n × case (files_of One m) answer (files_of One n))
-    → Does blocks case t2.reads t2.writes answer
-Does-made {A} blocks case t0 t1 t2 answer P Q told made shows = record {
+pub Does-made : {A : Type 0} {version : FormatVersion} (blocks : ℕ) (case : Files → A → Files → Type 0) (t0 t1 t2 : TxnState) (answer : A) (P : Map → Type 0) (Q : Map → Map → Type 0)
+    → LearnsThat version blocks t0 t1 P → Makes version blocks t1 t2 Q
+    → ((m n : Map) → HasSoundFiles version m → P m → Q m n → HasSoundFiles version n × case (files_of version m) answer (files_of version n))
+    → Does version blocks case t2.reads t2.writes answer
+Does-made {A} {version} blocks case t0 t1 t2 answer P Q told made shows = record {
   few = made.few;
   sound = λ m on_disk sound agrees. (both m on_disk sound agrees).0;
   answers = λ m on_disk sound agrees. (both m on_disk sound agrees).1;
 }
   where
-    both : (m : Map) → m.blocks ≡ blocks → HasSoundFiles One m → Agrees m t2.reads
-        → HasSoundFiles One (overwritten m t2.writes) × case (files_of One m) answer (files_of One (overwritten m t2.writes))
+    both : (m : Map) → m.blocks ≡ blocks → HasSoundFiles version m → Agrees m t2.reads
+        → HasSoundFiles version (overwritten m t2.writes) × case (files_of version m) answer (files_of version (overwritten m t2.writes))
     both m on_disk sound agrees =
-        let seen : MayBeRead blocks t2.reads m = record { on_disk = on_disk; sound = sound; gives = Gives-Agrees m t2.reads agrees } in
+        let seen : MayBeRead version blocks t2.reads m = record { on_disk = on_disk; sound = sound; gives = Gives-Agrees m t2.reads agrees } in
         shows m (overwritten m t2.writes) sound (told.now m (made.before m seen)) (made.now m seen)
 
 -- a bit's value is its test
@@ -169,19 +169,19 @@ bit_value (b ∷ d ∷ v) is =
     absurd (omega arith)
 
 -- nothing more was read
-pub Tells-nothing : (blocks : ℕ) (t : TxnState) → LearnsThat blocks t t (λ m. Unit {0})
-Tells-nothing blocks t = record { writes = refl; before = λ m seen. seen; now = λ m seen. tt }
+pub Tells-nothing : {version : FormatVersion} (blocks : ℕ) (t : TxnState) → LearnsThat version blocks t t (λ m. Unit {0})
+Tells-nothing {version} blocks t = record { writes = refl; before = λ m seen. seen; now = λ m seen. tt }
 
 -- What a transaction does that was told enough to answer, and only read
-pub Does-told : {A : Type 0} (blocks : ℕ) (case : Files → A → Files → Type 0) (old t : TxnState) (answer : A) (P : Map → Type 0) → old.writes ≡ []
-    → LearnsThat blocks old t P → ((m : Map) → HasSoundFiles One m → P m → case (files_of One m) answer (files_of One m))
-    → Does blocks case t.reads t.writes answer
-Does-told blocks case old t answer P none told shows =
+pub Does-told : {A : Type 0} {version : FormatVersion} (blocks : ℕ) (case : Files → A → Files → Type 0) (old t : TxnState) (answer : A) (P : Map → Type 0) → old.writes ≡ []
+    → LearnsThat version blocks old t P → ((m : Map) → HasSoundFiles version m → P m → case (files_of version m) answer (files_of version m))
+    → Does version blocks case t.reads t.writes answer
+Does-told {version = version} blocks case old t answer P none told shows =
     Does-made blocks case t t t answer _ _ (Tells-nothing blocks t)
     (record {
       few = few-none t.writes (told.writes ∙ none);
       before = λ m seen. seen;
-      now = λ m seen. subst (λ ws. HasSoundFiles One (overwritten m ws) × case (files_of One m) answer (files_of One (overwritten m ws))) (sym (told.writes ∙ none))
+      now = λ m seen. subst (λ ws. HasSoundFiles version (overwritten m ws) × case (files_of version m) answer (files_of version (overwritten m ws))) (sym (told.writes ∙ none))
           (seen.sound, shows m seen.sound (told.now m seen));
     })
     (λ m n sound nothing both. both)

@@ -48,7 +48,7 @@ none_true (Err e) is = tt
 
 module _ {A : Type 0} (blocks : ℕ) (case : Files → Result A Status → Files → Type 0) (t : TxnState) (answer : Result A Status) (old new : SessionState) (receipt : CommitPlace) (c : IsCommitted (HasSoundFiles One) blocks t.began (core_of t) old new receipt) where
   -- a transaction that does what the case says is such an operation, where its commit stands
-  pub IsMadeAt-committed : Does blocks case t.reads t.writes answer → IsMadeAt case old new answer (length c.found)
+  pub IsMadeAt-committed : Does One blocks case t.reads t.writes answer → IsMadeAt case old new answer (length c.found)
   IsMadeAt-committed does =
       let u : Transaction = record { session = old.number; number = length (commits_of old.number old.mine); reads = t.reads; writes = t.writes } in
       let whole : new.seen ≡ c.found ++ commit u ∷ [] = c.committed.added in
@@ -80,7 +80,7 @@ module _ {A : Type 0} (blocks : ℕ) (case : Files → Result A Status → Files
 
   -- it is owed where the transaction waits: where the operation does, and is answered Ok
   pub IsCommittedBy-ended : (waits waited : Bool) (owed : Owed CommitPlace) → (IsTrue waits → OnOk answer (IsTrue waited)) → (IsTrue waited → IsTrue waits) → owed ≡ owed_for waited receipt
-      → Does blocks case t.reads t.writes answer → IsCommittedBy waits case old new (record { answer = answer; owed = owed })
+      → Does One blocks case t.reads t.writes answer → IsCommittedBy waits case old new (record { answer = answer; owed = owed })
   IsCommittedBy-ended waits waited owed when only owes does = record {
     place = length c.found;
     made = IsMadeAt-committed does;

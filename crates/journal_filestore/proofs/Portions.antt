@@ -47,9 +47,9 @@ bytes-none m f offset n none = sym (nothing (content One m f) offset n none)
 
 -- the block was read, which changes nothing
 pub Makes-read : (blocks i offset count : ℕ) (f : FileNode) (p : PortionState) (told : Attributes) (n : ℕ) (b : List ℕ) (t0 t1 : TxnState) → t0.writes ≡ []
-    → LearnsThat blocks t0 t1 (λ m. object m (block f.block) ≡ b) → n ≡ min count (f.size - offset) → n ≢ 0 → told ≡ attributes_of_node i f
+    → LearnsThat One blocks t0 t1 (λ m. object m (block f.block) ≡ b) → n ≡ min count (f.size - offset) → n ≢ 0 → told ≡ attributes_of_node i f
     → p ≡ record { file = told; bytes = slice_range b offset (offset + n); is_end = nat_le f.size (offset + n) }
-    → Makes blocks t0 t1 (λ m after. IsSoundFile One m f → Leads after (Ok p) (read_case offset count (files_of One m) (file i (data_of m f))))
+    → Makes One blocks t0 t1 (λ m after. IsSoundFile One m f → Leads One after (Ok p) (read_case offset count (files_of One m) (file i (data_of m f))))
 Makes-read blocks i offset count f p told n b t0 t1 fresh read length_is some told_is portion_is =
     Makes-told blocks t0 t1 _ _ fresh read
     (λ m sound here whole. (

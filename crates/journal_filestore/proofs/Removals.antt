@@ -18,11 +18,11 @@ pub Makes-remove : (blocks j : ℕ) (f : FileNode) (t0 t1 t2 : TxnState) → t0.
     → WritesObject blocks t0 t1 (inode j) (inode_bytes (Free f.generation))
     → WritesObject blocks t1 t2 (bit (f.block - FIRST_DATA)) (0 ∷ [])
     → is_file_number j ≡ true → Fits (File f)
-    → Makes blocks t0 t2 (λ m n. node_at m j ≡ File f → Puts One m n j (record { generation = f.generation; file = None }))
+    → Makes One blocks t0 t2 (λ m n. node_at m j ≡ File f → Puts One m n j (record { generation = f.generation; file = None }))
 Makes-remove blocks j f t0 t1 t2 fresh wrote_node wrote_bit number fits =
     Makes-written blocks t0 t2 _ ((bit (f.block - FIRST_DATA), 0 ∷ []) ∷ (inode j, inode_bytes (Free f.generation)) ∷ [])
     (HasWritten-more blocks t1 t2 _ _ _ wrote_bit
     (HasWritten-more blocks t0 t1 _ _ _ wrote_node (HasWritten-none blocks t0 fresh)))
-    (λ m seen. subst (λ rs. MayBeRead blocks rs m) (wrote_bit.reads ∙ wrote_node.reads) seen)
+    (λ m seen. subst (λ rs. MayBeRead One blocks rs m) (wrote_bit.reads ∙ wrote_node.reads) seen)
     (λ m n seen o is_file. Puts-removed m n j f number seen.sound is_file fits.0 o)
     (omega arith)

@@ -80,11 +80,11 @@ module _ (blocks i : ℕ) (f : FileNode) (s : Settings) (now : Time) (small : is
 
   -- no bytes are cut off, and the inode is overwritten
   pub Makes-set_alone : (g : FileNode) (t0 t1 : TxnState) → t0.writes ≡ [] → WritesObject blocks t0 t1 (inode i) (inode_bytes (File g)) → g ≡ set_node f s now → f.size ≤ g.size
-      → Makes blocks t0 t1 (λ m n. is_file_number i ≡ true → node_at m i ≡ File f → Puts One m n i (record { generation = f.generation; file = Some (with_settings (data_of m f) s now) }))
+      → Makes One blocks t0 t1 (λ m n. is_file_number i ≡ true → node_at m i ≡ File f → Puts One m n i (record { generation = f.generation; file = Some (with_settings (data_of m f) s now) }))
   Makes-set_alone g t0 t1 fresh wrote is more =
       Makes-written blocks t0 t1 _ ((inode i, inode_bytes (File g)) ∷ [])
       (HasWritten-more blocks t0 t1 _ _ _ wrote (HasWritten-none blocks t0 fresh))
-      (λ m seen. subst (λ rs. MayBeRead blocks rs m) wrote.reads seen)
+      (λ m seen. subst (λ rs. MayBeRead One blocks rs m) wrote.reads seen)
       (λ m n seen o number is_file.
       let old : IsSoundFile One m f = seen.sound.files i f (IsFileNumber-test i number).to is_file in
       let grows : f.size ≤ unwrap_or s.size f.size = subst (λ x. f.size ≤ x.size) is more in
@@ -96,10 +96,10 @@ module _ (blocks i : ℕ) (f : FileNode) (s : Settings) (now : Time) (small : is
       (omega arith)
 
   -- some are, and the block is overwritten too
-  pub Makes-set_block : (g : FileNode) (old_block new_block : Value) (t0 t1 t2 t3 : TxnState) → t0.writes ≡ [] → LearnsThat blocks t0 t1 (λ m. object m (block f.block) ≡ old_block)
+  pub Makes-set_block : (g : FileNode) (old_block new_block : Value) (t0 t1 t2 t3 : TxnState) → t0.writes ≡ [] → LearnsThat One blocks t0 t1 (λ m. object m (block f.block) ≡ old_block)
       → WritesObject blocks t1 t2 (block f.block) new_block → WritesObject blocks t2 t3 (inode i) (inode_bytes (File g))
       → g ≡ set_node f s now → g.size < f.size → length old_block ≡ FILE_BYTES → new_block ≡ take g.size old_block ++ replicate (length old_block - g.size) 0
-      → Makes blocks t0 t3 (λ m n. is_file_number i ≡ true → node_at m i ≡ File f → Puts One m n i (record { generation = f.generation; file = Some (with_settings (data_of m f) s now) }))
+      → Makes One blocks t0 t3 (λ m n. is_file_number i ≡ true → node_at m i ≡ File f → Puts One m n i (record { generation = f.generation; file = Some (with_settings (data_of m f) s now) }))
   Makes-set_block g old_block new_block t0 t1 t2 t3 fresh read wrote_block wrote_node is less whole cut =
       Makes-written blocks t0 t3 _ ((inode i, inode_bytes (File g)) ∷ (block f.block, new_block) ∷ [])
       (HasWritten-more blocks t2 t3 _ _ _ wrote_node
@@ -120,5 +120,5 @@ module _ (blocks i : ℕ) (f : FileNode) (s : Settings) (now : Time) (small : is
       (subst (λ x. stays m n i f x new_block) is o))
       (omega arith)
     where
-      back : (m : Map) → MayBeRead blocks t3.reads m → MayBeRead blocks t1.reads m
-      back m seen = subst (λ rs. MayBeRead blocks rs m) (wrote_node.reads ∙ wrote_block.reads) seen
+      back : (m : Map) → MayBeRead One blocks t3.reads m → MayBeRead One blocks t1.reads m
+      back m seen = subst (λ rs. MayBeRead One blocks rs m) (wrote_node.reads ∙ wrote_block.reads) seen

@@ -64,9 +64,9 @@ with_data-whole old bs whole fills =
     sym (ap (λ rest. bs ++ rest) (drop_all (0 + length bs) old (omega (arith, whole, fills))) ∙ append-nil bs)
 
 -- the block is filled
-pub Places-whole : (blocks b offset : ℕ) (bs : List ℕ) (t0 t1 : TxnState) → WritesObject blocks t0 t1 (block b) bs → length bs ≡ FILE_BYTES → offset + length bs ≤ FILE_BYTES → Places blocks t0 t1 b offset bs
+pub Places-whole : (blocks b offset : ℕ) (bs : List ℕ) (t0 t1 : TxnState) → WritesObject blocks t0 t1 (block b) bs → length bs ≡ FILE_BYTES → offset + length bs ≤ FILE_BYTES → Places One blocks t0 t1 b offset bs
 Places-whole blocks b offset bs t0 t1 wrote fills fits = record {
-  before = λ m seen. subst (λ rs. MayBeRead blocks rs m) wrote.reads seen;
+  before = λ m seen. subst (λ rs. MayBeRead One blocks rs m) wrote.reads seen;
   value = bs;
   pairs = wrote.pairs;
   on_disk = wrote.on_disk;
@@ -76,14 +76,14 @@ Places-whole blocks b offset bs t0 t1 wrote fills fits = record {
 }
 
 -- it is read, and data are placed in it
-pub Places-read : (blocks b offset : ℕ) (bs old_block new_block : List ℕ) (t0 t1 t2 : TxnState) → LearnsThat blocks t0 t1 (λ m. object m (block b) ≡ old_block)
-    → WritesObject blocks t1 t2 (block b) new_block → t0.writes ≡ [] → new_block ≡ with_data old_block offset bs → Places blocks t0 t2 b offset bs
+pub Places-read : (blocks b offset : ℕ) (bs old_block new_block : List ℕ) (t0 t1 t2 : TxnState) → LearnsThat One blocks t0 t1 (λ m. object m (block b) ≡ old_block)
+    → WritesObject blocks t1 t2 (block b) new_block → t0.writes ≡ [] → new_block ≡ with_data old_block offset bs → Places One blocks t0 t2 b offset bs
 Places-read blocks b offset bs old_block new_block t0 t1 t2 read wrote fresh is_new = record {
-  before = λ m seen. read.before m (subst (λ rs. MayBeRead blocks rs m) wrote.reads seen);
+  before = λ m seen. read.before m (subst (λ rs. MayBeRead One blocks rs m) wrote.reads seen);
   value = new_block;
   pairs = λ a. wrote.pairs a ∙ ap (λ ws. value_among ((addr_of (block b), new_block) ∷ ws) a) read.writes;
   on_disk = wrote.on_disk;
-  placed = λ m seen whole. is_new ∙ ap (λ x. with_data x offset bs) (sym (read.now m (subst (λ rs. MayBeRead blocks rs m) wrote.reads seen)));
+  placed = λ m seen whole. is_new ∙ ap (λ x. with_data x offset bs) (sym (read.now m (subst (λ rs. MayBeRead One blocks rs m) wrote.reads seen)));
 }
 
 -- a sound file's block is whole
@@ -96,11 +96,11 @@ stored-whole m f sound =
 
 -- what is made of the file
 pub Makes-write : (blocks i offset : ℕ) (bs : List ℕ) (now : Time) (f g : FileNode) (t0 t1 t2 : TxnState) → t0.writes ≡ []
-    → Places blocks t0 t1 f.block offset bs
+    → Places One blocks t0 t1 f.block offset bs
     → WritesObject blocks t1 t2 (inode i) (inode_bytes (File g))
     → g ≡ written f offset bs now
     → offset + length bs ≤ FILE_BYTES → now.nanos ≤ MAX_NANOS → Fits (File (written f offset bs now))
-    → Makes blocks t0 t2 (λ m n. is_file_number i ≡ true → node_at m i ≡ File f → Puts One m n i (record { generation = f.generation; file = Some (placed_data m f offset bs now) }))
+    → Makes One blocks t0 t2 (λ m n. is_file_number i ≡ true → node_at m i ≡ File f → Puts One m n i (record { generation = f.generation; file = Some (placed_data m f offset bs now) }))
 Makes-write blocks i offset bs now f g t0 t1 t2 fresh placing wrote_node is end timed fits =
     Makes-written blocks t0 t2 _ ((inode i, inode_bytes (File g)) ∷ (block f.block, placing.value) ∷ [])
     (HasWritten-more blocks t1 t2 _ _ _ wrote_node (record {
@@ -115,8 +115,8 @@ Makes-write blocks i offset bs now f g t0 t1 t2 fresh placing wrote_node is end 
     (subst (λ x. stays m n i f g x) (placing.placed m (back m seen) (stored-whole m f old)) o)))
     (omega arith)
   where
-    back : (m : Map) → MayBeRead blocks t2.reads m → MayBeRead blocks t1.reads m
-    back m seen = subst (λ rs. MayBeRead blocks rs m) wrote_node.reads seen
+    back : (m : Map) → MayBeRead One blocks t2.reads m → MayBeRead One blocks t1.reads m
+    back m seen = subst (λ rs. MayBeRead One blocks rs m) wrote_node.reads seen
 
 -- the file's attributes then
 pub attributes-written : (m : Map) (i offset : ℕ) (bs : List ℕ) (now : Time) (f g : FileNode) (after : Attributes) → IsSoundFile One m f → g ≡ written f offset bs now → after ≡ attributes_of_node i g

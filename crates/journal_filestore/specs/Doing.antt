@@ -7,7 +7,6 @@ use Rattle.journal_wal.specs.declared.append.TheConstants.{MAX_UPDATES}
 use Rattle.journal_objlog.specs.Writes.{written_blocks}
 use Rattle.journal_twophase.specs.Transactions.{TxnState}
 use Rattle.journal_inode.specs.declared.version.FormatVersion.{FormatVersion}
-use Rattle.journal_inode.specs.declared.version.FormatVersion.TheVariants.{One}
 use Rattle.journal_inode.specs.declared.node.TheConstants.{FILE_BYTES}
 use Rattle.journal_inode.specs.Places.{Object, addr_of, IsOnDisk, object}
 use Rattle.journal_inode.specs.Places.Object.{block}
@@ -21,9 +20,9 @@ abbrev pub GivesPairs : Map → List Pair → Type 0
 GivesPairs m ps = (a : Addr) (v : Value) → value_among ps a ≡ Some v → value_at m a ≡ v
 
 -- A map that the transaction may have read: sound, on a disk of so many blocks, and with the values that were read
-pub record MayBeRead (blocks : ℕ) (reads : List Pair) (m : Map) : Type 0 where
+pub record MayBeRead (version : FormatVersion) (blocks : ℕ) (reads : List Pair) (m : Map) : Type 0 where
   pub on_disk : m.blocks ≡ blocks
-  pub sound : HasSoundFiles One m
+  pub sound : HasSoundFiles version m
   pub gives : GivesPairs m reads
 
 -- the transaction has not read the object
@@ -35,10 +34,10 @@ abbrev pub ReadsOnly : TxnState → TxnState → Object → Type 0
 ReadsOnly old new o = (a : Addr) → is_same a (addr_of o) ≡ false → value_among new.reads a ≡ value_among old.reads a
 
 -- The transaction only read, and P holds of each map that it may have read
-pub record LearnsThat (blocks : ℕ) (old new : TxnState) (P : Map → Type 0) : Type 0 where
+pub record LearnsThat (version : FormatVersion) (blocks : ℕ) (old new : TxnState) (P : Map → Type 0) : Type 0 where
   pub writes : new.writes ≡ old.writes
-  pub before : (m : Map) → MayBeRead blocks new.reads m → MayBeRead blocks old.reads m
-  pub now : (m : Map) → MayBeRead blocks new.reads m → P m
+  pub before : (m : Map) → MayBeRead version blocks new.reads m → MayBeRead version blocks old.reads m
+  pub now : (m : Map) → MayBeRead version blocks new.reads m → P m
 
 -- The transaction overwrote an object of the disk
 pub record WritesObject (blocks : ℕ) (old new : TxnState) (o : Object) (v : Value) : Type 0 where
@@ -47,12 +46,12 @@ pub record WritesObject (blocks : ℕ) (old new : TxnState) (o : Object) (v : Va
   pub on_disk : IsOnDisk blocks o
 
 -- The transaction overwrote a data block by what data placed in it make of it
-pub record Places (blocks : ℕ) (old new : TxnState) (b offset : ℕ) (bs : List ℕ) : Type 0 where
-  pub before : (m : Map) → MayBeRead blocks new.reads m → MayBeRead blocks old.reads m
+pub record Places (version : FormatVersion) (blocks : ℕ) (old new : TxnState) (b offset : ℕ) (bs : List ℕ) : Type 0 where
+  pub before : (m : Map) → MayBeRead version blocks new.reads m → MayBeRead version blocks old.reads m
   pub value : Value
   pub pairs : SamePairs new.writes ((addr_of (block b), value) ∷ old.writes)
   pub on_disk : IsOnDisk blocks (block b)
-  pub placed : (m : Map) → MayBeRead blocks new.reads m → length (object m (block b)) ≡ FILE_BYTES → value ≡ with_data (object m (block b)) offset bs
+  pub placed : (m : Map) → MayBeRead version blocks new.reads m → length (object m (block b)) ≡ FILE_BYTES → value ≡ with_data (object m (block b)) offset bs
 
 -- The map is sound still, and its files are those of before with this entry
 pub record Puts (version : FormatVersion) (m n : Map) (i : ℕ) (e : FileEntry) : Type 0 where
@@ -60,18 +59,18 @@ pub record Puts (version : FormatVersion) (m n : Map) (i : ℕ) (e : FileEntry) 
   pub files : files_of version n ≡ with_entry (files_of version m) i e
 
 -- the map is sound still, and answer and files are what a case comes to
-abbrev pub Leads : {A : Type 0} → Map → Result A Status → Outcome A → Type 0
-Leads n answer outcome = HasSoundFiles One n × ((answer, files_of One n) ≡ outcome)
+abbrev pub Leads : {A : Type 0} → FormatVersion → Map → Result A Status → Outcome A → Type 0
+Leads version n answer outcome = HasSoundFiles version n × ((answer, files_of version n) ≡ outcome)
 
 -- P holds of each map that the transaction may have read, and what its writes make of it
-pub record Makes (blocks : ℕ) (old new : TxnState) (P : Map → Map → Type 0) : Type 0 where
-  pub before : (m : Map) → MayBeRead blocks new.reads m → MayBeRead blocks old.reads m
-  pub now : (m : Map) → MayBeRead blocks new.reads m → P m (overwritten m new.writes)
+pub record Makes (version : FormatVersion) (blocks : ℕ) (old new : TxnState) (P : Map → Map → Type 0) : Type 0 where
+  pub before : (m : Map) → MayBeRead version blocks new.reads m → MayBeRead version blocks old.reads m
+  pub now : (m : Map) → MayBeRead version blocks new.reads m → P m (overwritten m new.writes)
   pub few : written_blocks new.writes ≤ MAX_UPDATES
 
 -- Wherever a sound map gives what was read, the writes leave it sound, and the answer fits the files before and after
-pub record Does {A : Type 0} (blocks : ℕ) (case : Files → A → Files → Type 0) (reads writes : List Pair) (answer : A) : Type 0 where
-  pub sound : (m : Map) → m.blocks ≡ blocks → HasSoundFiles One m → Agrees m reads → HasSoundFiles One (overwritten m writes)
-  pub answers : (m : Map) → m.blocks ≡ blocks → HasSoundFiles One m → Agrees m reads → case (files_of One m) answer (files_of One (overwritten m writes))
+pub record Does {A : Type 0} (version : FormatVersion) (blocks : ℕ) (case : Files → A → Files → Type 0) (reads writes : List Pair) (answer : A) : Type 0 where
+  pub sound : (m : Map) → m.blocks ≡ blocks → HasSoundFiles version m → Agrees m reads → HasSoundFiles version (overwritten m writes)
+  pub answers : (m : Map) → m.blocks ≡ blocks → HasSoundFiles version m → Agrees m reads → case (files_of version m) answer (files_of version (overwritten m writes))
   -- no more blocks are written than a transaction may write
   pub few : written_blocks writes ≤ MAX_UPDATES

@@ -110,8 +110,8 @@ impl<'a> Create<'a> {
         requires timed { is_no_time settings.mtime ≡ false }
         requires unread { FIRST_DATA ≤ file.block → IsNotYetRead txn.old (block file.block) }
         requires writes { txn.old.writes ≡ [] }
-        ensures makes { IfOk result (λ answer. Makes J.blocks txn.old txn.new (λ m n. node_at m number ≡ File file → (files_of One m).root ≡ root
-            → Leads n answer (create_file true is_guarded settings (time_of self.now.moment) (files_of One m) number (Some (data_of m file))))) }
+        ensures makes { IfOk result (λ answer. Makes One J.blocks txn.old txn.new (λ m n. node_at m number ≡ File file → (files_of One m).root ≡ root
+            → Leads One n answer (create_file true is_guarded settings (time_of self.now.moment) (files_of One m) number (Some (data_of m file))))) }
         ensures refusal { IfErr result IsGivenUp }
     {
         if is_guarded {
@@ -139,8 +139,8 @@ impl<'a> Create<'a> {
         requires timed { is_no_time settings.mtime ≡ false }
         requires unread { (k : ℕ) → k < BLOCK_BITS → IsNotYetRead txn.old (bit k) }
         requires writes { txn.old.writes ≡ [] }
-        ensures makes { IfOk result (λ answer. Makes J.blocks txn.old txn.new (λ m n. node_at m number ≡ Free last → (files_of One m).root ≡ root
-            → (room : Bool) × Leads n answer (create_new room settings (time_of self.now.moment) (files_of One m) number))) }
+        ensures makes { IfOk result (λ answer. Makes One J.blocks txn.old txn.new (λ m n. node_at m number ≡ Free last → (files_of One m).root ≡ root
+            → (room : Bool) × Leads One n answer (create_new room settings (time_of self.now.moment) (files_of One m) number))) }
         ensures refusal { IfErr result IsGivenUp }
     {
         if is_too_big(settings.size) {

@@ -1,5 +1,6 @@
 // What a handle names.
 ghost use Rattle.std.specs.Prelude.{◌≡◌, [], IfOk, IfErr, OnOk};
+ghost use Rattle.journal_inode.specs.declared.version.FormatVersion.TheVariants.{One};
 ghost use Rattle.journal_inode.specs.Places.Object.{inode};
 ghost use Rattle.journal_filestore.specs.Doing.{LearnsThat, ReadsOnly};
 ghost use Rattle.journal_filestore.specs.Faults.{IsGivenUp};
@@ -33,7 +34,7 @@ pub(crate) fn find<'j, 'b, D: BlockDisk, J: Naming, W: Wait>(
 ) -> Result<Place, GivenUp<'b, J>>
     requires reads { txn.old.reads ≡ [] }
     requires writes { txn.old.writes ≡ [] }
-    ensures told { IfOk result (λ place. LearnsThat J.blocks txn.old txn.new (λ m. IsAt handle.number handle.generation m place)) }
+    ensures told { IfOk result (λ place. LearnsThat One J.blocks txn.old txn.new (λ m. IsAt handle.number handle.generation m place)) }
     ensures reads { OnOk result (ReadsOnly txn.old txn.new (inode handle.number)) }
     ensures fits { IfOk result (IsPlace handle.number) }
     ensures refusal { IfErr result IsGivenUp }

@@ -6,6 +6,7 @@ ghost use Rattle.journal_world.specs.declared.layout.TheConstants.{FIRST_DATA, B
 ghost use Rattle.journal_world.specs.Addresses.{is_value_of, is_valid, kind_of};
 ghost use Rattle.journal_world.specs.Maps.{is_object, is_value_at};
 ghost use Rattle.journal_twophase.specs.Transactions.{holding, ReadsValue, Overwrites};
+ghost use Rattle.journal_inode.specs.declared.version.FormatVersion.TheVariants.{One};
 ghost use Rattle.journal_inode.specs.declared.place.TheConstants.{INODES};
 ghost use Rattle.journal_inode.specs.declared.node.TheConstants.{NODE_BYTES};
 ghost use Rattle.journal_inode.specs.Places.{object};
@@ -66,7 +67,7 @@ pub(crate) fn read_node<'j, 'b, D: BlockDisk, J: Naming, W: Wait>(
     requires number { number < INODES }
     requires unread { IsNotYetRead txn.old (inode number) }
     requires writes { txn.old.writes ≡ [] }
-    ensures told { IfOk result (λ node. LearnsThat J.blocks txn.old txn.new (λ m. node_at m number ≡ node)) }
+    ensures told { IfOk result (λ node. LearnsThat One J.blocks txn.old txn.new (λ m. node_at m number ≡ node)) }
     ensures reads { OnOk result (ReadsOnly txn.old txn.new (inode number)) }
     ensures fits { IfOk result Fits }
     ensures refusal { IfErr result IsGivenUp }
@@ -83,7 +84,7 @@ pub(crate) fn read_block<'j, 'b, D: BlockDisk, J: Naming, W: Wait>(
 ) -> Result<Value, GivenUp<'b, J>>
     requires unread { FIRST_DATA ≤ number → IsNotYetRead txn.old (block number) }
     requires writes { txn.old.writes ≡ [] }
-    ensures told { IfOk result (λ value. LearnsThat J.blocks txn.old txn.new (λ m. object m (block number) ≡ value)) }
+    ensures told { IfOk result (λ value. LearnsThat One J.blocks txn.old txn.new (λ m. object m (block number) ≡ value)) }
     ensures whole { IfOk result (λ value. length value ≡ 4096) }
     ensures data_block { OnOk result (FIRST_DATA ≤ number) }
     ensures refusal { IfErr result IsGivenUp }
@@ -102,7 +103,7 @@ pub(crate) fn read_bit<'j, 'b, D: BlockDisk, J: Naming, W: Wait>(
 ) -> Result<bool, GivenUp<'b, J>>
     requires unread { (k : ℕ) → k < BLOCK_BITS → IsNotYetRead txn.old (bit k) }
     requires writes { txn.old.writes ≡ [] }
-    ensures told { IfOk result (λ is_set. LearnsThat J.blocks txn.old txn.new
+    ensures told { IfOk result (λ is_set. LearnsThat One J.blocks txn.old txn.new
         (λ m. object m (bit (number - FIRST_DATA)) ≡ (if is_set then 1 else 0) ∷ [])) }
     ensures data_block { OnOk result (FIRST_DATA ≤ number) }
     ensures refusal { IfErr result IsGivenUp }

@@ -4,6 +4,7 @@ ghost use Rattle.journal_filestore.specs.declared.status.Status.{Status};
 ghost use Rattle.journal_filestore.specs.Files.{Files};
 ghost use Rattle.journal_filestore.specs.Doing.{Does};
 ghost use Rattle.journal_filestore.specs.Faults.{IsGivenUp, fault_at};
+ghost use Rattle.journal_inode.specs.declared.version.FormatVersion.TheVariants.{One};
 
 use crate::space::Space;
 use crate::store::{Answer, FileTxn};
@@ -73,6 +74,6 @@ pub(crate) trait Operation<J: Naming> {
     ) -> Result<Answer<Self::Reply>, GivenUp<'b, J>>
         requires reads { txn.old.reads ≡ [] }
         requires writes { txn.old.writes ≡ [] }
-        ensures does { IfOk result (Does J.blocks (case self.now) txn.new.reads txn.new.writes) }
+        ensures does { IfOk result (Does One J.blocks (case self.now) txn.new.reads txn.new.writes) }
         ensures refusal { IfErr result IsGivenUp };
 }

@@ -1,6 +1,7 @@
 // WRITE.
 ghost use Rattle.std.specs.Prelude.{◌≡◌, ◌≤◌, ◌+◌, [], length, IfErr, OnOk};
 ghost use Rattle.journal_world.specs.declared.layout.TheConstants.{FIRST_DATA};
+ghost use Rattle.journal_inode.specs.declared.version.FormatVersion.TheVariants.{One};
 ghost use Rattle.journal_inode.specs.declared.node.TheConstants.{FILE_BYTES};
 ghost use Rattle.journal_inode.specs.Places.Object.{block};
 ghost use Rattle.journal_filestore.specs.Doing.{IsNotYetRead, Places};
@@ -97,7 +98,7 @@ fn put_data<'j, 'b, D: BlockDisk, J: Naming, W: Wait>(
     requires room { offset + length bytes.now ≤ FILE_BYTES }
     requires unread { FIRST_DATA ≤ number → IsNotYetRead txn.old (block number) }
     requires writes { txn.old.writes ≡ [] }
-    ensures places { OnOk result (Places J.blocks txn.old txn.new number offset bytes.now) }
+    ensures places { OnOk result (Places One J.blocks txn.old txn.new number offset bytes.now) }
     ensures refusal { IfErr result IsGivenUp }
 {
     if bytes.len() as u64 == FILE_BYTES {
