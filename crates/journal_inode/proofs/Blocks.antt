@@ -1,6 +1,6 @@
 -- What the blocks of a file hold, block by block.
 use Rattle.std.proofs.Common.{ℕ, zero, suc, ◌≡◌, ◌<◌, ◌≤◌, ◌+◌, ◌-◌, ◌*◌, ◌⊎◌, inl, inr, Bool, List, [], ◌∷◌, ◌++◌, length, take, drop, min, refl, sym, ap, subst, ◌∙◌, length-append, add-one, arith, rules}
-use Rattle.std.specs.Prelude.{◌↔◌, IsTrue, Contains, slice_index_or}
+use Rattle.std.specs.Prelude.{◌↔◌, IsTrue, Contains, slice_index, slice_index_or, slice_range}
 use Rattle.std.specs.List.{AllByRecursion}
 use Rattle.std.proofs.lemmas.List.{same_lists, places, length-take-le, length-drop}
 use Rattle.std.proofs.lemmas.List.Elements.{All-nil, All-cons, All-head, All-tail, All-append}
@@ -77,6 +77,29 @@ length-held m (b ∷ c ∷ bs) whole =
     let rest : length (held m (c ∷ bs)) ≡ BLOCK_BYTES * length (c ∷ bs) = length-held m (c ∷ bs) whole.1 in
     let first : length (object m (block b)) ≡ BLOCK_BYTES = whole.0 in
     length-append (object m (block b)) (held m (c ∷ bs)) ∙ (omega (arith, rest, first))
+
+-- the first of two lists is a piece of them, and a piece of the second is one further on
+first_piece : (xs ys : List ℕ) (k : ℕ) → length xs ≡ k → slice_range (xs ++ ys) 0 k ≡ xs
+first_piece xs ys k whole = same_lists _ _ (search (rules, places)) (λ i d h. grind (arith, places))
+
+later_piece : (xs ys : List ℕ) (k from to : ℕ) → length xs ≡ k → slice_range (xs ++ ys) (k + from) (k + to) ≡ slice_range ys from to
+later_piece xs ys k from to whole = same_lists _ _ (search (rules, places)) (λ i d h. grind (arith, places))
+
+whole_piece : (xs : List ℕ) (k : ℕ) → length xs ≡ k → slice_range xs 0 k ≡ xs
+whole_piece xs k whole = same_lists _ _ (search (rules, places)) (λ i d h. grind (arith, places))
+
+-- what one of them holds is that piece
+pub held_at : (m : Map) (bs : List ℕ) (j : ℕ) → AreWhole m bs → j < length bs
+    → slice_range (held m bs) (BLOCK_BYTES * j) (BLOCK_BYTES * j + BLOCK_BYTES) ≡ object m (block (slice_index bs j))
+held_at m [] j whole low = absurd (omega (arith, low))
+held_at m (b ∷ []) zero whole low = whole_piece (object m (block b)) BLOCK_BYTES whole.0
+held_at m (b ∷ []) (suc j) whole low = absurd (omega (arith, low))
+held_at m (b ∷ c ∷ bs) zero whole low = first_piece (object m (block b)) (held m (c ∷ bs)) BLOCK_BYTES whole.0
+held_at m (b ∷ c ∷ bs) (suc j) whole low =
+    ap (λ from. slice_range (held m (b ∷ c ∷ bs)) from (from + BLOCK_BYTES)) (let next : BLOCK_BYTES * suc j ≡ BLOCK_BYTES + BLOCK_BYTES * j = omega arith in next)
+    ∙ ap (slice_range (held m (b ∷ c ∷ bs)) (BLOCK_BYTES + BLOCK_BYTES * j)) (let last : BLOCK_BYTES + BLOCK_BYTES * j + BLOCK_BYTES ≡ BLOCK_BYTES + (BLOCK_BYTES * j + BLOCK_BYTES) = omega arith in last)
+    ∙ later_piece (object m (block b)) (held m (c ∷ bs)) BLOCK_BYTES (BLOCK_BYTES * j) (BLOCK_BYTES * j + BLOCK_BYTES) whole.0
+    ∙ held_at m (c ∷ bs) j whole.1 (omega (arith, low))
 
 -- what is said of each block is said of all that they hold
 blocks_to : (m : Map) (bs : List ℕ) (size : ℕ) → AreSoundBlocks m size bs → AllByRecursion (IsDataBlock m.blocks) bs × AreWhole m bs × AllZero (drop size (held m bs))

@@ -13,17 +13,17 @@
 //! too, once the superblock says so (`upgraded_files_are_sound`).
 #![tactic(auto)]
 
+mod law;
 mod making;
 mod node;
 mod place;
 mod rule;
 mod superblock;
-mod upgrade;
 mod version;
 
+pub use law::{blocks_hold_the_bytes_in_order, upgraded_files_are_sound};
 pub use making::format;
 pub use node::{FILE_BYTES, FileNode, MORE_BLOCKS, NODE_BYTES, Node, Time};
 pub use place::{INODES, bit_addr, block_addr, inode_addr};
 pub use rule::SoundFiles;
-pub use upgrade::upgraded_files_are_sound;
 pub use version::{FormatVersion, Version, VersionOne, VersionTwo};
