@@ -1,7 +1,6 @@
 -- A file comes: its inode was free, and so was its block, which is written whole.
-use Rattle.std.proofs.Common.{ℕ, ◌≡◌, ◌<◌, ◌≤◌, ◌+◌, ◌-◌, inl, inr, true, List, [], ◌∷◌, ◌++◌, length, take, replicate, Some, refl, sym, ap, subst, ◌∙◌, arith}
+use Rattle.std.proofs.Common.{ℕ, ◌≡◌, ◌<◌, ◌≤◌, ◌+◌, ◌-◌, inl, inr, true, List, [], ◌∷◌, ◌++◌, length, replicate, Some, refl, sym, ap, subst, ◌∙◌, arith}
 use Rattle.std.proofs.lemmas.Bool.{eq-eqb, ne_eqb}
-use Rattle.std.proofs.lemmas.List.{take_at}
 use Rattle.journal_world.specs.declared.layout.TheConstants.{FIRST_DATA, BLOCK_BITS}
 use Rattle.journal_world.specs.declared.moment.TheConstants.{MAX_NANOS}
 use Rattle.journal_world.specs.Maps.{Map}
@@ -13,7 +12,7 @@ use Rattle.journal_inode.specs.declared.place.TheConstants.{INODES}
 use Rattle.journal_inode.specs.Places.{object}
 use Rattle.journal_inode.specs.Places.Object.{superblock, bit, inode, block}
 use Rattle.journal_inode.specs.Nodes.{no_more, inode_bytes, Fits}
-use Rattle.journal_inode.specs.Sound.{node_at, stored, content, HasBlock, IsTaken, IsBit, IsSoundFile, HasSoundFiles}
+use Rattle.journal_inode.specs.Sound.{node_at, stored, HasBlock, IsTaken, IsBit, HasSoundFiles}
 use Rattle.journal_filestore.proofs.Overwrites.{Overwrites, first_is, first_is_not}
 use Rattle.journal_filestore.proofs.Replacing.{Replaces}
 use Rattle.journal_filestore.specs.Files.{is_file_number}

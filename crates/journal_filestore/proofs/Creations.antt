@@ -59,7 +59,7 @@ create-asked room name (Unchecked s) now F x is =
 pub create-file : (room guarded : Bool) (s : Settings) (now : Time) (m : Map) (j : ℕ) (n : Node) → is_no_time s.mtime ≡ false → is_file_number j ≡ true → node_at m j ≡ n
     → create_number room guarded s now (files_of One m) (Some j) ≡ create_file room guarded s now (files_of One m) j (entry_of One m n).file
 create-file room guarded s now m j n timed number is =
-    cond-false _ _ _ timed ∙ ap (λ e. create_file room guarded s now (files_of One m) j e.file) (entry_at m j n number is)
+    cond-false _ _ _ timed ∙ ap (λ e. create_file room guarded s now (files_of One m) j e.file) (entry_at One m j n number is)
 
 -- A file that was made or set
 created-puts : (m n : Map) (i : ℕ) (f : FileNode) (t : Time) (d : FileData) (generation : ℕ) (answer : Found) → (files_of One m).root ≡ t → answer ≡ found_node i f t → f.generation ≡ generation
@@ -75,7 +75,7 @@ created-puts m n i f t d generation answer root_is told same attributes_are puts
 -- what is asked for is set of the file that is there
 module _ (blocks : ℕ) (s : Settings) (now : Time) (j : ℕ) (f : FileNode) (t : Time) (number : is_file_number j ≡ true) (guarded : Bool) (t0 t1 : TxnState) where
   abbrev pub Sets : Result Found Status → Map → Map → Type 0
-  Sets answer m n = node_at m j ≡ File f → (files_of One m).root ≡ t → Leads One n answer (create_file true guarded s now (files_of One m) j (Some (data_of m f)))
+  Sets answer m n = node_at m j ≡ File f → (files_of One m).root ≡ t → Leads One n answer (create_file true guarded s now (files_of One m) j (Some (data_of One m f)))
 
   pub Makes-over_exists : t0.writes ≡ [] → guarded ≡ true → Makes One blocks t0 t0 (Sets (Err Exists))
   Makes-over_exists fresh is_guarded =
@@ -86,7 +86,7 @@ module _ (blocks : ℕ) (s : Settings) (now : Time) (j : ℕ) (f : FileNode) (t 
       Makes-told blocks t0 t0 _ _ fresh (Tells-nothing blocks t0) (λ m sound nothing is root_is. (sound, sym (cond-false _ _ _ free ∙ cond-true _ _ _ big)))
 
   pub Makes-over : (g : FileNode) (answer : Found) → guarded ≡ false → is_too_big s.size ≡ false → g ≡ set_node f s now → answer ≡ found_node j g t
-      → Makes One blocks t0 t1 (λ m n. is_file_number j ≡ true → node_at m j ≡ File f → Puts One m n j (record { generation = f.generation; file = Some (with_settings (data_of m f) s now) }))
+      → Makes One blocks t0 t1 (λ m n. is_file_number j ≡ true → node_at m j ≡ File f → Puts One m n j (record { generation = f.generation; file = Some (with_settings (data_of One m f) s now) }))
       → Makes One blocks t0 t1 (Sets (Ok answer))
   Makes-over g answer free small is told made =
       Makes-like blocks t0 t1 _ _
@@ -94,10 +94,10 @@ module _ (blocks : ℕ) (s : Settings) (now : Time) (j : ℕ) (f : FileNode) (t 
       let whole : IsSoundFile One m f = sound.files j f (IsFileNumber-test j number).to here in
       let same : g.generation ≡ f.generation = ap (λ x. x.generation) is in (
         (puts number here).sound,
-        created-puts m n j g t (with_settings (data_of m f) s now) ((files_of One m).at j).generation answer root_is told
-            (same ∙ sym (ap (λ e. e.generation) (entry_at m j (File f) number here)))
+        created-puts m n j g t (with_settings (data_of One m f) s now) ((files_of One m).at j).generation answer root_is told
+            (same ∙ sym (ap (λ e. e.generation) (entry_at One m j (File f) number here)))
             (attributes-set m j f g s now whole is)
-            (subst (λ x. Puts One m n j (record { generation = x; file = Some (with_settings (data_of m f) s now) })) (sym same) (puts number here))
+            (subst (λ x. Puts One m n j (record { generation = x; file = Some (with_settings (data_of One m f) s now) })) (sym same) (puts number here))
             ∙ sym (cond-false _ _ _ free ∙ cond-false _ _ _ small),
       ))
       made
@@ -141,7 +141,7 @@ module _ (blocks : ℕ) (s : Settings) (now : Time) (j last : ℕ) (t : Time) (n
   News answer m n = node_at m j ≡ Free last → (files_of One m).root ≡ t → (room : Bool) × Leads One n answer (create_new room s now (files_of One m) j)
 
   generation_is : (m : Map) → node_at m j ≡ Free last → ((files_of One m).at j).generation ≡ last
-  generation_is m is = ap (λ e. e.generation) (entry_at m j (Free last) number is)
+  generation_is m is = ap (λ e. e.generation) (entry_at One m j (Free last) number is)
 
   pub Makes-too_big : is_too_big s.size ≡ true → Makes One blocks t0 t0 (News (Err TooBig))
   Makes-too_big big =
@@ -225,15 +225,15 @@ Does-room blocks name how now i generation t answer room does = record {
 
 -- what it does by the inode that it read in the root
 pub Does-tail : (blocks : ℕ) (name : List ℕ) (how : How) (now : Time) (i generation : ℕ) (p : Place) (t : Time) (j : ℕ) (n : Node) (t0 t1 t2 t3 : TxnState) (answer : Result Found Status) (Q : Map → Map → Type 0)
-    → LearnsThat One blocks t0 t1 (λ m. IsAt i generation m p) → p ≡ Directory t → LearnsThat One blocks t1 t2 (λ m. node_at m j ≡ n) → Makes One blocks t2 t3 Q
+    → LearnsThat One blocks t0 t1 (λ m. IsAt One i generation m p) → p ≡ Directory t → LearnsThat One blocks t1 t2 (λ m. node_at m j ≡ n) → Makes One blocks t2 t3 Q
     → ((m after : Map) → HasSoundFiles One m → (files_of One m).root ≡ t → node_at m j ≡ n → Q m after → HasSoundFiles One after × ((room : Bool) × ((answer, files_of One after) ≡ create_how room name how now (files_of One m))))
     → Does One blocks (CaseOf name how now i generation) t3.reads t3.writes answer
 Does-tail blocks name how now i generation p t j n t0 t1 t2 t3 answer Q found is read made shows =
     Does-made blocks (CaseOf name how now i generation) t0 t2 t3 answer _ Q (Tells-both blocks t0 t1 t2 _ _ found read) made
     (λ m after sound told q.
-    let both = shows m after sound (IsAt-is m i generation p (Directory t) is told.0).1 told.1 q in (
+    let both = shows m after sound (IsAt-is One m i generation p (Directory t) is told.0).1 told.1 q in (
       both.0,
-      (both.1.0, both.1.1 ∙ sym (case-directory (create_case both.1.0 name how now (files_of One m)) m i generation p t is told.0)),
+      (both.1.0, both.1.1 ∙ sym (case-directory One (create_case both.1.0 name how now (files_of One m)) m i generation p t is told.0)),
     ))
 
 -- In the root, with a name and a time, it goes by the number's inode
@@ -250,7 +250,7 @@ module _ (name : List ℕ) (how : How) (s : Settings) (guarded : Bool) (now : Ti
       → HasSoundFiles One after × ((room : Bool) × ((answer, files_of One after) ≡ create_how room name how now (files_of One m)))
   create-at_root m after t answer sound is = absurd (no_root m j t sound number is)
 
-  pub create-at_file : (m after : Map) (f : FileNode) (answer : Result Found Status) → node_at m j ≡ File f → Leads One after answer (create_file true guarded s now (files_of One m) j (Some (data_of m f)))
+  pub create-at_file : (m after : Map) (f : FileNode) (answer : Result Found Status) → node_at m j ≡ File f → Leads One after answer (create_file true guarded s now (files_of One m) j (Some (data_of One m f)))
       → HasSoundFiles One after × ((room : Bool) × ((answer, files_of One after) ≡ create_how room name how now (files_of One m)))
   create-at_file m after f answer is leads = (leads.0, (true, leads.1 ∙ sym (create-node true m (File f) is)))
 

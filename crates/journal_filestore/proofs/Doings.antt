@@ -1,26 +1,24 @@
 -- What a transaction's reads and writes come to.
-use Rattle.std.proofs.Common.{ℕ, suc, length, ◌≡◌, ◌<◌, ◌≤◌, Bool, true, false, cond, IsTrue, List, [], ◌∷◌, ◌==◌, get_or, Option, Some, None, Result, Ok, Err, IfOk, OnOk, refl, sym, ap, subst, ◌∙◌, arith}
+use Rattle.std.proofs.Common.{ℕ, suc, length, ◌≡◌, ◌≤◌, Bool, true, false, cond, List, [], ◌∷◌, ◌==◌, get_or, Option, Some, None, Result, Ok, Err, IfOk, OnOk, refl, sym, ap, subst, ◌∙◌, arith}
 use Rattle.std.specs.Prelude.{MatchOption}
 use Rattle.std.proofs.lemmas.Bool.{and_parts, eqb-true}
 use Rattle.std.proofs.lemmas.Bool.Decides.{nat_tests}
 use Rattle.std.proofs.lemmas.List.Elements.{All-head, All-tail}
 use Rattle.journal_world.specs.declared.address.Addr.{Addr}
 use Rattle.journal_world.specs.declared.address.Kind.TheVariants.{Bit}
-use Rattle.journal_world.specs.declared.layout.TheConstants.{FIRST_DATA}
-use Rattle.journal_world.specs.Addresses.{Value, is_value_of, kind_of, is_valid, is_same}
-use Rattle.journal_world.specs.Maps.{Map, Pair, Agrees, SamePairs, value_among, value_at, overwritten, is_object, is_value_at}
+use Rattle.journal_world.specs.Addresses.{Value, is_value_of, is_same}
+use Rattle.journal_world.specs.Maps.{Map, Pair, Agrees, SamePairs, value_among, value_at, overwritten}
 use Rattle.journal_world.proofs.Lookups.{same_addr}
-use Rattle.journal_twophase.specs.Transactions.{TxnState, holding, ReadsValue, Learns, Overwrites as OverwritesAddr}
+use Rattle.journal_twophase.specs.Transactions.{TxnState, holding, ReadsValue, Learns}
 use Rattle.journal_inode.specs.declared.version.FormatVersion.{FormatVersion}
-use Rattle.journal_inode.specs.Places.{Object, addr_of, IsOnDisk, is_same_object, object}
-use Rattle.journal_inode.specs.Places.Object.{block}
+use Rattle.journal_inode.specs.Places.{Object, addr_of, object}
 use Rattle.journal_inode.specs.Sound.{HasSoundFiles}
 use Rattle.journal_wal.specs.declared.append.TheConstants.{MAX_UPDATES}
 use Rattle.journal_objlog.specs.Writes.{written_blocks}
 use Rattle.journal_filestore.proofs.Refusing.{written-few}
-use Rattle.journal_filestore.proofs.Overwrites.{Write, pairs_of, AreOnDisk, Overwrites, Overwrites-pairs, same_addr_of}
+use Rattle.journal_filestore.proofs.Overwrites.{Write, pairs_of, AreOnDisk, Overwrites, Overwrites-pairs}
 use Rattle.journal_filestore.specs.Files.{Files, files_of}
-use Rattle.journal_filestore.specs.Doing.{GivesPairs, MayBeRead, IsNotYetRead, ReadsOnly, LearnsThat, WritesObject, Makes, Does}
+use Rattle.journal_filestore.specs.Doing.{GivesPairs, MayBeRead, IsNotYetRead, LearnsThat, WritesObject, Makes, Does}
 
 -- what agrees with a map is given by it
 pub Gives-Agrees : (m : Map) (ps : List Pair) → Agrees m ps → GivesPairs m ps

@@ -27,10 +27,10 @@ nothing c from n none = same_lists _ _ (search (rules, places)) (λ i d h. grind
 -- what is answered of a sound file
 pub read-portion : (m : Map) (i offset count : ℕ) (f : FileNode) (p : PortionState) (n : ℕ) → IsSoundFile One m f → n ≡ min count (f.size - offset)
     → p.file ≡ attributes_of_node i f → p.bytes ≡ slice_range (content One m f) offset (offset + n) → p.is_end ≡ nat_le f.size (offset + n)
-    → read_case offset count (files_of One m) (file i (data_of m f)) ≡ (Ok p, files_of One m)
+    → read_case offset count (files_of One m) (file i (data_of One m f)) ≡ (Ok p, files_of One m)
 read-portion m i offset count f p n sound is told bytes ends =
-    ap (λ k. (Ok (portion offset (min count (k - offset)) i (data_of m f)), files_of One m)) sound.whole
-    ∙ ap (λ k. (Ok (portion offset k i (data_of m f)), files_of One m)) (sym is)
+    ap (λ k. (Ok (portion offset (min count (k - offset)) i (data_of One m f)), files_of One m)) sound.whole
+    ∙ ap (λ k. (Ok (portion offset k i (data_of One m f)), files_of One m)) (sym is)
     ∙ ap (λ x. (Ok (record { file = x; bytes = slice_range (content One m f) offset (offset + n); is_end = nat_le (length (content One m f)) (offset + n) }), files_of One m))
     (attributes-data m i f sound ∙ sym told)
     ∙ ap (λ x. (Ok (record { file = p.file; bytes = x; is_end = nat_le (length (content One m f)) (offset + n) }), files_of One m)) (sym bytes)
@@ -49,7 +49,7 @@ bytes-none m f offset n none = sym (nothing (content One m f) offset n none)
 pub Makes-read : (blocks i offset count : ℕ) (f : FileNode) (p : PortionState) (told : Attributes) (n : ℕ) (b : List ℕ) (t0 t1 : TxnState) → t0.writes ≡ []
     → LearnsThat One blocks t0 t1 (λ m. object m (block f.block) ≡ b) → n ≡ min count (f.size - offset) → n ≢ 0 → told ≡ attributes_of_node i f
     → p ≡ record { file = told; bytes = slice_range b offset (offset + n); is_end = nat_le f.size (offset + n) }
-    → Makes One blocks t0 t1 (λ m after. IsSoundFile One m f → Leads One after (Ok p) (read_case offset count (files_of One m) (file i (data_of m f))))
+    → Makes One blocks t0 t1 (λ m after. IsSoundFile One m f → Leads One after (Ok p) (read_case offset count (files_of One m) (file i (data_of One m f))))
 Makes-read blocks i offset count f p told n b t0 t1 fresh read length_is some told_is portion_is =
     Makes-told blocks t0 t1 _ _ fresh read
     (λ m sound here whole. (

@@ -65,7 +65,7 @@ module _ (blocks i : ℕ) (f : FileNode) (s : Settings) (now : Time) (small : is
   Puts-set : (m n : Map) (v : Value) → is_file_number i ≡ true → HasSoundFiles One m → node_at m i ≡ File f
       → v ≡ resized (content One m f) s.size ++ replicate (FILE_BYTES - length (resized (content One m f) s.size)) 0
       → stays m n i f (set_node f s now) v
-      → Puts One m n i (record { generation = f.generation; file = Some (with_settings (data_of m f) s now) })
+      → Puts One m n i (record { generation = f.generation; file = Some (with_settings (data_of One m f) s now) })
   Puts-set m n v number sound is_file block_is o =
       Puts-stays m n i f (set_node f s now) (resized (content One m f) s.size) number sound is_file refl refl refl size
       (subst (λ x. x ≤ FILE_BYTES) size (size_fits s.size f.size small old.small))
@@ -80,7 +80,7 @@ module _ (blocks i : ℕ) (f : FileNode) (s : Settings) (now : Time) (small : is
 
   -- no bytes are cut off, and the inode is overwritten
   pub Makes-set_alone : (g : FileNode) (t0 t1 : TxnState) → t0.writes ≡ [] → WritesObject blocks t0 t1 (inode i) (inode_bytes (File g)) → g ≡ set_node f s now → f.size ≤ g.size
-      → Makes One blocks t0 t1 (λ m n. is_file_number i ≡ true → node_at m i ≡ File f → Puts One m n i (record { generation = f.generation; file = Some (with_settings (data_of m f) s now) }))
+      → Makes One blocks t0 t1 (λ m n. is_file_number i ≡ true → node_at m i ≡ File f → Puts One m n i (record { generation = f.generation; file = Some (with_settings (data_of One m f) s now) }))
   Makes-set_alone g t0 t1 fresh wrote is more =
       Makes-written blocks t0 t1 _ ((inode i, inode_bytes (File g)) ∷ [])
       (HasWritten-more blocks t0 t1 _ _ _ wrote (HasWritten-none blocks t0 fresh))
@@ -99,7 +99,7 @@ module _ (blocks i : ℕ) (f : FileNode) (s : Settings) (now : Time) (small : is
   pub Makes-set_block : (g : FileNode) (old_block new_block : Value) (t0 t1 t2 t3 : TxnState) → t0.writes ≡ [] → LearnsThat One blocks t0 t1 (λ m. object m (block f.block) ≡ old_block)
       → WritesObject blocks t1 t2 (block f.block) new_block → WritesObject blocks t2 t3 (inode i) (inode_bytes (File g))
       → g ≡ set_node f s now → g.size < f.size → length old_block ≡ FILE_BYTES → new_block ≡ take g.size old_block ++ replicate (length old_block - g.size) 0
-      → Makes One blocks t0 t3 (λ m n. is_file_number i ≡ true → node_at m i ≡ File f → Puts One m n i (record { generation = f.generation; file = Some (with_settings (data_of m f) s now) }))
+      → Makes One blocks t0 t3 (λ m n. is_file_number i ≡ true → node_at m i ≡ File f → Puts One m n i (record { generation = f.generation; file = Some (with_settings (data_of One m f) s now) }))
   Makes-set_block g old_block new_block t0 t1 t2 t3 fresh read wrote_block wrote_node is less whole cut =
       Makes-written blocks t0 t3 _ ((inode i, inode_bytes (File g)) ∷ (block f.block, new_block) ∷ [])
       (HasWritten-more blocks t2 t3 _ _ _ wrote_node

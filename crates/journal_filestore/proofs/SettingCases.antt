@@ -31,7 +31,7 @@ module _ (s : Settings) (guard : Option Time) (now : Time) (F : Files) (i : ℕ)
 
 -- the attributes of a file that was set
 pub attributes-set : (m : Map) (i : ℕ) (f g : FileNode) (s : Settings) (now : Time) → IsSoundFile One m f → g ≡ set_node f s now
-    → attributes_of_node i g ≡ attributes i (with_settings (data_of m f) s now)
+    → attributes_of_node i g ≡ attributes i (with_settings (data_of One m f) s now)
 attributes-set m i f g s now sound is =
     ap (attributes_of_node i) is
     ∙ ap (λ x. record { number = i; size = unwrap_or s.size x; mtime = time_after s.size s.mtime now f.mtime }) (sym sound.whole)

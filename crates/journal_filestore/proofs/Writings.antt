@@ -34,7 +34,7 @@ write-invalid offset count bs now F i d ne = cond-true _ _ _ (not_from_false _ (
 
 pub write-nothing : (offset count : ℕ) (bs : List ℕ) (now : Time) (m : Map) (i : ℕ) (f : FileNode) (before : Attributes) → IsSoundFile One m f
     → before ≡ attributes_of_node i f → count ≡ length bs → count ≡ 0
-    → write_case offset count bs now (files_of One m) (file i (data_of m f)) ≡ (Ok (record { before = before; after = before }), files_of One m)
+    → write_case offset count bs now (files_of One m) (file i (data_of One m f)) ≡ (Ok (record { before = before; after = before }), files_of One m)
 write-nothing offset count bs now m i f before sound was same none =
     cond-false _ _ _ (not_from_true _ (eq-eqb count (length bs) same))
     ∙ cond-true _ _ _ (eq-eqb count 0 none)

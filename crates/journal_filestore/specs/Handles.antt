@@ -2,7 +2,7 @@
 use Rattle.std.specs.Prelude.{ℕ, ◌≡◌, ◌==◌, ◌&&◌, Bool, true, false, Option, Some, None, unwrap_or, if◌then◌else◌}
 use Rattle.journal_world.specs.declared.moment.Moment.{Moment}
 use Rattle.journal_world.specs.Maps.{Map}
-use Rattle.journal_inode.specs.declared.version.FormatVersion.TheVariants.{One}
+use Rattle.journal_inode.specs.declared.version.FormatVersion.{FormatVersion}
 use Rattle.journal_inode.specs.declared.node.Time.{Time}
 use Rattle.journal_inode.specs.declared.node.FileNode.{FileNode}
 use Rattle.journal_inode.specs.declared.node.Node.{Node}
@@ -24,8 +24,8 @@ abbrev pub time_of : Moment → Time
 time_of now = record { secs = now.secs; nanos = now.nanos }
 
 -- the file of an inode
-abbrev pub data_of : Map → FileNode → FileData
-data_of m f = record { bytes = content One m f; mtime = f.mtime }
+abbrev pub data_of : FormatVersion → Map → FileNode → FileData
+data_of version m f = record { bytes = content version m f; mtime = f.mtime }
 
 -- the inode of a file, with what is asked for
 abbrev pub set_node : FileNode → Settings → Time → FileNode
@@ -48,11 +48,11 @@ place_of (Root t) i generation = if i == 1 && generation == 1 then Directory t e
 place_of (File f) i generation = if f.generation == generation then Regular f else Gone
 
 -- This is what the handle names
-abbrev pub IsAt : ℕ → ℕ → Map → Place → Type 0
-IsAt i generation m Gone = file_target (files_of One m) i generation ≡ gone
-IsAt i generation m (Directory t) = (file_target (files_of One m) i generation ≡ root) × ((files_of One m).root ≡ t)
-IsAt i generation m (Regular f) =
-    (file_target (files_of One m) i generation ≡ file i (data_of m f)) × (node_at m i ≡ File f) × (is_file_number i ≡ true)
+abbrev pub IsAt : FormatVersion → ℕ → ℕ → Map → Place → Type 0
+IsAt version i generation m Gone = file_target (files_of version m) i generation ≡ gone
+IsAt version i generation m (Directory t) = (file_target (files_of version m) i generation ≡ root) × ((files_of version m).root ≡ t)
+IsAt version i generation m (Regular f) =
+    (file_target (files_of version m) i generation ≡ file i (data_of version m f)) × (node_at m i ≡ File f) × (is_file_number i ≡ true)
 
 -- the numbers of a file's inode fit their bytes, and the root alone is a directory
 abbrev pub IsPlace : ℕ → Place → Type 0

@@ -111,7 +111,7 @@ impl<'a> Create<'a> {
         requires unread { FIRST_DATA ≤ file.block → IsNotYetRead txn.old (block file.block) }
         requires writes { txn.old.writes ≡ [] }
         ensures makes { IfOk result (λ answer. Makes One J.blocks txn.old txn.new (λ m n. node_at m number ≡ File file → (files_of One m).root ≡ root
-            → Leads One n answer (create_file true is_guarded settings (time_of self.now.moment) (files_of One m) number (Some (data_of m file))))) }
+            → Leads One n answer (create_file true is_guarded settings (time_of self.now.moment) (files_of One m) number (Some (data_of One m file))))) }
         ensures refusal { IfErr result IsGivenUp }
     {
         if is_guarded {

@@ -34,7 +34,7 @@ pub(crate) fn find<'j, 'b, D: BlockDisk, J: Naming, W: Wait>(
 ) -> Result<Place, GivenUp<'b, J>>
     requires reads { txn.old.reads ≡ [] }
     requires writes { txn.old.writes ≡ [] }
-    ensures told { IfOk result (λ place. LearnsThat One J.blocks txn.old txn.new (λ m. IsAt handle.number handle.generation m place)) }
+    ensures told { IfOk result (λ place. LearnsThat One J.blocks txn.old txn.new (λ m. IsAt One handle.number handle.generation m place)) }
     ensures reads { OnOk result (ReadsOnly txn.old txn.new (inode handle.number)) }
     ensures fits { IfOk result (IsPlace handle.number) }
     ensures refusal { IfErr result IsGivenUp }

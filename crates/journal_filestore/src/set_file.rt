@@ -41,7 +41,7 @@ pub(crate) fn set_file<'j, 'b, D: BlockDisk, J: Naming, W: Wait>(
     requires writes { txn.old.writes ≡ [] }
     ensures node { IfOk result (λ after. after ≡ set_node file settings (time_of now)) }
     ensures makes { OnOk result (Makes One J.blocks txn.old txn.new (λ m n. is_file_number number ≡ true → node_at m number ≡ File file
-        → Puts One m n number (record { generation = file.generation; file = Some (with_settings (data_of m file) settings (time_of now)) }))) }
+        → Puts One m n number (record { generation = file.generation; file = Some (with_settings (data_of One m file) settings (time_of now)) }))) }
     ensures refusal { IfErr result IsGivenUp }
 {
     let after = set_node(file, settings, now);

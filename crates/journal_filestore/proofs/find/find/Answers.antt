@@ -3,12 +3,13 @@ use Rattle.journal_filestore.specs.Handles.{IsAt, IsPlace}
 use Rattle.journal_filestore.proofs.Doings.{Tells-like}
 use Rattle.journal_filestore.proofs.Finding.{IsAt-found, IsPlace-place_of}
 use Rattle.journal_filestore.proofs.find.find.Goals as goal
+use Rattle.journal_inode.specs.declared.version.FormatVersion.TheVariants.{One}
 
 pub returns-clause-told : goal.returns-clause-told
 returns-clause-told g c =
     let h = c.args.handle in
     Tells-like _ _ _ _ _
-    (λ m sound is. subst (IsAt h.number h.generation m) (sym c.place_of.ensures)
+    (λ m sound is. subst (IsAt One h.number h.generation m) (sym c.place_of.ensures)
     (IsAt-found m h.number h.generation _ sound h.in_range.0 h.in_range.1 is))
     c.in_ok-node.ensures.told
 

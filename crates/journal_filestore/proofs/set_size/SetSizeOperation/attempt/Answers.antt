@@ -56,7 +56,7 @@ returns g c =
           c.in_ok-after.ensures.makes
           (λ m n sound whole number here puts. (
             (puts number here).sound,
-            changed-puts m n _ c.in-Regular.file (with_settings (data_of m c.in-Regular.file) w.settings (time_of w.moment)) _ _ whole number here c.attributes_of.ensures
+            changed-puts m n _ c.in-Regular.file (with_settings (data_of One m c.in-Regular.file) w.settings (time_of w.moment)) _ _ whole number here c.attributes_of.ensures
                 (c.attributes_of-2.ensures ∙ attributes-set m _ _ _ w.settings (time_of w.moment) whole c.in_ok-after.ensures.node) (puts number here)
                 ∙ sym (set-done w.settings w.guard (time_of w.moment) (files_of One m) _ _ (sym c.is_other_time.ensures ∙ c.if-is_other_time.false) (sym c.is_no_time.ensures ∙ c.if-is_no_time.false) (sym c.is_too_big.ensures ∙ c.if-is_too_big.false)),
           ));
