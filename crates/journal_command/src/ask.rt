@@ -1,6 +1,6 @@
 // What the words of a program ask for.
 ghost use Rattle.std.specs.Prelude.{ℕ, map, string_bytes, IfOk, IfErr, IfSome, IfNone, OnOk, List};
-ghost use Rattle.journal_command.specs.Asks.{AsksScript, AsksFormat, AsksServe, AsksFor, IsSize, MayBeAsked, CannotBegin};
+ghost use Rattle.journal_command.specs.Asks.{AsksScript, AsksFormat, AsksCheck, AsksServe, AsksFor, IsSize, MayBeAsked, CannotBegin};
 
 use crate::number::{read_number, read_port};
 use journal_world::Layout;
@@ -17,6 +17,10 @@ pub enum Ask<'w> {
     Format {
         path: &'w str,
         blocks: u64,
+    },
+    /// Look whether the disk in the file at the path is sound.
+    Check {
+        path: &'w str,
     },
     /// Serve the files of the disk in the file at the path, at a port, or at one that is free where that is 0, to so many
     /// connections.
@@ -52,6 +56,9 @@ impl<'w> Ask<'w> {
             check_size(words, blocks)?;
             return Ok(Ask::Format { path, blocks });
         }
+        if let Some(path) = check_asked(words) {
+            return Ok(Ask::Check { path });
+        }
         match serve_asked(words) {
             Some((path, port, connections)) => Ok(Ask::Serve {
                 path,
@@ -86,6 +93,17 @@ fn format_asked(words: &[String]) -> Option<(&str, u64)>
             path.as_str(),
             u64::from(read_number(blocks.as_bytes())?),
         )),
+        _ => None,
+    }
+}
+
+// Which file the words ask to look at, where they do.
+fn check_asked(words: &[String]) -> Option<&str>
+    ensures some { IfSome result (λ path. AsksCheck (map string_bytes words.now) path.now) }
+    ensures none { IfNone result ((path : List ℕ) → AsksCheck (map string_bytes words.now) path → ⊥) }
+{
+    match words {
+        [what, path] if what.as_str() == "check" => Some(path.as_str()),
         _ => None,
     }
 }

@@ -163,8 +163,8 @@ fn flush<'b, J: Naming, W: Wait>(
     }
 }
 
-// Gives the disk up.
-fn close<'b, J: Naming, W: Wait>(
+/// Gives the disk up.
+pub(crate) fn close<'b, J: Naming, W: Wait>(
     rt: &W,
     files: FileStore<'b, FileDisk, J>,
 ) -> Result<FileDisk, ServiceFault> {
@@ -178,8 +178,12 @@ fn close<'b, J: Naming, W: Wait>(
     }
 }
 
-// Prints a line for whoever waits for it.
-fn print_line<O: Write>(output: &mut O, word: &str, number: u64) -> Result<(), ServiceFault> {
+/// Prints a line for whoever waits for it.
+pub(crate) fn print_line<O: Write>(
+    output: &mut O,
+    word: &str,
+    number: u64,
+) -> Result<(), ServiceFault> {
     match writeln!(output, "{word} {number}").and_then(|()| output.flush()) {
         Ok(()) => Ok(()),
         Err(_) => Err(ServiceFault::CannotWrite),

@@ -10,7 +10,8 @@ use std::alloc::AllocError;
 use std::io;
 use std::io::{ErrorKind, Write};
 
-const USAGE: &str = "usage: jtool script N | jtool format FILE N | jtool serve FILE PORT K";
+const USAGE: &str =
+    "usage: jtool script N | jtool format FILE N | jtool serve FILE PORT K | jtool check FILE";
 
 /// Why the program does not end well.
 #[derive(Drop)]
@@ -34,7 +35,7 @@ pub enum Fault<'w> {
 }
 
 impl<'w> Fault<'w> {
-    /// Why the disk in the file at the path was not made or not served.
+    /// Why the disk in the file at the path was not made, not served, or is not sound.
     pub fn of_disk(fault: ServiceFault, path: &'w str) -> Fault<'w>
         ensures { status_of result ≡ 1 }
     {

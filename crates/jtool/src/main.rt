@@ -1,6 +1,6 @@
 //! The journal at the command line: `jtool script N` makes an empty disk of N blocks in memory, and answers the commands that
 //! it reads on standard input, a line for a line. `jtool format FILE N` makes a disk without files in a file, and `jtool
-//! serve FILE PORT K` serves its files to K connections.
+//! serve FILE PORT K` serves its files to K connections. `jtool check FILE` tells whether it is sound.
 #![tactic(auto)]
 
 ghost use Rattle.std.specs.Prelude.{◌≡◌, ◌≢◌, ◌≤◌, ◌==◌, ℕ, map, string_bytes, IfErr, IsErrAnd};
@@ -88,6 +88,7 @@ fn obey<
     match Ask::read(words)? {
         Ask::Script { blocks } => answer_script(rt, alloc, blocks, input, output),
         Ask::Format { path, blocks } => format(rt, alloc, path, blocks),
+        Ask::Check { path } => check(rt, alloc, path, output),
         Ask::Serve {
             path,
             port,
@@ -131,6 +132,21 @@ fn format<'w, R: Files<File = File> + Clock>(
     ensures { IfErr result (λ fault. status_of fault ≡ 1) }
 {
     match journal_service::format(rt, alloc, path, blocks) {
+        Ok(()) => Ok(()),
+        Err(fault) => Err(Fault::of_disk(fault, path)),
+    }
+}
+
+// Tells whether the disk in a file is sound.
+fn check<'w, R: Files<File = File> + Wait, O: Write>(
+    rt: &R,
+    alloc: Global,
+    path: &'w str,
+    output: &mut O,
+) -> Result<(), Fault<'w>>
+    ensures { IfErr result (λ fault. status_of fault ≡ 1) }
+{
+    match journal_service::check(rt, alloc, path, output) {
         Ok(()) => Ok(()),
         Err(fault) => Err(Fault::of_disk(fault, path)),
     }

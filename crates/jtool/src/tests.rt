@@ -1,6 +1,8 @@
 // The program from end to end: scripts, and what they are answered.
+mod checks;
 mod crashes;
 mod examples;
+mod faults;
 mod rows;
 mod services;
 mod streams;
@@ -17,7 +19,8 @@ use std::thread::Threads;
 use std::time::Clock;
 use streams::{BrokenReader, BrokenWriter};
 
-const USAGE: &str = "usage: jtool script N | jtool format FILE N | jtool serve FILE PORT K\n";
+const USAGE: &str =
+    "usage: jtool script N | jtool format FILE N | jtool serve FILE PORT K | jtool check FILE\n";
 
 /// What a run printed, and its status.
 #[derive(Drop)]
@@ -317,6 +320,8 @@ fn words_are_checked(rt: HostRuntime) -> Result<(), Fail> {
         (&["script", "six"], USAGE, 2),
         (&["script", "4294967296"], USAGE, 2),
         (&["format", "disk"], USAGE, 2),
+        (&["check"], USAGE, 2),
+        (&["check", "disk", "600"], USAGE, 2),
         (&["format", "disk", "0600"], USAGE, 2),
         (&["format", "disk", "600", "1"], USAGE, 2),
         (&["serve", "disk", "2049"], USAGE, 2),

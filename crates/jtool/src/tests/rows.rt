@@ -98,6 +98,25 @@ const ROWS: &[(&str, &str, u8)] = &[
         ok\nok\nrefused J7 BadLog\nok\nopened\n= 00*128\n",
         0,
     ),
+    // The first start that no log has, and the last end, behind which there is no room for a group.
+    (
+        "down none\npoke 1 0 00*7+40\npoke 0 0 00*7+40\nopen\n",
+        "ok\nok\nok\nrefused J7 BadLog\n",
+        0,
+    ),
+    (
+        "down none\npoke 1 0 ff*7+3f\npoke 0 0 ff*7+3f\nopen\nput 531 0 aa*4096\ncommit\n",
+        "ok\nok\nok\nopened\nok\nrefused J11 Worn\n",
+        0,
+    ),
+    // The home of a logged block is a block of the disk.
+    (
+        "down none\npoke 0 0 01\npoke 0 8 58+02\nopen\npoke 0 8 57+02\nopen\n",
+        "ok\nok\nok\nrefused J7 BadLog\nok\nopened\n",
+        0,
+    ),
+    // What the header has behind the last position is nothing.
+    ("down none\npoke 0 8 ff*4088\nopen\n", "ok\nok\nopened\n", 0),
     // A fault stays until the disk is mounted again.
     (
         "put 515 0 01*128\ncommit\nfail 2\nlog\npend\nget 515 0\ncrash all\nget 515 0\n",

@@ -1,5 +1,6 @@
 // Disks in files, and the service of their files, with both ends of each connection in one process.
 
+use super::checks::is_told;
 use super::{Run, begins, run_with, words_of};
 use crate::run;
 use std::alloc::{AllocError, Global};
@@ -144,13 +145,13 @@ fn bytes_of(alloc: Global, words: &[u32]) -> Result<Vec<u8>, AllocError> {
 }
 
 /// A path in the folder for temporary files.
-fn path_of(rt: &(impl Env + AllocGlobal), name: &str) -> Result<PathBuf, Fail> {
+pub(super) fn path_of(rt: &(impl Env + AllocGlobal), name: &str) -> Result<PathBuf, Fail> {
     let mut path = env::temp_dir(rt)?;
     path.push(name)?;
     Ok(path)
 }
 
-fn text_of(path: &PathBuf) -> Result<&str, Fail> {
+pub(super) fn text_of(path: &PathBuf) -> Result<&str, Fail> {
     Ok(path.as_path().to_str().ok_or("the path is text")?)
 }
 
@@ -427,6 +428,7 @@ fn serves_twice<
 >(rt: &H, alloc: Global, path: &str) -> Result<(), Fail> {
     makes_disk(rt, alloc, path)?;
     is_answered(rt, alloc, path, ONE_PEER, CREATE_F002, (MADE, false))?;
+    is_told(rt, alloc, path, ("sound version 1 files 1\n", "", 0))?;
     is_answered(rt, alloc, path, ONE_PEER, CREATE_F003, (NO_SPACE, true))
 }
 
@@ -549,6 +551,7 @@ fn is_refused_to_others<
     assert_eq!(rt; locked, 0);
     let faults = format!(in alloc; "cannot use {path}\n")?;
     begins(rt, alloc, &["serve", path, "0", "0"], &faults, 1)?;
+    begins(rt, alloc, &["check", path], &faults, 1)?;
     begins(rt, alloc, &["format", path, "533"], &faults, 1)
 }
 

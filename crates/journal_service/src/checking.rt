@@ -1,0 +1,98 @@
+// Whether the disk in a file is sound.
+ghost use Rattle.std.specs.Prelude.{◌≡◌};
+
+use crate::fault::ServiceFault;
+use crate::file;
+use crate::serving::{close, print_line};
+use journal_disk::FileDisk;
+use journal_filestore::{Fault, FileStore, Handle};
+use journal_history::{Book, Naming, Session};
+use journal_inode::{INODES, SoundFiles};
+use journal_world::Refused;
+use std::alloc::Global;
+use std::fs::{File, Files};
+use std::io::Write;
+use std::marker::Brand;
+use std::sync::Wait;
+
+// The root directory's number and generation.
+const ROOT: u32 = 1;
+
+/// Mounts the disk in the file, and prints that it is sound, its version and how many files it has. The files are not
+/// changed, and nothing is written to the disk.
+///
+/// Refused as a mount is: J7 `BadLog` where its log is not well formed, J8 `BadSuper` where its files are not sound.
+pub fn check<R: Files<File = File> + Wait, O: Write>(
+    rt: &R,
+    alloc: Global,
+    path: &str,
+    output: &mut O,
+) -> Result<(), ServiceFault> {
+    let disk = file::open(rt, path)?;
+    let book: Book<SoundFiles> = Book::open::<()>().unwrap();
+    let files = files_of::<Brand, R>(rt, alloc, &book, disk)?;
+    print_line(output, "sound version 1 files", files)
+}
+
+// Mounts the disk, and answers how many files it has.
+fn files_of<J: Naming, W: Wait>(
+    rt: &W,
+    alloc: Global,
+    book: &Book<SoundFiles>,
+    disk: FileDisk,
+) -> Result<u64, ServiceFault>
+    requires book { book.now ≡ J.book }
+    requires blocks { disk.size ≡ J.blocks }
+{
+    let files: FileStore<FileDisk, J> = match FileStore::mount(alloc, book, disk) {
+        Ok(files) => files,
+        Err(Refused { refusal, .. }) => return Err(ServiceFault::refused(refusal)),
+    };
+    let counted = count(rt, &files);
+    close(rt, files)?;
+    counted
+}
+
+// How many names are files.
+fn count<'b, J: Naming, W: Wait>(
+    rt: &W,
+    files: &FileStore<'b, FileDisk, J>,
+) -> Result<u64, ServiceFault> {
+    let mut session = match files.journal().session(rt) {
+        Ok(session) => session,
+        Err(why) => return Err(ServiceFault::refused(why)),
+    };
+    let mut found: u64 = 0;
+    for number in ROOT + 1..INODES {
+        if is_file(rt, files, &mut session, number)? {
+            found = found.saturating_add(1);
+        }
+    }
+    Ok(found)
+}
+
+// Whether there is a file of the name of this number.
+fn is_file<'b, J: Naming, W: Wait>(
+    rt: &W,
+    files: &FileStore<'b, FileDisk, J>,
+    session: &mut Session<'b, J, SoundFiles>,
+    number: u32,
+) -> Result<bool, ServiceFault> {
+    let Some(root) = Handle::new(ROOT, ROOT) else {
+        return Ok(false);
+    };
+    match files.lookup(rt, session, root, &name_of(number)) {
+        Ok(answer) => Ok(answer.is_ok()),
+        Err(Fault::Refused(why) | Fault::Unsure(why)) => Err(ServiceFault::refused(why)),
+    }
+}
+
+// The name of the file of a number: f and three decimal digits.
+fn name_of(number: u32) -> [u8; 4] {
+    [b'f', digit(number / 100), digit(number / 10), digit(number)]
+}
+
+// The last decimal digit of a number.
+fn digit(number: u32) -> u8 {
+    b'0' + (number % 10) as u8
+}
