@@ -148,9 +148,34 @@ const GIVEN_UP: &str = "
 9999 0 5 12 1 0 : = WriteFailed 1 4
 ";
 
+// The same at each read of two calls, eleven bytes at a time, and at each write of their replies, seven bytes at a time: what was
+// written is the front of the replies.
+const GIVEN_UP_AT_EACH: &str = "
+11 1 9999 9999 2 88 : = ReadFailed 0 0
+11 1 9999 9999 2 77 : = ReadFailed 0 0
+11 1 9999 9999 2 66 : = ReadFailed 0 0
+11 1 9999 9999 2 55 : = ReadFailed 0 0
+11 1 9999 9999 2 44 : = ReadFailed 1 1
+11 1 9999 9999 2 33 : = ReadFailed 1 1
+11 1 9999 9999 2 22 : = ReadFailed 1 1
+11 1 9999 9999 2 11 : = ReadFailed 1 1
+11 1 9999 9999 2 0 : = ReadFailed 2 2
+9999 0 7 0 2 0 : = WriteFailed 2 1
+9999 0 7 7 2 0 : = WriteFailed 2 2
+9999 0 7 14 2 0 : = WriteFailed 2 3
+9999 0 7 21 2 0 : = WriteFailed 2 4
+9999 0 7 28 2 0 : = WriteFailed 2 5
+9999 0 7 35 2 0 : = WriteFailed 2 6
+9999 0 7 42 2 0 : = WriteFailed 2 7
+9999 0 7 49 2 0 : = WriteFailed 2 8
+9999 0 7 56 2 0 : = EndOfInput 2 8
+";
+
 #[test]
 fn a_connection_is_given_up(rt: HostRuntime) {
     let story = Story::Connections(GIVEN_UP);
+    assert_eq!(rt; on_new_disk(&rt, rt.alloc(), 532, &story), Ok(()));
+    let story = Story::Connections(GIVEN_UP_AT_EACH);
     assert_eq!(rt; on_new_disk(&rt, rt.alloc(), 532, &story), Ok(()));
 }
 
