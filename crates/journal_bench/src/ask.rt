@@ -4,6 +4,7 @@ ghost use Rattle.std.specs.Prelude.{◌≤◌, IfOk};
 use crate::fault::USAGE;
 use crate::load::{Ending, Load, MOST_OBJECTS};
 use crate::place::Place;
+use crate::reads::ReadLoad;
 use anyhow::{Result, bail};
 
 // The most threads that commit, and the most transactions of one and calls.
@@ -18,6 +19,8 @@ pub enum Ask {
     Short,
     /// Commits, over a new disk at the place.
     Commits { load: Load, place: Place },
+    /// Reads of what is in memory, over a new disk at the place, alone and beside commits.
+    Reads { load: ReadLoad, place: Place },
     /// So many calls of the file service of each kind.
     Calls { calls: u32 },
 }
@@ -30,6 +33,14 @@ impl Ask {
             [what, calls] if what.as_str() == "calls" => {
                 let calls = number(calls, MOST_COMMITS)?;
                 Ok(Ask::Calls { calls })
+            }
+            [what, readers, reads, place] if what.as_str() == "reads" => {
+                let load = ReadLoad {
+                    readers: number(readers, MOST_THREADS)?,
+                    reads: number(reads, MOST_COMMITS)?,
+                };
+                let place = read_place(place)?;
+                Ok(Ask::Reads { load, place })
             }
             [what, threads, objects, commits, ending, place] if what.as_str() == "commits" => {
                 let load = Load {

@@ -15,6 +15,7 @@ mod journals;
 mod load;
 mod memory;
 mod place;
+mod reads;
 mod records;
 mod report;
 
@@ -22,6 +23,7 @@ use anyhow::Result;
 use ask::Ask;
 use load::{Ending, Load};
 use place::Place;
+use reads::ReadLoad;
 use std::alloc::Global;
 use std::env;
 use std::fs::File;
@@ -32,6 +34,11 @@ use std::thread::Threads;
 
 // How much the short run does.
 const SHORT_COMMITS: u32 = 200;
+
+const SHORT_READS: ReadLoad = ReadLoad {
+    readers: 2,
+    reads: 200,
+};
 
 const SHORT_CALLS: u32 = 20;
 
@@ -46,6 +53,10 @@ pub fn run<R: Threads + Wait + Clock + Files<File = File> + Alloc<A = Global> + 
         Ask::Commits { load, place } => {
             let figures = journals::measure(rt, load, &place)?;
             report::print_commits(&figures, output)
+        }
+        Ask::Reads { load, place } => {
+            let figures = reads::measure(rt, load, &place)?;
+            report::print_reads(&figures, output)
         }
         Ask::Calls { calls } => {
             let figures = calls::measure(rt, rt.alloc(), calls)?;
@@ -71,6 +82,8 @@ fn run_short<R: Threads + Wait + Clock + Files<File = File> + Alloc<A = Global> 
             writeln!(output, "{threads} {ending}: all stable")?;
         }
     }
+    reads::measure(rt, SHORT_READS, &Place::Memory)?;
+    writeln!(output, "reads: all made")?;
     calls::measure(rt, rt.alloc(), SHORT_CALLS)?;
     writeln!(output, "calls: all answered")?;
     Ok(())

@@ -1,6 +1,7 @@
 // What is printed of figures.
 use crate::calls::CallFigures;
 use crate::journals::Figures;
+use crate::reads::ReadFigures;
 use std::io::Write;
 use std::time::Duration;
 use std::{fmt, io};
@@ -63,6 +64,28 @@ pub fn print_commits<O: Write>(figures: &Figures, output: &mut O) -> anyhow::Res
         "share of the device",
         Hundredths::ratio(groups, limit),
     )?;
+    output.flush()?;
+    Ok(())
+}
+
+/// Prints what reads took, a figure a line.
+pub fn print_reads<O: Write>(figures: &ReadFigures, output: &mut O) -> anyhow::Result<()> {
+    let ReadFigures {
+        load,
+        alone,
+        beside,
+        commits,
+    } = *figures;
+    let reads = u64::from(load.readers).saturating_mul(u64::from(load.reads));
+    let rates = (a_second(reads, alone), a_second(reads, beside));
+    print(output, "reads a second", rates.0)?;
+    print(output, "reads a second beside commits", rates.1)?;
+    print(
+        output,
+        "of those alone",
+        Hundredths::ratio(rates.1, rates.0),
+    )?;
+    print(output, "commits a second", a_second(commits, beside))?;
     output.flush()?;
     Ok(())
 }
