@@ -316,11 +316,11 @@ module _ (blocks : ℕ) (d : DurableState) (kept : IsDurable blocks d) (front : 
           open_blocks (all (trusts honest))))
 
 -- what was opened is kept
-pub kept_begun : (blocks : ℕ) (objects : WalState) (front : List Entry) → size_of objects ≡ blocks → IsAtRest objects → next_position objects.log ≡ objects.log.cut
+pub kept_begun : (blocks : ℕ) (objects : WalState) (front : List Entry) → size_of objects ≡ blocks → IsAtRest objects
     → front ≡ opening (map_now objects) (log_disk objects).honest ∷ [] → ((content : Content) → IsMapOf content (map_of_blocks blocks content))
     → (IsTrue (log_disk objects).honest → EveryImage (log_disk objects).past (OpensAs (map_now objects)))
     → IsDurable blocks (begun_durable objects front)
-kept_begun blocks objects front size rest next begun law images =
+kept_begun blocks objects front size rest begun law images =
     subst (λ (h : List Entry). IsDurable blocks (begun_durable objects h)) (sym begun) (record {
       size = size;
       begun = λ is. cc (is);
@@ -331,7 +331,7 @@ kept_begun blocks objects front size rest next begun law images =
       coming_to_count = omega arith;
       tail = rest.tail;
       ends = omega (arith, rest.cut);
-      next = next;
+      next = rest.next;
       idle = λ fine none. rest.cut;
       rest = λ _. refl;
       maps = λ honest. record {

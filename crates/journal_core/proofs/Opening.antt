@@ -10,6 +10,7 @@ use Rattle.journal_world.specs.Histories.Entry.{opening}
 use Rattle.journal_world.proofs.SameMaps.{SameMap-refl}
 use Rattle.journal_disk.specs.Disks.{DiskState, Keeps, Past, HasFailed}
 use Rattle.journal_disk.specs.Images.{EveryImage}
+use Rattle.journal_memlog.specs.Logs.{next_position}
 use Rattle.journal_wal.specs.Wal.{WalState, IsAtRest as AtRest, size_of, blocks_now, log_steps, install_steps, tail_length}
 use Rattle.journal_objlog.specs.Maps.{OpensAs}
 use Rattle.journal_objlog.specs.MapLaws.{map_of-blocks, map_of-objects}
@@ -34,6 +35,8 @@ rests_still old new reads fine rest = record {
   installing = ap install_steps reads.same ∙ rest.installing;
   tail = ap tail_length reads.same ∙ rest.tail;
   cut = ap (λ (w : WalState). w.log.logged) reads.same ∙ rest.cut ∙ sym (ap (λ (w : WalState). w.log.cut) reads.same);
+  next = ap (λ (w : WalState). next_position w.log) reads.same ∙ rest.next ∙ sym (ap (λ (w : WalState). w.log.cut) reads.same);
+  small = omega (arith, ap (λ (w : WalState). next_position w.log) reads.same, rest.small);
 }
 
 -- A disk was opened, and its map was read

@@ -2,7 +2,6 @@
 ghost use Rattle.std.specs.Prelude.{◌≡◌, ◌≤◌, ◌↔◌, ◌∷◌, [], IsTrue};
 ghost use Rattle.journal_world.specs.Histories.Entry.{opening};
 ghost use Rattle.journal_disk.specs.Images.{EveryImage};
-ghost use Rattle.journal_memlog.specs.Logs.{next_position};
 ghost use Rattle.journal_wal.specs.Wal.{size_of, IsAtRest};
 ghost use Rattle.journal_objlog.specs.Maps.{OpensAs};
 ghost use Rattle.journal_objlog.specs.ObjectLogs.{map_now, IsCutLogged, disk_of as log_disk};
@@ -44,7 +43,6 @@ impl<'b, D: BlockDisk, R: MapRule, J: Naming> Durable<'b, D, R, J> {
     pub(crate) fn new(objects: ObjectLog<D>, front: Front<'b, J, R>) -> Durable<'b, D, R, J>
         requires size { size_of objects ≡ J.blocks }
         requires rest { IsAtRest objects }
-        requires next { next_position objects.log ≡ objects.log.cut }
         requires begun { front ≡ opening (map_now objects) (log_disk objects).honest ∷ [] }
         requires images { IsTrue (log_disk objects).honest → EveryImage (log_disk objects).past (OpensAs (map_now objects)) }
         ensures { result ≡ begun_durable objects front.entry }

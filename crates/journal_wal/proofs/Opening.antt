@@ -128,6 +128,8 @@ module _ (first ring : Ring) (log : LogState) (rest : first ≡ at_rest first.di
       installing = refl;
       tail = length-drop (log.cut - log.start) log.updates ∙ omega (arith, is.cut, is.next, is.start, ordered);
       cut = is.logged ∙ sym is.cut;
+      next = is.next ∙ sym is.cut;
+      small = omega (arith, small, is.next);
     },
   )
     where

@@ -1,5 +1,5 @@
 -- What contracts see of a write-ahead log: the blocks now, those that a crash may leave, and what the next steps are.
-use Rattle.std.specs.Prelude.{ℕ, zero, suc, ◌≡◌, ◌⊎◌, ◌<◌, ◌≤◌, ◌+◌, ◌-◌, true, false, IsTrue, if◌then◌else◌, List, [], ◌∷◌, length, take, slice_index_or, Option, Some, None}
+use Rattle.std.specs.Prelude.{ℕ, zero, suc, ◌≡◌, ◌⊎◌, ◌<◌, ◌≤◌, ◌+◌, ◌-◌, ◌^◌, true, false, IsTrue, if◌then◌else◌, List, [], ◌∷◌, length, take, slice_index_or, Option, Some, None}
 use Rattle.std.specs.List.{All, slice_get}
 use Rattle.std.specs.List.Sorted.{IsStrictlySortedBy}
 use Rattle.std.specs.Map.{lookup, keys_of}
@@ -16,7 +16,7 @@ use Rattle.journal_disk.specs.Moments.{LeavesOnly}
 use Rattle.journal_circ.specs.StandsFor.{StandsFor}
 use Rattle.journal_circ.specs.Log.{log_block, with_end, start_block, start_in, end_in}
 use Rattle.journal_circ.specs.Ring.{Ring, home_of, MakesCall, TriesCall}
-use Rattle.journal_memlog.specs.Logs.{LogState, tail_of, absorbed, appended, trimmed, CanTake}
+use Rattle.journal_memlog.specs.Logs.{LogState, next_position, tail_of, absorbed, appended, trimmed, CanTake}
 use Rattle.journal_circ.specs.declared.layout.TheConstants.{FIRST_HOME, LOG_POSITIONS}
 use Rattle.journal_wal.specs.declared.append.TheConstants.{MAX_TAIL, MAX_UPDATES}
 use Rattle.journal_wal.specs.declared.step.GroupStep.{GroupStep}
@@ -357,10 +357,12 @@ pub record HasBoundsIn (image : List Bytes) (w : WalState) : Type 0 where
   pub start : w.log.start ≡ start_in image
   pub end : w.log.logged ≡ end_in image
 
--- Nothing is in flight, and the tail is empty
+-- Nothing is in flight, and the tail is empty: the next position is the one after the last cut
 pub record IsAtRest (w : WalState) : Type 0 where
   pub fine : w.ring.faulted ≡ false
   pub logging : log_steps w ≡ 0
   pub installing : install_steps w ≡ 0
   pub tail : tail_length w ≡ 0
   pub cut : w.log.logged ≡ w.log.cut
+  pub next : next_position w.log ≡ w.log.cut
+  pub small : next_position w.log < 2 ^ 62
