@@ -14,8 +14,7 @@ use Rattle.journal_core.specs.Covers.{KeepsCovered}
 use Rattle.journal_core.specs.SlotCounts.{Counts, AreCounts, CountsNothing, CountsWrites, KeepsCounts}
 use Rattle.journal_core.specs.Memories.{MemoryState, IsMemory}
 use Rattle.journal_core.proofs.Covering.{keeps_commit as covers_commit, keeps_cut as covers_cut, keeps_none as covers_none}
-use Rattle.journal_core.proofs.Keeping.{tallied_mark, commits_of-other}
-use Rattle.journal_core.proofs.Committing.{tallied_commit}
+use Rattle.journal_core.proofs.Committing.{commits_of-other, tallied_mark, tallied_commit}
 
 -- nothing is counted yet
 counts_none : (c : Counts) (history : List Entry) → commits history ≡ [] → CountsNothing c → AreCounts c history

@@ -1,18 +1,30 @@
 -- What a step answers and leaves, as one event.
-use Rattle.std.proofs.Common.{◌≡◌, IsTrue, Result, Ok, Err, OnOk, OnErr, IfOk, IfErr}
+use Rattle.std.proofs.Common.{◌≡◌, ℕ, false, List, map, IsTrue, refl, sym, ap, subst, ◌∙◌, Result, Ok, Err, OnOk, OnErr, IfOk, IfErr, IsErrAnd}
+use mathlib.Core.List.{IsPrefix}
 use Rattle.journal_world.specs.declared.refusal.Refusal.{Refusal}
+use Rattle.journal_world.specs.declared.refusal.Refusal.TheVariants.{NoMemory, BadAddress, BadSize, TooLarge, Busy, DeviceFailed, BadLog, BadSuper, Stale, Stranger, Worn, Full, Closed, Fenced}
 use Rattle.journal_wal.specs.declared.step.InstallStep.{InstallStep}
 use Rattle.journal_core.specs.declared.step.LogStep.{LogStep}
-use Rattle.journal_world.specs.Maps.{Agrees}
-use Rattle.journal_world.specs.Histories.{is_trusted, latest}
-use Rattle.journal_objlog.specs.ObjectLogs.{OnlyReads}
+use Rattle.journal_world.specs.declared.address.Addr.{Addr}
+use Rattle.journal_world.specs.Addresses.{Value}
+use Rattle.journal_world.specs.Maps.{Agrees, value_at, is_object}
+use Rattle.journal_world.specs.Histories.{Entry, is_trusted, latest}
+use Rattle.journal_block.specs.declared.update.Update.{Update}
+use Rattle.journal_objlog.specs.ObjectLogs.{OnlyReads as OnlyReadsLog}
 use Rattle.journal_history.specs.Tokens.{SessionState, CommitPlace}
 use Rattle.journal_core.specs.Causes.{Told}
-use Rattle.journal_core.specs.Cores.{CoreState, Crashes, IsRunning}
-use Rattle.journal_core.specs.Transactions.{TransactionState}
-use Rattle.journal_core.specs.Steps.{LogAnswers, IsLogRefusal, InstallAnswers, IsInstallRefusal, BeginsSession, IsSessionRefusal}
+use Rattle.journal_core.specs.Durables.{DurableState, FetchedState, IsFetched, IsCallRefusal, is_faulted, Crashes as CrashesDurable}
+use Rattle.journal_core.specs.Outsets.{Outset, MayRead, CanCommit as CanCommitFrom}
+use Rattle.journal_core.specs.Volatiles.{VolatileState, IsVolatile, outset_of}
+use Rattle.journal_core.specs.VolatileCommits.{IsCommitted as IsCommittedIn}
+use Rattle.journal_core.specs.Cores.{CoreState, Crashes, IsPair, IsRunning, OnlyReads, core_of}
+use Rattle.journal_core.specs.Transactions.{TransactionState, FoundState}
+use Rattle.journal_core.specs.Steps.{LogAnswers, IsLogRefusal, InstallAnswers, IsInstallRefusal, BeginsSession, IsSessionRefusal, IsReadRefusal, IsFetchRefusal}
 use Rattle.journal_core.specs.Commits.{IsCommitted, CanCommit, IsCommitRefusal}
-use Rattle.journal_core.specs.Interleavings.{AnswersCommit, AnswersLog, AnswersInstall, AnswersSession}
+use Rattle.journal_core.specs.Interleavings.{AnswersCommit, AnswersLog, AnswersInstall, AnswersSession, AnswersRead, FindsValue, CommitsTransaction, FetchesBlocks, RefusesFetch}
+use Rattle.journal_objlog.proofs.Openings.{OnlyReads-refl}
+use Rattle.journal_core.proofs.Joining.{failed, fails_as, crashes_pair, crashes_memory, same_outset}
+use Rattle.journal_core.proofs.Admitting.{committed_as, pair_committed}
 
 module _ (old new : CoreState) (crash : Crashes old new) where
   pub answers_log : (r : Result LogStep (Refusal Told)) → IfOk r (λ step. LogAnswers old step new)
@@ -47,3 +59,82 @@ module _ (old new : CoreState) (crash : Crashes old new) where
       → IfErr r (IsSessionRefusal old) → OnErr r (new ≡ old) → AnswersSession old r new
   answers_session (Ok session) begins refusal same = record { begins = begins; crash = crash }
   answers_session (Err why) begins refusal same = record { refusal = refusal; same = same; crash = crash }
+
+  -- the exit of a `?`
+  pub refuses_read : (blocks : ℕ) (t : TransactionState) (a : Addr) (v : Value) (r : Result FoundState (Refusal Told)) (holds : Refusal Told → Type 0) → IsErrAnd r holds
+      → IfErr r (IsReadRefusal blocks old t a new) → OnlyReads old.objects new.objects → new ≡ record old { objects = new.objects }
+      → AnswersRead blocks old t a r v new
+  refuses_read blocks t a v (Ok found) holds is refusal reads others = absurd is
+  refuses_read blocks t a v (Err why) holds is refusal reads others = record {
+    refusal = refusal;
+    reads = reads;
+    others = others;
+    crash = crash;
+  }
+
+-- a fetch, of a pair that goes on
+module _ (blocks : ℕ) (v : VolatileState) (d : DurableState) (pair : IsPair blocks v d) (running : IsRunning (core_of v d)) (e : DurableState)
+    (reads : OnlyReadsLog d.objects e.objects) (others : e ≡ record d { objects = e.objects }) (crash : CrashesDurable d e) where
+  pub fetches_blocks : (numbers : List ℕ) (f : FetchedState) → map (λ (u : Update). u.block) f.updates ≡ numbers → f.front ≡ d.front → f.commits ≡ d.logged
+      → IsFetched blocks f → is_faulted e ≡ false → IsPair blocks v e → FetchesBlocks blocks (core_of v d) numbers f (core_of v e)
+  fetches_blocks numbers f named front commits kept fine now = record {
+    named = named;
+    begins = subst (λ (h : List Entry). IsPrefix h v.memory.history) (sym front) pair.tied.begins;
+    commits = commits;
+    objects = kept;
+    running = (running.0, fine);
+    reads = record { wal = reads; tail = refl };
+    others = ap (core_of v) others;
+    crash = crashes_pair blocks v v d e pair now crash;
+  }
+
+  fetch_fails : (why : Refusal Told) → IsCallRefusal d e why → IsFetchRefusal (core_of v d) (core_of (failed v) e) why
+  fetch_fails (DeviceFailed cause) it = fails_as blocks v d pair running e (Unit {0}) cause tt it
+  fetch_fails NoMemory it = absurd it
+  fetch_fails BadAddress it = absurd it
+  fetch_fails BadSize it = absurd it
+  fetch_fails TooLarge it = absurd it
+  fetch_fails Busy it = absurd it
+  fetch_fails BadLog it = absurd it
+  fetch_fails BadSuper it = absurd it
+  fetch_fails (Stale cause) it = absurd it
+  fetch_fails (Stranger cause) it = absurd it
+  fetch_fails (Worn cause) it = absurd it
+  fetch_fails (Full cause) it = absurd it
+  fetch_fails (Closed cause) it = absurd it
+  fetch_fails Fenced it = absurd it
+
+  pub fetch_refused : (why : Refusal Told) → IsCallRefusal d e why → IsPair blocks (failed v) e → RefusesFetch (core_of v d) why (core_of (failed v) e)
+  fetch_refused why it now = record {
+    refusal = fetch_fails why it;
+    reads = record { wal = reads; tail = refl };
+    others = ap (core_of v) others;
+    crash = crashes_pair blocks v (failed v) d e pair now crash;
+  }
+
+-- a hold of memory alone, of a pair that is tied, with whatever was fetched before
+module _ (blocks : ℕ) (v : VolatileState) (d : DurableState) (pair : IsPair blocks v d) where
+  pub finds_in_memory : (t : TransactionState) (a : Addr) (x : Value) → MayRead blocks (outset_of v) t a
+      → (IsTrue (is_trusted v.memory.history) → x ≡ value_at (latest v.memory.history) a) → IsTrue (is_object blocks (a, x))
+      → FindsValue blocks (core_of v d) t a x (core_of v d)
+  finds_in_memory t a x may value object = record {
+    may = subst (λ (o : Outset). MayRead blocks o t a) (same_outset blocks v d pair) may;
+    value = value;
+    object = object;
+    running = (may.running.0, sym pair.fault ∙ may.running.1);
+    reads = record { wal = OnlyReads-refl d.objects; tail = refl };
+    others = refl;
+    crash = crashes_memory blocks v v d pair pair;
+  }
+
+  pub commits_in_memory : (w : VolatileState) (t : TransactionState) (s after : SessionState) → IsVolatile blocks w
+      → IsCommittedIn t.reads t.writes s after v w → CanCommitFrom (outset_of v) s t
+      → (IsTrue (is_trusted v.memory.history) → Agrees (latest v.memory.history) t.reads)
+      → CommitsTransaction (core_of v d) s t (core_of w d) after
+  commits_in_memory w t s after kept it can agrees = record {
+    can = subst (λ (o : Outset). CanCommitFrom o s t) (same_outset blocks v d pair) can;
+    committed = committed_as blocks v d pair w d t.reads t.writes s after (OnlyReads-refl d.objects) refl it;
+    agrees = agrees;
+    running = (ap (λ (x : VolatileState). x.memory.closed) it.others ∙ can.may.running.0, sym pair.fault ∙ can.may.running.1);
+    crash = crashes_memory blocks v w d pair (pair_committed blocks v d pair w t.reads t.writes s after kept it);
+  }

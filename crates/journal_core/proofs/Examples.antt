@@ -1,4 +1,4 @@
--- A run by hand: two writes in one transaction, the group that logs them, a crash, and the next opening. Whoever calls the
+-- A run by hand: a fetch, two writes in one transaction, the group that logs them, a crash, and the next opening. Whoever calls the
 -- steps of the core has such a run, for each step's contract says that it is its event.
 use Rattle.std.proofs.Common.{◌≡◌, IsTrue, inr, List, [], ◌∷◌, Some, None, Ok, refl}
 use mathlib.Core.List.{IsPrefix}
@@ -11,11 +11,12 @@ use Rattle.journal_world.specs.Histories.{opened}
 use Rattle.journal_block.specs.Block.{Bytes}
 use Rattle.journal_disk.specs.Disks.{DiskState}
 use Rattle.journal_history.specs.Tokens.{SessionState, next_transaction}
+use Rattle.journal_core.specs.Durables.{FetchedState}
 use Rattle.journal_core.specs.Cores.{CoreState, Crashes, disk_of}
 use Rattle.journal_core.specs.Transactions.{TransactionState, begun, Overwrites}
 use Rattle.journal_core.specs.Openings.{Begins}
-use Rattle.journal_core.specs.Interleavings.{Event, Answer, Mount, mounted, with_core, with_transaction, with_slot, ended, CommitsTransaction, LogsStep, Joins, IsLeftBetween, HoldsImage, Run}
-use Rattle.journal_core.specs.Interleavings.Event.{joins, begins, takes, overwrites, logs, crashes, opens}
+use Rattle.journal_core.specs.Interleavings.{Event, Answer, Mount, mounted, with_core, with_transaction, with_slot, with_fetched, ended, FetchesBlocks, CommitsTransaction, LogsStep, Joins, IsLeftBetween, HoldsImage, Run}
+use Rattle.journal_core.specs.Interleavings.Event.{joins, fetches, begins, takes, overwrites, logs, crashes, opens}
 use Rattle.journal_core.specs.Interleavings.Event.{commits as finishes}
 use Rattle.journal_core.specs.Interleavings.Answer.{nothing, committed, marked, crashed, reopened}
 use Rattle.journal_core.specs.Interleavings.Machine.{up, down}
@@ -36,6 +37,7 @@ pub record Moves (step : LogStep) (old new : CoreState) : Type 0 where
 pub record Steps (rule : Map → Type 0) (disk : DiskState) (image : List Bytes) (v w : Value) : Type 0 where
   pub at_first : CoreState
   pub joined : CoreState
+  pub ready : CoreState
   pub at_commit : CoreState
   pub cut : CoreState
   pub block : CoreState
@@ -45,18 +47,20 @@ pub record Steps (rule : Map → Type 0) (disk : DiskState) (image : List Bytes)
   pub marks : CoreState
   pub last : CoreState
   pub next : CoreState
+  pub blocks : FetchedState
   pub session : SessionState
   pub after : SessionState
   pub one : TransactionState
   pub both : TransactionState
   pub begins_first : Begins rule disk at_first
   pub joins_one : Joins at_first session joined
-  pub seen : IsPrefix session.seen joined.history
-  pub first_object : IsTrue (is_object (opened joined.history).blocks (first, v))
+  pub fetch : FetchesBlocks (opened joined.history).blocks joined (531 ∷ []) blocks ready
+  pub seen : IsPrefix session.seen ready.history
+  pub first_object : IsTrue (is_object (opened ready.history).blocks (first, v))
   pub writes_first : Overwrites (begun session.seen) first v one
-  pub second_object : IsTrue (is_object (opened joined.history).blocks (second, w))
+  pub second_object : IsTrue (is_object (opened ready.history).blocks (second, w))
   pub writes_second : Overwrites one second w both
-  pub commits_both : CommitsTransaction joined session both at_commit after
+  pub commits_both : CommitsTransaction ready session both at_commit after
   pub cuts : Moves Cut at_commit cut
   pub puts_block : Moves Put cut block
   pub syncs_block : Moves Put block synced
@@ -71,8 +75,11 @@ pub record Steps (rule : Map → Type 0) (disk : DiskState) (image : List Bytes)
 
 module _ (rule : Map → Type 0) (disk : DiskState) (image : List Bytes) (v w : Value) (s : Steps rule disk image v w) where
   -- the mount before each event of the transaction
+  abbrev before : Mount
+  before = record { core = s.joined; transactions = λ actor. None; holders = λ slot. None; fetched = λ actor. [] }
+
   abbrev here : Mount
-  here = record { core = s.joined; transactions = λ actor. None; holders = λ slot. None }
+  here = with_fetched (with_core before s.ready) 0 s.blocks
 
   abbrev begun_one : Mount
   begun_one = with_transaction here 0 (Some (begun s.session.seen))
@@ -98,49 +105,53 @@ module _ (rule : Map → Type 0) (disk : DiskState) (image : List Bytes) (v w : 
   logs_on step old new moves events answers run = (up (done new), (Ok step, (new, moves.did, moves.same, refl)), run)
 
   pub is_run : Run rule (mounted s.at_first)
-      (joins ∷ begins 0 ∷ takes 0 (slot_of first) ∷ overwrites 0 first v ∷ takes 0 (slot_of second) ∷ overwrites 0 second w ∷ finishes 0
+      (joins ∷ fetches 0 (531 ∷ []) ∷ begins 0 ∷ takes 0 (slot_of first) ∷ overwrites 0 first v ∷ takes 0 (slot_of second) ∷ overwrites 0 second w ∷ finishes 0
       ∷ logs ∷ logs ∷ logs ∷ logs ∷ logs ∷ logs ∷ crashes image ∷ opens ∷ [])
-      (nothing ∷ nothing ∷ nothing ∷ nothing ∷ nothing ∷ nothing ∷ committed (next_transaction s.session s.both.reads s.both.writes)
+      (nothing ∷ nothing ∷ nothing ∷ nothing ∷ nothing ∷ nothing ∷ nothing ∷ committed (next_transaction s.session s.both.reads s.both.writes)
       ∷ nothing ∷ nothing ∷ nothing ∷ nothing ∷ nothing ∷ marked 1 ∷ crashed ∷ reopened ∷ [])
       (mounted s.next)
   is_run = (
-    up here,
+    up before,
     (refl, (Ok s.session, (s.joined, s.joins_one, refl))),
     (
-      up begun_one,
-      (refl, (s.session.seen, s.seen, refl)),
+      up here,
+      (refl, (Ok s.blocks, (s.ready, s.fetch, refl))),
       (
-        up held_first,
-        (refl, refl),
+        up begun_one,
+        (refl, (s.session.seen, s.seen, refl)),
         (
-          up wrote_first,
-          (refl, inr (s.first_object, (s.one, s.writes_first, refl))),
+          up held_first,
+          (refl, refl),
           (
-            up held_second,
-            (refl, refl),
+            up wrote_first,
+            (refl, inr (s.first_object, (s.one, s.writes_first, refl))),
             (
-              up wrote_second,
-              (refl, inr (s.second_object, (s.both, s.writes_second, refl))),
+              up held_second,
+              (refl, refl),
               (
-                up (done s.at_commit),
-                (s.session, (s.after, (s.at_commit, refl, s.commits_both, refl))),
-                logs_on Cut s.at_commit s.cut s.cuts (logs ∷ logs ∷ logs ∷ logs ∷ logs ∷ crashes image ∷ opens ∷ []) (nothing ∷ nothing ∷ nothing ∷ nothing ∷ marked 1 ∷ crashed ∷ reopened ∷ [])
-                    (logs_on Put s.cut s.block s.puts_block (logs ∷ logs ∷ logs ∷ logs ∷ crashes image ∷ opens ∷ []) (nothing ∷ nothing ∷ nothing ∷ marked 1 ∷ crashed ∷ reopened ∷ [])
-                    (logs_on Put s.block s.synced s.syncs_block (logs ∷ logs ∷ logs ∷ crashes image ∷ opens ∷ []) (nothing ∷ nothing ∷ marked 1 ∷ crashed ∷ reopened ∷ [])
-                    (logs_on Put s.synced s.put s.puts_end (logs ∷ logs ∷ crashes image ∷ opens ∷ []) (nothing ∷ marked 1 ∷ crashed ∷ reopened ∷ [])
-                    (logs_on Logged s.put s.logged s.syncs_end (logs ∷ crashes image ∷ opens ∷ []) (marked 1 ∷ crashed ∷ reopened ∷ []) (
-                      up (done s.marks),
-                      (s.marks, s.marks_one, refl),
-                      (
-                        down image,
-                        (refl, (s.last, s.crash, s.left, refl)),
+                up wrote_second,
+                (refl, inr (s.second_object, (s.both, s.writes_second, refl))),
+                (
+                  up (done s.at_commit),
+                  (s.session, (s.after, (s.at_commit, refl, s.commits_both, refl))),
+                  logs_on Cut s.at_commit s.cut s.cuts (logs ∷ logs ∷ logs ∷ logs ∷ logs ∷ crashes image ∷ opens ∷ []) (nothing ∷ nothing ∷ nothing ∷ nothing ∷ marked 1 ∷ crashed ∷ reopened ∷ [])
+                      (logs_on Put s.cut s.block s.puts_block (logs ∷ logs ∷ logs ∷ logs ∷ crashes image ∷ opens ∷ []) (nothing ∷ nothing ∷ nothing ∷ marked 1 ∷ crashed ∷ reopened ∷ [])
+                      (logs_on Put s.block s.synced s.syncs_block (logs ∷ logs ∷ logs ∷ crashes image ∷ opens ∷ []) (nothing ∷ nothing ∷ marked 1 ∷ crashed ∷ reopened ∷ [])
+                      (logs_on Put s.synced s.put s.puts_end (logs ∷ logs ∷ crashes image ∷ opens ∷ []) (nothing ∷ marked 1 ∷ crashed ∷ reopened ∷ [])
+                      (logs_on Logged s.put s.logged s.syncs_end (logs ∷ crashes image ∷ opens ∷ []) (marked 1 ∷ crashed ∷ reopened ∷ []) (
+                        up (done s.marks),
+                        (s.marks, s.marks_one, refl),
                         (
-                          mounted s.next,
-                          (s.again, s.holds, (s.next, s.begins_next, refl)),
-                          refl,
+                          down image,
+                          (refl, (s.last, s.crash, s.left, refl)),
+                          (
+                            mounted s.next,
+                            (s.again, s.holds, (s.next, s.begins_next, refl)),
+                            refl,
+                          ),
                         ),
-                      ),
-                    ))))),
+                      ))))),
+                ),
               ),
             ),
           ),

@@ -111,7 +111,7 @@ written_in m (w ∷ ws) a o is = by (is_same a w.0) refl (written_in m ws a o is
         (subst (λ (v : Value). IsOrNone v (after_writes ws o a)) (sym (value false here)) rest)
 
 -- what is known by updates, where their block is among them
-known_named : (n : ℕ) (us : List Update) (a : Addr) → updates_block us a.block ≡ true → known_object n us a ≡ Some (object_or_zeros n (updated us a.block []) a)
+pub known_named : (n : ℕ) (us : List Update) (a : Addr) → updates_block us a.block ≡ true → known_object n us a ≡ Some (object_or_zeros n (updated us a.block []) a)
 known_named n us a named = ap (λ (t : Bool). cond t (Some (object_or_zeros n (updated us a.block []) a)) None) named
 
 module _ (n : ℕ) (us more : List Update) (a : Addr) where

@@ -1,7 +1,5 @@
-pub mod Keeping
 pub mod Stepping
 pub mod Committing
-pub mod Readying
 pub mod Opening
 pub mod SlotCounting
 pub mod Remembering
@@ -18,4 +16,7 @@ pub mod Latest
 pub mod Staying
 pub mod Unready
 pub mod Pairing
+pub mod Joining
+pub mod Fetching
+pub mod Admitting
 mod Examples

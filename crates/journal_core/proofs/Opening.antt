@@ -1,5 +1,5 @@
 -- What is opened is kept, and what is not opened is handed back.
-use Rattle.std.proofs.Common.{◌≡◌, inr, ⊎_elim, ℕ, Bool, false, IsTrue, List, [], ◌∷◌, Result, Ok, Err, OnOk, IfErr, refl, sym, ap, subst, ◌∙◌, arith}
+use Rattle.std.proofs.Common.{◌≡◌, inr, ⊎_elim, ℕ, Bool, false, IsTrue, List, [], ◌∷◌, Result, Ok, Err, OnOk, IfErr, refl, sym, ap, subst, ◌∙◌, ◌≤◌, All, arith}
 use Rattle.std.proofs.lemmas.Bool.{false≢true}
 use Rattle.journal_world.specs.declared.refusal.Refusal.{Refusal}
 use Rattle.journal_world.specs.declared.refusal.Refusal.TheVariants.{NoMemory, BadAddress, BadSize, TooLarge, Busy, DeviceFailed, BadLog, BadSuper, Stale, Stranger, Worn, Full, Closed, Fenced}
@@ -7,7 +7,6 @@ use Rattle.journal_world.specs.Refusals.{IsReadingRefusal}
 use Rattle.journal_world.specs.Maps.{Map, are_objects}
 use Rattle.journal_world.specs.Histories.{Entry, commits}
 use Rattle.journal_world.specs.Histories.Entry.{opening}
-use Rattle.journal_world.proofs.SameMaps.{SameMap-refl}
 use Rattle.journal_disk.specs.Disks.{DiskState, Keeps, Past, HasFailed}
 use Rattle.journal_disk.specs.Images.{EveryImage}
 use Rattle.journal_memlog.specs.Logs.{next_position}
@@ -18,9 +17,19 @@ use Rattle.journal_objlog.specs.ObjectLogs.{map_now, OnlyReads}
 use Rattle.journal_objlog.specs.ReadLaws.{now_read, images_read}
 use Rattle.journal_objlog.proofs.Openings.{failed_after}
 use Rattle.journal_core.specs.Causes.{Told, raised_of}
-use Rattle.journal_core.specs.Cores.{IsCore}
+use mathlib.Core.List.{IsPrefix}
+use Rattle.std.proofs.lemmas.List.Elements.{All-cons}
+use Rattle.journal_world.specs.Histories.{floor}
+use Rattle.journal_world.proofs.Prefixes.{IsPrefix-refl}
+use Rattle.journal_wal.specs.Tails.{TailState, empty_tail, cut_points}
+use Rattle.journal_wal.specs.declared.tail.CutPoint.{CutPoint}
+use Rattle.journal_objlog.specs.ObjectLogs.{end_of}
+use Rattle.journal_core.specs.Memories.{MemoryState}
+use Rattle.journal_core.specs.Durables.{DurableState, IsDurable, begun_durable}
+use Rattle.journal_core.specs.Volatiles.{VolatileState, IsVolatile}
+use Rattle.journal_core.specs.Pairs.{Tied}
+use Rattle.journal_core.specs.Cores.{IsPair}
 use Rattle.journal_core.specs.Openings.{HoldsMap, Begins, IsInRange, IsBeginRefusal, IsOpenRefusal, OnlyReadsDisk}
-use Rattle.journal_core.proofs.Keeping.{kept_opened}
 use Rattle.journal_objlog.specs.ObjectLogs.{is_faulted as is_log_faulted, disk_of as log_disk}
 
 -- what holds of a good answer
@@ -28,7 +37,7 @@ pub on_ok : {T E P : Type 0} (r : Result T E) (value : T) → r ≡ Ok value →
 on_ok {T} {E} {P} r value is holds = subst (λ (x : Result T E). OnOk x P) is holds
 
 -- nothing is in flight still, where the log was only read
-rests_still : (old new : WalState) → OnlyReads old new → is_log_faulted new ≡ false → AtRest old → AtRest new
+pub rests_still : (old new : WalState) → OnlyReads old new → is_log_faulted new ≡ false → AtRest old → AtRest new
 rests_still old new reads fine rest = record {
   fine = fine;
   logging = ap log_steps reads.same ∙ rest.logging;
@@ -59,6 +68,9 @@ module _ (disk : DiskState) (opened objects : WalState) (keeps : Keeps disk (log
   past_both : IsTrue disk.honest → (log_disk objects).past ≡ disk.past
   past_both honest = reads.past (opened_honest honest) ∙ same honest
 
+  pub images_now : IsTrue (log_disk objects).honest → EveryImage (log_disk objects).past (OpensAs (map_now objects))
+  images_now honest = let was : IsTrue disk.honest = subst IsTrue honest_is honest in images_read opened objects reads (opened_honest was) (images was)
+
   holds_now : IsTrue disk.honest → HoldsMap disk (map_now objects)
   holds_now honest = subst (HoldsMap disk) (sym (now_read opened objects reads (opened_honest honest)))
       (subst (λ (p : Past). EveryImage p (OpensAs (map_now opened))) (same honest) (images honest))
@@ -76,7 +88,7 @@ module _ (disk : DiskState) (opened objects : WalState) (keeps : Keeps disk (log
   module _ (rule : Map → Type 0) (fine : is_log_faulted objects ≡ false) where
     pub begins : IsInRange disk → (history : List Entry) → history ≡ opening (map_now objects) (log_disk objects).honest ∷ []
         → (IsTrue (log_disk objects).honest → rule (map_now objects))
-        → Begins rule disk (record { objects = objects; history = history; cut = 0; logged = 0; next = 0; closed = false })
+        → Begins rule disk (record { objects = record { wal = objects; tail = [] }; history = history; cut = 0; logged = 0; next = 0; closed = false })
     begins range history is ruled = record {
       map = map_now objects;
       range = range;
@@ -89,20 +101,12 @@ module _ (disk : DiskState) (opened objects : WalState) (keeps : Keeps disk (log
       keeps = keeps_both;
       past = past_both;
       rest = rests_still opened objects reads fine rest;
+      tail = refl;
       cut = refl;
       logged = refl;
       next = refl;
       running = (refl, fine);
     }
-
-    pub kept_begun : (blocks : ℕ) (history : List Entry) → history ≡ opening (map_now objects) (log_disk objects).honest ∷ [] → size_of objects ≡ blocks
-        → IsCore blocks (record { objects = objects; history = history; cut = 0; logged = 0; next = 0; closed = false })
-    kept_begun blocks history is size =
-        let now : AtRest objects = rests_still opened objects reads fine rest in
-        subst (λ (h : List Entry). IsCore blocks (record { objects = objects; history = h; cut = 0; logged = 0; next = 0; closed = false })) (sym is)
-        (kept_opened blocks objects (map_now objects) size (SameMap-refl (map_now objects)) (map_of-blocks (size_of objects) (blocks_now objects) ∙ size)
-        now.cut now.tail
-        (λ honest. images_read opened objects reads (opened_honest (subst IsTrue honest_is honest)) (images (subst IsTrue honest_is honest))))
 
   module _ (rule : Map → Type 0) (range : IsInRange disk) where
     -- what the rule's refusal is
@@ -147,3 +151,29 @@ module _ (disk : DiskState) (opened objects : WalState) (keeps : Keeps disk (log
 -- no session has committed yet
 pub none_begun : (history : List Entry) (m : Map) (trusted : Bool) → history ≡ opening m trusted ∷ [] → commits history ≡ []
 none_begun history m trusted is = ap commits is
+
+-- the pair that a mount begins with
+module _ (blocks : ℕ) (objects : WalState) (front : List Entry) (memory : MemoryState) (new : TailState) (m : Map) (trusted : Bool) (room : ℕ) (rest : AtRest objects)
+    (is : front ≡ memory.history) (begun : memory ≡ record { history = opening m trusted ∷ []; cut = 0; next = 0; closed = false })
+    (empty : new ≡ empty_tail blocks (end_of objects) room) where
+  begun_tied : Tied (record { memory = memory; tail = new; faulted = false }) (begun_durable objects front)
+  begun_tied = record {
+    begins = subst (IsPrefix front) is (IsPrefix-refl front);
+    marked = ap (λ (x : MemoryState). floor x.history) begun;
+    trimmed = omega (arith, ap (λ (t : TailState). t.trimmed) empty);
+    cut = ap (λ (x : MemoryState). x.cut) begun;
+    position = ap (λ (t : TailState). t.log.cut) empty ∙ rest.cut ∙ sym rest.next;
+    logged = subst (λ (t : TailState). All (λ c. c.end ≤ end_of objects → c.commits ≤ 0) (cut_points t)) (sym empty)
+        (All-cons (λ (c : CutPoint). c.end ≤ end_of objects → c.commits ≤ 0) (record { end = end_of objects; commits = 0 }) [] (λ below. omega arith)
+        (λ k d lt. absurd (omega (arith, lt))));
+  }
+
+  pub pair_begun : (v : VolatileState) (d : DurableState) → IsVolatile blocks v → IsDurable blocks d → v ≡ record { memory = memory; tail = new; faulted = false }
+      → d ≡ begun_durable objects front → IsPair blocks v d
+  pair_begun v d volatile durable memory_is durable_is = record {
+    volatile = volatile;
+    durable = durable;
+    tied = subst (λ (x : VolatileState). Tied x d) (sym memory_is)
+        (subst (Tied (record { memory = memory; tail = new; faulted = false })) (sym durable_is) begun_tied);
+    fault = ap (λ (x : VolatileState). x.faulted) memory_is ∙ sym rest.fine ∙ sym (ap (λ (x : DurableState). is_log_faulted x.objects) durable_is);
+  }

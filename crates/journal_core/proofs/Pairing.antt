@@ -1,5 +1,5 @@
 -- What a hold of both parts finds, and what it keeps of what ties them.
-use Rattle.std.proofs.Common.{◌≡◌, ⊎_elim, ◌<◌, ◌≤◌, ◌+◌, ℕ, false, IsTrue, List, [], ◌∷◌, ◌++◌, length, All, ◌-◌, refl, sym, ap, subst, ◌∙◌, arith, length-append, length-drop}
+use Rattle.std.proofs.Common.{◌≡◌, ⊎_elim, ◌<◌, ◌≤◌, ◌+◌, ℕ, IsTrue, List, [], ◌∷◌, ◌++◌, length, All, ◌-◌, refl, sym, ap, subst, ◌∙◌, arith, length-append, length-drop}
 use Rattle.std.proofs.lemmas.List.Elements.{All-push}
 use mathlib.Core.List.{IsPrefix}
 use Rattle.journal_world.specs.declared.refusal.Refusal.{Refusal}
@@ -13,18 +13,18 @@ use Rattle.journal_block.specs.declared.update.Update.{Update}
 use Rattle.journal_block.specs.Block.{Bytes}
 use Rattle.journal_disk.specs.Laws.{leaves_also}
 use Rattle.journal_memlog.specs.Logs.{LogState, tail_of, next_position}
-use Rattle.journal_wal.specs.Wal.{WalState, with_room, log_steps}
+use Rattle.journal_wal.specs.Wal.{WalState, with_room}
 use Rattle.journal_wal.specs.Groups.{TakesGroup}
 use Rattle.journal_wal.specs.Tails.{TailState, DropsCuts, cut_points, cut_after}
 use Rattle.journal_objlog.specs.ObjectLogs.{end_of}
 use Rattle.journal_core.specs.Causes.{Told}
 use Rattle.journal_core.specs.Cores.{Leaves as LeavesHistory}
-use Rattle.journal_core.specs.Durables.{DurableState, Leaves, Crashes, IsDurable, TakesCut, LogAnswers, is_faulted, disk_of}
+use Rattle.journal_core.specs.Durables.{DurableState, Leaves, Crashes, IsDurable, TakesCut, LogAnswers, disk_of}
 use Rattle.journal_core.proofs.Enduring.{StaysCut}
 use Rattle.journal_wal.specs.declared.step.GroupStep.{GroupStep}
 use Rattle.journal_wal.specs.declared.step.GroupStep.TheVariants.{Idle, Cut, Put, Logged}
 use Rattle.journal_core.specs.Volatiles.{VolatileState, IsVolatile, IsFrontRefusal}
-use Rattle.journal_core.specs.Pairs.{Tied, CutsBoth, MarksBoth, MarksAll}
+use Rattle.journal_core.specs.Pairs.{Tied, IsCutDue, IsRestDue, CutsBoth, MarksBoth, MarksAll}
 use Rattle.journal_core.specs.Updates.{HaveAllSince}
 use Rattle.journal_core.proofs.Latest.{since_later, since_mark}
 use Rattle.journal_world.proofs.MapsOfHistories.{is_trusted-append}
@@ -82,11 +82,6 @@ crashes_roomed d mid e same crash =
       images = from.images;
     }
 
--- where a tied pair has cut more than is logged, a group is in flight
-pub cut_flies : (blocks : ℕ) (v : VolatileState) (d : DurableState) → IsDurable blocks d → Tied v d → d.logged < v.memory.cut → is_faulted d ≡ false
-    → (log_steps d.objects ≡ 0) → ⊥
-cut_flies blocks v d kept tied more fine none = omega (arith, more, tied.cut, kept.rest (kept.idle fine none))
-
 -- a group that was taken with more room
 taken_roomed : (w : WalState) (room : ℕ) (group : List Update) (new : WalState) → TakesGroup (with_room w room) group new → TakesGroup w group new
 taken_roomed w room group new takes = record {
@@ -101,18 +96,26 @@ taken_roomed w room group new takes = record {
 }
 
 -- a hold of both that cuts
-pub cuts_both : (v w : VolatileState) (d mid e : DurableState) (front : List Entry) (group : List Update)
+pub cuts_both : (v w : VolatileState) (d mid e : DurableState) (front : List Entry) (group : List Update) → IsCutDue v d
     → w ≡ record v { memory = record v.memory { cut = count v.memory.history }; tail = cut_after v.tail (count v.memory.history) }
     → mid ≡ record d { objects = with_room d.objects mid.objects.log.room } → front ≡ v.memory.history → group ≡ tail_of v.tail.log
     → TakesCut front group mid e → CutsBoth v d w e
-cuts_both v w d mid e front group memory same whole is takes =
+cuts_both v w d mid e front group due memory same whole is takes =
     let begun : TakesCut v.memory.history group mid e = subst (λ (h : List Entry). TakesCut h group mid e) whole takes in
     let all : TakesCut v.memory.history (tail_of v.tail.log) mid e = subst (λ (us : List Update). TakesCut v.memory.history us mid e) is begun in
     let from : TakesCut v.memory.history (tail_of v.tail.log) (record d { objects = with_room d.objects mid.objects.log.room }) e =
     subst (λ (m : DurableState). TakesCut v.memory.history (tail_of v.tail.log) m e) same all in record {
+      due = due;
       memory = memory;
       group = record { taken = taken_roomed d.objects mid.objects.log.room (tail_of v.tail.log) e.objects from.taken; others = from.others };
     }
+
+-- the tail's blocks lie behind the cut
+pub place_of : (blocks : ℕ) (v : VolatileState) → IsVolatile blocks v → next_position v.tail.log ≡ v.tail.log.cut + length (tail_of v.tail.log)
+place_of blocks v kept = omega (arith, start_to_cut, kept.cut_to_next, length-drop (v.tail.log.cut - v.tail.log.start) v.tail.log.updates)
+  where
+    start_to_cut : v.tail.log.start ≤ v.tail.log.cut
+    start_to_cut = (kept.cuts 0 (record { end = 0; commits = 0 }) (omega arith)).below
 
 pub tied_cut : (blocks : ℕ) (v w : VolatileState) (d e : DurableState) → IsVolatile blocks v → CutsBoth v d w e → end_of e.objects < e.objects.log.cut
     → Tied v d → Tied w e
@@ -131,12 +134,8 @@ tied_cut blocks v w d e kept cuts flies tied =
     later : VolatileState
     later = record v { memory = record v.memory { cut = count v.memory.history }; tail = cut_after v.tail (count v.memory.history) }
 
-    start_to_cut : v.tail.log.start ≤ v.tail.log.cut
-    start_to_cut = (kept.cuts 0 (record { end = 0; commits = 0 }) (omega arith)).below
-
-    -- the tail's blocks lie behind the cut
     place : next_position v.tail.log ≡ v.tail.log.cut + length (tail_of v.tail.log)
-    place = omega (arith, start_to_cut, kept.cut_to_next, length-drop (v.tail.log.cut - v.tail.log.start) v.tail.log.updates)
+    place = place_of blocks v kept
 
     here : v.tail.log.cut ≡ next_position d.objects.log
     here = tied.position
@@ -188,11 +187,12 @@ tied_trim v d upto new drops home tied = record {
         (subst (All (λ c. c.end ≤ end_of d.objects → c.commits ≤ d.logged)) drops.points tied.logged)
 
 -- the marks of all commits, as the calls of the two parts make them
-pub marks_all : (v w : VolatileState) (d mid e : DurableState) (n : ℕ) (front again : List Entry) → n ≡ count v.memory.history
+pub marks_all : (v w : VolatileState) (d mid e : DurableState) (n : ℕ) (front again : List Entry) → IsRestDue v d → n ≡ count v.memory.history
     → w ≡ record v { memory = record v.memory { history = v.memory.history ++ stable n ∷ []; cut = n } } → front ≡ w.memory.history → again ≡ w.memory.history
     → mid ≡ record d { front = front; logged = count front; coming = count front } → e ≡ record mid { front = again; marked = mid.logged }
     → MarksAll v d w e
-marks_all v w d mid e n front again is memory first second reached marked = record {
+marks_all v w d mid e n front again due is memory first second reached marked = record {
+  due = due;
   memory = memory ∙ ap (λ (k : ℕ). record v { memory = record v.memory { history = v.memory.history ++ stable k ∷ []; cut = k } }) is;
   durable = marked
       ∙ ap (λ (m : DurableState). record m { front = again; marked = m.logged }) reached

@@ -1,51 +1,70 @@
 -- Why a read is refused.
-use Rattle.std.proofs.Common.{◌≡◌, ℕ, Bool, IsTrue, Result, Ok, Err, OnOk, IfErr, refl, sym, ap, ◌∙◌}
+use Rattle.std.proofs.Common.{◌≡◌, ℕ, inl, ⊎_elim, Result, Ok, Err, IfErr, refl, sym, subst, ◌∙◌, arith}
+use Rattle.journal_world.proofs.Prefixes.{IsPrefix-length}
+use Rattle.std.proofs.lemmas.Bool.{false≢true}
 use mathlib.Core.List.{IsPrefix}
 use Rattle.journal_world.specs.declared.address.Addr.{Addr}
 use Rattle.journal_world.specs.declared.refusal.Refusal.{Refusal}
 use Rattle.journal_world.specs.declared.refusal.Refusal.TheVariants.{NoMemory, BadAddress, BadSize, TooLarge, Busy, DeviceFailed, BadLog, BadSuper, Stale, Stranger, Worn, Full, Closed, Fenced}
-use Rattle.journal_world.specs.Addresses.{is_valid}
-use Rattle.journal_wal.specs.Wal.{size_of, blocks_now}
-use Rattle.journal_objlog.specs.MapLaws.{map_of-blocks}
-use Rattle.journal_objlog.specs.ObjectLogs.{map_now}
 use Rattle.journal_core.specs.Causes.{Told}
-use Rattle.journal_core.specs.Cores.{CoreState, IsCore}
-use Rattle.journal_core.specs.Transactions.{TransactionState, AreUnmoved}
-use Rattle.journal_core.specs.Steps.{MayRead, IsReadRefusal}
-use Rattle.journal_core.specs.Memories.{IsLookRefusal}
-use Rattle.journal_core.specs.Cores.{IsRunning}
+use Rattle.journal_core.specs.Transactions.{TransactionState}
+use Rattle.journal_core.specs.Outsets.{Outset, MayRead, IsLookRefusal}
+use Rattle.journal_core.specs.Durables.{FetchedState}
+use Rattle.journal_core.specs.Volatiles.{VolatileState, IsReadRefusal as IsRefusedIn, outset_of}
+use Rattle.journal_core.specs.Cores.{CoreState, outset}
+use Rattle.journal_core.specs.Steps.{IsReadRefusal}
+use Rattle.journal_core.proofs.Pairing.{begins_not}
 
--- the layout is that of the disk
-pub size_kept : (blocks : ℕ) (c : CoreState) → IsCore blocks c → (n : ℕ) → n ≡ (map_now c.objects).blocks → n ≡ blocks
-size_kept blocks c kept n is = is ∙ map_of-blocks (size_of c.objects) (blocks_now c.objects) ∙ kept.size
+-- by what is known before the value is looked for
+look_refused : (blocks : ℕ) (c : CoreState) (t : TransactionState) (a : Addr) (why : Refusal Told) → IsLookRefusal blocks (outset c) t a why → IsReadRefusal blocks c t a c why
+look_refused blocks c t a BadAddress it = it
+look_refused blocks c t a (Stale cause) it = (it.0, it.1, it.2, refl)
+look_refused blocks c t a (Stranger cause) it = (it.0, it.1, it.2, refl)
+look_refused blocks c t a (Closed cause) it = record { unexplained = it.0; closed = it.1; same = refl }
+look_refused blocks c t a (DeviceFailed cause) it = record { unexplained = it.0; not_closed = it.1; fault = inl it.2; faulted = it.2; others = refl }
+look_refused blocks c t a NoMemory it = absurd it
+look_refused blocks c t a BadSize it = absurd it
+look_refused blocks c t a TooLarge it = absurd it
+look_refused blocks c t a Busy it = absurd it
+look_refused blocks c t a BadLog it = absurd it
+look_refused blocks c t a BadSuper it = absurd it
+look_refused blocks c t a (Worn cause) it = absurd it
+look_refused blocks c t a (Full cause) it = absurd it
+look_refused blocks c t a Fenced it = absurd it
 
-pub valid_as : (n blocks : ℕ) (a : Addr) (r b : Bool) → n ≡ blocks → r ≡ is_valid n a → r ≡ b → is_valid blocks a ≡ b
-valid_as n blocks a r b same told is = ap (λ (m : ℕ). is_valid m a) (sym same) ∙ sym told ∙ is
+pub looks_not : {T : Type 0} (blocks : ℕ) (c : CoreState) (o : Outset) (t : TransactionState) (a : Addr) → o ≡ outset c → (r : Result T (Refusal Told))
+    → IfErr r (IsLookRefusal blocks o t a) → IfErr r (IsReadRefusal blocks c t a c)
+looks_not blocks c o t a same (Ok value) it = tt
+looks_not blocks c o t a same (Err why) it = look_refused blocks c t a why (subst (λ (p : Outset). IsLookRefusal blocks p t a why) same it)
 
-module _ (blocks : ℕ) (old : CoreState) (t : TransactionState) (a : Addr) (running : IsRunning old) (valid : IsTrue (is_valid blocks a)) where
-  -- what was read before has moved
-  refuses_admission : (refusal : Refusal Told) → IsLookRefusal old.history t refusal → IsReadRefusal blocks old t a old refusal
-  refuses_admission (Stale cause) why = (running, valid, why, refl)
-  refuses_admission (Stranger cause) why = (running, valid, why, refl)
-  refuses_admission NoMemory why = absurd why
-  refuses_admission BadAddress why = absurd why
-  refuses_admission BadSize why = absurd why
-  refuses_admission TooLarge why = absurd why
-  refuses_admission Busy why = absurd why
-  refuses_admission (DeviceFailed cause) why = absurd why
-  refuses_admission BadLog why = absurd why
-  refuses_admission BadSuper why = absurd why
-  refuses_admission (Worn cause) why = absurd why
-  refuses_admission (Full cause) why = absurd why
-  refuses_admission (Closed cause) why = absurd why
-  refuses_admission Fenced why = absurd why
+-- where nothing but a fetch can refuse it, and the fetch has seen no more of the history
+pub reads_not : (blocks : ℕ) (v : VolatileState) (c : CoreState) (t : TransactionState) (a : Addr) (f : FetchedState) (why : Refusal Told) → outset_of v ≡ outset c
+    → (MayRead blocks (outset_of v) t a → IsPrefix f.front v.memory.history) → IsRefusedIn blocks v t a f why → IsReadRefusal blocks c t a c why
+reads_not blocks v c t a f why same begins it = ⊎_elim
+    (λ look. look_refused blocks c t a why (subst (λ (p : Outset). IsLookRefusal blocks p t a why) same look))
+    (λ front. absurd (begins_not v.memory.history f.front why front.1 (begins front.0)))
+    it
 
-  pub not_admitted : {T : Type 0} (r : Result T (Refusal Told)) → IfErr r (IsLookRefusal old.history t) → IfErr r (IsReadRefusal blocks old t a old)
-  not_admitted (Ok value) why = tt
-  not_admitted (Err refusal) why = refuses_admission refusal why
+-- what may be read is not refused by what is known
+may_look : (blocks : ℕ) (o : Outset) (t : TransactionState) (a : Addr) (why : Refusal Told) → MayRead blocks o t a → IsLookRefusal blocks o t a why → ⊥
+may_look blocks o t a BadAddress may it = false≢true (sym it.1 ∙ may.valid)
+may_look blocks o t a (Stale cause) may it = omega (arith, it.2.1.1, IsPrefix-length t.seen o.history may.later)
+may_look blocks o t a (Stranger cause) may it = it.2.2 may.unmoved
+may_look blocks o t a (Closed cause) may it = false≢true (sym may.running.0 ∙ it.1)
+may_look blocks o t a (DeviceFailed cause) may it = false≢true (sym may.running.1 ∙ it.2)
+may_look blocks o t a NoMemory may it = it
+may_look blocks o t a BadSize may it = it
+may_look blocks o t a TooLarge may it = it
+may_look blocks o t a Busy may it = it
+may_look blocks o t a BadLog may it = it
+may_look blocks o t a BadSuper may it = it
+may_look blocks o t a (Worn cause) may it = it
+may_look blocks o t a (Full cause) may it = it
+may_look blocks o t a Fenced may it = it
 
--- nothing but memory and the device can refuse what is admitted
-pub may_read : {T E : Type 0} (blocks : ℕ) (c : CoreState) (t : TransactionState) (a : Addr) → IsRunning c → IsTrue (is_valid blocks a)
-    → (r : Result T E) → OnOk r (IsPrefix t.seen c.history) → OnOk r (AreUnmoved c.history t) → OnOk r (MayRead blocks c t a)
-may_read blocks c t a running valid (Ok value) later unmoved = record { running = running; valid = valid; later = later; unmoved = unmoved }
-may_read blocks c t a running valid (Err e) later unmoved = tt
+pub may_be_read : (blocks : ℕ) (v : VolatileState) (t : TransactionState) (a : Addr) (f : FetchedState) (why : Refusal Told) → MayRead blocks (outset_of v) t a
+    → IsPrefix f.front v.memory.history → IsRefusedIn blocks v t a f why → ⊥
+may_be_read blocks v t a f why may begins it = ⊎_elim
+    (may_look blocks (outset_of v) t a why may)
+    (λ front. begins_not v.memory.history f.front why front.1 begins)
+    it

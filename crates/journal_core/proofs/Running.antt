@@ -1,7 +1,9 @@
 -- Whole runs tell how the history came to be, and keep it legal.
-use Rattle.std.proofs.Common.{◌≡◌, ◌≢◌, ⊎_elim, ◌≤◌, ℕ, ◌==◌, Bool, true, false, cond, IsTrue, List, [], ◌∷◌, ◌++◌, length, length-append, Option, Some, None, Result, Ok, Err, refl, sym, ap, subst, ◌∙◌, arith}
+use Rattle.std.proofs.Common.{◌≡◌, ◌≢◌, ⊎_elim, ◌≤◌, ℕ, ◌==◌, Bool, true, false, cond, IsTrue, List, [], ◌∷◌, ◌++◌, length, All, length-append, Option, Some, None, Result, Ok, Err, refl, sym, ap, subst, ◌∙◌, arith}
 use Rattle.std.proofs.lemmas.Bool.{eqb-true, eqb-false}
 use Rattle.std.proofs.lemmas.Option.{same_Some, none-some}
+use Rattle.std.proofs.lemmas.List.Elements.{All-cons, All-weaker}
+use mathlib.Core.List.{IsPrefix}
 use Rattle.journal_world.specs.declared.address.Addr.{Addr}
 use Rattle.journal_world.specs.declared.layout.TheConstants.{MIN_BLOCKS}
 use Rattle.journal_world.specs.declared.refusal.Refusal.{Refusal}
@@ -11,11 +13,11 @@ use Rattle.journal_core.specs.declared.step.LogStep.{LogStep}
 use Rattle.journal_core.specs.declared.step.LogStep.TheVariants.{Marked}
 use Rattle.journal_world.specs.Addresses.{slot_of}
 use Rattle.journal_world.specs.Maps.{Map, Pair, Transaction, SameMap, value_at}
-use Rattle.journal_world.specs.Histories.{Entry, is_trusted, latest, commits_of, at, Follows, IsTrueTo, IsLegal}
+use Rattle.journal_world.specs.Histories.{Entry, opened, is_trusted, latest, commits_of, at, Follows, IsTrueTo, IsLegal}
 use Rattle.journal_world.specs.Histories.Entry.{opening, commit, stable}
-use Rattle.journal_world.proofs.Prefixes.{IsPrefix-length}
+use Rattle.journal_world.proofs.Prefixes.{IsPrefix-length, IsPrefix-trans}
 use Rattle.journal_world.proofs.SameMaps.{SameMap-refl}
-use Rattle.journal_world.proofs.LongerHistories.{Each-nil, Each-snoc, commits_of-commit}
+use Rattle.journal_world.proofs.LongerHistories.{opened-append, Each-nil, Each-snoc, commits_of-commit}
 use Rattle.journal_world.proofs.MapsOfHistories.{is_trusted-append}
 use Rattle.journal_block.specs.Block.{Bytes}
 use Rattle.journal_disk.specs.Disks.{DiskState, Past}
@@ -24,17 +26,20 @@ use Rattle.journal_objlog.specs.Maps.{OpensAs}
 use Rattle.journal_objlog.proofs.MapsOfBlocks.{same_objects}
 use Rattle.journal_history.specs.Tokens.{SessionState, made, next_transaction, Commits}
 use Rattle.journal_core.specs.Causes.{Told}
+use Rattle.journal_core.specs.Durables.{FetchedState, IsFetched, IsBlockAfter}
 use Rattle.journal_core.specs.Cores.{CoreState, Leaves, Crashes}
 use Rattle.journal_core.specs.Transactions.{TransactionState, begun}
 use Rattle.journal_core.specs.Steps.{Marks, IsInstallRefusal}
 use Rattle.journal_core.specs.Openings.{Begins}
-use Rattle.journal_core.specs.Interleavings.{Event, Answer, Tells, TellsAll, Mount, Machine, mounted, holds, with_core, with_transaction, with_slot, ended, blocks_of, FindsValue, ReadsValue, IsUnread, CommitsTransaction, RefusesCommit, LogsStep, AnswersLog, AnswersInstall, AnswersSession, HoldsImage, Ignores, BeginsTransaction, TakesSlot, ReadsUnderSlot, OverwritesUnderSlot, Finishes, MakesLogStep, HappensUp, HappensDown, Happens, Run, HasHistory, IsUndisturbed}
-use Rattle.journal_core.specs.Interleavings.Event.{begins, takes, reads, overwrites, aborts, joins, stops, logs, installs, crashes, opens}
+use Rattle.journal_core.specs.Interleavings.{Event, Answer, Tells, TellsAll, Mount, Machine, mounted, holds, with_core, with_transaction, with_slot, with_fetched, ended, keeping, blocks_of, FindsValue, ReadsValue, IsUnread, CommitsTransaction, RefusesCommit, LogsStep, AnswersLog, AnswersInstall, AnswersSession, AnswersFetch, HoldsImage, Ignores, BeginsTransaction, TakesSlot, ReadsUnderSlot, OverwritesUnderSlot, Finishes, MakesLogStep, HappensUp, HappensDown, Happens, Run, HasHistory, IsUndisturbed, StaysFetched}
+use Rattle.journal_core.specs.Interleavings.Event.{begins, takes, reads, overwrites, aborts, fetches, joins, stops, logs, installs, crashes, opens}
 use Rattle.journal_core.specs.Interleavings.Event.{commits as finishes}
 use Rattle.journal_core.specs.Interleavings.Answer.{nothing, value, committed, marked, crashed, reopened}
 use Rattle.journal_core.specs.Interleavings.Machine.{up, down}
 use Rattle.journal_core.proofs.Holding.{IsSound, begun_sound, sound_held, keeps_taken, keeps_given, sound_marked, sound_committed, sound_read, sound_overwritten, is_holder}
 use Rattle.journal_core.specs.Cores.{disk_of}
+use Rattle.journal_core.proofs.Fronts.{at-longer, count-longer, trusted-longer}
+use Rattle.journal_core.proofs.Pairing.{begins_not}
 
 -- What holds of every core that runs
 pub record IsRunning (rule : Map → Type 0) (c : CoreState) : Type 0 where
@@ -54,10 +59,26 @@ unread_same blocks old t a new it = ⊎_elim
     other)
     it
 
+-- What holds of blocks that were fetched, where this is the history
+pub record WasFetched (history : List Entry) (f : FetchedState) : Type 0 where
+  pub begins : IsPrefix f.front history
+  pub objects : IsFetched (opened history).blocks f
+
+-- and of a longer history
+fetched_longer : (history : List Entry) (e : Entry) (fs : List FetchedState) → history ≢ [] → All (WasFetched history) fs → All (WasFetched (history ++ e ∷ [])) fs
+fetched_longer history e fs some all = All-weaker (WasFetched history) (WasFetched (history ++ e ∷ [])) one fs all
+  where
+    one : (f : FetchedState) → WasFetched history f → WasFetched (history ++ e ∷ []) f
+    one f was = record {
+      begins = IsPrefix-trans f.front history (history ++ e ∷ []) was.begins (e ∷ [], refl);
+      objects = subst (λ (m : Map). IsFetched m.blocks f) (sym (opened-append history (e ∷ []) some)) was.objects;
+    }
+
 -- and of every mount
 pub record IsUp (rule : Map → Type 0) (m : Mount) : Type 0 where
   pub runs : IsRunning rule m.core
   pub sound : (actor : ℕ) (t : TransactionState) → m.transactions actor ≡ Some t → IsSound m.core.history m.holders actor t
+  pub fetched : (actor : ℕ) → All (WasFetched m.core.history) (m.fetched actor)
 
 abbrev pub Holds : (Map → Type 0) → Machine → List Entry → Type 0
 Holds rule (up m) history = (m.core.history ≡ history) × IsUp rule m
@@ -110,6 +131,7 @@ module _ (rule : Map → Type 0) where
   up_on m core is crash same = record {
     runs = core_on m.core core is.runs crash same;
     sound = λ actor t at. subst (λ (h : List Entry). IsSound h m.holders actor t) (sym same) (is.sound actor t at);
+    fetched = λ actor. subst (λ (h : List Entry). All (WasFetched h) (m.fetched actor)) (sym same) (is.fetched actor);
   }
 
   up_marked : (m : Mount) (core : CoreState) (n : ℕ) → IsUp rule m → Crashes m.core core → core.history ≡ m.core.history ++ stable n ∷ []
@@ -118,12 +140,18 @@ module _ (rule : Map → Type 0) where
     runs = core_adds m.core core (stable n) is.runs crash added legal;
     sound = λ actor t at. subst (λ (h : List Entry). IsSound h m.holders actor t) (sym added)
         (sound_marked m.core.history n m.holders actor t is.runs.some (is.sound actor t at));
+    fetched = λ actor. subst (λ (h : List Entry). All (WasFetched h) (m.fetched actor)) (sym added)
+        (fetched_longer m.core.history (stable n) (m.fetched actor) is.runs.some (is.fetched actor));
   }
 
   -- an actor's transaction is another one
   draft_kept : (m : Mount) (actor : ℕ) (draft : TransactionState) → IsUp rule m → IsSound m.core.history m.holders actor draft
       → IsUp rule (with_transaction m actor (Some draft))
-  draft_kept m actor draft is sound = record { runs = is.runs; sound = λ other t at. by_test other t (other == actor) refl at (is.sound other t) }
+  draft_kept m actor draft is sound = record {
+    runs = is.runs;
+    sound = λ other t at. by_test other t (other == actor) refl at (is.sound other t);
+    fetched = is.fetched;
+  }
     where
       by_test : (other : ℕ) (t : TransactionState) (b : Bool) → (other == actor) ≡ b → cond b (Some draft) (m.transactions other) ≡ Some t
           → (m.transactions other ≡ Some t → IsSound m.core.history m.holders other t) → IsSound m.core.history m.holders other t
@@ -137,12 +165,21 @@ module _ (rule : Map → Type 0) where
     runs = is.runs;
     sound = λ other t at. sound_held m.core.history m.holders (with_slot m actor slot).holders other t (is.sound other t at)
         (λ held. keeps_taken m.holders actor slot other held free);
+    fetched = is.fetched;
   }
 
+  -- what an actor has fetched is one batch more
+  fetched_kept : (m : Mount) (actor : ℕ) (f : FetchedState) → IsUp rule m → WasFetched m.core.history f → IsUp rule (with_fetched m actor f)
+  fetched_kept m actor f is was = record { runs = is.runs; sound = is.sound; fetched = λ other. by_test other (other == actor) }
+    where
+      by_test : (other : ℕ) (b : Bool) → All (WasFetched m.core.history) (cond b (f ∷ m.fetched other) (m.fetched other))
+      by_test other true = All-cons (WasFetched m.core.history) f (m.fetched other) was (is.fetched other)
+      by_test other false = is.fetched other
+
   -- where all transactions but one are kept, that one is ended
-  ended_up : (m : Mount) (actor : ℕ) → IsRunning rule m.core
+  ended_up : (m : Mount) (actor : ℕ) → IsRunning rule m.core → ((other : ℕ) → All (WasFetched m.core.history) (m.fetched other))
       → ((other : ℕ) (t : TransactionState) → other ≢ actor → m.transactions other ≡ Some t → IsSound m.core.history m.holders other t) → IsUp rule (ended m actor)
-  ended_up m actor runs others = record { runs = runs; sound = λ other t at. by_test other t (other == actor) refl at }
+  ended_up m actor runs fetched others = record { runs = runs; sound = λ other t at. by_test other t (other == actor) refl at; fetched = fetched }
     where
       by_test : (other : ℕ) (t : TransactionState) (b : Bool) → (other == actor) ≡ b → cond b None (m.transactions other) ≡ Some t
           → IsSound m.core.history (ended m actor).holders other t
@@ -153,7 +190,7 @@ module _ (rule : Map → Type 0) where
           (λ slot held. keeps_given m.holders actor other slot apart held)
 
   has_ended : (m : Mount) (actor : ℕ) → IsUp rule m → IsUp rule (ended m actor)
-  has_ended m actor is = ended_up m actor is.runs (λ other t apart at. is.sound other t at)
+  has_ended m actor is = ended_up m actor is.runs is.fetched (λ other t apart at. is.sound other t at)
 
   -- nothing is told
   silent : (old : List Entry) (next : Mount) (answer : Answer) (new : Machine) → answer ≡ nothing → new ≡ up next → next.core.history ≡ old
@@ -265,6 +302,8 @@ module _ (rule : Map → Type 0) where
         holds = (
           added,
           ended_up (with_core m core) actor (core_adds m.core core (commit u) is.runs done.crash added longer)
+              (λ other. subst (λ (h : List Entry). All (WasFetched h) (m.fetched other)) (sym added)
+              (fetched_longer m.core.history (commit u) (m.fetched other) is.runs.some (is.fetched other)))
               (λ other e apart at_other. subst (λ (h : List Entry). IsSound h m.holders other e) (sym added)
               (sound_committed m.core.history u m.holders actor other e is.runs.some apart sound.writes_held (is.sound other e at_other))),
         );
@@ -273,6 +312,18 @@ module _ (rule : Map → Type 0) where
   goes-finishes m actor (Some d) (marked n) new it is at = absurd it
   goes-finishes m actor (Some d) crashed new it is at = absurd it
   goes-finishes m actor (Some d) reopened new it is at = absurd it
+
+  goes-fetched : (m : Mount) (actor : ℕ) (numbers : List ℕ) (result : Result FetchedState (Refusal Told)) (core : CoreState) (answer : Answer) (new : Machine)
+      → answer ≡ nothing → AnswersFetch (blocks_of m) m.core numbers result core → new ≡ up (keeping (with_core m core) actor result) → IsUp rule m
+      → Goes rule m.core.history answer new
+  goes-fetched m actor numbers (Err why) core answer new none it after is =
+      let same : core.history ≡ m.core.history = ap (λ (c : CoreState). c.history) it.others in
+      silent m.core.history (with_core m core) answer new none after same (up_on m core is it.crash same)
+  goes-fetched m actor numbers (Ok f) core answer new none it after is =
+      let same : core.history ≡ m.core.history = ap (λ (c : CoreState). c.history) it.others in
+      silent m.core.history (with_fetched (with_core m core) actor f) answer new none after same
+      (fetched_kept (with_core m core) actor f (up_on m core is it.crash same)
+      (subst (λ (h : List Entry). WasFetched h f) (sym same) (record { begins = it.begins; objects = it.objects })))
 
   log_crash : (old : CoreState) (result : Result LogStep (Refusal Told)) (new : CoreState) → AnswersLog old result new → Crashes old new
   log_crash old (Ok step) new it = it.crash
@@ -363,10 +414,11 @@ running rule disk core trusted begin =
     }
 
 module _ (rule : Map → Type 0) where
-  begun_up : (disk : DiskState) (core : CoreState) → IsTrue disk.honest → Begins rule disk core → IsUp rule (record { core = core; transactions = λ actor. None; holders = λ slot. None })
+  begun_up : (disk : DiskState) (core : CoreState) → IsTrue disk.honest → Begins rule disk core → IsUp rule (record { core = core; transactions = λ actor. None; holders = λ slot. None; fetched = λ actor. [] })
   begun_up disk core trusted begin = record {
     runs = running rule disk core trusted begin;
     sound = λ actor d is. absurd (none-some d is);
+    fetched = λ actor k f lt. absurd (omega (arith, lt));
   }
 
   goes-up : (m : Mount) (event : Event) (answer : Answer) (new : Machine) → HappensUp m event answer new → IsUp rule m → Goes rule m.core.history answer new
@@ -376,6 +428,7 @@ module _ (rule : Map → Type 0) where
   goes-up m (overwrites actor a v) answer new it is = goes-overwrites rule m actor (a, v) (m.transactions actor) (holds m actor a) answer new it is refl refl
   goes-up m (aborts actor) answer new it is = silent rule m.core.history (ended m actor) answer new it.0 it.1 refl (has_ended rule m actor is)
   goes-up m (finishes actor) answer new it is = goes-finishes rule m actor (m.transactions actor) answer new it is refl
+  goes-up m (fetches actor numbers) answer new it is = goes-fetched rule m actor numbers it.1.0 it.1.1.0 answer new it.0 it.1.1.1 it.1.1.2 is
   goes-up m logs answer new it is = goes-logs rule m answer new it is
   goes-up m joins answer new it is =
       let same = joins_same m.core it.1.0 it.1.1.0 it.1.1.1 in
@@ -434,6 +487,7 @@ module _ (rule : Map → Type 0) where
   goes-down image m (overwrites actor a v) answer new it holds = stays-down image m answer new holds it.0 it.1
   goes-down image m (aborts actor) answer new it holds = stays-down image m answer new holds it.0 it.1
   goes-down image m (finishes actor) answer new it holds = stays-down image m answer new holds it.0 it.1
+  goes-down image m (fetches actor numbers) answer new it holds = stays-down image m answer new holds it.0 it.1
   goes-down image m joins answer new it holds = stays-down image m answer new holds it.0 it.1
   goes-down image m stops answer new it holds = stays-down image m answer new holds it.0 it.1
   goes-down image m logs answer new it holds = stays-down image m answer new holds it.0 it.1
@@ -473,3 +527,18 @@ undisturbed c holders actor t sound = record {
   never_behind = λ cause behind. let fewer : length t.seen ≤ length c.history = IsPrefix-length t.seen c.history sound.later in omega (arith, fewer, behind.1.1);
   never_moved = λ cause moved. moved.2 sound.unmoved;
 }
+
+-- what was fetched is what the first commits left, in every later history
+stays_so : (rule : Map → Type 0) (c : CoreState) (f : FetchedState) → IsRunning rule c → WasFetched c.history f → StaysFetched c f
+stays_so rule c f runs was = record {
+  begins = was.begins;
+  made = omega (arith, was.objects.made, count-longer f.front c.history was.objects.begun was.begins);
+  blocks = All-weaker (IsBlockAfter (opened c.history).blocks f.front f.commits) (IsBlockAfter (opened c.history).blocks c.history f.commits)
+      (λ u is a valid named. is a valid named ∙ ap (λ (m : Map). value_at m a) (sym (at-longer f.front c.history was.objects.begun was.begins f.commits was.objects.made)))
+      f.updates
+      (was.objects.objects (subst IsTrue (trusted-longer f.front c.history was.objects.begun was.begins) runs.trusted));
+  never_longer = λ why refusal. begins_not c.history f.front why refusal was.begins;
+}
+
+pub all_stay : (rule : Map → Type 0) (m : Mount) (actor : ℕ) → IsUp rule m → All (StaysFetched m.core) (m.fetched actor)
+all_stay rule m actor is = All-weaker (WasFetched m.core.history) (StaysFetched m.core) (λ f was. stays_so rule m.core f is.runs was) (m.fetched actor) (is.fetched actor)

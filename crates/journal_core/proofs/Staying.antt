@@ -21,7 +21,7 @@ use Rattle.journal_wal.specs.Tails.{TailState, MakeTheSame, cut_points, updates_
 use Rattle.journal_objlog.specs.Writes.{writes_block}
 use Rattle.journal_core.specs.Updates.{HaveAllSince, IsOrNone, AreObjectsOf}
 use Rattle.journal_core.specs.Durables.{FetchedState, IsFetched}
-use Rattle.journal_objlog.specs.ObjectTails.{blocks_of, known_updates, known_at}
+use Rattle.journal_objlog.specs.ObjectTails.{blocks_of, known_updates, known_at, TakesPrepared}
 use Rattle.journal_core.specs.Memories.{MemoryState}
 use Rattle.journal_core.specs.Volatiles.{VolatileState, IsCutOf, HasUpdates, IsVolatile}
 use Rattle.journal_core.proofs.Fronts.{append-some, trusted-longer}
@@ -49,6 +49,7 @@ module _ (blocks : ℕ) (v : VolatileState) (kept : IsVolatile blocks v) where
     on_disk = ap (λ (m : Map). m.blocks) (opened-append v.memory.history (stable n ∷ []) kept.begun) ∙ kept.on_disk;
     made = omega (arith, made, count-mark v.memory.history n);
     cut_to_next = kept.cut_to_next;
+    small = kept.small;
     cuts = λ k d lt. let was = kept.cuts k d lt in record { above = was.above; below = was.below; earlier = omega (arith, was.earlier, rises) };
     updates = λ trusted. let has = kept.updates (subst IsTrue (is_trusted-append v.memory.history (stable n ∷ []) kept.begun) trusted) in record {
       since = λ k d lt. since_mark blocks v.memory.history n _ _ kept.begun (has.since k d lt);
@@ -77,6 +78,7 @@ module _ (blocks : ℕ) (v : VolatileState) (kept : IsVolatile blocks v) where
     on_disk = kept.on_disk;
     made = omega arith;
     cut_to_next = omega arith;
+    small = kept.small;
     cuts = All-push (IsCutOf later) (cut_points v.tail) p
         (λ k d lt. let was = kept.cuts k d lt in record { above = was.above; below = omega (arith, was.below, kept.cut_to_next); earlier = omega (arith, was.earlier, kept.made) })
         (record { above = omega arith; below = omega arith; earlier = omega arith });
@@ -131,6 +133,15 @@ module _ (blocks : ℕ) (v : VolatileState) (kept : IsVolatile blocks v) where
         length-drop (new.log.start - v.tail.log.start) v.tail.log.updates,
         drops.above,
       );
+      small = omega (
+        arith,
+        kept.small,
+        start_to_cut,
+        kept.cut_to_next,
+        ap next_position drops.log,
+        length-drop (new.log.start - v.tail.log.start) v.tail.log.updates,
+        drops.above,
+      );
       cuts = λ k d lt. let was = were k d lt in record { above = are_above k d lt; below = omega (arith, was.below, same_cut); earlier = was.earlier };
       updates = λ trusted. let has = kept.updates trusted in record {
         since = λ k d lt. subst (HaveAllSince blocks v.memory.history _) (sym (since _ (are_above k d lt)))
@@ -165,10 +176,10 @@ unfetched_latest blocks v kept trusted =
 pub kept_added : (blocks : ℕ) (v : VolatileState) (t : Transaction) (prepared : List Update) (memory : MemoryState) (new : TailState) → IsVolatile blocks v
     → memory.history ≡ v.memory.history ++ commit t ∷ [] → memory.cut ≡ v.memory.cut → new ≡ record v.tail { log = appended v.tail.log prepared }
     → ((from : ℕ) → v.tail.log.start ≤ from → from ≤ v.tail.log.cut → MakeTheSame (updates_from new.log from) (updates_from v.tail.log from ++ prepared))
-    → ((b : ℕ) → updates_block prepared b ≡ writes_block t.writes b)
+    → TakesPrepared v.tail prepared → ((b : ℕ) → updates_block prepared b ≡ writes_block t.writes b)
     → (IsTrue (is_trusted v.memory.history) → AreObjectsOf blocks (overwritten (latest v.memory.history) t.writes) prepared)
     → IsVolatile blocks (record v { memory = memory; tail = new })
-kept_added blocks v t prepared memory new kept added cut appends since named written = record {
+kept_added blocks v t prepared memory new kept added cut appends since takes named written = record {
   size = ap (λ (s : TailState). s.log.blocks) appends ∙ kept.size;
   begun = subst (λ (h : List Entry). h ≢ []) (sym added) (append-some v.memory.history (commit t ∷ []) kept.begun);
   on_disk = ap (λ (h : List Entry). (opened h).blocks) added ∙ ap (λ (m : Map). m.blocks) (opened-append v.memory.history (commit t ∷ []) kept.begun) ∙ kept.on_disk;
@@ -181,6 +192,7 @@ kept_added blocks v t prepared memory new kept added cut appends since named wri
     next_of-appended v.tail.log prepared,
     length-absorbed_ge (tail_of v.tail.log) prepared,
   );
+  small = omega (arith, ap (λ (s : TailState). next_position s.log) appends, takes.room.can.below);
   cuts = subst (All (IsCutOf (record v { memory = memory; tail = new }))) (sym points)
       (λ k d lt. let was = kept.cuts k d lt in record {
         above = omega (arith, was.above, ap (λ (s : TailState). s.log.start) appends);

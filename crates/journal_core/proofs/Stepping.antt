@@ -1,15 +1,11 @@
--- The steps of the object log, as the core's.
-use Rattle.std.proofs.Common.{◌≡◌, ℕ, Bool, true, false, IsTrue, Result, Ok, Err, IsErr, OnErr, IfOk, IfErr, refl, sym, ap, subst, ◌∙◌, arith}
+-- What holds of an answer, and which steps of the object log let no group come or go.
+use Rattle.std.proofs.Common.{◌≡◌, Bool, true, false, IsTrue, Result, Ok, Err, IsErr, OnErr, IfOk, IfErr, refl, sym, ap, subst, ◌∙◌}
 use Rattle.std.proofs.lemmas.Bool.{false≢true}
 use Rattle.journal_world.specs.declared.refusal.Refusal.{Refusal}
 use Rattle.journal_world.specs.declared.refusal.Refusal.TheVariants.{NoMemory, BadAddress, BadSize, TooLarge, Busy, DeviceFailed, BadLog, BadSuper, Stale, Stranger, Worn, Full, Closed, Fenced}
 use Rattle.journal_wal.specs.declared.step.InstallStep.{InstallStep}
 use Rattle.journal_wal.specs.declared.step.InstallStep.TheVariants.{Idle, Put, Freed}
-use Rattle.journal_wal.specs.Wal.{WalState, log_steps, LogsOn, Installs, InstallAnswers, IsInstallRefusal}
-use Rattle.journal_objlog.specs.ObjectLogs.{KeepsMaps, Crashes as MapCrashes, OnlyReads}
-use Rattle.journal_core.specs.Cores.{CoreState, Crashes, IsCore}
-use Rattle.journal_core.proofs.Keeping.{Rests, kept_on, crashes_of}
-use Rattle.journal_core.specs.Cores.{disk_of}
+use Rattle.journal_wal.specs.Wal.{WalState, log_steps, Installs, InstallAnswers, IsInstallRefusal}
 use Rattle.journal_objlog.specs.ObjectLogs.{is_faulted as is_log_faulted}
 
 -- what holds of an error
@@ -21,36 +17,11 @@ of_err (Err e) is holds = holds
 pub of_ok : {T E : Type 0} (P : T → Type 0) (r : Result T E) (value which : T) → r ≡ Ok value → value ≡ which → IfOk r P → P which
 of_ok P r value which is this holds = subst P this (subst (λ x. IfOk x P) is holds)
 
--- a step, seen from outside
-pub crashes_step : (blocks : ℕ) (inside now new : CoreState) → IsCore blocks inside → inside ≡ now → IsCore blocks new
-    → MapCrashes inside.objects new.objects → Crashes now new
-crashes_step blocks inside now new before is kept crash =
-    subst (λ (c : CoreState). Crashes c new) is (crashes_of blocks inside new before kept crash)
+-- where no group is in flight now, none was
+abbrev pub Rests : WalState → WalState → Type 0
+Rests old new = is_log_faulted new ≡ false → log_steps new ≡ 0 → (is_log_faulted old ≡ false) × (log_steps old ≡ 0)
 
-module _ (blocks : ℕ) (c : CoreState) (kept : IsCore blocks c) (objects : WalState) (crash : MapCrashes c.objects objects) where
-  -- a device call failed
-  pub kept_fault : (IsTrue (disk_of c).honest → KeepsMaps c.objects objects) → is_log_faulted objects ≡ true
-      → IsCore blocks (record c { objects = objects })
-  kept_fault maps faulted = kept_on blocks c kept objects crash maps (λ fine none. absurd (false≢true (sym fine ∙ faulted)))
-
-  -- a step of the group in flight that does not end it
-  pub kept_put : LogsOn c.objects objects → (IsTrue (disk_of c).honest → KeepsMaps c.objects objects) → IsCore blocks (record c { objects = objects })
-  kept_put puts maps = kept_on blocks c kept objects crash maps (λ fine none. absurd (omega (arith, puts.left, none)))
-
--- where something was read, no group came or went
-pub rests_read : (old new : WalState) → OnlyReads old new → (IsTrue (is_log_faulted old) → new ≡ old) → Rests old new
-rests_read old new reads stays fine none = by (is_log_faulted old) refl
-  where
-    by : (b : Bool) → is_log_faulted old ≡ b → (is_log_faulted old ≡ false) × (log_steps old ≡ 0)
-    by true is = absurd (false≢true (sym fine ∙ ap is_log_faulted (stays is) ∙ is))
-    by false is = (is, sym (ap log_steps reads.same) ∙ none)
-
--- a call that only reads leaves no group that was not there
-pub rests_call : {T : Type 0} (old new : WalState) (r : Result T (Refusal Unit)) → OnlyReads old new
-    → (IsTrue (is_log_faulted old) → IsErr r × (new ≡ old)) → Rests old new
-rests_call old new r reads stays = rests_read old new reads (λ faulted. (stays faulted).1)
-
--- nor does a step of the installer
+-- a step of the installer
 moved_rests : (old new : WalState) → Installs old new → (IsTrue (is_log_faulted old) → IsTrue false) → Rests old new
 moved_rests old new installs fine_or_not fine none = (by (is_log_faulted old) refl, sym installs.logging ∙ none)
   where

@@ -1,10 +1,11 @@
 -- Why writes are not made ready in memory alone, and what it is where they are.
-use Rattle.std.proofs.Common.{◌≡◌, ◌⊎◌, inr, ⊎_elim, ◌<◌, ◌≤◌, ◌+◌, ◌^◌, ℕ, false, IsTrue, List, length, Result, Ok, Err, IfOk, IfErr, OnOk, refl, sym, ap, subst, ◌∙◌, arith}
-use Rattle.std.proofs.lemmas.Bool.{false≢true}
+use Rattle.std.proofs.Common.{◌≡◌, ◌⊎◌, inr, ⊎_elim, ◌<◌, ◌≤◌, ◌+◌, ◌^◌, ℕ, Bool, ◌&&◌, false, [], ◌∷◌, IsTrue, List, length, Result, Ok, Err, IfOk, IfErr, OnOk, refl, sym, ap, subst, ◌∙◌, arith}
+use Rattle.std.proofs.lemmas.Bool.{false≢true, and_parts}
+use Rattle.journal_world.specs.Addresses.{is_valid, kind_of}
 use Rattle.journal_world.specs.declared.refusal.Refusal.{Refusal}
 use Rattle.journal_world.specs.declared.refusal.Refusal.TheVariants.{NoMemory, BadAddress, BadSize, TooLarge, Busy, DeviceFailed, BadLog, BadSuper, Stale, Stranger, Worn, Full, Closed, Fenced}
 use mathlib.Core.List.{IsPrefix}
-use Rattle.journal_world.specs.Maps.{Map, Pair, are_objects, overwritten}
+use Rattle.journal_world.specs.Maps.{Map, Pair, is_value_at, is_object, are_objects, overwritten}
 use Rattle.journal_world.specs.Histories.{Entry}
 use Rattle.journal_world.proofs.Prefixes.{IsPrefix-trans, IsPrefix-length}
 use Rattle.journal_block.specs.declared.update.Update.{Update}
@@ -13,15 +14,22 @@ use Rattle.journal_wal.specs.Tails.{TailState}
 use Rattle.journal_objlog.specs.declared.tail_prepare.Preparation.{Preparation}
 use Rattle.journal_objlog.specs.declared.tail_prepare.Preparation.TheVariants.{Ready, Missing}
 use Rattle.journal_objlog.specs.ObjectTails.{blocks_of, known_updates, tail_base, with_tail_room, OverwritesKnown, IsTailWriteRefusal, IfReady}
-use Rattle.journal_objlog.specs.Writes.{CanPrepare, IsWriteRefusal, written_blocks, fresh_among}
+use Rattle.journal_objlog.specs.Writes.{CanPrepare, IsWriteRefusal, are_valid, written_blocks, fresh_among}
 use Rattle.journal_history.specs.Tokens.{SessionState}
 use Rattle.journal_core.specs.Causes.{Told, raised_of}
 use Rattle.journal_core.specs.Memories.{ShowsLonger}
 use Rattle.journal_core.specs.Updates.{AreObjectsOf}
-use Rattle.journal_core.specs.Volatiles.{VolatileState, IsFrontRefusal}
-use Rattle.journal_core.specs.VolatileCommits.{IsPreparingRefusal, CanPrepare as CanPrepareWrites}
+use Rattle.journal_core.specs.Outsets.{IsPreparingRefusal, CanPrepare as CanPrepareWrites}
+use Rattle.journal_core.specs.Volatiles.{VolatileState, IsFrontRefusal, outset_of}
 use Rattle.journal_core.proofs.Latest.{objects_written}
-use Rattle.journal_core.proofs.Readying.{valid_of}
+
+-- objects have valid addresses
+pub valid_of : (blocks : ℕ) (ps : List Pair) → IsTrue (are_objects blocks ps) → IsTrue (are_valid blocks ps)
+valid_of blocks [] objects = refl
+valid_of blocks (p ∷ later) objects =
+    let parts = and_parts (is_object blocks p) (are_objects blocks later) objects in
+    let own = and_parts (is_valid blocks p.0) (is_value_at (kind_of blocks p.0.block) p.1) parts.0 in
+    subst (λ (b : Bool). IsTrue (b && are_valid blocks later)) (sym own.0) (valid_of blocks later parts.1)
 
 module _ (blocks : ℕ) (v : VolatileState) (fetched : List Update) (writes : List Pair) (size : blocks_of v.tail ≡ blocks)
     (given : IsTrue (are_objects blocks writes)) where
@@ -63,10 +71,10 @@ module _ (blocks : ℕ) (v : VolatileState) (fetched : List Update) (writes : Li
         other)
         worn
 
-    can_prepare : CanPrepare (tail_base fetched v.tail) writes → CanPrepareWrites v s writes
+    can_prepare : CanPrepare (tail_base fetched v.tail) writes → CanPrepareWrites (outset_of v) s writes
     can_prepare can = record { few = can.few; unworn = λ worn. worn_log worn can.small; room = λ full. omega (arith, full, can.tail) }
 
-    first_of : (refusal : Refusal Unit) → IsWriteRefusal false (tail_base fetched v.tail) writes refusal → IsPreparingRefusal v s writes (raised_of refusal)
+    first_of : (refusal : Refusal Unit) → IsWriteRefusal false (tail_base fetched v.tail) writes refusal → IsPreparingRefusal (outset_of v) s writes (raised_of refusal)
     first_of (DeviceFailed cause) why = absurd (false≢true why)
     first_of BadAddress why = absurd (false≢true (sym why.1 ∙ valid_of (blocks_of v.tail) writes objects))
     first_of BadSize why = absurd (false≢true (sym why.2 ∙ objects))
@@ -84,11 +92,11 @@ module _ (blocks : ℕ) (v : VolatileState) (fetched : List Update) (writes : Li
 
     pub prepares_not : {T : Type 0} (answer : Result T (Refusal Unit)) (result : Result T (Refusal Told)) → IfOk answer (λ value. result ≡ Ok value)
         → IfErr answer (λ refusal. result ≡ Err (raised_of refusal)) → IfErr answer (IsTailWriteRefusal (tail_base fetched v.tail) writes)
-        → IfErr result (IsPreparingRefusal v s writes)
-    prepares_not (Ok value) result ok err why = subst (λ r. IfErr r (IsPreparingRefusal v s writes)) (sym ok) tt
-    prepares_not (Err refusal) result ok err why = subst (λ r. IfErr r (IsPreparingRefusal v s writes)) (sym err)
+        → IfErr result (IsPreparingRefusal (outset_of v) s writes)
+    prepares_not (Ok value) result ok err why = subst (λ r. IfErr r (IsPreparingRefusal (outset_of v) s writes)) (sym ok) tt
+    prepares_not (Err refusal) result ok err why = subst (λ r. IfErr r (IsPreparingRefusal (outset_of v) s writes)) (sym err)
         (⊎_elim (first_of refusal)
-        (λ late. subst (λ (e : Refusal Unit). IsPreparingRefusal v s writes (raised_of e)) (sym late.1) (can_prepare late.0))
+        (λ late. subst (λ (e : Refusal Unit). IsPreparingRefusal (outset_of v) s writes (raised_of e)) (sym late.1) (can_prepare late.0))
         why)
 
 -- what is prepared has the objects of the map overwritten

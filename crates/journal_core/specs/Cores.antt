@@ -1,19 +1,29 @@
--- What contracts see of the core, what a crash may leave of it, and what its type keeps.
-use Rattle.std.specs.Prelude.{ℕ, ◌≡◌, ◌≤◌, Bool, false, IsTrue, List}
+-- What contracts see of the core, the pair of its durable and its volatile part, and what a crash may leave of it.
+use Rattle.std.specs.Prelude.{ℕ, ◌≡◌, ◌≤◌, ◌+◌, Bool, false, IsTrue, List, length}
 use Rattle.journal_world.specs.Maps.{Map, SameMap}
-use Rattle.journal_world.specs.Histories.{Entry, opened, is_trusted, count, floor, at, latest}
+use Rattle.journal_world.specs.Histories.{Entry, count, floor, at}
+use Rattle.journal_block.specs.declared.update.Update.{Update}
 use Rattle.journal_block.specs.Block.{Bytes}
 use Rattle.journal_disk.specs.Disks.{DiskState, Keeps}
 use Rattle.journal_disk.specs.Images.{EveryImage}
 use Rattle.journal_disk.specs.Moments.{LeavesOnly}
-use Rattle.journal_wal.specs.Wal.{WalState, size_of, log_steps}
+use Rattle.journal_memlog.specs.Logs.{next_position, tail_of}
+use Rattle.journal_wal.specs.Wal.{WalState}
 use Rattle.journal_objlog.specs.Maps.{OpensAs}
-use Rattle.journal_objlog.specs.ObjectLogs.{map_now, map_cut, map_logged, MayOpenAs, is_faulted as is_log_faulted, disk_of as log_disk}
-use Rattle.journal_core.specs.Memories.{MemoryState}
+use Rattle.journal_objlog.specs.ObjectLogs.{is_faulted as is_log_faulted, disk_of as log_disk, start_of as log_start, end_of as log_end, OnlyReads as OnlyReadsLog}
+use Rattle.journal_core.specs.Outsets.{Outset}
+use Rattle.journal_core.specs.Durables.{DurableState, IsDurable}
+use Rattle.journal_core.specs.Volatiles.{VolatileState, IsVolatile}
+use Rattle.journal_core.specs.Pairs.{Tied}
+
+-- The map of objects, as it is kept: the log on the disk, and behind it the blocks that commits wrote since the last cut
+pub record ObjectsState : Type 0 where
+  pub wal : WalState
+  pub tail : List Update
 
 pub record CoreState : Type 0 where
   -- the map of objects, and the log that it is kept in
-  pub objects : WalState
+  pub objects : ObjectsState
   -- all entries of the mount's history
   pub history : List Entry
   -- how many commits there were at the last cut, and at the cut of the last group whose cycle ended
@@ -24,28 +34,56 @@ pub record CoreState : Type 0 where
   -- it was stopped, so that reads, commits, steps and waits are refused from then on
   pub closed : Bool
 
--- the core of an object log and the memory part
-abbrev pub core_of : WalState → MemoryState → ℕ → CoreState
-core_of objects memory logged = record {
-  objects = objects;
-  history = memory.history;
-  cut = memory.cut;
-  logged = logged;
-  next = memory.next;
-  closed = memory.closed;
+-- the core of these two parts
+abbrev pub core_of : VolatileState → DurableState → CoreState
+core_of v d = record {
+  objects = record { wal = d.objects; tail = tail_of v.tail.log };
+  history = v.memory.history;
+  cut = v.memory.cut;
+  logged = d.logged;
+  next = v.memory.next;
+  closed = v.memory.closed;
 }
+
+-- how many blocks the tail has
+abbrev pub tail_length : ObjectsState → ℕ
+tail_length o = length o.tail
+
+-- where the log on the disk starts and ends, as last synced: positions
+abbrev pub start_of : ObjectsState → ℕ
+start_of o = log_start o.wal
+
+abbrev pub end_of : ObjectsState → ℕ
+end_of o = log_end o.wal
+
+-- the position behind the tail
+abbrev pub next_of : ObjectsState → ℕ
+next_of o = next_position o.wal.log + length o.tail
+
+-- The disk was read, with or without a fault, and there may be other room in memory: all else is as before
+pub record OnlyReads (old new : ObjectsState) : Type 0 where
+  pub wal : OnlyReadsLog old.wal new.wal
+  pub tail : new.tail ≡ old.tail
+
+-- the core with another log on the disk
+abbrev pub with_wal : CoreState → WalState → CoreState
+with_wal c wal = record c { objects = record c.objects { wal = wal } }
 
 -- a device call failed, so that reads, commits and steps are refused until the disk is opened again
 abbrev pub is_faulted : CoreState → Bool
-is_faulted c = is_log_faulted c.objects
+is_faulted c = is_log_faulted c.objects.wal
 
 -- it was not stopped, and no device call failed
 abbrev pub IsRunning : CoreState → Type 0
 IsRunning c = (c.closed ≡ false) × (is_faulted c ≡ false)
 
+-- what its reads and commits are judged by
+abbrev pub outset : CoreState → Outset
+outset c = record { closed = c.closed; faulted = is_faulted c; history = c.history; tail = c.objects.tail; next = next_of c.objects }
+
 -- the disk that the core lies on
 abbrev pub disk_of : CoreState → DiskState
-disk_of c = log_disk c.objects
+disk_of c = log_disk c.objects.wal
 
 -- The image opens as the map after so many commits, no fewer than the greatest mark
 pub record Leaves (history : List Entry) (image : List Bytes) : Type 0 where
@@ -63,21 +101,15 @@ pub record Crashes (old new : CoreState) : Type 0 where
   pub moments : IsTrue (disk_of old).honest → LeavesOnly (disk_of old).past (disk_of new).past (Leaves old.history)
   pub images : IsTrue (disk_of new).honest → EveryImage (disk_of new).past (Leaves new.history)
 
--- The map now is that of the history, the one at the last cut that after m commits, the one that is logged that after n
-pub record AreTied (objects : WalState) (history : List Entry) (m n : ℕ) : Type 0 where
-  pub now : SameMap (map_now objects) (latest history)
-  pub cut : SameMap (map_cut objects) (at history m)
-  pub logged : SameMap (map_logged objects) (at history n)
+-- What the pair keeps, on a disk of so many blocks: what each part keeps by itself, what ties the two, and that both know of a
+-- fault
+pub record IsPair (blocks : ℕ) (v : VolatileState) (d : DurableState) : Type 0 where
+  pub volatile : IsVolatile blocks v
+  pub durable : IsDurable blocks d
+  pub tied : Tied v d
+  pub fault : v.faulted ≡ is_log_faulted d.objects
 
--- What the core keeps, on a disk of so many blocks
-pub record IsCore (blocks : ℕ) (c : CoreState) : Type 0 where
-  pub size : size_of c.objects ≡ blocks
-  pub on_disk : (opened c.history).blocks ≡ blocks
-  pub trusted : is_trusted c.history ≡ (disk_of c).honest
-  pub marked : floor c.history ≤ c.logged
-  pub logged_to_cut : c.logged ≤ c.cut
-  pub cut_to_count : c.cut ≤ count c.history
-  -- where no group is in flight, what was cut is logged
-  pub rest : is_faulted c ≡ false → log_steps c.objects ≡ 0 → c.logged ≡ c.cut
-  pub tied : IsTrue (disk_of c).honest → AreTied c.objects c.history c.cut c.logged
-  pub images : IsTrue (disk_of c).honest → EveryImage (disk_of c).past (MayOpenAs c.objects)
+-- What the core keeps: while no device call has failed, also memory for a block that a read fetches
+pub record IsCore (blocks : ℕ) (v : VolatileState) (d : DurableState) (spare : List Update) : Type 0 where
+  pub pair : IsPair blocks v d
+  pub room : is_log_faulted d.objects ≡ false → length spare ≡ 1

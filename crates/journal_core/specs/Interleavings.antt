@@ -1,6 +1,6 @@
 -- Transactions of many actors, the logger's and the installer's steps, crashes and openings, in any order: lists of events,
 -- and what they come to.
-use Rattle.std.specs.Prelude.{ℕ, ◌≡◌, ◌⊎◌, ◌==◌, ◌≤◌, true, false, if◌then◌else◌, Bool, IsTrue, List, [], ◌∷◌, ◌++◌, Option, Some, None, Result, Ok, Err}
+use Rattle.std.specs.Prelude.{ℕ, ◌≡◌, ◌⊎◌, ◌==◌, ◌≤◌, true, false, if◌then◌else◌, Bool, IsTrue, List, [], ◌∷◌, ◌++◌, map, All, Option, Some, None, Result, Ok, Err}
 use mathlib.Core.List.{IsPrefix}
 use Rattle.journal_world.specs.declared.address.Addr.{Addr}
 use Rattle.journal_world.specs.declared.refusal.Refusal.{Refusal}
@@ -8,28 +8,31 @@ use Rattle.journal_world.specs.Addresses.{Value, slot_of}
 use Rattle.journal_world.specs.Maps.{Map, Pair, Transaction, SameMap, Agrees, value_at, is_object}
 use Rattle.journal_world.specs.Histories.{Entry, opened, is_trusted, latest, at, count, floor, Follows, IsTrueTo}
 use Rattle.journal_world.specs.Histories.Entry.{opening, commit, stable}
+use Rattle.journal_block.specs.declared.update.Update.{Update}
 use Rattle.journal_block.specs.Block.{Bytes}
 use Rattle.journal_disk.specs.Disks.{Past, DiskState, IsSettled}
 use Rattle.journal_disk.specs.Images.{IsImage}
 use Rattle.journal_disk.specs.Moments.{Extends}
 use Rattle.journal_objlog.specs.Maps.{OpensAs}
-use Rattle.journal_objlog.specs.ObjectLogs.{OnlyReads}
 use Rattle.journal_history.specs.Tokens.{SessionState, CommitPlace, next_transaction}
 use Rattle.journal_wal.specs.declared.step.InstallStep.{InstallStep}
 use Rattle.journal_core.specs.declared.step.LogStep.{LogStep}
 use Rattle.journal_core.specs.declared.step.LogStep.TheVariants.{Marked}
 use Rattle.journal_core.specs.Causes.{Told}
-use Rattle.journal_core.specs.Cores.{CoreState, Crashes, IsRunning, disk_of}
+use Rattle.journal_core.specs.Cores.{CoreState, Crashes, IsRunning, OnlyReads, disk_of}
 use Rattle.journal_core.specs.Transactions.{TransactionState, FoundState, begun, AreUnmoved, Remembers, Overwrites}
-use Rattle.journal_core.specs.Steps.{LogAnswers, IsLogRefusal, InstallAnswers, IsInstallRefusal, MayRead, IsReadRefusal, BeginsSession, IsSessionRefusal, Stops}
+use Rattle.journal_core.specs.Steps.{LogAnswers, IsLogRefusal, InstallAnswers, IsInstallRefusal, MayRead, IsReadRefusal, BeginsSession, IsSessionRefusal, Stops, IsFetchRefusal}
 use Rattle.journal_core.specs.Memories.{IsBehind, IsMoved}
+use Rattle.journal_core.specs.Durables.{FetchedState, IsFetched, IsBlockAfter}
+use Rattle.journal_core.specs.Volatiles.{IsFrontRefusal}
 use Rattle.journal_core.specs.Commits.{IsCommitted, CanCommit, IsCommitRefusal}
 use Rattle.journal_core.specs.Openings.{Begins}
 
 -- An event. The first six are of one actor, and all of these but the first of the transaction that it has open. A slot that
--- it takes is held until the transaction is ended. Then a session is asked for, and the core is stopped. A step of the logger is the next of: cut a group, put a log block, a
--- barrier, put `end`, a barrier, a mark; one of the installer the next of: put a home block, a barrier, put `start`, a barrier.
--- A device call of any of them may fail
+-- it takes is held until the transaction is ended. An actor fetches blocks of these numbers from the disk, and has them from then
+-- on, whatever steps come between. Then a session is asked for, and the core is stopped. A step of the logger is the next of: cut a
+-- group, put a log block, a barrier, put `end`, a barrier, a mark; one of the installer the next of: put a home block, a barrier,
+-- put `start`, a barrier. A device call of any of them may fail
 pub data Event : Type 0 where
   begins : ℕ → Event
   takes : ℕ → ℕ → Event
@@ -37,6 +40,7 @@ pub data Event : Type 0 where
   overwrites : ℕ → Addr → Value → Event
   aborts : ℕ → Event
   commits : ℕ → Event
+  fetches : ℕ → List ℕ → Event
   joins : Event
   stops : Event
   logs : Event
@@ -74,11 +78,12 @@ abbrev pub TellsAll : (Map → Type 0) → List Entry → List Answer → List E
 TellsAll rule old [] new = new ≡ old
 TellsAll rule old (answer ∷ answers) new = (mid : List Entry) × Tells rule old answer mid × TellsAll rule mid answers new
 
--- A mount: its core, the transaction that each actor has open, and the actor that holds each slot
+-- A mount: its core, the transaction that each actor has open, the actor that holds each slot, and all that each actor has fetched
 pub record Mount : Type 0 where
   pub core : CoreState
   pub transactions : ℕ → Option TransactionState
   pub holders : ℕ → Option ℕ
+  pub fetched : ℕ → List FetchedState
 
 abbrev pub is_actor : Option ℕ → ℕ → Bool
 is_actor None actor = false
@@ -93,9 +98,9 @@ pub data Machine : Type 0 where
   up : Mount → Machine
   down : List Bytes → Machine
 
--- nobody has a transaction open, or holds a slot
+-- nobody has a transaction open, holds a slot, or has fetched a block
 abbrev pub mounted : CoreState → Machine
-mounted core = up (record { core = core; transactions = λ actor. None; holders = λ slot. None })
+mounted core = up (record { core = core; transactions = λ actor. None; holders = λ slot. None; fetched = λ actor. [] })
 
 -- the core has gone on
 abbrev pub with_core : Mount → CoreState → Mount
@@ -108,6 +113,10 @@ with_transaction m actor draft = record m { transactions = λ other. if other ==
 -- the actor has the slot
 abbrev pub with_slot : Mount → ℕ → ℕ → Mount
 with_slot m actor slot = record m { holders = λ other. if other == slot then Some actor else m.holders other }
+
+-- the actor has these blocks too
+abbrev pub with_fetched : Mount → ℕ → FetchedState → Mount
+with_fetched m actor blocks = record m { fetched = λ other. if other == actor then blocks ∷ m.fetched other else m.fetched other }
 
 -- the actor's transaction is ended, and all its slots are given up
 abbrev pub ended : Mount → ℕ → Mount
@@ -168,6 +177,28 @@ pub record RefusesCommit (old : CoreState) (session : SessionState) (d : Transac
 abbrev pub AnswersCommit : CoreState → SessionState → TransactionState → Result CommitPlace (Refusal Told) → CoreState → SessionState → Type 0
 AnswersCommit old session d (Ok place) new after = CommitsTransaction old session d new after
 AnswersCommit old session d (Err why) new after = RefusesCommit old session d why new
+
+-- Blocks were read as they are logged, and nothing else was done: they are what the first commits of a front of the history left
+pub record FetchesBlocks (blocks : ℕ) (old : CoreState) (numbers : List ℕ) (f : FetchedState) (new : CoreState) : Type 0 where
+  pub named : map (λ (u : Update). u.block) f.updates ≡ numbers
+  pub begins : IsPrefix f.front old.history
+  pub commits : f.commits ≡ old.logged
+  pub objects : IsFetched blocks f
+  pub running : IsRunning new
+  pub reads : OnlyReads old.objects new.objects
+  pub others : new ≡ record old { objects = new.objects }
+  pub crash : Crashes old new
+
+-- A fetch was refused
+pub record RefusesFetch (old : CoreState) (why : Refusal Told) (new : CoreState) : Type 0 where
+  pub refusal : IsFetchRefusal old new why
+  pub reads : OnlyReads old.objects new.objects
+  pub others : new ≡ record old { objects = new.objects }
+  pub crash : Crashes old new
+
+abbrev pub AnswersFetch : ℕ → CoreState → List ℕ → Result FetchedState (Refusal Told) → CoreState → Type 0
+AnswersFetch blocks old numbers (Ok fetched) new = FetchesBlocks blocks old numbers fetched new
+AnswersFetch blocks old numbers (Err why) new = RefusesFetch old why new
 
 -- The logger made a step
 pub record LogsStep (old : CoreState) (step : LogStep) (new : CoreState) : Type 0 where
@@ -279,6 +310,17 @@ Finishes old actor (Some draft) (committed t) new =
     × CommitsTransaction old.core session draft core after × (new ≡ up (ended (with_core old core) actor))))
 Finishes old actor (Some draft) other new = ⊥
 
+-- what was fetched is the actor's from then on
+abbrev pub keeping : Mount → ℕ → Result FetchedState (Refusal Told) → Mount
+keeping m actor (Ok fetched) = with_fetched m actor fetched
+keeping m actor (Err why) = m
+
+-- blocks are fetched, or that is refused
+abbrev pub FetchesFor : Mount → ℕ → List ℕ → Answer → Machine → Type 0
+FetchesFor old actor numbers answer new =
+    (answer ≡ nothing) × ((result : Result FetchedState (Refusal Told)) × ((core : CoreState) × AnswersFetch (blocks_of old) old.core numbers result core
+    × (new ≡ up (keeping (with_core old core) actor result))))
+
 -- a step of the logger that marks is answered by its mark, and any other leaves the history
 abbrev pub MakesLogStep : Mount → Answer → Machine → Type 0
 MakesLogStep old nothing new =
@@ -296,6 +338,7 @@ HappensUp old (reads actor a) answer new = ReadsUnderSlot old actor a (old.trans
 HappensUp old (overwrites actor a v) answer new = OverwritesUnderSlot old actor (a, v) (old.transactions actor) (holds old actor a) answer new
 HappensUp old (aborts actor) answer new = (answer ≡ nothing) × (new ≡ up (ended old actor))
 HappensUp old (commits actor) answer new = Finishes old actor (old.transactions actor) answer new
+HappensUp old (fetches actor numbers) answer new = FetchesFor old actor numbers answer new
 HappensUp old logs answer new = MakesLogStep old answer new
 HappensUp old joins answer new =
     (answer ≡ nothing) × ((result : Result SessionState (Refusal Told)) × ((core : CoreState) × AnswersSession old.core result core
@@ -340,3 +383,11 @@ pub record IsUndisturbed (c : CoreState) (t : TransactionState) : Type 0 where
   pub agrees : Agrees (latest c.history) t.reads
   pub never_behind : (cause : Told) → IsBehind c.history t cause → ⊥
   pub never_moved : (cause : Told) → IsMoved c.history t cause → ⊥
+
+-- What was fetched, however long ago, is what the first commits of the history left: it goes from a hold of one lock to a later hold
+-- of another. No step is refused since the fetch had seen more of the history
+pub record StaysFetched (c : CoreState) (f : FetchedState) : Type 0 where
+  pub begins : IsPrefix f.front c.history
+  pub made : f.commits ≤ count c.history
+  pub blocks : All (IsBlockAfter (opened c.history).blocks c.history f.commits) f.updates
+  pub never_longer : (why : Refusal Told) → IsFrontRefusal c.history f.front why → ⊥

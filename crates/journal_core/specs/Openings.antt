@@ -30,7 +30,7 @@ HasWellFormedLog disk = IsWellFormed (reading disk.past)
 
 -- The log begins and ends where the disk tells
 abbrev pub HasBoundsOf : DiskState → CoreState → Type 0
-HasBoundsOf disk c = HasBoundsIn (reading disk.past) c.objects
+HasBoundsOf disk c = HasBoundsIn (reading disk.past) c.objects.wal
 
 -- A mount of a disk begins: its history is the opening, and the disk was only read
 pub record Begins (rule : Map → Type 0) (disk : DiskState) (new : CoreState) : Type 0 where
@@ -43,7 +43,8 @@ pub record Begins (rule : Map → Type 0) (disk : DiskState) (new : CoreState) :
   pub history : new.history ≡ opening map disk.honest ∷ []
   pub keeps : Keeps disk (disk_of new)
   pub past : IsTrue disk.honest → (disk_of new).past ≡ disk.past
-  pub rest : AtRest new.objects
+  pub rest : AtRest new.objects.wal
+  pub tail : new.objects.tail ≡ []
   pub cut : new.cut ≡ 0
   pub logged : new.logged ≡ 0
   pub next : new.next ≡ 0

@@ -6,10 +6,10 @@ use Rattle.journal_world.specs.declared.refusal.Refusal.TheVariants.{NoMemory, S
 use Rattle.journal_world.specs.Histories.{count, floor}
 use Rattle.journal_world.specs.Histories.Entry.{stable}
 use Rattle.journal_memlog.specs.Logs.{next_position, tail_of}
-use Rattle.journal_wal.specs.Wal.{log_steps}
+use Rattle.journal_wal.specs.Wal.{with_room}
 use Rattle.journal_wal.specs.Groups.{FitsGroup}
 use Rattle.journal_wal.specs.Tails.{cut_points, cut_after}
-use Rattle.journal_objlog.specs.ObjectLogs.{end_of}
+use Rattle.journal_objlog.specs.ObjectLogs.{end_of, IsCutLogged}
 use Rattle.journal_core.specs.declared.refusal_number.RefusalNumber.TheVariants.{J9}
 use Rattle.journal_core.specs.declared.step.LogStep.{LogStep}
 use Rattle.journal_core.specs.declared.step.LogStep.TheVariants.{Idle, Cut, Marked}
@@ -30,18 +30,46 @@ pub record Tied (v : VolatileState) (d : DurableState) : Type 0 where
   pub position : v.tail.log.cut ≡ next_position d.objects.log
   pub logged : All (λ c. c.end ≤ end_of d.objects → c.commits ≤ d.logged) (cut_points v.tail)
 
+-- A hold of both that needs no device call is due
+
+-- All that was cut is logged, and it is not marked yet
+pub record IsMarkDue (v : VolatileState) (d : DurableState) : Type 0 where
+  pub cut : v.memory.cut ≡ d.logged
+  pub more : floor v.memory.history < d.logged
+
+-- All that was cut is logged, and the log has a place for the tail
+pub record IsCutDue (v : VolatileState) (d : DurableState) : Type 0 where
+  pub logged : v.memory.cut ≤ d.logged
+  pub fits : FitsGroup d.objects (length (tail_of v.tail.log))
+
+-- Nothing that commits wrote awaits logging, and not all of them are marked
+pub record IsRestDue (v : VolatileState) (d : DurableState) : Type 0 where
+  pub logged : v.memory.cut ≤ d.logged
+  pub rest : IsCutLogged d.objects
+  pub tail : tail_of v.tail.log ≡ []
+  pub more : floor v.memory.history < count v.memory.history
+
+-- none of the three
+pub record IsNothingDue (v : VolatileState) (d : DurableState) : Type 0 where
+  pub mark : IsMarkDue v d → ⊥
+  pub cut : IsCutDue v d → ⊥
+  pub rest : IsRestDue v d → ⊥
+
 -- The tail became the group in flight
 pub record CutsBoth (v : VolatileState) (d : DurableState) (w : VolatileState) (e : DurableState) : Type 0 where
+  pub due : IsCutDue v d
   pub memory : w ≡ record v { memory = record v.memory { cut = count v.memory.history }; tail = cut_after v.tail (count v.memory.history) }
   pub group : TakesCut v.memory.history (tail_of v.tail.log) d e
 
 -- What is logged was marked, in the history and beside the log
 pub record MarksBoth (v : VolatileState) (d : DurableState) (w : VolatileState) (e : DurableState) : Type 0 where
+  pub due : IsMarkDue v d
   pub memory : w ≡ record v { memory = record v.memory { history = v.memory.history ++ stable d.logged ∷ []; cut = d.logged } }
   pub durable : e ≡ record d { front = v.memory.history ++ stable d.logged ∷ []; marked = d.logged }
 
 -- All commits were marked, in the history and beside the log: those since the last cut wrote nothing
 pub record MarksAll (v : VolatileState) (d : DurableState) (w : VolatileState) (e : DurableState) : Type 0 where
+  pub due : IsRestDue v d
   pub memory : w ≡ record v {
     memory = record v.memory { history = v.memory.history ++ stable (count v.memory.history) ∷ []; cut = count v.memory.history };
   }
@@ -52,23 +80,13 @@ pub record MarksAll (v : VolatileState) (d : DurableState) (w : VolatileState) (
     coming = count v.memory.history;
   }
 
--- what was done where no device call was due, by what is answered
-abbrev pub Settles : VolatileState → DurableState → LogStep → VolatileState → DurableState → Type 0
-Settles v d Idle w e = (w ≡ v) × (e ≡ d)
-Settles v d Cut w e = CutsBoth v d w e
-Settles v d (Marked n) w e = ((n ≡ d.logged) × MarksBoth v d w e) ⊎ ((n ≡ count v.memory.history) × MarksAll v d w e)
-Settles v d other w e = ⊥
-
--- something that commits wrote is not logged yet: a group is in flight, or there is a tail
-abbrev pub AwaitsLogging : VolatileState → DurableState → Type 0
-AwaitsLogging v d = (0 < log_steps d.objects) ⊎ (0 < length (tail_of v.tail.log))
-
--- Nothing of that is due: what is logged is marked, or a group is in flight; the tail has no place, or is empty; and something
--- awaits logging, or all commits are marked
-pub record IsSettled (v : VolatileState) (d : DurableState) : Type 0 where
-  pub marked : (d.logged < d.coming) ⊎ (d.logged ≡ d.marked)
-  pub cut : FitsGroup d.objects (length (tail_of v.tail.log)) → ⊥
-  pub rest : AwaitsLogging v d ⊎ (count v.memory.history ≤ floor v.memory.history)
+-- what was done where no device call was due, by what is answered: the first of the three that was due
+abbrev pub DoesWhatIsDue : VolatileState → DurableState → LogStep → VolatileState → DurableState → Type 0
+DoesWhatIsDue v d Idle w e = IsNothingDue v d × (w ≡ v) × (e ≡ d)
+DoesWhatIsDue v d Cut w e = (IsMarkDue v d → ⊥) × CutsBoth v d w e
+DoesWhatIsDue v d (Marked n) w e =
+    ((n ≡ d.logged) × MarksBoth v d w e) ⊎ ((n ≡ count v.memory.history) × (IsMarkDue v d → ⊥) × MarksAll v d w e)
+DoesWhatIsDue v d other w e = ⊥
 
 -- J9: the history has a mark above n, as this cause has it
 abbrev pub IsMarkedAbove : VolatileState → ℕ → Refusal Told → Type 0
@@ -84,16 +102,19 @@ abbrev pub IsCutRefusal : VolatileState → DurableState → Refusal Told → Ty
 IsCutRefusal v d refusal =
     IsFrontRefusal v.memory.history d.front refusal
     ⊎ IsRoomRefusal d (length (tail_of v.tail.log)) refusal
-    ⊎ (refusal ≡ NoMemory)
+    ⊎ (IsCutDue v d × (refusal ≡ NoMemory))
 
 -- why what is logged is not marked
 abbrev pub IsMarkingRefusal : VolatileState → DurableState → Refusal Told → Type 0
-IsMarkingRefusal v d refusal = IsUntied v d d.logged refusal ⊎ IsMarkRefusal v.memory.history refusal
+IsMarkingRefusal v d refusal = IsUntied v d d.logged refusal ⊎ (IsMarkDue v d × IsMarkRefusal v.memory.history refusal)
 
 -- why the commits that wrote nothing are not marked
 abbrev pub IsRestRefusal : VolatileState → DurableState → Refusal Told → Type 0
-IsRestRefusal v d refusal = IsFrontRefusal v.memory.history d.front refusal ⊎ IsMarkRefusal v.memory.history refusal
+IsRestRefusal v d refusal = IsFrontRefusal v.memory.history d.front refusal ⊎ (IsRestDue v d × IsMarkRefusal v.memory.history refusal)
 
--- why nothing of that is done
-abbrev pub IsSettlingRefusal : VolatileState → DurableState → Refusal Told → Type 0
-IsSettlingRefusal v d refusal = IsMarkingRefusal v d refusal ⊎ IsCutRefusal v d refusal ⊎ IsRestRefusal v d refusal
+-- why what is due is not done, and what is left of the durable part
+abbrev pub IsDueRefusal : VolatileState → DurableState → Refusal Told → DurableState → Type 0
+IsDueRefusal v d refusal e =
+    (IsMarkingRefusal v d refusal × (e ≡ d))
+    ⊎ ((IsMarkDue v d → ⊥) × IsCutRefusal v d refusal × (e ≡ record d { objects = with_room d.objects e.objects.log.room }))
+    ⊎ ((IsMarkDue v d → ⊥) × IsRestRefusal v d refusal × (e ≡ d))

@@ -1,6 +1,5 @@
 -- What the steps of the core do, and why they are refused.
 use Rattle.std.specs.Prelude.{ℕ, ◌≡◌, ◌⊎◌, ◌<◌, ◌≤◌, ◌+◌, ◌++◌, ◌∷◌, [], IsTrue, true, false}
-use mathlib.Core.List.{IsPrefix}
 use Rattle.journal_world.specs.declared.address.Addr.{Addr}
 use Rattle.journal_world.specs.declared.refusal.Refusal.{Refusal}
 use Rattle.journal_world.specs.declared.refusal.Refusal.TheVariants.{NoMemory, BadAddress, DeviceFailed, Stale, Stranger, Closed}
@@ -8,50 +7,48 @@ use Rattle.journal_world.specs.Addresses.{is_valid}
 use Rattle.journal_disk.specs.Disks.{HasFailed}
 use Rattle.journal_world.specs.Histories.{count, floor, commits_of}
 use Rattle.journal_world.specs.Histories.Entry.{stable}
-use Rattle.journal_wal.specs.Wal.{log_steps, install_steps, tail_length, free_positions, TriesDueCall, TriesAhead, log_call, Cuts, EndsGroup, LogsOn, InstallAnswers as WalInstalls}
-use Rattle.journal_objlog.specs.ObjectLogs.{start_of, end_of, KeepsMaps, IsCutLogged}
+use Rattle.journal_wal.specs.Wal.{log_steps, install_steps, free_positions, with_room, TriesDueCall, TriesAhead, log_call, EndsGroup, LogsOn, InstallAnswers as WalInstalls}
+use Rattle.journal_wal.specs.Groups.{FitsGroup, TakesGroup}
+use Rattle.journal_objlog.specs.ObjectLogs.{KeepsMaps}
 use Rattle.journal_history.specs.Tokens.{SessionState}
 use Rattle.journal_wal.specs.declared.step.InstallStep.{InstallStep}
 use Rattle.journal_core.specs.declared.step.LogStep.{LogStep}
 use Rattle.journal_core.specs.declared.step.LogStep.TheVariants.{Idle, Cut, Put, Logged, Marked}
 use Rattle.journal_core.specs.declared.refusal_number.RefusalNumber.TheVariants.{J6, J13}
 use Rattle.journal_core.specs.Causes.{Told, IsUnexplained}
-use Rattle.journal_core.specs.Transactions.{TransactionState, AreUnmoved}
-use Rattle.journal_core.specs.Memories.{IsBehind, IsMoved, IsNumberRefusal, IsStrayRefusal, IsStaleRefusal, IsMarkRefusal}
-use Rattle.journal_core.specs.Cores.{CoreState, is_faulted, IsRunning, disk_of, Crashes}
+use Rattle.journal_core.specs.Transactions.{TransactionState}
+use Rattle.journal_core.specs.Memories.{IsBehind, IsMoved, IsNumberRefusal, IsStaleRefusal, IsMarkRefusal}
+use Rattle.journal_core.specs.Outsets.{IsEndRefusal as IsEndOf, MayRead as MayReadFrom}
+use Rattle.journal_core.specs.Cores.{CoreState, is_faulted, IsRunning, disk_of, Crashes, tail_length, start_of, end_of, with_wal, outset}
 
 -- The logger
 
 -- A step of the group in flight was made, and its cycle goes on
 pub record GoesOnLogging (old new : CoreState) : Type 0 where
-  pub group : LogsOn old.objects new.objects
-  pub others : new ≡ record old { objects = new.objects }
+  pub group : LogsOn old.objects.wal new.objects.wal
+  pub others : new ≡ with_wal old new.objects.wal
 
 -- The cycle of the group in flight ended
 pub record EndsCycle (old new : CoreState) : Type 0 where
-  pub group : EndsGroup old.objects new.objects
-  pub others : new ≡ record old { objects = new.objects; logged = old.cut }
+  pub group : EndsGroup old.objects.wal new.objects.wal
+  pub others : new ≡ record (with_wal old new.objects.wal) { logged = old.cut }
+
+-- The last group is marked, and the log has a place for the tail
+pub record HasPlace (c : CoreState) : Type 0 where
+  pub marked : c.cut ≤ floor c.history
+  pub fits : FitsGroup c.objects.wal (tail_length c.objects)
 
 -- The tail was cut into a group, once the last one was marked
 pub record CutsGroup (old new : CoreState) : Type 0 where
-  pub marked : old.cut ≤ floor old.history
-  pub group : Cuts old.objects new.objects
-  pub others : new ≡ record old { objects = new.objects; cut = count old.history }
+  pub place : HasPlace old
+  pub group : TakesGroup old.objects.wal old.objects.tail new.objects.wal
+  pub others : new ≡ record old { objects = record { wal = new.objects.wal; tail = [] }; cut = count old.history }
 
 -- It was marked that n commits are stable, as they may be, and nothing else
 pub record Marks (n : ℕ) (old new : CoreState) : Type 0 where
   pub rises : floor old.history ≤ n
   pub made : n ≤ count old.history
   pub marked : new ≡ record old { history = old.history ++ stable n ∷ []; cut = n; logged = n }
-
--- Such a mark is true: the maps that a crash may leave are both that after n commits
-pub record CanMark (c : CoreState) (n : ℕ) : Type 0 where
-  pub rises : floor c.history ≤ n
-  pub made : n ≤ count c.history
-  pub fine : is_faulted c ≡ false
-  pub steps : log_steps c.objects ≡ 0
-  pub rest : IsCutLogged c.objects
-  pub which : (n ≡ c.cut) ⊎ ((n ≡ count c.history) × (tail_length c.objects ≡ 0))
 
 -- A group whose cycle ended is not marked yet
 abbrev pub HasLogged : CoreState → Type 0
@@ -66,13 +63,13 @@ pub record HasUnmarked (c : CoreState) : Type 0 where
 -- The logger has nothing to do: no group is in flight or unmarked, the tail is empty and all commits are marked, or the
 -- tail has no place in the log
 pub record IsLogIdle (c : CoreState) : Type 0 where
-  pub steps : log_steps c.objects ≡ 0
+  pub steps : log_steps c.objects.wal ≡ 0
   pub marked : c.cut ≤ floor c.history
-  pub tail : ((tail_length c.objects ≡ 0) × (count c.history ≤ floor c.history)) ⊎ (free_positions c.objects < tail_length c.objects)
+  pub tail : ((tail_length c.objects ≡ 0) × (count c.history ≤ floor c.history)) ⊎ (free_positions c.objects.wal < tail_length c.objects)
 
 -- n commits were marked: those of the group whose cycle ended, or where nothing awaits logging all
 pub record MarksDue (n : ℕ) (old new : CoreState) : Type 0 where
-  pub steps : log_steps old.objects ≡ 0
+  pub steps : log_steps old.objects.wal ≡ 0
   pub marks : Marks n old new
   pub due : ((n ≡ old.cut) × HasLogged old) ⊎ ((n ≡ count old.history) × HasUnmarked old)
 
@@ -100,49 +97,51 @@ pub record IsDeviceRefusal (reached : Type 0) (old new : CoreState) (cause : Tol
   pub faulted : is_faulted new ≡ true
   pub others : new ≡ record old { objects = new.objects }
 
--- A refused step of the logger or of the installer leaves the maps and the log in memory as they were
+-- the log on the disk has other room in memory, and nothing else changed
+abbrev pub IsRoomed : CoreState → CoreState → Type 0
+IsRoomed old new = new ≡ with_wal old (with_room old.objects.wal new.objects.wal.log.room)
+
+-- A refused step of the logger or of the installer leaves the maps and the log in memory as they were, but for its room
 pub record LeavesLog (old new : CoreState) : Type 0 where
-  pub log : new.objects.log ≡ old.objects.log
-  pub maps : IsTrue (disk_of old).honest → KeepsMaps old.objects new.objects
-  pub others : new ≡ record old { objects = new.objects }
+  pub log : new.objects.wal.log ≡ record old.objects.wal.log { room = new.objects.wal.log.room }
+  pub maps : IsTrue (disk_of old).honest → KeepsMaps old.objects.wal new.objects.wal
+  pub others : new ≡ with_wal old new.objects.wal
 
 -- It made no device call, or tried the one of the logger that is due
 abbrev pub TriesToLog : CoreState → CoreState → Type 0
-TriesToLog old new = (new ≡ old) ⊎ TriesDueCall (log_call old.objects) (disk_of old) (disk_of new)
+TriesToLog old new = (new ≡ old) ⊎ TriesDueCall (log_call old.objects.wal) (disk_of old) (disk_of new)
 
 -- It made none, or tried the one that the installer has ahead
 abbrev pub TriesToInstall : CoreState → CoreState → Type 0
-TriesToInstall old new = TriesAhead old.objects new.objects
+TriesToInstall old new = TriesAhead old.objects.wal new.objects.wal
 
--- why a step of the logger is refused, and what is left: a mark is, or the device failed
+-- why a step of the logger is refused, and what is left: a mark is, the device failed, or memory for a group is refused
 abbrev pub IsLogRefusal : CoreState → CoreState → Refusal Told → Type 0
 IsLogRefusal old new (Closed cause) = IsStopped old new cause
 IsLogRefusal old new (DeviceFailed cause) = IsDeviceRefusal (Unit {0}) old new cause
+IsLogRefusal old new NoMemory = IsRunning old × HasPlace old × IsRoomed old new
 IsLogRefusal old new refusal =
-    IsRunning old × (log_steps old.objects ≡ 0) × (HasLogged old ⊎ HasUnmarked old) × IsMarkRefusal old.history refusal × (new ≡ old)
+    IsRunning old × (log_steps old.objects.wal ≡ 0) × (HasLogged old ⊎ HasUnmarked old) × IsMarkRefusal old.history refusal × (new ≡ old)
 
 -- what a step of the installer answers, and does
 abbrev pub InstallAnswers : CoreState → InstallStep → CoreState → Type 0
-InstallAnswers old step new = WalInstalls old.objects step new.objects × (new ≡ record old { objects = new.objects })
+InstallAnswers old step new = WalInstalls old.objects.wal step new.objects.wal × (new ≡ with_wal old new.objects.wal)
 
 abbrev pub IsInstallRefusal : CoreState → CoreState → Refusal Told → Type 0
 IsInstallRefusal old new (Closed cause) = IsStopped old new cause
 IsInstallRefusal old new NoMemory =
-    IsRunning old × (install_steps old.objects ≡ 0) × (start_of old.objects < end_of old.objects) × (new ≡ old)
+    IsRunning old × (install_steps old.objects.wal ≡ 0) × (start_of old.objects < end_of old.objects) × (new ≡ old)
 IsInstallRefusal old new (DeviceFailed cause) = IsDeviceRefusal (Unit {0}) old new cause
 IsInstallRefusal old new other = ⊥
 
--- Nothing but memory and the device can refuse the read
-pub record MayRead (blocks : ℕ) (c : CoreState) (t : TransactionState) (a : Addr) : Type 0 where
-  pub running : IsRunning c
-  pub valid : IsTrue (is_valid blocks a)
-  pub later : IsPrefix t.seen c.history
-  pub unmoved : AreUnmoved c.history t
-
--- why an object that may be read is not
+-- why blocks are not fetched: the device failed
 abbrev pub IsFetchRefusal : CoreState → CoreState → Refusal Told → Type 0
 IsFetchRefusal old new (DeviceFailed cause) = IsDeviceRefusal (Unit {0}) old new cause
 IsFetchRefusal old new other = ⊥
+
+-- Nothing but memory and the device can refuse the read
+abbrev pub MayRead : ℕ → CoreState → TransactionState → Addr → Type 0
+MayRead blocks c t a = MayReadFrom blocks (outset c) t a
 
 -- why an object is not read: the first of these that holds, then a new J6
 abbrev pub IsReadRefusal : ℕ → CoreState → TransactionState → Addr → CoreState → Refusal Told → Type 0
@@ -172,19 +171,7 @@ pub record Stops (old new : CoreState) : Type 0 where
 
 -- why it goes on no more: it was stopped, or a device call failed before
 abbrev pub IsEndRefusal : CoreState → Refusal Told → Type 0
-IsEndRefusal c (Closed cause) = IsUnexplained J13 cause × (c.closed ≡ true)
-IsEndRefusal c (DeviceFailed cause) = IsUnexplained J6 cause × (c.closed ≡ false) × (is_faulted c ≡ true)
-IsEndRefusal c other = ⊥
-
--- it goes on, or the mark stands already
-abbrev pub MayWait : CoreState → ℕ → Type 0
-MayWait c n = IsRunning c ⊎ (n ≤ floor c.history)
-
--- why a session is not told whether so many commits are marked: the first of these that holds
-abbrev pub IsWaitRefusal : CoreState → SessionState → ℕ → Refusal Told → Type 0
-IsWaitRefusal c s n (Closed cause) = (floor c.history < n) × IsEndRefusal c (Closed cause)
-IsWaitRefusal c s n (DeviceFailed cause) = (floor c.history < n) × IsEndRefusal c (DeviceFailed cause)
-IsWaitRefusal c s n other = MayWait c n × IsStrayRefusal c.history s other
+IsEndRefusal c why = IsEndOf (outset c) why
 
 -- why a session is not shown the history
 abbrev pub IsShowRefusal : CoreState → Refusal Told → Type 0

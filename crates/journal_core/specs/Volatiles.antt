@@ -1,23 +1,23 @@
 -- What contracts see of the core's volatile part, what its type keeps by itself, and what its calls do. No device is asked for
 -- any of it.
-use Rattle.std.specs.Prelude.{ℕ, ◌≡◌, ◌≢◌, ◌⊎◌, ◌≤◌, nat_le, if◌then◌else◌, Bool, true, false, IsTrue, List, [], All}
-use mathlib.Core.List.{IsPrefix}
+use Rattle.std.specs.Prelude.{ℕ, ◌≡◌, ◌≢◌, ◌⊎◌, ◌<◌, ◌≤◌, ◌-◌, ◌^◌, nat_le, if◌then◌else◌, Bool, IsTrue, List, [], length, All}
 use Rattle.journal_world.specs.declared.address.Addr.{Addr}
 use Rattle.journal_world.specs.declared.refusal.Refusal.{Refusal}
-use Rattle.journal_world.specs.declared.refusal.Refusal.TheVariants.{BadAddress, DeviceFailed, Stale, Stranger, Closed}
-use Rattle.journal_world.specs.Addresses.{is_valid}
-use Rattle.journal_world.specs.Histories.{Entry, opened, is_trusted, count}
+use Rattle.journal_world.specs.declared.refusal.Refusal.TheVariants.{Stale}
+use Rattle.journal_world.specs.Histories.{Entry, opened, is_trusted, count, floor}
 use Rattle.journal_block.specs.declared.update.Update.{Update}
 use Rattle.journal_memlog.specs.Logs.{next_position, tail_of}
+use Rattle.journal_circ.specs.declared.layout.TheConstants.{LOG_POSITIONS}
 use Rattle.journal_wal.specs.Tails.{TailState, cut_points, updates_from}
 use Rattle.journal_wal.specs.declared.tail.CutPoint.{CutPoint}
 use Rattle.journal_objlog.specs.ObjectTails.{blocks_of}
 use Rattle.journal_history.specs.Soundness.{IsLonger}
-use Rattle.journal_core.specs.declared.refusal_number.RefusalNumber.TheVariants.{J6, J9, J13}
-use Rattle.journal_core.specs.Causes.{Told, IsUnexplained, IsExplained}
-use Rattle.journal_core.specs.Memories.{MemoryState, IsBehind, IsMoved}
-use Rattle.journal_core.specs.Transactions.{TransactionState, AreUnmoved}
+use Rattle.journal_core.specs.declared.refusal_number.RefusalNumber.TheVariants.{J9}
+use Rattle.journal_core.specs.Causes.{Told, IsExplained}
+use Rattle.journal_core.specs.Memories.{MemoryState}
+use Rattle.journal_core.specs.Transactions.{TransactionState}
 use Rattle.journal_core.specs.Updates.{HaveAllSince}
+use Rattle.journal_core.specs.Outsets.{Outset, MayRead, IsLookRefusal}
 use Rattle.journal_core.specs.Durables.{FetchedState}
 
 pub record VolatileState : Type 0 where
@@ -28,9 +28,15 @@ pub record VolatileState : Type 0 where
   -- a device call failed, so that reads, commits and steps are refused until the disk is opened again
   pub faulted : Bool
 
--- it was not stopped, and no device call failed
-abbrev pub IsRunning : VolatileState → Type 0
-IsRunning v = (v.memory.closed ≡ false) × (v.faulted ≡ false)
+-- what its reads and commits are judged by
+abbrev pub outset_of : VolatileState → Outset
+outset_of v = record {
+  closed = v.memory.closed;
+  faulted = v.faulted;
+  history = v.memory.history;
+  tail = tail_of v.tail.log;
+  next = next_position v.tail.log;
+}
 
 -- What is known of a cut: where it lies, and how many commits there were
 pub record IsCutOf (v : VolatileState) (c : CutPoint) : Type 0 where
@@ -51,41 +57,31 @@ pub record IsVolatile (blocks : ℕ) (v : VolatileState) : Type 0 where
   pub on_disk : (opened v.memory.history).blocks ≡ blocks
   pub made : v.memory.cut ≤ count v.memory.history
   pub cut_to_next : v.tail.log.cut ≤ next_position v.tail.log
+  pub small : next_position v.tail.log < 2 ^ 62
   pub cuts : All (IsCutOf v) (cut_points v.tail)
   pub updates : IsTrue (is_trusted v.memory.history) → HasUpdates blocks v
+
+-- how many positions of the log have updates up to the last cut, where it starts at this one
+abbrev pub used_positions : VolatileState → ℕ → ℕ
+used_positions v start = v.tail.log.cut - start
+
+-- The logger has nothing to do, as far as memory alone can tell, where the log starts at this position: the last cut is marked, and
+-- there is no tail and no commit behind the mark, or there are fewer free positions than the tail has blocks
+pub record HasNothingToLog (v : VolatileState) (start : ℕ) : Type 0 where
+  pub marked : v.memory.cut ≤ floor v.memory.history
+  pub rest : ((tail_of v.tail.log ≡ []) × (count v.memory.history ≤ floor v.memory.history))
+      ⊎ (LOG_POSITIONS - used_positions v start < length (tail_of v.tail.log))
 
 -- Of the fetched blocks those that may be used: all, unless what commits wrote after them was dropped from memory
 abbrev pub usable : VolatileState → FetchedState → List Update
 usable v f = if nat_le v.tail.trimmed f.commits then f.updates else []
-
--- Why calls are refused
-
--- it was stopped, or a device call failed before
-abbrev pub IsEndRefusal : VolatileState → Refusal Told → Type 0
-IsEndRefusal v (Closed cause) = IsUnexplained J13 cause × (v.memory.closed ≡ true)
-IsEndRefusal v (DeviceFailed cause) = IsUnexplained J6 cause × (v.memory.closed ≡ false) × (v.faulted ≡ true)
-IsEndRefusal v other = ⊥
 
 -- why another part's front does not begin the history: it is the longer, as this cause has it
 abbrev pub IsFrontRefusal : List Entry → List Entry → Refusal Told → Type 0
 IsFrontRefusal history seen (Stale cause) = IsExplained J9 seen cause × IsLonger history seen
 IsFrontRefusal history seen other = ⊥
 
--- Nothing but what was fetched can refuse the read
-pub record MayRead (blocks : ℕ) (v : VolatileState) (t : TransactionState) (a : Addr) : Type 0 where
-  pub running : IsRunning v
-  pub valid : IsTrue (is_valid blocks a)
-  pub later : IsPrefix t.seen v.memory.history
-  pub unmoved : AreUnmoved v.memory.history t
-
--- why a read is refused by what is known before the value is looked for: the first of these that holds
-abbrev pub IsLookRefusal : ℕ → VolatileState → TransactionState → Addr → Refusal Told → Type 0
-IsLookRefusal blocks v t a BadAddress = IsRunning v × (is_valid blocks a ≡ false)
-IsLookRefusal blocks v t a (Stale cause) = IsRunning v × IsTrue (is_valid blocks a) × IsBehind v.memory.history t cause
-IsLookRefusal blocks v t a (Stranger cause) = IsRunning v × IsTrue (is_valid blocks a) × IsMoved v.memory.history t cause
-IsLookRefusal blocks v t a other = IsEndRefusal v other
-
--- why an object is not read
+-- why an object is not read: by what is known before the value is looked for, or else the fetch has seen more of the history
 abbrev pub IsReadRefusal : ℕ → VolatileState → TransactionState → Addr → FetchedState → Refusal Told → Type 0
 IsReadRefusal blocks v t a f why =
-    IsLookRefusal blocks v t a why ⊎ (MayRead blocks v t a × IsFrontRefusal v.memory.history f.front why)
+    IsLookRefusal blocks (outset_of v) t a why ⊎ (MayRead blocks (outset_of v) t a × IsFrontRefusal v.memory.history f.front why)

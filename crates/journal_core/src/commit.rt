@@ -1,24 +1,20 @@
 // A commit.
-ghost use Rattle.std.specs.Prelude.{◌≡◌, ◌<◌, ◌≤◌, ◌+◌, ◌^◌, ◌↔◌, false, IsTrue, List, length, Err, IfOk, IfErr, OnOk, OnErr};
-ghost use Rattle.journal_world.specs.declared.refusal.Refusal.TheVariants.{TooLarge};
-ghost use Rattle.journal_world.specs.Maps.{Map, Agrees, are_objects, overwritten};
-ghost use Rattle.journal_world.specs.Histories.{is_trusted, commits_of, latest};
-ghost use Rattle.journal_objlog.specs.ObjectLogs.{OnlyReads, base_of};
-ghost use Rattle.journal_history.specs.Tokens.{made, next_transaction, OnlyExtends, IsReceiptFor};
-ghost use Rattle.journal_core.specs.Cores.{Crashes, IsRunning, disk_of};
-ghost use Rattle.journal_objlog.specs.Writes.{IsReady, IsPrepared};
-ghost use Rattle.journal_core.specs.Memories.{ShowsLonger, IsAddingRefusal};
-ghost use Rattle.journal_core.specs.Commits.{IsCommitted, IsAdded, CanPrepare, CanCommit, IsCommitRefusal, IsPreparingRefusal};
+ghost use Rattle.std.specs.Prelude.{◌≡◌, length, IsTrue, IfOk, IfErr, OnOk, OnErr};
+ghost use Rattle.journal_world.specs.Maps.{Map, Agrees, overwritten};
+ghost use Rattle.journal_world.specs.Histories.{is_trusted, latest};
+ghost use Rattle.journal_history.specs.Tokens.{next_transaction, OnlyExtends, IsReceiptFor};
+ghost use Rattle.journal_core.specs.Cores.{Crashes, IsRunning, OnlyReads};
+ghost use Rattle.journal_core.specs.Memories.{ShowsLonger};
+ghost use Rattle.journal_core.specs.Commits.{IsCommitted, CanCommit, IsCommitRefusal};
 ghost use Rattle.journal_core.specs.Interleavings.{AnswersCommit};
 
-use crate::cause::{Cause, raise};
-use crate::refusal_number::RefusalNumber;
-use crate::state::{Core, LIMIT};
+use crate::cause::Cause;
+use crate::state::Core;
 use crate::transaction::Transaction;
 use journal_disk::BlockDisk;
 use journal_history::{Naming, Receipt, Session};
-use journal_objlog::{Prepared, Spares};
-use journal_world::{MapRule, Objects, Refusal};
+use journal_objlog::Spares;
+use journal_world::{MapRule, Refusal};
 
 impl<'b, D: BlockDisk, R: MapRule, J: Naming> Core<'b, D, R, J> {
     /// Commits the session's next transaction: adds it to the history, which the session has then seen, and
@@ -55,81 +51,12 @@ impl<'b, D: BlockDisk, R: MapRule, J: Naming> Core<'b, D, R, J> {
         ensures crash { Crashes self.old self.new }
         ensures event { AnswersCommit self.old session.old transaction.now result self.new session.new }
     {
-        self.check_running()?;
-        self.memory.admit(session, transaction)?;
-        let prepared = self.prepare(session, &transaction.writes, spares)?;
-        self.add(session, transaction, prepared)
-    }
-
-    // Makes the writes ready, with all the memory and all the reads from the device that they take. Refuses by
-    // J4, J11 and J12, then J1 or a new J6.
-    fn prepare(
-        &mut self,
-        session: &Session<'b, J, R>,
-        writes: &Objects,
-        spares: &mut Spares,
-    ) -> Result<Prepared, Refusal<Cause<'b, J, R>>>
-        requires objects { IsTrue (are_objects J.blocks writes.now) }
-        requires running { IsRunning self.old }
-        ensures ready { IfOk result (IsReady self.new.objects) }
-        ensures prepared { IfOk result (λ prepared.
-            IsPrepared (disk_of self.new).honest (base_of self.new.objects) prepared writes.now) }
-        ensures can { OnOk result (CanPrepare self.old session.now writes.now) }
-        ensures room { OnOk result ((length self.old.history + 1 < 2 ^ 62) × (session.now.number < 2 ^ 62)) }
-        ensures running { OnOk result (IsRunning self.new) }
-        ensures refusal { IfErr result (IsPreparingRefusal self.old session.now writes.now self.new) }
-        ensures others { self.new ≡ record self.old { objects = self.new.objects } }
-        ensures reads { OnlyReads self.old.objects self.new.objects }
-        ensures crash { Crashes self.old self.new }
-    {
-        let prepared = self.objects.prepare(writes, spares);
-        if is_too_large(&prepared) {
-            return Err(Refusal::TooLarge);
-        }
-        if self.memory.len() >= LIMIT - 1 || session.number() >= LIMIT {
-            return Err(Refusal::Worn(Cause::none(RefusalNumber::J11)));
-        }
-        raise(prepared)
-    }
-
-    // Adds the transaction to the history, and overwrites the map.
-    fn add(
-        &mut self,
-        session: &mut Session<'b, J, R>,
-        transaction: &Transaction<'b, J, R>,
-        prepared: Prepared,
-    ) -> Result<Receipt<'b, J, R>, Refusal<Cause<'b, J, R>>>
-        requires reads { IsTrue (are_objects J.blocks transaction.now.reads) }
-        requires writes { IsTrue (are_objects J.blocks transaction.now.writes) }
-        requires rule { (m : Map) → m.blocks ≡ J.blocks → R.statement m → Agrees m transaction.now.reads
-            → R.statement (overwritten m transaction.now.writes) }
-        requires agrees { IsTrue (is_trusted self.old.history) → Agrees (latest self.old.history) transaction.now.reads }
-        requires own { length (commits_of session.old.number self.old.history) ≡ made session.old }
-        requires room { length self.old.history + 1 < 2 ^ 62 }
-        requires small { session.old.number < 2 ^ 62 }
-        requires ready { IsReady self.old.objects prepared }
-        requires prepared { IsPrepared (disk_of self.old).honest (base_of self.old.objects) prepared transaction.now.writes }
-        ensures committed { OnOk result (IsAdded (next_transaction session.old transaction.now.reads transaction.now.writes) prepared session.old session.new self.old self.new) }
-        ensures receipt { IfOk result (IsReceiptFor (next_transaction session.old transaction.now.reads transaction.now.writes) self.new.history (length self.old.history)) }
-        ensures refusal { IfErr result (IsAddingRefusal self.old.history) }
-        ensures same { OnErr result (self.new ≡ self.old) }
-        ensures session { OnErr result (OnlyExtends session.old session.new) }
-        ensures longer { IfErr result (ShowsLonger self.old.history session.new) }
-        ensures crash { Crashes self.old self.new }
-    {
-        let receipt = self.memory.commit(session, transaction)?;
-        // Nothing fails from here on.
-        self.objects.apply(prepared);
-        Ok(receipt)
-    }
-}
-
-// Whether it is refused by J4.
-pub(crate) fn is_too_large<T>(answer: &Result<T, Refusal<()>>) -> bool
-    ensures { IsTrue result ↔ (answer.now ≡ Err TooLarge) }
-{
-    match answer {
-        Ok(_) => false,
-        Err(refusal) => matches!(refusal, Refusal::TooLarge),
+        let alloc = self.alloc;
+        let Core {
+            durable,
+            volatile,
+            ..
+        } = self;
+        durable.commit_step(alloc, volatile, session, transaction, spares)
     }
 }

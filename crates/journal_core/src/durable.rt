@@ -4,10 +4,10 @@ ghost use Rattle.journal_world.specs.Histories.Entry.{opening};
 ghost use Rattle.journal_disk.specs.Images.{EveryImage};
 ghost use Rattle.journal_wal.specs.Wal.{size_of, IsAtRest};
 ghost use Rattle.journal_objlog.specs.Maps.{OpensAs};
-ghost use Rattle.journal_objlog.specs.ObjectLogs.{map_now, IsCutLogged, disk_of as log_disk};
-ghost use Rattle.journal_core.specs.Durables.{Leaves, begun_durable, disk_of};
+ghost use Rattle.journal_objlog.specs.ObjectLogs.{map_now, IsCutLogged, start_of, end_of, disk_of as log_disk};
+ghost use Rattle.journal_core.specs.Durables.{IsDurable, Leaves, begun_durable, disk_of};
 
-use journal_disk::BlockDisk;
+use journal_disk::{BlockDisk, MemDisk};
 use journal_history::{Front, Naming};
 use journal_object::objects_law;
 use journal_objlog::ObjectLog;
@@ -19,7 +19,7 @@ use std::marker::Model;
 ///
 /// It knows nothing of what commits wrote since. A group of that comes from the memory part, whole.
 #[derive(Drop)]
-pub(crate) struct Durable<'b, D: BlockDisk, R: MapRule, J: Naming> {
+pub struct Durable<'b, D: BlockDisk, R: MapRule, J: Naming> {
     pub(crate) objects: ObjectLog<D>,
     pub(crate) front: Front<'b, J, R>,
     // How many commits are marked, how many are logged, and how many with the group in flight.
@@ -59,9 +59,23 @@ impl<'b, D: BlockDisk, R: MapRule, J: Naming> Durable<'b, D, R, J> {
         }
     }
 
+    /// It keeps what its type keeps. Called for its contract.
+    pub(crate) fn keeps(&self)
+        ensures { IsDurable J.blocks self.now }
+    {
+        let _marked = self.marked;
+    }
+
+    /// Where the log on the disk starts and ends, as last synced: positions, of which there are at most 511.
+    pub fn log_range(&self) -> (u64, u64)
+        ensures { result ≡ (start_of self.now.objects, end_of self.now.objects) }
+    {
+        self.objects.log_range()
+    }
+
     /// The disk, lent. Where it was honest and settled when it was opened, each image that a crash may leave of it
     /// opens as the map after some of the front's commits: at least those that are marked, at most those that come.
-    pub(crate) fn disk(&self) -> &D
+    pub fn disk(&self) -> &D
         ensures disk { D.state result.now ≡ disk_of self.now }
         ensures size { (disk_of self.now).past.size ≡ J.blocks }
         ensures images { IsTrue (disk_of self.now).honest → EveryImage (disk_of self.now).past (Leaves self.now) }
@@ -72,12 +86,21 @@ impl<'b, D: BlockDisk, R: MapRule, J: Naming> Durable<'b, D, R, J> {
 
     /// Gives the disk up, as it is. Where it was honest and settled when it was opened, each image that a crash may
     /// leave of it opens as the map after some of the front's commits.
-    pub(crate) fn into_disk(self) -> D
+    pub fn into_disk(self) -> D
         ensures disk { D.state result ≡ disk_of self.entry }
         ensures size { (D.state result).past.size ≡ J.blocks }
         ensures images { IsTrue (D.state result).honest → EveryImage (D.state result).past (Leaves self.entry) }
     {
         let Durable { objects, .. } = self;
         objects.into_disk()
+    }
+}
+
+impl<'b, R: MapRule, J: Naming> Durable<'b, MemDisk, R, J> {
+    /// Makes the k-th device call from now on fail.
+    pub fn fail_in(&mut self, k: u64)
+        ensures { self.new ≡ self.old }
+    {
+        self.objects.fail_in(k);
     }
 }

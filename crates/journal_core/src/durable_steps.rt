@@ -15,7 +15,7 @@ impl<'b, D: BlockDisk, R: MapRule, J: Naming> Durable<'b, D, R, J> {
     /// never `Cut`.
     ///
     /// Answers J6 `DeviceFailed`, and nothing else, where the device failed in this call or before.
-    pub(crate) fn log_call(&mut self) -> Result<GroupStep, Refusal<Cause<'b, J, R>>>
+    pub fn log_call(&mut self) -> Result<GroupStep, Refusal<Cause<'b, J, R>>>
         ensures ok { IfOk result (λ step. LogAnswers self.old step self.new) }
         ensures fine { OnOk result ((is_faulted self.old ≡ false) × (is_faulted self.new ≡ false)) }
         ensures refusal { IfErr result (IsCallRefusal self.old self.new) }
@@ -39,7 +39,7 @@ impl<'b, D: BlockDisk, R: MapRule, J: Naming> Durable<'b, D, R, J> {
     ///
     /// Answers J6 `DeviceFailed` where the device failed in this call or before, and J1 `NoMemory` where memory for
     /// the list of addresses is refused, at the first of these calls.
-    pub(crate) fn install_call(&mut self) -> Result<InstallStep, Refusal<Cause<'b, J, R>>>
+    pub fn install_call(&mut self) -> Result<InstallStep, Refusal<Cause<'b, J, R>>>
         ensures ok { IfOk result (λ step. InstallAnswers self.old step self.new) }
         ensures fine { OnOk result ((is_faulted self.old ≡ false) × (is_faulted self.new ≡ false)) }
         ensures refusal { IfErr result (IsInstallRefusal self.old self.new) }

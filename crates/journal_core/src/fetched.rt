@@ -1,21 +1,22 @@
 // Blocks that are fetched from the durable part.
-ghost use Rattle.std.specs.Prelude.{◌≡◌, ◌<◌, false, map, IsTrue, OnOk, OnErr, IfOk, IfErr, All};
+ghost use Rattle.std.specs.Prelude.{◌≡◌, ◌≢◌, ◌<◌, [], false, map, IsTrue, IsOkUnless, OnOk, OnErr, IfOk, IfErr, All};
 ghost use Rattle.journal_world.specs.Histories.{is_trusted, count};
 ghost use Rattle.journal_objlog.specs.ObjectLogs.{OnlyReads};
-ghost use Rattle.journal_core.specs.Durables.{Crashes, IsCallRefusal, IsBlockAfter, is_faulted};
+ghost use Rattle.journal_core.specs.Durables.{Crashes, IsCallRefusal, IsBlockAfter, IsFetched, is_faulted};
 
 use crate::cause::{Cause, raise};
 use crate::durable::Durable;
-use journal_block::Update;
+use journal_block::{Block, Update};
 use journal_disk::BlockDisk;
 use journal_history::{Front, Naming};
 use journal_world::{MapRule, Refusal};
+use std::alloc::Global;
 use std::marker::Model;
 
 /// Blocks as they are logged, with how many commits they have and the history that has these. That stays true for good,
 /// so what was fetched in a hold of one lock is used in a later hold of another, unless what came since went home by then.
 #[derive(Drop)]
-pub(crate) struct Fetched<'b, J: Naming, R: MapRule> {
+pub struct Fetched<'b, J: Naming, R: MapRule> {
     pub(crate) front: Front<'b, J, R>,
     pub(crate) commits: u64,
     pub(crate) updates: Vec<Update>,
@@ -31,12 +32,33 @@ impl<'b, J: Naming, R: MapRule> Model for Fetched<'b, J, R> {
     ghost invariant = { λ f. IsFetched J.blocks (record { front = f.front; commits = f.commits; updates = f.updates.items }) };
 }
 
+impl<'b, J: Naming, R: MapRule> Fetched<'b, J, R> {
+    /// Of no blocks, with this front, so that what is not in memory is asked for. It takes no memory.
+    pub fn nothing(alloc: Global, front: Front<'b, J, R>) -> Fetched<'b, J, R>
+        requires { front ≢ [] }
+        ensures { result ≡ record { front = front.entry; commits = 0; updates = [] } }
+    {
+        Fetched {
+            front,
+            commits: 0,
+            updates: Vec::new(alloc),
+        }
+    }
+
+    /// It keeps what its type keeps. Called for its contract.
+    pub(crate) fn holds(&self)
+        ensures { IsFetched J.blocks self.now }
+    {
+        let _commits = self.commits;
+    }
+}
+
 impl<'b, D: BlockDisk, R: MapRule, J: Naming> Durable<'b, D, R, J> {
     /// Reads the block that each of these names, as it is logged, into its bytes. It is read from the device only where
     /// no logged update of it is in memory. It takes no memory.
     ///
     /// Answers J6 `DeviceFailed`, and nothing else, where the device failed in this call or before.
-    pub(crate) fn fetch(
+    pub fn fetch(
         &mut self,
         mut updates: Vec<Update>,
     ) -> Result<Fetched<'b, J, R>, Refusal<Cause<'b, J, R>>>
@@ -44,6 +66,7 @@ impl<'b, D: BlockDisk, R: MapRule, J: Naming> Durable<'b, D, R, J> {
         ensures front { IfOk result (λ fetched. fetched.front ≡ self.old.front) }
         ensures commits { IfOk result (λ fetched. fetched.commits ≡ self.old.logged) }
         ensures named { IfOk result (λ fetched. map (λ u. u.block) fetched.updates ≡ map (λ u. u.block) updates.items) }
+        ensures fine { is_faulted self.old ≡ false → OnOk result (is_faulted self.new ≡ false) }
         ensures refusal { IfErr result (IsCallRefusal self.old self.new) }
         ensures reads { OnlyReads self.old.objects self.new.objects }
         ensures others { self.new ≡ record self.old { objects = self.new.objects } }
@@ -65,6 +88,7 @@ impl<'b, D: BlockDisk, R: MapRule, J: Naming> Durable<'b, D, R, J> {
         requires { update.old.block < J.blocks }
         ensures block { update.new.block ≡ update.old.block }
         ensures after { IsTrue (is_trusted self.old.front) → OnOk result (IsBlockAfter J.blocks self.old.front self.old.logged update.new) }
+        ensures fine { OnOk result (is_faulted self.new ≡ false) }
         ensures refusal { IfErr result (IsCallRefusal self.old self.new) }
         ensures reads { OnlyReads self.old.objects self.new.objects }
         ensures others { self.new ≡ record self.old { objects = self.new.objects } }
@@ -72,4 +96,19 @@ impl<'b, D: BlockDisk, R: MapRule, J: Naming> Durable<'b, D, R, J> {
     {
         raise(self.objects.read_logged(update.block, &mut update.bytes))
     }
+}
+
+/// Memory for these blocks, to be fetched into. Refuses by J1 `NoMemory`, and by nothing else.
+pub fn rooms_of<C>(alloc: Global, blocks: &[u64]) -> Result<Vec<Update>, Refusal<C>>
+    ensures named { IfOk result (λ rooms. map (λ u. u.block) rooms.items ≡ blocks.now) }
+    ensures refusal { IsOkUnless result Refusal.NoMemory }
+{
+    let mut rooms = Vec::new(alloc);
+    for block in blocks {
+        rooms.push(Update {
+            block: *block,
+            bytes: Block::try_new(alloc)?,
+        })?;
+    }
+    Ok(rooms)
 }

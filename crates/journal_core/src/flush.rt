@@ -2,8 +2,8 @@
 ghost use Rattle.std.specs.Prelude.{◌≡◌, ◌≤◌, ◌↔◌, false, IsTrue, IfOk, IfErr, OnOk};
 ghost use Rattle.journal_world.specs.Histories.{count, floor};
 ghost use Rattle.journal_history.specs.Tokens.{IsExact, OnlyExtends};
-ghost use Rattle.journal_core.specs.Flushes.{IsFlushRefusal};
-ghost use Rattle.journal_core.specs.Steps.{MayWait};
+ghost use Rattle.journal_core.specs.Waits.{MayWait, IsFlushRefusal};
+ghost use Rattle.journal_core.specs.Cores.{outset};
 
 use crate::cause::Cause;
 use crate::state::Core;
@@ -25,24 +25,13 @@ impl<'b, D: BlockDisk, R: MapRule, J: Naming> Core<'b, D, R, J> {
         session: &mut Session<'b, J, R>,
     ) -> Result<bool, Refusal<Cause<'b, J, R>>>
         ensures answer { IfOk result (λ marked. IsTrue marked ↔ (count session.old.seen ≤ floor self.now.history)) }
-        ensures goes_on { OnOk result (MayWait self.now (count session.old.seen)) }
+        ensures goes_on { OnOk result (MayWait (outset self.now) (count session.old.seen)) }
         ensures shown { IfOk result (λ marked. IsTrue marked → session.new.seen ≡ self.now.history) }
         ensures exact { IfOk result (λ marked. IsTrue marked → IsExact session.new) }
         ensures stays { IfOk result (λ marked. marked ≡ false → session.new ≡ session.old) }
         ensures extends { OnlyExtends session.old session.new }
-        ensures refusal { IfErr result (IsFlushRefusal self.now session.old session.new) }
+        ensures refusal { IfErr result (IsFlushRefusal (outset self.now) session.old session.new) }
     {
-        self.memory.check_session(session)?;
-        if self.memory.has_marked(session) {
-            self.memory.show_whole(session);
-            return Ok(true);
-        }
-        match self.check_running() {
-            Ok(()) => Ok(false),
-            Err(why) => {
-                self.memory.show_whole(session);
-                Err(why)
-            }
-        }
+        self.volatile.flush_step(session)
     }
 }

@@ -1,10 +1,10 @@
 // A step of the installer.
-ghost use Rattle.std.specs.Prelude.{ℕ, ◌≡◌, true, false, IsTrue, IsErr, IfOk, IfErr, OnOk, OnErr};
+ghost use Rattle.std.specs.Prelude.{IfOk, IfErr, OnOk, OnErr};
 ghost use Rattle.journal_core.specs.Cores.{Crashes, IsRunning};
 ghost use Rattle.journal_core.specs.Steps.{InstallAnswers, IsInstallRefusal, LeavesLog, TriesToInstall};
 ghost use Rattle.journal_core.specs.Interleavings.{AnswersInstall};
 
-use crate::cause::{Cause, raise};
+use crate::cause::Cause;
 use crate::state::Core;
 use journal_disk::BlockDisk;
 use journal_history::Naming;
@@ -28,6 +28,11 @@ impl<'b, D: BlockDisk, R: MapRule, J: Naming> Core<'b, D, R, J> {
         ensures event { AnswersInstall self.old result self.new }
     {
         self.check_running()?;
-        raise(self.objects.install_step())
+        let Core {
+            durable,
+            volatile,
+            ..
+        } = self;
+        durable.install_step(volatile)
     }
 }

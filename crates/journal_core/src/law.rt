@@ -1,12 +1,12 @@
 // The law over whole lists of events.
-ghost use Rattle.std.specs.Prelude.{ℕ, ◌≡◌, List, Some, IsTrue};
+ghost use Rattle.std.specs.Prelude.{ℕ, ◌≡◌, List, Some, IsTrue, All};
 ghost use Rattle.journal_world.specs.Histories.{Entry, IsLegal};
 ghost use Rattle.journal_disk.specs.Disks.{DiskState};
 ghost use Rattle.journal_core.specs.Cores.{CoreState};
 ghost use Rattle.journal_core.specs.Transactions.{TransactionState};
 ghost use Rattle.journal_core.specs.Openings.{Begins};
 ghost use Rattle.journal_core.specs.Interleavings.Machine.{up};
-ghost use Rattle.journal_core.specs.Interleavings.{Event, Answer, Machine, Mount, mounted, TellsAll, Run, HasHistory, IsUndisturbed};
+ghost use Rattle.journal_core.specs.Interleavings.{Event, Answer, Machine, Mount, mounted, TellsAll, Run, HasHistory, IsUndisturbed, StaysFetched};
 
 use journal_world::MapRule;
 
@@ -16,7 +16,8 @@ use journal_world::MapRule;
 /// one legal entry, a mark is one that is allowed, a crash leaves the map after a front of the history that has
 /// every marked commit, and the next mount begins with it; nothing else changes the history. The history of each
 /// mount is legal. What an open transaction has read stays what the map gives, whatever others do, so that none
-/// is ever refused because a slot of it moved.
+/// is ever refused because a slot of it moved. What was fetched from the disk stays what the first commits of the history
+/// left, however many steps lie between, so that it may be used by a later one.
 ///
 /// The call does nothing: its contract is the law, over the definitions that the steps of `Core` cite.
 pub fn every_interleaving<R: MapRule>()
@@ -29,4 +30,7 @@ pub fn every_interleaving<R: MapRule>()
     ensures two_phase { (disk : DiskState) (first : CoreState) (events : List Event) (answers : List Answer) (last : Mount) (actor : ℕ) (draft : TransactionState) →
         IsTrue disk.honest → Begins R.statement disk first → Run R.statement (mounted first) events answers (up last) →
         last.transactions actor ≡ Some draft → IsUndisturbed last.core draft }
+    ensures fetched { (disk : DiskState) (first : CoreState) (events : List Event) (answers : List Answer) (last : Mount) (actor : ℕ) →
+        IsTrue disk.honest → Begins R.statement disk first → Run R.statement (mounted first) events answers (up last) →
+        All (StaysFetched last.core) (last.fetched actor) }
 {}

@@ -1,17 +1,14 @@
 // A step of the logger, or a mark.
-ghost use Rattle.std.specs.Prelude.{ℕ, ◌≡◌, ◌≤◌, ◌<◌, false, true, IsTrue, IsErr, IfOk, IfErr, OnOk, OnErr};
-ghost use Rattle.journal_world.specs.Histories.{count, floor};
+ghost use Rattle.std.specs.Prelude.{IfOk, IfErr, OnOk, OnErr};
 ghost use Rattle.journal_core.specs.Cores.{Crashes, IsRunning};
-ghost use Rattle.journal_core.specs.Steps.{LogAnswers, Marks, IsLogRefusal, LeavesLog, TriesToLog, CanMark};
-ghost use Rattle.journal_core.specs.Memories.{IsMarkRefusal};
+ghost use Rattle.journal_core.specs.Steps.{LogAnswers, IsLogRefusal, LeavesLog, TriesToLog};
 ghost use Rattle.journal_core.specs.Interleavings.{AnswersLog};
 
-use crate::cause::{Cause, raise};
+use crate::cause::Cause;
 use crate::state::Core;
 use crate::step::LogStep;
 use journal_disk::BlockDisk;
 use journal_history::Naming;
-use journal_wal::GroupStep;
 use journal_world::{MapRule, Refusal};
 
 impl<'b, D: BlockDisk, R: MapRule, J: Naming> Core<'b, D, R, J> {
@@ -21,7 +18,8 @@ impl<'b, D: BlockDisk, R: MapRule, J: Naming> Core<'b, D, R, J> {
     ///
     /// Answers J13 `Closed` where the core was stopped, else J6 `DeviceFailed` where the device failed in this call
     /// or before, J9 `Stale` where the history is longer than the core's, and J11 `Worn` where its length would
-    /// reach 2^62. Nothing is then marked.
+    /// reach 2^62. Nothing is then marked. Answers J1 `NoMemory` where memory for a group is refused, which is then not
+    /// cut.
     pub fn log_step(&mut self) -> Result<LogStep, Refusal<Cause<'b, J, R>>>
         ensures ok { IfOk result (λ step. LogAnswers self.old step self.new) }
         ensures running { OnOk result (IsRunning self.old × IsRunning self.new) }
@@ -32,41 +30,11 @@ impl<'b, D: BlockDisk, R: MapRule, J: Naming> Core<'b, D, R, J> {
         ensures event { AnswersLog self.old result self.new }
     {
         self.check_running()?;
-        let cut = self.memory.cut();
-        if !self.objects.is_logging() && self.memory.floor() < cut {
-            return self.mark(cut);
-        }
-        match raise(self.objects.log_step())? {
-            GroupStep::Idle => {}
-            GroupStep::Cut => {
-                self.memory.note_cut();
-                return Ok(LogStep::Cut);
-            }
-            GroupStep::Put => return Ok(LogStep::Put),
-            GroupStep::Logged => {
-                self.logged = cut;
-                return Ok(LogStep::Logged);
-            }
-        }
-        let commits = self.memory.count();
-        if self.objects.tail_len() == 0 && self.memory.floor() < commits {
-            return self.mark(commits);
-        }
-        Ok(LogStep::Idle)
-    }
-
-    // Marks that n commits are stable, and tells it.
-    fn mark(&mut self, n: u64) -> Result<LogStep, Refusal<Cause<'b, J, R>>>
-        requires can { CanMark self.old n }
-        ensures ok { OnOk result (Marks n self.old self.new) }
-        ensures moved { IfOk result (λ step. step ≡ LogStep.Marked n) }
-        ensures refusal { IfErr result (λ why. IsMarkRefusal self.old.history why × (self.new ≡ self.old)) }
-        ensures left { OnErr result (LeavesLog self.old self.new) }
-        ensures tries { OnErr result (TriesToLog self.old self.new) }
-        ensures crash { Crashes self.old self.new }
-    {
-        self.memory.mark(n)?;
-        self.logged = n;
-        Ok(LogStep::Marked(n))
+        let Core {
+            durable,
+            volatile,
+            ..
+        } = self;
+        durable.log_step(volatile)
     }
 }

@@ -1,19 +1,26 @@
 // The opening of a mount.
-ghost use Rattle.std.specs.Prelude.{◌≡◌, ◌↔◌, ◌∷◌, [], true, IsTrue, OnOk, IfOk, IfErr};
+ghost use Rattle.std.specs.Prelude.{◌≡◌, ◌↔◌, ◌∷◌, [], false, true, length, IsTrue, OnOk, IfOk, IfErr, IfSome};
 ghost use Rattle.journal_world.specs.Histories.Entry.{opening};
-ghost use Rattle.journal_wal.specs.Wal.{size_of};
-ghost use Rattle.journal_objlog.specs.ObjectLogs.{map_now, disk_of};
+ghost use Rattle.journal_wal.specs.Wal.{size_of, IsAtRest};
+ghost use Rattle.journal_wal.specs.Tails.{empty_tail};
+ghost use Rattle.journal_objlog.specs.Maps.{OpensAs};
+ghost use Rattle.journal_objlog.specs.ObjectLogs.{map_now, disk_of, end_of};
 ghost use Rattle.journal_disk.specs.Disks.{IsSettled};
+ghost use Rattle.journal_disk.specs.Images.{EveryImage};
+ghost use Rattle.journal_core.specs.SlotCounts.{CountsNothing};
 ghost use Rattle.journal_core.specs.Openings.{HasWellFormedLog, HasBoundsOf, Begins, IsBeginRefusal, IsOpenRefusal, OnlyReadsDisk};
 
 use crate::cause::{Cause, raise, raised};
+use crate::durable::Durable;
 use crate::memory::Memory;
 use crate::refusal_number::RefusalNumber;
 use crate::slot_counts::SlotCounts;
 use crate::state::Core;
+use crate::volatile::Volatile;
+use journal_block::{Block, Update};
 use journal_disk::BlockDisk;
 use journal_history::{Book, Naming, Opened, Writer};
-use journal_objlog::ObjectLog;
+use journal_objlog::{ObjectLog, ObjectTail};
 use journal_world::{Layout, MapRule, Refusal, Refused};
 use std::alloc::Global;
 
@@ -60,7 +67,7 @@ impl<'b, D: BlockDisk, R: MapRule, J: Naming> Core<'b, D, R, J> {
                 disk,
             });
         };
-        let Ok(slots) = SlotCounts::new(alloc) else {
+        let Some((slots, spare)) = memory_of(alloc) else {
             return Err(Refused {
                 refusal: Refusal::NoMemory,
                 disk,
@@ -75,19 +82,74 @@ impl<'b, D: BlockDisk, R: MapRule, J: Naming> Core<'b, D, R, J> {
                 });
             }
         };
+        let tail = match ObjectTail::new(alloc, layout, objects.log_range().1) {
+            Ok(tail) => tail,
+            Err(refusal) => {
+                return Err(Refused {
+                    refusal,
+                    disk: objects.into_disk(),
+                });
+            }
+        };
         let (objects, admitted) = objects.admitted_by(rule);
         match begin(book, &objects, admitted) {
-            Ok(writer) => Ok(Core {
-                objects,
-                memory: Memory::new(alloc, writer, slots),
-                logged: 0,
-            }),
+            Ok(writer) => {
+                let memory = Memory::new(alloc, writer, slots);
+                Ok(Core::begun(alloc, objects, memory, tail, spare))
+            }
             Err(refusal) => Err(Refused {
                 refusal,
                 disk: objects.into_disk(),
             }),
         }
     }
+
+    // That of a mount that begins: its history is the opening.
+    fn begun(
+        alloc: Global,
+        objects: ObjectLog<D>,
+        memory: Memory<'b, R, J>,
+        tail: ObjectTail,
+        spare: Vec<Update>,
+    ) -> Core<'b, D, R, J>
+        requires size { size_of objects ≡ J.blocks }
+        requires rest { IsAtRest objects }
+        requires images { IsTrue (disk_of objects).honest → EveryImage (disk_of objects).past (OpensAs (map_now objects)) }
+        requires begun { memory ≡ record { history = opening (map_now objects) (disk_of objects).honest ∷ []; cut = 0; next = 0; closed = false } }
+        requires tail { tail ≡ empty_tail J.blocks (end_of objects) tail.log.room }
+        requires spare { length spare.items ≡ 1 }
+        ensures { result ≡ record {
+          objects = record { wal = objects; tail = [] };
+          history = memory.entry.history;
+          cut = 0;
+          logged = 0;
+          next = 0;
+          closed = false;
+        } }
+    {
+        let durable = Durable::new(objects, memory.front());
+        let volatile = Volatile::new(memory, tail);
+        durable.keeps();
+        volatile.keeps();
+        Core {
+            alloc,
+            durable,
+            volatile,
+            spare,
+        }
+    }
+}
+
+// The counts of a history without commits, and memory for one block, where there is memory.
+fn memory_of(alloc: Global) -> Option<(SlotCounts, Vec<Update>)>
+    ensures slots { IfSome result (λ memory. CountsNothing memory.0) }
+    ensures spare { IfSome result (λ memory. length memory.1.items ≡ 1) }
+{
+    let slots = SlotCounts::new(alloc).ok()?;
+    let bytes = Block::try_new::<()>(alloc).ok()?;
+    let mut spare = Vec::new(alloc);
+    spare.push(Update { block: 0, bytes }).ok()?;
+    Some((slots, spare))
 }
 
 // Begins the book's history with the map now, where the rule admitted it.

@@ -1,15 +1,14 @@
 // Holds of both parts: what each asks of the other is looked at, and nothing is required that ties them.
-ghost use Rattle.std.specs.Prelude.{◌≡◌, ◌≤◌, ◌<◌, ◌⊎◌, [], false, length, IsTrue, IfOk, IfErr, OnErr};
-ghost use Rattle.journal_world.specs.Histories.{count, floor};
+ghost use Rattle.std.specs.Prelude.{◌≡◌, ◌≤◌, [], false, IsTrue, IfOk, IfErr, OnOk, OnErr};
+ghost use Rattle.journal_world.specs.Histories.{is_trusted};
 ghost use Rattle.journal_disk.specs.Images.{EveryImage};
 ghost use Rattle.journal_memlog.specs.Logs.{tail_of};
-ghost use Rattle.journal_wal.specs.Groups.{FitsGroup};
 ghost use Rattle.journal_wal.specs.Tails.{DropsCuts};
 ghost use Rattle.journal_wal.specs.Wal.{with_room};
 ghost use Rattle.journal_objlog.specs.ObjectLogs.{end_of, IsCutLogged};
 ghost use Rattle.journal_core.specs.Cores.{Leaves as LeavesHistory};
-ghost use Rattle.journal_core.specs.Durables.{Crashes, disk_of, is_faulted};
-ghost use Rattle.journal_core.specs.Pairs.{Tied, CutsBoth, MarksBoth, MarksAll, Settles, IsSettled, AwaitsLogging, IsUntied, IsCutRefusal, IsMarkingRefusal, IsRestRefusal, IsSettlingRefusal};
+ghost use Rattle.journal_core.specs.Durables.{Crashes, disk_of};
+ghost use Rattle.journal_core.specs.Pairs.{Tied, IsMarkDue, IsCutDue, IsRestDue, CutsBoth, MarksBoth, MarksAll, DoesWhatIsDue, IsUntied, IsCutRefusal, IsMarkingRefusal, IsRestRefusal, IsDueRefusal};
 
 use crate::cause::Cause;
 use crate::durable::Durable;
@@ -25,11 +24,10 @@ impl<'b, D: BlockDisk, R: MapRule, J: Naming> Durable<'b, D, R, J> {
     /// then as the map after a front of the history that has every marked commit.
     ///
     /// Answers J9 `Stale` where the history that this part has seen is the longer, or where it lacks a mark.
-    pub(crate) fn disk_under(
-        &self,
-        memory: &Volatile<'b, R, J>,
-    ) -> Result<&D, Refusal<Cause<'b, J, R>>>
+    pub fn disk_under(&self, memory: &Volatile<'b, R, J>) -> Result<&D, Refusal<Cause<'b, J, R>>>
         ensures disk { IfOk result (λ disk. D.state disk.now ≡ disk_of self.now) }
+        ensures size { (disk_of self.now).past.size ≡ J.blocks }
+        ensures trusted { OnOk result (is_trusted memory.now.memory.history ≡ (disk_of self.now).honest) }
         ensures images { IsTrue (disk_of self.now).honest → IfOk result (λ _. EveryImage (disk_of self.now).past (LeavesHistory memory.now.memory.history)) }
         ensures refusal { IfErr result (IsUntied memory.now self.now self.now.marked) }
         ensures only { Tied memory.now self.now → IfErr result (λ _. ⊥) }
@@ -53,8 +51,7 @@ impl<'b, D: BlockDisk, R: MapRule, J: Naming> Durable<'b, D, R, J> {
     ) -> Result<bool, Refusal<Cause<'b, J, R>>>
         ensures cuts { IfOk result (λ done. IsTrue done → CutsBoth memory.old self.old memory.new self.new) }
         ensures idle { IfOk result (λ done. done ≡ false → (memory.new ≡ memory.old) × (self.new ≡ self.old)) }
-        ensures only { Tied memory.old self.old → is_faulted self.old ≡ false → IfOk result (λ done. done ≡ false →
-            FitsGroup self.old.objects (length (tail_of memory.old.tail.log)) → ⊥) }
+        ensures only { IfOk result (λ done. done ≡ false → IsCutDue memory.old self.old → ⊥) }
         ensures refusal { IfErr result (IsCutRefusal memory.old self.old) }
         ensures memory { OnErr result (memory.new ≡ memory.old) }
         ensures durable { OnErr result (self.new ≡ record self.old { objects = with_room self.old.objects self.new.objects.log.room }) }
@@ -86,8 +83,7 @@ impl<'b, D: BlockDisk, R: MapRule, J: Naming> Durable<'b, D, R, J> {
     ) -> Result<bool, Refusal<Cause<'b, J, R>>>
         ensures marks { IfOk result (λ done. IsTrue done → MarksBoth memory.old self.old memory.new self.new) }
         ensures idle { IfOk result (λ done. done ≡ false → (memory.new ≡ memory.old) × (self.new ≡ self.old)) }
-        ensures only { Tied memory.old self.old → IfOk result (λ done. done ≡ false →
-            (self.old.logged < self.old.coming) ⊎ (self.old.logged ≡ self.old.marked)) }
+        ensures only { IfOk result (λ done. done ≡ false → IsMarkDue memory.old self.old → ⊥) }
         ensures refusal { IfErr result (IsMarkingRefusal memory.old self.old) }
         ensures same { OnErr result ((memory.new ≡ memory.old) × (self.new ≡ self.old)) }
         ensures tied { Tied memory.old self.old → Tied memory.new self.new }
@@ -117,8 +113,7 @@ impl<'b, D: BlockDisk, R: MapRule, J: Naming> Durable<'b, D, R, J> {
     ) -> Result<bool, Refusal<Cause<'b, J, R>>>
         ensures marks { IfOk result (λ done. IsTrue done → MarksAll memory.old self.old memory.new self.new) }
         ensures idle { IfOk result (λ done. done ≡ false → (memory.new ≡ memory.old) × (self.new ≡ self.old)) }
-        ensures only { Tied memory.old self.old → is_faulted self.old ≡ false → IfOk result (λ done. done ≡ false →
-            AwaitsLogging memory.old self.old ⊎ (count memory.old.memory.history ≤ floor memory.old.memory.history)) }
+        ensures only { IfOk result (λ done. done ≡ false → IsRestDue memory.old self.old → ⊥) }
         ensures refusal { IfErr result (IsRestRefusal memory.old self.old) }
         ensures same { OnErr result ((memory.new ≡ memory.old) × (self.new ≡ self.old)) }
         ensures tied { Tied memory.old self.old → Tied memory.new self.new }
@@ -137,13 +132,12 @@ impl<'b, D: BlockDisk, R: MapRule, J: Naming> Durable<'b, D, R, J> {
 
     /// Does what is due of both parts where no device call is: marks what is logged; else cuts; else marks commits that
     /// wrote nothing. It is idle where there is none of these.
-    pub(crate) fn settle(
+    pub fn settle(
         &mut self,
         memory: &mut Volatile<'b, R, J>,
     ) -> Result<LogStep, Refusal<Cause<'b, J, R>>>
-        ensures ok { IfOk result (λ step. Settles memory.old self.old step memory.new self.new) }
-        ensures idle { Tied memory.old self.old → is_faulted self.old ≡ false → IfOk result (λ step. step ≡ LogStep.Idle → IsSettled memory.old self.old) }
-        ensures refusal { IfErr result (IsSettlingRefusal memory.old self.old) }
+        ensures ok { IfOk result (λ step. DoesWhatIsDue memory.old self.old step memory.new self.new) }
+        ensures refusal { IfErr result (λ why. IsDueRefusal memory.old self.old why self.new) }
         ensures memory { OnErr result (memory.new ≡ memory.old) }
         ensures tied { Tied memory.old self.old → Tied memory.new self.new }
         ensures crash { Crashes self.old self.new }
@@ -167,13 +161,13 @@ impl<'b, D: BlockDisk, R: MapRule, J: Naming> Durable<'b, D, R, J> {
         ensures cut { result ≡ false → memory.now.memory.cut ≤ self.now.logged }
         ensures rest { result ≡ false → IsCutLogged self.now.objects }
         ensures tail { result ≡ false → tail_of memory.now.tail.log ≡ [] }
-        ensures only { Tied memory.now self.now → is_faulted self.now ≡ false → IsTrue result → AwaitsLogging memory.now self.now }
+        ensures only { IsTrue result → IsRestDue memory.now self.now → ⊥ }
     {
         self.logged < memory.memory.cut() || self.objects.is_logging() || memory.tail.tail_len() > 0
     }
 
     /// Drops from memory what is at home: the updates of each cut that ends at the position or before it.
-    pub(crate) fn trim(&self, memory: &mut Volatile<'b, R, J>, upto: u64)
+    pub fn trim(&self, memory: &mut Volatile<'b, R, J>, upto: u64)
         ensures drops { DropsCuts memory.old.tail upto memory.new.tail }
         ensures others { memory.new ≡ record memory.old { tail = memory.new.tail } }
         ensures tied { upto ≤ end_of self.now.objects → Tied memory.old self.now → Tied memory.new self.now }

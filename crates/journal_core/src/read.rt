@@ -1,20 +1,22 @@
 // A read.
-ghost use Rattle.std.specs.Prelude.{◌≡◌, length, IsTrue, IfOk, IfErr, OnOk};
+ghost use Rattle.std.specs.Prelude.{◌≡◌, ◌∷◌, [], length, map, IsTrue, IfOk, IfErr, OnOk};
 ghost use Rattle.journal_world.specs.Addresses.{is_valid};
 ghost use Rattle.journal_world.specs.Maps.{value_at, is_object};
 ghost use Rattle.journal_world.specs.Histories.{is_trusted, latest};
 ghost use Rattle.journal_object.specs.Objects.{size_at};
-ghost use Rattle.journal_core.specs.Cores.{Crashes, IsRunning};
-ghost use Rattle.journal_objlog.specs.ObjectLogs.{OnlyReads};
-ghost use Rattle.journal_core.specs.Steps.{MayRead, IsReadRefusal, IsFetchRefusal};
+ghost use Rattle.journal_core.specs.Cores.{Crashes, IsRunning, OnlyReads};
+ghost use Rattle.journal_core.specs.Steps.{MayRead, IsReadRefusal};
 ghost use Rattle.journal_core.specs.Interleavings.{AnswersRead};
 
-use crate::cause::{Cause, raise};
+use crate::cause::Cause;
+use crate::fetched::Fetched;
 use crate::state::Core;
 use crate::transaction::{Found, Transaction};
+use journal_block::Update;
 use journal_disk::BlockDisk;
 use journal_history::Naming;
-use journal_world::{Addr, MapRule, Refusal, slot_of};
+use journal_world::{Addr, MapRule, Refusal};
+use std::mem;
 
 impl<'b, D: BlockDisk, R: MapRule, J: Naming> Core<'b, D, R, J> {
     /// Reads what the map after the history gives the address, into bytes that are as many as its object has. What
@@ -43,13 +45,28 @@ impl<'b, D: BlockDisk, R: MapRule, J: Naming> Core<'b, D, R, J> {
         ensures crash { Crashes self.old self.new }
         ensures event { AnswersRead J.blocks self.old transaction.now addr result into.new self.new }
     {
-        self.check_read(transaction, addr)?;
-        self.fetch(addr, into)?;
-        Ok(Found {
-            addr,
-            touched: self.memory.touched(slot_of(addr)),
-            front: self.memory.front(),
-        })
+        let nothing = Fetched::nothing(self.alloc, self.volatile.memory.front());
+        // Called for its contract: how many blocks there are at least.
+        let _layout = self.volatile.tail.layout();
+        if let Some(found) = self.volatile.read(transaction, addr, &nothing, into)? {
+            return Ok(found);
+        }
+        let room = mem::replace(&mut self.spare, Vec::new(self.alloc));
+        let Core {
+            durable,
+            volatile,
+            ..
+        } = self;
+        let fetched = durable.fetch_step(volatile, room_of(room, addr.block))?;
+        let answer = self.volatile.read(transaction, addr, &fetched, into);
+        let Fetched { updates, .. } = fetched;
+        self.spare = updates;
+        match answer {
+            Ok(Some(found)) => Ok(found),
+            // Its block was just fetched, and nothing else refuses it.
+            Ok(None) => unreachable!(),
+            Err(_) => unreachable!(),
+        }
     }
 
     /// Refuses a read as `read_step` does, by what is known before the value is looked for: J13, J6 of an earlier
@@ -63,26 +80,15 @@ impl<'b, D: BlockDisk, R: MapRule, J: Naming> Core<'b, D, R, J> {
         ensures refusal { IfErr result (IsReadRefusal J.blocks self.now transaction.now addr self.now) }
         ensures crash { Crashes self.now self.now }
     {
-        self.check_running()?;
-        if !self.objects.layout().is_valid(addr) {
-            return Err(Refusal::BadAddress);
-        }
-        self.memory.check_transaction(transaction)
+        self.volatile.check_read(transaction, addr)
     }
+}
 
-    // Reads the value of the map now. Refuses by a new J6.
-    fn fetch(&mut self, addr: Addr, into: &mut [u8]) -> Result<(), Refusal<Cause<'b, J, R>>>
-        requires running { IsRunning self.old }
-        requires valid { IsTrue (is_valid J.blocks addr) }
-        requires size { length into.old ≡ size_at J.blocks addr }
-        ensures value { IsTrue (is_trusted self.old.history) → OnOk result (into.new ≡ value_at (latest self.old.history) addr) }
-        ensures object { OnOk result (IsTrue (is_object J.blocks (addr, into.new))) }
-        ensures running { OnOk result (IsRunning self.new) }
-        ensures refusal { IfErr result (IsFetchRefusal self.old self.new) }
-        ensures others { self.new ≡ record self.old { objects = self.new.objects } }
-        ensures reads { OnlyReads self.old.objects self.new.objects }
-        ensures crash { Crashes self.old self.new }
-    {
-        raise(self.objects.read_into(addr, into))
-    }
+// The memory of one block, as that of this one.
+fn room_of(mut room: Vec<Update>, block: u64) -> Vec<Update>
+    requires { length room.items ≡ 1 }
+    ensures { map (λ u. u.block) result.items ≡ block ∷ [] }
+{
+    room[0].block = block;
+    room
 }

@@ -2,8 +2,9 @@
 ghost use Rattle.std.specs.Prelude.{◌≡◌, ◌≤◌, ◌^◌, ◌+◌, ◌↔◌, [], length, IsTrue, IfOk, IfErr, OnOk, OnErr};
 ghost use Rattle.journal_world.specs.Histories.{floor};
 ghost use Rattle.journal_history.specs.Tokens.{IsExact, OnlyExtends};
-ghost use Rattle.journal_core.specs.Cores.{Crashes};
-ghost use Rattle.journal_core.specs.Steps.{BeginsSession, Stops, MayWait, IsSessionRefusal, IsShowRefusal, IsWaitRefusal};
+ghost use Rattle.journal_core.specs.Waits.{MayWait, IsWaitRefusal};
+ghost use Rattle.journal_core.specs.Cores.{Crashes, outset};
+ghost use Rattle.journal_core.specs.Steps.{BeginsSession, Stops, IsSessionRefusal, IsShowRefusal};
 ghost use Rattle.journal_core.specs.Interleavings.{AnswersSession};
 
 use crate::cause::Cause;
@@ -24,7 +25,7 @@ impl<'b, D: BlockDisk, R: MapRule, J: Naming> Core<'b, D, R, J> {
         ensures crash { Crashes self.old self.new }
         ensures event { AnswersSession self.old result self.new }
     {
-        self.memory.session()
+        self.volatile.session()
     }
 
     /// Whether so many commits are marked as stable. The session has then seen the whole history, and is exact.
@@ -39,19 +40,14 @@ impl<'b, D: BlockDisk, R: MapRule, J: Naming> Core<'b, D, R, J> {
         n: u64,
     ) -> Result<bool, Refusal<Cause<'b, J, R>>>
         ensures answer { IfOk result (λ marked. IsTrue marked ↔ (n ≤ floor self.now.history)) }
-        ensures goes_on { OnOk result (MayWait self.now n) }
+        ensures goes_on { OnOk result (MayWait (outset self.now) n) }
         ensures shown { OnOk result (session.new.seen ≡ self.now.history) }
         ensures exact { OnOk result (IsExact session.new) }
         ensures extends { OnlyExtends session.old session.new }
-        ensures refusal { IfErr result (IsWaitRefusal self.now session.old n) }
+        ensures refusal { IfErr result (IsWaitRefusal (outset self.now) session.old n) }
         ensures stays { OnErr result (session.new ≡ session.old) }
     {
-        let marked = n <= self.memory.floor();
-        if !marked {
-            self.check_running()?;
-        }
-        self.memory.show_exact(session)?;
-        Ok(marked)
+        self.volatile.wait_step(session, n)
     }
 
     /// Stops the core: reads, commits and steps, and waits for marks that do not stand, are refused by J13 from then
@@ -59,7 +55,7 @@ impl<'b, D: BlockDisk, R: MapRule, J: Naming> Core<'b, D, R, J> {
     pub fn stop_step(&mut self)
         ensures stops { Stops self.old self.new }
     {
-        self.memory.stop();
+        self.volatile.stop();
     }
 
     /// Shows the session the whole history.
@@ -71,6 +67,6 @@ impl<'b, D: BlockDisk, R: MapRule, J: Naming> Core<'b, D, R, J> {
         ensures shown { OnOk result (session.new.seen ≡ self.now.history) }
         ensures refusal { IfErr result (IsShowRefusal self.now) }
     {
-        self.memory.show(session)
+        self.volatile.show_step(session)
     }
 }

@@ -3,20 +3,20 @@ ghost use Rattle.std.specs.Prelude.{ℕ, ◌≡◌, ◌<◌, ◌↔◌, IsTrue, 
 ghost use Rattle.journal_world.specs.declared.address.TheConstants.{SLOTS as SLOT_COUNT};
 ghost use Rattle.journal_world.specs.Histories.{opened, is_trusted, count, floor, touched};
 ghost use Rattle.journal_disk.specs.Images.{EveryImage};
-ghost use Rattle.journal_wal.specs.Wal.{tail_length};
-ghost use Rattle.journal_objlog.specs.ObjectLogs.{start_of, end_of};
 ghost use Rattle.journal_history.specs.Soundness.{IsSound};
-ghost use Rattle.journal_core.specs.Cores.{Leaves, Crashes, IsRunning, disk_of};
+ghost use Rattle.journal_core.specs.Cores.{Leaves, Crashes, IsRunning, disk_of, tail_length, start_of, end_of};
 ghost use Rattle.journal_core.specs.Steps.{IsLogIdle, IsEndRefusal};
 ghost use Rattle.journal_core.specs.Transactions.{IsCount};
 
 use crate::cause::Cause;
-use crate::memory::Memory;
-use crate::refusal_number::RefusalNumber;
+use crate::durable::Durable;
+use crate::volatile::Volatile;
+use journal_block::Update;
+use journal_circ::LOG_POSITIONS;
 use journal_disk::{BlockDisk, MemDisk};
 use journal_history::{Front, Naming};
-use journal_objlog::ObjectLog;
 use journal_world::{MapRule, Refusal};
+use std::alloc::Global;
 use std::marker::Model;
 
 /// The history's length and the sessions' numbers stay below this.
@@ -38,10 +38,11 @@ pub struct Stat {
 /// The core of a journal, lent the book of its history.
 #[derive(Drop)]
 pub struct Core<'b, D: BlockDisk, R: MapRule, J: Naming> {
-    pub(crate) objects: ObjectLog<D>,
-    pub(crate) memory: Memory<'b, R, J>,
-    // How many commits there were at the cut of the last group whose cycle ended.
-    pub(crate) logged: u64,
+    pub(crate) alloc: Global,
+    pub(crate) durable: Durable<'b, D, R, J>,
+    pub(crate) volatile: Volatile<'b, R, J>,
+    // Memory for a block that a read fetches, until a device call fails.
+    pub(crate) spare: Vec<Update>,
 }
 
 impl<'b, D: BlockDisk, R: MapRule, J: Naming> Model for Core<'b, D, R, J> {
@@ -49,9 +50,9 @@ impl<'b, D: BlockDisk, R: MapRule, J: Naming> Model for Core<'b, D, R, J> {
 
     ghost Value = { CoreState };
 
-    ghost view = { λ c. core_of c.objects c.memory c.logged };
+    ghost view = { λ c. core_of c.volatile c.durable };
 
-    ghost invariant = { λ c. IsCore J.blocks (core_of c.objects c.memory c.logged) };
+    ghost invariant = { λ c. IsCore J.blocks c.volatile c.durable c.spare.items };
 }
 
 impl<'b, D: BlockDisk, R: MapRule, J: Naming> Core<'b, D, R, J> {
@@ -64,10 +65,10 @@ impl<'b, D: BlockDisk, R: MapRule, J: Naming> Core<'b, D, R, J> {
           end = end_of self.now.objects;
         } }
     {
-        let (start, end) = self.objects.log_range();
+        let (start, end) = self.durable.objects.log_range();
         Stat {
-            commits: self.memory.count(),
-            floor: self.memory.floor(),
+            commits: self.volatile.memory.count(),
+            floor: self.volatile.memory.floor(),
             start,
             end,
         }
@@ -80,13 +81,7 @@ impl<'b, D: BlockDisk, R: MapRule, J: Naming> Core<'b, D, R, J> {
         ensures refusal { IfErr result (IsEndRefusal self.now) }
         ensures crash { Crashes self.now self.now }
     {
-        if self.memory.is_closed() {
-            return Err(Refusal::Closed(Cause::none(RefusalNumber::J13)));
-        }
-        if self.objects.is_faulted() {
-            return Err(Refusal::DeviceFailed(Cause::none(RefusalNumber::J6)));
-        }
-        Ok(())
+        self.volatile.check_running()
     }
 
     /// Whether the logger has nothing to do: no group is in flight or unmarked, the tail is empty and all commits
@@ -94,17 +89,23 @@ impl<'b, D: BlockDisk, R: MapRule, J: Naming> Core<'b, D, R, J> {
     pub fn is_log_idle(&self) -> bool
         ensures { IsRunning self.now → IsTrue result ↔ IsLogIdle self.now }
     {
-        if !self.objects.is_log_idle() || self.memory.floor() < self.memory.cut() {
+        let memory = &self.volatile.memory;
+        if self.durable.objects.is_logging() || memory.floor() < memory.cut() {
             return false;
         }
-        self.objects.tail_len() > 0 || self.memory.count() <= self.memory.floor()
+        let tail = self.tail_len();
+        if tail == 0 {
+            return memory.count() <= memory.floor();
+        }
+        let (start, end) = self.durable.objects.log_range();
+        LOG_POSITIONS.saturating_sub(end.saturating_sub(start)) < tail
     }
 
     /// How many blocks stand in the log's tail, which a cut empties: at most 255.
     pub fn tail_len(&self) -> u64
         ensures { result ≡ tail_length self.now.objects }
     {
-        self.objects.tail_len()
+        self.volatile.tail.tail_len()
     }
 
     /// How many commits touched the slot: while this stays, so do the values of the slot's addresses.
@@ -112,7 +113,7 @@ impl<'b, D: BlockDisk, R: MapRule, J: Naming> Core<'b, D, R, J> {
         requires slot { slot < SLOT_COUNT }
         ensures { result ≡ touched self.now.history slot }
     {
-        self.memory.touched(slot)
+        self.volatile.memory.touched(slot)
     }
 
     /// Whether each of these slots has been touched by as many commits as stand beside it.
@@ -120,7 +121,7 @@ impl<'b, D: BlockDisk, R: MapRule, J: Naming> Core<'b, D, R, J> {
         requires slots { All (λ c. c.0 < SLOT_COUNT) counts.now }
         ensures { IsTrue result ↔ All (IsCount self.now.history) counts.now }
     {
-        self.memory.unmoved(counts)
+        self.volatile.memory.unmoved(counts)
     }
 
     /// The whole history. It is sound, its map has the journal's number of blocks, and it is trusted where the
@@ -131,7 +132,7 @@ impl<'b, D: BlockDisk, R: MapRule, J: Naming> Core<'b, D, R, J> {
         ensures trusted { is_trusted self.now.history ≡ (disk_of self.now).honest }
         ensures sound { IsSound R.statement self.now.history }
     {
-        self.memory.front()
+        self.volatile.memory.front()
     }
 
     /// The disk, lent. Where it was honest and settled when it was opened, each image that a crash may leave of it
@@ -141,7 +142,7 @@ impl<'b, D: BlockDisk, R: MapRule, J: Naming> Core<'b, D, R, J> {
         ensures size { (disk_of self.now).past.size ≡ J.blocks }
         ensures images { IsTrue (disk_of self.now).honest → EveryImage (disk_of self.now).past (Leaves self.now.history) }
     {
-        self.objects.disk()
+        self.durable.disk()
     }
 
     /// Gives the disk up, as it is. Where it was honest and settled when it was opened, each image that a crash may
@@ -152,8 +153,8 @@ impl<'b, D: BlockDisk, R: MapRule, J: Naming> Core<'b, D, R, J> {
         ensures trusted { is_trusted self.entry.history ≡ (D.state result).honest }
         ensures images { IsTrue (D.state result).honest → EveryImage (D.state result).past (Leaves self.entry.history) }
     {
-        let Core { objects, .. } = self;
-        objects.into_disk()
+        let Core { durable, .. } = self;
+        durable.into_disk()
     }
 }
 
@@ -162,6 +163,6 @@ impl<'b, R: MapRule, J: Naming> Core<'b, MemDisk, R, J> {
     pub fn fail_in(&mut self, k: u64)
         ensures { self.new ≡ self.old }
     {
-        self.objects.fail_in(k);
+        self.durable.fail_in(k);
     }
 }

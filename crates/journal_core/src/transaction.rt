@@ -1,5 +1,5 @@
 // What an open transaction has done.
-ghost use Rattle.std.specs.Prelude.{◌≡◌, ◌≢◌, ◌↔◌, IsTrue, All, OnOk, OnErr};
+ghost use Rattle.std.specs.Prelude.{◌≡◌, ◌≢◌, ◌↔◌, [], IsTrue, All, OnOk, OnErr};
 ghost use mathlib.Core.List.{IsPrefix};
 ghost use Rattle.std.specs.Option.{option_copied};
 ghost use Rattle.journal_world.specs.Addresses.{slot_of as slot_number};
@@ -83,6 +83,7 @@ impl<'b, J: Naming, R: MapRule> Transaction<'b, J, R> {
     /// The history at whose end all that it read is what the map gives.
     pub fn front(&self) -> &Front<'b, J, R>
         ensures seen { result.now ≡ self.now.seen }
+        ensures begun { self.now.seen ≢ [] }
         ensures agrees { IsTrue (is_trusted self.now.seen) → Agrees (latest self.now.seen) self.now.reads }
         ensures reads { IsTrue (are_objects J.blocks self.now.reads) }
         ensures writes { IsTrue (are_objects J.blocks self.now.writes) }

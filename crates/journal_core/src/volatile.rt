@@ -1,17 +1,18 @@
 // The core's volatile part, and what it tells without a step.
-ghost use Rattle.std.specs.Prelude.{◌≡◌, ◌+◌, [], false, true, IfOk, IfErr, OnOk, OnErr};
+ghost use Rattle.std.specs.Prelude.{◌≡◌, ◌<◌, ◌+◌, ◌^◌, [], false, true, IfOk, IfErr, OnOk, OnErr};
 ghost use mathlib.Core.List.{IsPrefix};
 ghost use Rattle.journal_world.specs.Histories.{opened, commits_of, count};
 ghost use Rattle.journal_wal.specs.Tails.{empty_tail};
 ghost use Rattle.journal_core.specs.Memories.{IsNumberRefusal};
-ghost use Rattle.journal_core.specs.Volatiles.{IsRunning, IsEndRefusal, IsFrontRefusal};
+ghost use Rattle.journal_core.specs.Outsets.{GoesOn, IsEndRefusal};
+ghost use Rattle.journal_core.specs.Volatiles.{IsVolatile, IsFrontRefusal, outset_of};
 
 use crate::cause::Cause;
 use crate::memory::Memory;
 use crate::refusal_number::RefusalNumber;
 use journal_history::{Front, Naming, Session};
 use journal_objlog::ObjectTail;
-use journal_world::{MapRule, Refusal};
+use journal_world::{Layout, MapRule, Refusal};
 use std::marker::Model;
 
 /// What the core has in memory alone, for a lock of its own: the history, with what is counted beside it, and the objects
@@ -20,7 +21,7 @@ use std::marker::Model;
 /// It holds no device, so that none of its functions waits for a device call. A read or a commit that needs a block which
 /// is not here says so. The caller fetches it from the durable part, and makes the call again with what was fetched.
 #[derive(Drop)]
-pub(crate) struct Volatile<'b, R: MapRule, J: Naming> {
+pub struct Volatile<'b, R: MapRule, J: Naming> {
     pub(crate) memory: Memory<'b, R, J>,
     pub(crate) tail: ObjectTail,
     // A device call failed.
@@ -44,6 +45,7 @@ impl<'b, R: MapRule, J: Naming> Volatile<'b, R, J> {
         requires none { count memory.history ≡ 0 }
         requires blocks { (opened memory.history).blocks ≡ J.blocks }
         requires empty { tail ≡ empty_tail J.blocks tail.log.start tail.log.room }
+        requires small { tail.log.start < 2 ^ 62 }
         ensures { result ≡ record { memory = memory.entry; tail = tail; faulted = false } }
     {
         // Called for its contract: there is an opening.
@@ -55,11 +57,25 @@ impl<'b, R: MapRule, J: Naming> Volatile<'b, R, J> {
         }
     }
 
+    /// How many blocks the disk has.
+    pub fn layout(&self) -> Layout
+        ensures { result.blocks ≡ J.blocks }
+    {
+        self.tail.layout()
+    }
+
+    /// It keeps what its type keeps. Called for its contract.
+    pub(crate) fn keeps(&self)
+        ensures { IsVolatile J.blocks self.now }
+    {
+        let _faulted = self.faulted;
+    }
+
     /// Refuses by J13 `Closed` where it was stopped, else by J6 `DeviceFailed` where the device failed before, and
     /// by nothing else.
-    pub(crate) fn check_running(&self) -> Result<(), Refusal<Cause<'b, J, R>>>
-        ensures running { OnOk result (IsRunning self.now) }
-        ensures refusal { IfErr result (IsEndRefusal self.now) }
+    pub fn check_running(&self) -> Result<(), Refusal<Cause<'b, J, R>>>
+        ensures running { OnOk result (GoesOn (outset_of self.now)) }
+        ensures refusal { IfErr result (IsEndRefusal (outset_of self.now)) }
     {
         if self.memory.is_closed() {
             return Err(Refusal::Closed(Cause::none(RefusalNumber::J13)));
@@ -88,7 +104,7 @@ impl<'b, R: MapRule, J: Naming> Volatile<'b, R, J> {
     }
 
     /// A session of the next number, that no session had before. Refuses by J11. It takes no memory.
-    pub(crate) fn session(&mut self) -> Result<Session<'b, J, R>, Refusal<Cause<'b, J, R>>>
+    pub fn session(&mut self) -> Result<Session<'b, J, R>, Refusal<Cause<'b, J, R>>>
         ensures is { IfOk result (λ session. session ≡ record { number = self.old.memory.next; mine = self.old.memory.history; seen = self.old.memory.history }) }
         ensures fresh { commits_of self.old.memory.next self.old.memory.history ≡ [] }
         ensures others { OnOk result (self.new ≡ record self.old { memory = record self.old.memory { next = self.old.memory.next + 1 } }) }
@@ -99,14 +115,14 @@ impl<'b, R: MapRule, J: Naming> Volatile<'b, R, J> {
     }
 
     /// Notes that a device call failed.
-    pub(crate) fn fail(&mut self)
+    pub fn fail(&mut self)
         ensures { self.new ≡ record self.old { faulted = true } }
     {
         self.faulted = true;
     }
 
     /// Stops it. Nothing else changes.
-    pub(crate) fn stop(&mut self)
+    pub fn stop(&mut self)
         ensures { self.new ≡ record self.old { memory = record self.old.memory { closed = true } } }
     {
         self.memory.stop();

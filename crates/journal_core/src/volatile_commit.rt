@@ -1,5 +1,6 @@
 // Commits in memory.
-ghost use Rattle.std.specs.Prelude.{◌≡◌, ◌≢◌, ◌<◌, ◌+◌, ◌^◌, ℕ, [], true, IsTrue, List, length, IfOk, IfErr, OnOk, OnErr};
+ghost use Rattle.std.specs.Prelude.{◌≡◌, ◌≢◌, ◌<◌, ◌+◌, ◌^◌, ◌↔◌, ℕ, [], true, IsTrue, List, length, All, Err, IfOk, IfErr, OnOk, OnErr};
+ghost use Rattle.journal_world.specs.declared.refusal.Refusal.TheVariants.{TooLarge};
 ghost use Rattle.journal_world.specs.Maps.{Map, Agrees, are_objects, overwritten};
 ghost use Rattle.journal_world.specs.Histories.{is_trusted, commits_of, latest};
 ghost use Rattle.journal_block.specs.Updates.{updates_block};
@@ -8,11 +9,14 @@ ghost use Rattle.journal_objlog.specs.Writes.{writes_block, written_blocks, IsPr
 ghost use Rattle.journal_history.specs.Tokens.{made, next_transaction, OnlyExtends, IsReceiptFor};
 ghost use Rattle.journal_core.specs.Memories.{ShowsLonger, IsAddingRefusal};
 ghost use Rattle.journal_core.specs.Updates.{AreObjectsOf};
-ghost use Rattle.journal_core.specs.Volatiles.{IsRunning, usable};
-ghost use Rattle.journal_core.specs.VolatileCommits.{IsCommitted, IsAdded, CanPrepare, CanCommit, IsCommitRefusal, IsPreparingRefusal, IfDone, IfMissing, with_room};
+ghost use Rattle.journal_core.specs.Durables.{DurableState};
+ghost use Rattle.journal_core.specs.Cores.{IsPair, core_of};
+ghost use Rattle.journal_core.specs.Interleavings.{CommitsTransaction};
+ghost use Rattle.journal_core.specs.Outsets.{CanPrepare, CanCommit, IsCommitRefusal, IsPreparingRefusal};
+ghost use Rattle.journal_core.specs.Volatiles.{outset_of, usable};
+ghost use Rattle.journal_core.specs.VolatileCommits.{IsCommitted, IsAdded, IfDone, IfMissing, with_room};
 
 use crate::cause::{Cause, raise};
-use crate::commit::is_too_large;
 use crate::fetched::Fetched;
 use crate::refusal_number::RefusalNumber;
 use crate::state::LIMIT;
@@ -25,7 +29,7 @@ use journal_world::{MapRule, Objects, Refusal};
 
 /// What a commit in memory answers.
 #[derive(Drop)]
-pub(crate) enum Committing<T> {
+pub enum CommitStep<T> {
     /// It was made.
     Done(T),
     /// These blocks have to be fetched first, each once, in the order of the writes.
@@ -44,27 +48,30 @@ impl<'b, R: MapRule, J: Naming> Volatile<'b, R, J> {
     /// are written, J11 `Worn` where the history's length, the session's number or a position of the log would reach 2^62,
     /// J12 `Full` where the tail cannot take the blocks that do not stand in it, then J1 `NoMemory` where memory is
     /// refused. The history and the objects are then as they were.
-    pub(crate) fn commit(
+    pub fn commit(
         &mut self,
         session: &mut Session<'b, J, R>,
         transaction: &Transaction<'b, J, R>,
         spares: &mut Spares,
         fetched: &Fetched<'b, J, R>,
-    ) -> Result<Committing<Receipt<'b, J, R>>, Refusal<Cause<'b, J, R>>>
+    ) -> Result<CommitStep<Receipt<'b, J, R>>, Refusal<Cause<'b, J, R>>>
         requires rule { (m : Map) → m.blocks ≡ J.blocks → R.statement m → Agrees m transaction.now.reads
             → R.statement (overwritten m transaction.now.writes) }
         ensures committed { IfOk result (IfDone (λ _. IsCommitted transaction.now.reads transaction.now.writes session.old session.new self.old self.new)) }
         ensures receipt { IfOk result (IfDone (IsReceiptFor (next_transaction session.old transaction.now.reads transaction.now.writes) self.new.memory.history (length self.old.memory.history))) }
-        ensures can { OnOk result (CanCommit self.old session.old transaction.now) }
+        ensures can { OnOk result (CanCommit (outset_of self.old) session.old transaction.now) }
         ensures agrees { OnOk result (IsTrue (is_trusted self.old.memory.history) → Agrees (latest self.old.memory.history) transaction.now.reads) }
         ensures missing { IfOk result (IfMissing (λ blocks.
             blocks ≡ missing_blocks J.blocks (known_updates (usable self.old fetched.now) self.old.tail) transaction.now.writes)) }
+        ensures below { IfOk result (IfMissing (λ blocks. All (λ b. b < J.blocks) blocks)) }
         ensures some { IfOk result (IfMissing (λ blocks. blocks ≢ [])) }
         ensures waits { IfOk result (IfMissing (λ _. (self.new ≡ with_room self.old self.new.tail.log.room) × OnlyExtends session.old session.new)) }
-        ensures refusal { IfErr result (IsCommitRefusal self.old session.old transaction.now) }
+        ensures refusal { IfErr result (IsCommitRefusal (outset_of self.old) session.old transaction.now) }
         ensures same { OnErr result (self.new ≡ with_room self.old self.new.tail.log.room) }
         ensures session { OnErr result (OnlyExtends session.old session.new) }
         ensures longer { IfErr result (ShowsLonger self.old.memory.history session.new) }
+        ensures event { (d : DurableState) → IsPair J.blocks self.old d → IfOk result (IfDone (λ _.
+            CommitsTransaction (core_of self.old d) session.old transaction.now (core_of self.new d) session.new)) }
     {
         self.check_running()?;
         self.memory.admit(session, transaction)?;
@@ -78,9 +85,10 @@ impl<'b, R: MapRule, J: Naming> Volatile<'b, R, J> {
         match self.prepare(session, &transaction.writes, spares, blocks)? {
             Preparation::Ready(prepared) => {
                 let receipt = self.add(session, transaction, prepared)?;
-                Ok(Committing::Done(receipt))
+                self.keeps();
+                Ok(CommitStep::Done(receipt))
             }
-            Preparation::Missing(blocks) => Ok(Committing::Missing(blocks)),
+            Preparation::Missing(blocks) => Ok(CommitStep::Missing(blocks)),
         }
     }
 
@@ -100,12 +108,15 @@ impl<'b, R: MapRule, J: Naming> Volatile<'b, R, J> {
         ensures written { IsTrue (is_trusted self.old.memory.history) → IfOk result (IfReady
             (AreObjectsOf J.blocks (overwritten (latest self.old.memory.history) writes.now))) }
         ensures missing { IfOk result (IfUnready (λ missing. missing ≡ missing_blocks J.blocks (known_updates blocks.now self.old.tail) writes.now)) }
+        ensures below { IfOk result (IfUnready (λ missing. All (λ b. b < J.blocks) missing)) }
         ensures some { IfOk result (IfUnready (λ missing. missing ≢ [])) }
-        ensures can { OnOk result (CanPrepare self.old session.now writes.now) }
+        ensures can { OnOk result (CanPrepare (outset_of self.old) session.now writes.now) }
         ensures room { OnOk result ((length self.old.memory.history + 1 < 2 ^ 62) × (session.now.number < 2 ^ 62)) }
-        ensures refusal { IfErr result (IsPreparingRefusal self.old session.now writes.now) }
+        ensures refusal { IfErr result (IsPreparingRefusal (outset_of self.old) session.now writes.now) }
         ensures same { self.new ≡ with_room self.old self.new.tail.log.room }
     {
+        // Called for its contract: how many blocks there are at least.
+        let _layout = self.tail.layout();
         let prepared = self.tail.prepare(writes, spares, blocks);
         if is_too_large(&prepared) {
             return Err(Refusal::TooLarge);
@@ -145,5 +156,15 @@ impl<'b, R: MapRule, J: Naming> Volatile<'b, R, J> {
         // Nothing fails from here on.
         self.tail.apply(prepared);
         Ok(receipt)
+    }
+}
+
+// Whether it is refused by J4.
+fn is_too_large<T>(answer: &Result<T, Refusal<()>>) -> bool
+    ensures { IsTrue result ↔ (answer.now ≡ Err TooLarge) }
+{
+    match answer {
+        Ok(_) => false,
+        Err(refusal) => matches!(refusal, Refusal::TooLarge),
     }
 }

@@ -7,7 +7,11 @@ ghost use Rattle.journal_world.specs.Histories.{is_trusted, latest};
 ghost use Rattle.journal_object.specs.Objects.{size_at};
 ghost use Rattle.journal_objlog.specs.ObjectTails.{known_at, known_updates};
 ghost use Rattle.journal_core.specs.Updates.{AreObjectsOf};
-ghost use Rattle.journal_core.specs.Volatiles.{MayRead, IsLookRefusal, IsReadRefusal, IsFrontRefusal, usable};
+ghost use Rattle.journal_core.specs.Durables.{DurableState};
+ghost use Rattle.journal_core.specs.Cores.{IsPair, core_of};
+ghost use Rattle.journal_core.specs.Interleavings.{FindsValue};
+ghost use Rattle.journal_core.specs.Outsets.{MayRead, IsLookRefusal};
+ghost use Rattle.journal_core.specs.Volatiles.{IsReadRefusal, IsFrontRefusal, outset_of, usable};
 
 use crate::cause::{Cause, raise};
 use crate::fetched::Fetched;
@@ -25,7 +29,7 @@ impl<'b, R: MapRule, J: Naming> Volatile<'b, R, J> {
     /// The first that applies of these refuses it: J13 `Closed` where it was stopped, J6 `DeviceFailed` where the device
     /// failed before, J2 `BadAddress` where the address is not valid, J9 `Stale` where the transaction or the fetch
     /// has seen more of the history, J10 `Stranger` where a commit touched a slot under which the transaction had read.
-    pub(crate) fn read(
+    pub fn read(
         &self,
         transaction: &Transaction<'b, J, R>,
         addr: Addr,
@@ -36,9 +40,12 @@ impl<'b, R: MapRule, J: Naming> Volatile<'b, R, J> {
         ensures value { IsTrue (is_trusted self.now.memory.history) → IfOk result (λ found. IsSome found → into.new ≡ value_at (latest self.now.memory.history) addr) }
         ensures object { IfOk result (λ found. IsSome found → IsTrue (is_object J.blocks (addr, into.new))) }
         ensures found { IfOk result (λ found. IfSome found (λ found. found ≡ record { addr = addr; seen = self.now.memory.history })) }
+        ensures stays { IfOk result (λ found. found ≡ None → into.new ≡ into.old) }
         ensures lacks { IfOk result (λ found. found ≡ None → known_at (usable self.now fetched.now) self.now.tail addr ≡ None) }
-        ensures may { OnOk result (MayRead J.blocks self.now transaction.now addr) }
+        ensures may { OnOk result (MayRead J.blocks (outset_of self.now) transaction.now addr) }
         ensures refusal { IfErr result (IsReadRefusal J.blocks self.now transaction.now addr fetched.now) }
+        ensures event { (d : DurableState) → IsPair J.blocks self.now d → IfOk result (λ found. IsSome found →
+            FindsValue J.blocks (core_of self.now d) transaction.now addr into.new (core_of self.now d)) }
     {
         self.check_read(transaction, addr)?;
         let blocks = self.usable(fetched)?;
@@ -54,13 +61,13 @@ impl<'b, R: MapRule, J: Naming> Volatile<'b, R, J> {
 
     /// Refuses a read as `read` does, by what is known before the value is looked for: J13, J6, J2, and by what the
     /// transaction has seen and read J9 and J10.
-    pub(crate) fn check_read(
+    pub fn check_read(
         &self,
         transaction: &Transaction<'b, J, R>,
         addr: Addr,
     ) -> Result<(), Refusal<Cause<'b, J, R>>>
-        ensures may { OnOk result (MayRead J.blocks self.now transaction.now addr) }
-        ensures refusal { IfErr result (IsLookRefusal J.blocks self.now transaction.now addr) }
+        ensures may { OnOk result (MayRead J.blocks (outset_of self.now) transaction.now addr) }
+        ensures refusal { IfErr result (IsLookRefusal J.blocks (outset_of self.now) transaction.now addr) }
     {
         self.check_running()?;
         if !self.tail.layout().is_valid(addr) {

@@ -1,8 +1,10 @@
 // Runs of a journal, in one thread and in several, and beside a logger and an installer.
+mod barriers;
 mod beside_daemon;
 mod gated_disk;
 mod one_thread;
 mod openings;
+mod recovered;
 mod steps;
 mod threads;
 mod waits;
@@ -66,6 +68,7 @@ enum Trial {
     AnswerWaits,
     FlushAfterTheEnd(bool),
     LeaveEither,
+    RecoverAFullLog,
 }
 
 /// Opens a journal over a new disk, and makes the trial.
@@ -114,6 +117,7 @@ fn try_on<J: Naming + Send + Sync, H: Abort + Threads + Wait + Sync>(
             waits::flush_after_the_end(rt, alloc, journal, by_fault);
         }
         Trial::LeaveEither => waits::leave_either(rt, alloc, journal),
+        Trial::RecoverAFullLog => recovered::recover_a_full_log(rt, alloc, journal),
     }
 }
 

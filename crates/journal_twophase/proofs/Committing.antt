@@ -1,5 +1,5 @@
 -- What a commit of the core says to a transaction and to its session.
-use Rattle.std.proofs.Common.{◌≡◌, ◌≢◌, ℕ, IsTrue, List, [], ◌∷◌, ◌++◌, length, Some, slice_get, Result, Ok, Err, IfOk, IfErr, sym, ap, subst, ◌∙◌}
+use Rattle.std.proofs.Common.{◌≡◌, ◌≢◌, ℕ, IsTrue, List, [], ◌∷◌, ◌++◌, length, Some, slice_get, Result, Ok, Err, IfOk, IfErr, OnOk, OnErr, sym, ap, subst, ◌∙◌}
 use mathlib.Core.List.{IsPrefix}
 use Rattle.journal_world.specs.declared.refusal.Refusal.{Refusal}
 use Rattle.journal_world.specs.Maps.{Map, Transaction, Agrees}
@@ -7,11 +7,15 @@ use Rattle.journal_world.specs.Histories.{Entry, is_trusted, latest, commits_of,
 use Rattle.journal_world.specs.Histories.Entry.{commit}
 use Rattle.journal_world.proofs.Prefixes.{IsPrefix-trans}
 use Rattle.journal_history.specs.Soundness.{IsSound}
-use Rattle.journal_history.specs.Tokens.{SessionState, CommitPlace, next_transaction, Commits, IsReceiptFor}
+use Rattle.journal_history.specs.Tokens.{SessionState, CommitPlace, OnlyExtends, next_transaction, Commits, IsReceiptFor}
 use Rattle.journal_core.specs.Causes.{Told}
-use Rattle.journal_core.specs.Cores.{CoreState}
 use Rattle.journal_core.specs.Transactions.{TransactionState}
-use Rattle.journal_core.specs.Interleavings.{AnswersCommit}
+use Rattle.journal_core.specs.declared.volatile_commit.CommitStep.{CommitStep}
+use Rattle.journal_core.specs.declared.volatile_commit.CommitStep.TheVariants.{Done, Missing}
+use Rattle.journal_core.specs.Outsets.{CanCommit}
+use Rattle.journal_core.specs.Volatiles.{VolatileState, outset_of}
+use Rattle.journal_core.specs.VolatileCommits.{IfDone}
+use Rattle.journal_core.specs.VolatileCommits.{IsCommitted as IsCommittedInMemory}
 use Rattle.journal_twophase.specs.Journals.{IsKnown}
 use Rattle.journal_twophase.specs.Commits.{IsCommitted}
 use Rattle.journal_twophase.specs.declared.waiting.WaitFault.{WaitFault}
@@ -48,16 +52,45 @@ module _ (rule : Map → Type 0) (blocks : ℕ) where
         receipt = subst (λ (h : List Entry). IsReceiptFor u h (length found) place) (sym whole) receipt;
       }
 
-  pub committed : (t : TransactionState) (s new : SessionState) (old core : CoreState) (answer : Result CommitPlace (Refusal Told))
-      → AnswersCommit old s t answer core new
-      → IfOk answer (IsReceiptFor (next_transaction s t.reads t.writes) core.history (length old.history))
+  pub committed : (t : TransactionState) (s new : SessionState) (old memory : VolatileState) (answer : Result (CommitStep CommitPlace) (Refusal Told))
+      → IfOk answer (IfDone (λ _. IsCommittedInMemory t.reads t.writes s new old memory))
+      → IfOk answer (IfDone (IsReceiptFor (next_transaction s t.reads t.writes) memory.memory.history (length old.memory.history)))
+      → OnOk answer (CanCommit (outset_of old) s t)
+      → OnOk answer (IsTrue (is_trusted old.memory.history) → Agrees (latest old.memory.history) t.reads)
       → IsKnown rule blocks new.seen
-      → IfOk answer (IsCommitted rule blocks t.seen t s new)
-  committed t s new old core (Err why) step receipt known = tt
-  committed t s new old core (Ok place) step receipt known =
-      from_histories t s new old.history core.history place step.committed.committed receipt step.can.may.seen.later step.agrees known
+      → IfOk answer (IfDone (IsCommitted rule blocks t.seen t s new))
+  committed t s new old memory (Err why) commits receipt can agrees known = tt
+  committed t s new old memory (Ok (Missing blocks_of)) commits receipt can agrees known = tt
+  committed t s new old memory (Ok (Done place)) commits receipt can agrees known =
+      from_histories t s new old.memory.history memory.memory.history place commits.committed receipt can.may.seen.later agrees known
 
   -- a transaction whose reads came after its beginning is committed after that
+  -- a session that has only seen more commits the same
+  pub committed_later : (began : List Entry) (t : TransactionState) (s mid new : SessionState) (answer : Result CommitPlace (Refusal Told)) → OnlyExtends s mid
+      → IfOk answer (IsCommitted rule blocks began t mid new) → IfOk answer (IsCommitted rule blocks began t s new)
+  committed_later began t s mid new (Err why) extends is = tt
+  committed_later began t s mid new (Ok place) extends is =
+      let same : next_transaction mid t.reads t.writes ≡ next_transaction s t.reads t.writes =
+      (λ i. record { session = extends.number i; number = length (commits_of (extends.number i) (extends.mine i)); reads = t.reads; writes = t.writes }) in
+      record {
+        found = is.found;
+        after_begin = is.after_begin;
+        after_reads = is.after_reads;
+        agrees = is.agrees;
+        ruled = is.ruled;
+        on_disk = is.on_disk;
+        committed = record {
+          added = is.committed.added ∙ ap (λ (u : Transaction). is.found ++ commit u ∷ []) same;
+          session = is.committed.session ∙ ap (λ (n : ℕ). record { number = n; mine = new.seen; seen = new.seen }) extends.number;
+          later = IsPrefix-trans s.seen mid.seen is.found extends.seen is.committed.later;
+          one_more = sym (ap (λ (n : ℕ). commits_of n new.seen) extends.number) ∙ is.committed.one_more
+              ∙ (λ i. commits_of (extends.number i) (extends.mine i) ++ same i ∷ []);
+        };
+        exact = is.exact;
+        known = is.known;
+        receipt = subst (λ (u : Transaction). IsReceiptFor u new.seen (length is.found) place) same is.receipt;
+      }
+
   pub since_begin : (began : List Entry) (t : TransactionState) (s new : SessionState) (answer : Result CommitPlace (Refusal Told)) → IsPrefix began t.seen
       → IfOk answer (IsCommitted rule blocks t.seen t s new) → IfOk answer (IsCommitted rule blocks began t s new)
   since_begin began t s new (Err why) begins is = tt
@@ -95,3 +128,12 @@ module _ (rule : Map → Type 0) (blocks : ℕ) where
   fault_since began t s new (Ok done) begins is = tt
   fault_since began t s new (Err (Refused why)) begins is = is
   fault_since began t s new (Err (Unsure place why)) begins is = (waits_from began t s new place begins is.0, is.1)
+
+-- what a refused call shows a session that had only seen more
+pub session_later : {T E : Type 0} (r : Result T E) (s mid new : SessionState) → OnlyExtends s mid → OnErr r (OnlyExtends mid new) → OnErr r (OnlyExtends s new)
+session_later (Ok value) s mid new first second = tt
+session_later (Err why) s mid new first second = record {
+  number = second.number ∙ first.number;
+  mine = second.mine ∙ first.mine;
+  seen = IsPrefix-trans s.seen mid.seen new.seen first.seen second.seen;
+}

@@ -1,8 +1,10 @@
 -- What a look-up says to the reader of an address.
-use Rattle.std.proofs.Common.{◌≡◌, ℕ, Bool, true, false, cond, IsTrue, List, [], ◌∷◌, Option, Some, None, IfSome, Result, Ok, Err, IfErr, refl, sym, ap, subst, ◌∙◌}
+use Rattle.std.proofs.Common.{◌≡◌, ◌<◌, ℕ, Bool, true, false, cond, IsTrue, List, [], ◌∷◌, Option, Some, None, IfSome, Result, Ok, Err, IfOk, IfErr, OnOk, All, map, refl, sym, ap, subst, ◌∙◌, arith}
 use mathlib.Core.List.{IsPrefix}
 use Rattle.std.proofs.lemmas.Bool.{and_parts}
+use Rattle.std.proofs.lemmas.List.Elements.{All-head, All-tail, All-cons}
 use Rattle.journal_world.specs.declared.address.Addr.{Addr}
+use Rattle.journal_block.specs.declared.update.Update.{Update}
 use Rattle.journal_world.specs.declared.refusal.Refusal.{Refusal}
 use Rattle.journal_world.specs.declared.refusal.Refusal.TheVariants.{NoMemory, BadAddress, BadSize, TooLarge, Busy, DeviceFailed, BadLog, BadSuper, Stale, Stranger, Worn, Full, Closed, Fenced}
 use Rattle.journal_world.specs.Addresses.{Value, is_valid, is_same}
@@ -11,6 +13,7 @@ use Rattle.journal_world.specs.Histories.{Entry, is_trusted, latest}
 use Rattle.journal_world.proofs.Prefixes.{IsPrefix-trans}
 use Rattle.journal_world.proofs.Lookups.{same_addr}
 use Rattle.journal_core.specs.Causes.{Told}
+use Rattle.journal_core.specs.Outsets.{Outset, MayRead}
 use Rattle.journal_core.specs.Transactions.{TransactionState, FoundState, Remembers}
 use Rattle.journal_twophase.specs.Transactions.{TxnState, core_of, holding, Finds, Learns, IsLookRefusal, IsReadRefusal}
 
@@ -77,3 +80,18 @@ pub later_on : (began : List Entry) (t after : TransactionState) (a : Addr) (v :
     → Remembers t found.addr v found.seen after → IsPrefix began after.seen
 later_on began t after a v found begins finds remembers =
     subst (IsPrefix began) (sym (ap (λ (u : TransactionState). u.seen) remembers.others)) (IsPrefix-trans began t.seen found.seen begins finds.later)
+
+-- what is found in memory is found for the transaction
+pub finds : (o : Outset) (a : Addr) (blocks : ℕ) (t : TransactionState) (answer : Result (Option FoundState) (Refusal Told))
+    → IfOk answer (λ found. IfSome found (λ f. f ≡ record { addr = a; seen = o.history }))
+    → OnOk answer (MayRead blocks o t a) → IfOk answer (λ found. IfSome found (Finds t a))
+finds o a blocks t (Err why) is may = tt
+finds o a blocks t (Ok None) is may = tt
+finds o a blocks t (Ok (Some found)) is may = subst (Finds t a) (sym is) (record { addr = refl; later = may.later; unmoved = may.unmoved })
+
+-- memory for blocks of the disk is of blocks of the disk
+pub rooms_below : (n : ℕ) (rooms : List Update) → All (λ b. b < n) (map (λ u. u.block) rooms) → All (λ u. u.block < n) rooms
+rooms_below n [] all = λ k d lt. absurd (omega (arith, lt))
+rooms_below n (u ∷ us) all =
+    All-cons (λ (v : Update). v.block < n) u us (All-head (λ b. b < n) u.block (map (λ (v : Update). v.block) us) all)
+    (rooms_below n us (All-tail (λ b. b < n) u.block (map (λ (v : Update). v.block) us) all))

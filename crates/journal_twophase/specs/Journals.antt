@@ -60,6 +60,12 @@ IsInstallRefusal NoMemory = Unit {0}
 IsInstallRefusal (DeviceFailed cause) = IsUnexplained J6 cause
 IsInstallRefusal other = ⊥
 
+-- why blocks are not fetched
+abbrev pub IsFetchRefusal : Refusal Told → Type 0
+IsFetchRefusal NoMemory = Unit {0}
+IsFetchRefusal (DeviceFailed cause) = IsUnexplained J6 cause
+IsFetchRefusal other = ⊥
+
 -- why a journal is not closed
 abbrev pub IsCloseRefusal : Refusal Told → Type 0
 IsCloseRefusal (Stale cause) = IsShown J9 cause

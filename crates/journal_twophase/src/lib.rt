@@ -5,8 +5,12 @@
 //! others wait for one another. Slots are waited for in ascending order only, and a lower one is tried once,
 //! so no two transactions wait for each other.
 //!
-//! The core stands under a lock, which a thread holds for one step: a read, a commit, a step of the logger or
-//! of the installer. Nothing can be said outside of what lies under a lock, so clients know the journal by
+//! The core's two parts stand under a lock each. Under the memory lock a thread looks at the history and at the
+//! objects that commits wrote, and waits for no device: so a read or a commit goes on whose blocks are in memory
+//! while a barrier waits. Under the disk's lock it makes at most one device call that changes the disk. Whoever needs
+//! both takes the disk's first.
+//!
+//! Nothing can be said outside of what lies under a lock, so clients know the journal by
 //! histories: the journal shows the one at its opening, a session what it has seen, a receipt where a commit
 //! stands, and an open transaction one at whose end all that it read is what the map gives. What they tell
 //! stays true, since the history only grows.
@@ -15,6 +19,7 @@
 #![tactic(auto)]
 
 mod commit;
+mod device;
 mod journal;
 mod shared;
 mod sleepers;

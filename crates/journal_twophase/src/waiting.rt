@@ -8,7 +8,7 @@ ghost use Rattle.journal_twophase.specs.Waits.{IsStable, CommitsAndWaits, IsWait
 
 use crate::shared::{Shared, SharedCore, Why};
 use crate::txn::release_all;
-use journal_core::{Cause, Core, Spares, Transaction};
+use journal_core::{Cause, Spares, Transaction, Volatile};
 use journal_disk::BlockDisk;
 use journal_history::{Naming, Receipt, Session, StableNote};
 use journal_lockmap::{Held, LockMap};
@@ -62,7 +62,7 @@ impl<'b, D: BlockDisk, R: MapRule, J: Naming> SharedCore<'b, D, R, J> {
     {
         let mut shared = self.shared.lock(rt);
         for _ in rt.forever() {
-            if let Some(note) = flush_step(&shared.core, session)? {
+            if let Some(note) = flush_step(&shared.volatile, session)? {
                 return Ok(note);
             }
             shared = self.sleep(rt, shared);
@@ -74,7 +74,7 @@ impl<'b, D: BlockDisk, R: MapRule, J: Naming> SharedCore<'b, D, R, J> {
     fn wait_in<'s, W: Wait>(
         &'s self,
         rt: &W,
-        shared: MutexGuard<'s, Shared<'b, D, R, J>>,
+        shared: MutexGuard<'s, Shared<'b, R, J>>,
         session: &mut Session<'b, J, R>,
         commits: u64,
     ) -> Result<StableNote<'b, J, R>, Why<'b, J, R>>
@@ -86,7 +86,7 @@ impl<'b, D: BlockDisk, R: MapRule, J: Naming> SharedCore<'b, D, R, J> {
     {
         let mut shared = shared;
         for _ in rt.forever() {
-            if wait_step(&shared.core, session, commits)? {
+            if wait_step(&shared.volatile, session, commits)? {
                 return Ok(StableNote::new(&session.front(), commits));
             }
             shared = self.sleep(rt, shared);
@@ -98,8 +98,8 @@ impl<'b, D: BlockDisk, R: MapRule, J: Naming> SharedCore<'b, D, R, J> {
     fn sleep<'s, W: Wait>(
         &'s self,
         rt: &W,
-        shared: MutexGuard<'s, Shared<'b, D, R, J>>,
-    ) -> MutexGuard<'s, Shared<'b, D, R, J>> {
+        shared: MutexGuard<'s, Shared<'b, R, J>>,
+    ) -> MutexGuard<'s, Shared<'b, R, J>> {
         let mut shared = shared;
         shared.sleepers.count_in();
         let mut shared = self.marked.wait(rt, shared);
@@ -142,26 +142,26 @@ impl<'b, D: BlockDisk, R: MapRule, J: Naming> SharedCore<'b, D, R, J> {
     }
 }
 
-// Asks the core whether so many commits are marked.
-fn wait_step<'b, D: BlockDisk, R: MapRule, J: Naming>(
-    core: &Core<'b, D, R, J>,
+// Asks the volatile part whether so many commits are marked.
+fn wait_step<'b, R: MapRule, J: Naming>(
+    volatile: &Volatile<'b, R, J>,
     session: &mut Session<'b, J, R>,
     commits: u64,
 ) -> Result<bool, Why<'b, J, R>>
     ensures marked { IfOk result (λ marked. IsTrue marked → commits ≤ floor session.new.seen) }
-    ensures shown { OnOk result (session.new.seen ≡ core.now.history) }
+    ensures shown { OnOk result (session.new.seen ≡ volatile.now.memory.history) }
     ensures exact { OnOk result (IsExact session.new) }
     ensures keeps { IsExact session.old → IsExact session.new }
     ensures session { OnlyExtends session.old session.new }
     ensures refusal { IfErr result (IsWaitRefusal session.new) }
 {
-    core.wait_step(session, commits)
+    volatile.wait_step(session, commits)
 }
 
-// Asks the core whether all commits are marked that the session has seen, and notes it. If not, the session stays as it
+// Asks the volatile part whether all commits are marked that the session has seen, and notes it. If not, the session stays as it
 // was, so that it is asked of the same commits again.
-fn flush_step<'b, D: BlockDisk, R: MapRule, J: Naming>(
-    core: &Core<'b, D, R, J>,
+fn flush_step<'b, R: MapRule, J: Naming>(
+    volatile: &Volatile<'b, R, J>,
     session: &mut Session<'b, J, R>,
 ) -> Result<Option<StableNote<'b, J, R>>, Why<'b, J, R>>
     ensures stable { IfOk result (λ noted. IfSome noted (λ note. IsStable (count session.old.seen) note session.new)) }
@@ -171,8 +171,8 @@ fn flush_step<'b, D: BlockDisk, R: MapRule, J: Naming>(
     ensures refusal { IfErr result (IsWaitRefusal session.new) }
     ensures unmarked { IfErr result (IsEndedUnmarked session.old session.new) }
 {
-    if !core.flush_step(session)? {
+    if !volatile.flush_step(session)? {
         return Ok(None);
     }
-    Ok(Some(StableNote::new(&session.front(), core.stat().floor)))
+    Ok(Some(StableNote::new(&session.front(), volatile.floor())))
 }

@@ -257,7 +257,7 @@ fn four_threads_that_wait_count_to_two_thousand(rt: HostRuntime) {
 
 /// How a commit that waited ended.
 #[derive(Clone, Copy, Debug, PartialEq, Eq, Drop)]
-enum Ending {
+pub(super) enum Ending {
     Stable,
     // Of a mark that does not cover it.
     Uncovered,
@@ -269,7 +269,7 @@ enum Ending {
 }
 
 /// Commits an inode of its own, and waits until it is stable.
-fn waits<J: Naming, H: Abort + Wait>(
+pub(super) fn waits<J: Naming, H: Abort + Wait>(
     rt: &H,
     alloc: Global,
     journal: &Open<MemDisk, J>,

@@ -74,7 +74,7 @@ fn finds<'b, J: Naming, W: Wait>(
 }
 
 /// Makes steps of the installer until one does not move. Answers how many moved.
-fn installs<J: Naming, W: Wait>(rt: &W, journal: &Open<MemDisk, J>) -> u64 {
+pub(super) fn installs<D: BlockDisk, J: Naming, W: Wait>(rt: &W, journal: &Open<D, J>) -> u64 {
     for moved in 0..100 {
         if !has_moved(journal.install_step(rt)) {
             return moved;

@@ -1,6 +1,6 @@
 use Rattle.journal_core.specs.Interleavings.{mounted}
 use Rattle.journal_core.specs.Interleavings.Machine.{up}
-use Rattle.journal_core.proofs.Running.{runs, has_history, first_holds, undisturbed}
+use Rattle.journal_core.proofs.Running.{runs, has_history, first_holds, undisturbed, all_stay}
 use Rattle.journal_core.proofs.law.every_interleaving.Goals as goal
 
 pub returns-clause-told : goal.returns-clause-told
@@ -19,3 +19,8 @@ returns-clause-two_phase g c = λ disk first events answers last actor draft hon
     let rule = g.R.MapRule.statement in
     let is = (runs rule (mounted first) first.history events answers (up last) run (first_holds rule disk first honest begins)).1.1 in
     undisturbed last.core last.holders actor draft (is.sound actor draft at)
+
+pub returns-clause-fetched : goal.returns-clause-fetched
+returns-clause-fetched g c = λ disk first events answers last actor honest begins run.
+    let rule = g.R.MapRule.statement in
+    all_stay rule last actor (runs rule (mounted first) first.history events answers (up last) run (first_holds rule disk first honest begins)).1.1

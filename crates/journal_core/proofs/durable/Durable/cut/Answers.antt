@@ -1,4 +1,4 @@
-use Rattle.std.proofs.Common.{List, IsTrue, ◌≡◌, ◌≤◌, ◌<◌, ◌∙◌, ℕ, length, inl, inr, refl, ap, sym, subst, arith}
+use Rattle.std.proofs.Common.{rules, List, IsTrue, ◌≡◌, ◌≤◌, ◌∙◌, ℕ, length, inl, inr, refl, ap, sym, subst, arith}
 use Rattle.std.proofs.lemmas.Bool.{false≢true}
 use mathlib.Core.List.{IsPrefix}
 use Rattle.journal_world.specs.declared.refusal.Refusal.{Refusal}
@@ -9,12 +9,12 @@ use Rattle.journal_objlog.proofs.Openings.{OnlyReads-refl}
 use Rattle.journal_objlog.proofs.Refusing.{if_err}
 use Rattle.journal_core.specs.Causes.{Told}
 use Rattle.journal_core.specs.Updates.{HaveAllSince}
-use Rattle.journal_core.specs.Durables.{DurableState, IsDurable, IsRoomRefusal}
+use Rattle.journal_core.specs.Durables.{DurableState, IsRoomRefusal}
 use Rattle.journal_core.specs.Volatiles.{VolatileState, IsVolatile, IsFrontRefusal}
-use Rattle.journal_core.specs.Pairs.{Tied, IsCutRefusal}
+use Rattle.journal_core.specs.Pairs.{Tied, IsCutDue, IsCutRefusal}
 use Rattle.journal_core.proofs.Enduring.{crashes_reads}
 use Rattle.journal_core.proofs.Latest.{since_later}
-use Rattle.journal_core.proofs.Pairing.{tied_roomed, crashes_roomed, cut_flies, cuts_both, tied_cut}
+use Rattle.journal_core.proofs.Pairing.{tied_roomed, crashes_roomed, cuts_both, tied_cut}
 use Rattle.journal_core.proofs.durable.Durable.cut.Goals as goal
 
 pub returns-in_err-front-clause-refusal : goal.returns-in_err-front-clause-refusal
@@ -28,11 +28,10 @@ returns-in_err-front-clause-crash g c =
     crashes_reads g.J.Naming.blocks _ c.args.self.now c.args.self.now c.self.invariant c.self.view_is (OnlyReads-refl c.args.self.now.objects) refl
 
 pub returns-then-self-cut-clause-only : goal.returns-then-self-cut-clause-only
-returns-then-self-cut-clause-only g c = λ tied fine no fits.
-    cut_flies g.J.Naming.blocks c.args.memory.now c.args.self.now (subst (IsDurable g.J.Naming.blocks) c.self.view_is c.self.invariant) tied
-    (subst (λ (v : VolatileState). c.args.self.now.logged < v.memory.cut) c.memory.view_is
-    (subst (λ (d : DurableState). d.logged < c.memory.inside.memory.cut) c.self.view_is (omega (arith, c.if-self-cut.true, c.cut.ensures))))
-    fine fits.rest
+returns-then-self-cut-clause-only g c = λ no due.
+    let logged : c.self.inside.logged ≡ c.args.self.now.logged = ap (λ (d : DurableState). d.logged) c.self.view_is in
+    let cut : c.memory.inside.memory.cut ≡ c.args.memory.now.memory.cut = ap (λ (v : VolatileState). v.memory.cut) c.memory.view_is in
+    omega (arith, c.if-self-cut.true, c.cut.ensures, logged, cut, due.logged)
 
 pub returns-then-self-cut-clause-crash : goal.returns-then-self-cut-clause-crash
 returns-then-self-cut-clause-crash g c =
@@ -46,9 +45,21 @@ returns-in_err-reserve-clause-refusal g c =
     (c.tail_len-blocks.ensures.length ∙ ap (λ (v : VolatileState). length (tail_of v.tail.log)) c.memory.view_is) c.in_err-reserve.ensures.refusal))))
 
 pub returns-then-not-branch-clause-only : goal.returns-then-not-branch-clause-only
-returns-then-not-branch-clause-only g c = λ tied fine no fits.
+returns-then-not-branch-clause-only g c = λ no due.
     let blocks : c.tail_len-blocks.result ≡ length (tail_of c.args.memory.now.tail.log) = c.tail_len-blocks.ensures.length ∙ ap (λ (v : VolatileState). length (tail_of v.tail.log)) c.memory.view_is in
-    false≢true (sym c.if-not-branch.true ∙ c.in_ok-reserve.ensures.fits.1 (subst (FitsGroup c.args.self.now.objects) (sym blocks) fits))
+    false≢true (sym c.if-not-branch.true ∙ c.in_ok-reserve.ensures.fits.1 (subst (FitsGroup c.args.self.now.objects) (sym blocks) due.fits))
+
+pub returns-in_err-group-clause-refusal : goal.returns-in_err-group-clause-refusal
+returns-in_err-group-clause-refusal g c =
+    let blocks : c.tail_len-blocks.result ≡ length (tail_of c.args.memory.now.tail.log) = c.tail_len-blocks.ensures.length ∙ ap (λ (v : VolatileState). length (tail_of v.tail.log)) c.memory.view_is in
+    let logged : c.self.inside.logged ≡ c.args.self.now.logged = ap (λ (d : DurableState). d.logged) c.self.view_is in
+    let cut : c.memory.inside.memory.cut ≡ c.args.memory.now.memory.cut = ap (λ (v : VolatileState). v.memory.cut) c.memory.view_is in
+    let due : IsCutDue c.args.memory.now c.args.self.now = record {
+      logged = omega (arith, c.if-self-cut.false, c.cut.ensures, logged, cut);
+      fits = subst (FitsGroup c.args.self.now.objects) blocks (c.in_ok-reserve.ensures.fits.0 c.if-not-branch.false);
+    } in
+    if_err c.from_residual-in_err-group.result _ (IsCutRefusal c.args.memory.now c.args.self.now) c.from_residual-in_err-group.ensures.1
+    (λ (e : Refusal Told) is. subst (λ (r : Refusal Told). IsCutRefusal c.args.memory.now c.args.self.now r) (sym is) (inr (inr (due, search rules))))
 
 pub returns-in_err-group-clause-tied : goal.returns-in_err-group-clause-tied
 returns-in_err-group-clause-tied g c = λ tied.
@@ -78,7 +89,14 @@ take-requires-clause-all g c = λ trusted.
 
 pub returns-clause-cuts : goal.returns-clause-cuts
 returns-clause-cuts g c = λ done.
-    cuts_both c.args.memory.now c.cut-2.new.self c.args.self.now c.reserve.new.self c.take.new.self c.in_ok-front.front c.in_ok-group.group.items
+    let blocks : c.tail_len-blocks.result ≡ length (tail_of c.args.memory.now.tail.log) = c.tail_len-blocks.ensures.length ∙ ap (λ (v : VolatileState). length (tail_of v.tail.log)) c.memory.view_is in
+    let logged : c.self.inside.logged ≡ c.args.self.now.logged = ap (λ (d : DurableState). d.logged) c.self.view_is in
+    let cut : c.memory.inside.memory.cut ≡ c.args.memory.now.memory.cut = ap (λ (v : VolatileState). v.memory.cut) c.memory.view_is in
+    let due : IsCutDue c.args.memory.now c.args.self.now = record {
+      logged = omega (arith, c.if-self-cut.false, c.cut.ensures, logged, cut);
+      fits = subst (FitsGroup c.args.self.now.objects) blocks (c.in_ok-reserve.ensures.fits.0 c.if-not-branch.false);
+    } in
+    cuts_both c.args.memory.now c.cut-2.new.self c.args.self.now c.reserve.new.self c.take.new.self c.in_ok-front.front c.in_ok-group.group.items due
     c.in_ok-group.ensures.ok c.reserve.ensures.same c.in_ok-front.ensures.whole c.in_ok-group.ensures.group c.take.ensures.takes
 
 pub returns-clause-tied : goal.returns-clause-tied

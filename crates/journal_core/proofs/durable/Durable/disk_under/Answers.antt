@@ -1,4 +1,4 @@
-use Rattle.std.proofs.Common.{inl, ◌≤◌, ap, sym, subst, arith}
+use Rattle.std.proofs.Common.{inl, ◌≤◌, ap, sym, subst, ◌∙◌, arith}
 use mathlib.Core.List.{IsPrefix}
 use Rattle.journal_world.specs.declared.refusal.Refusal.{Refusal}
 use Rattle.journal_world.specs.Histories.{floor}
@@ -8,6 +8,7 @@ use Rattle.journal_core.specs.Durables.{DurableState, IsDurable, disk_of}
 use Rattle.journal_core.specs.Volatiles.{VolatileState, IsFrontRefusal}
 use Rattle.journal_core.specs.Pairs.{IsUntied}
 use Rattle.journal_core.proofs.Enduring.{leaves_disk}
+use Rattle.journal_core.proofs.Fronts.{trusted-longer}
 use Rattle.journal_core.proofs.Pairing.{begins_not, leaves_history}
 use Rattle.journal_core.proofs.durable.Durable.disk_under.Goals as goal
 
@@ -21,6 +22,13 @@ pub returns-in_err-front-clause-only : goal.returns-in_err-front-clause-only
 returns-in_err-front-clause-only g c = λ tied.
     absurd (begins_not c.args.memory.now.memory.history c.self.inside.front c.in_err-front.field-0.0 c.in_err-front.ensures.refusal
     (subst (λ (d : DurableState). IsPrefix d.front c.args.memory.now.memory.history) (sym c.self.view_is) tied.begins))
+
+pub returns-clause-trusted : goal.returns-clause-trusted
+returns-clause-trusted g c =
+    let kept = subst (IsDurable g.J.Naming.blocks) c.self.view_is c.self.invariant in
+    trusted-longer c.args.self.now.front c.args.memory.now.memory.history kept.begun
+    (subst (λ (d : DurableState). IsPrefix d.front c.args.memory.now.memory.history) c.self.view_is c.in_ok-front.ensures.begins)
+    ∙ kept.trusted
 
 pub returns-clause-images : goal.returns-clause-images
 returns-clause-images g c = λ honest image one.

@@ -23,17 +23,18 @@ loop-place-preserved g c =
     c.in_ok-fetch_block.ensures.after in (
       c.fetch_block.ensures.others ∙ ap (λ (d : DurableState). record d { objects = c.fetch_block.new.self.objects }) c.loop-place.invariant.0,
       OnlyReads-trans c.args.self.now.objects c.loop-place.self.objects c.fetch_block.new.self.objects c.loop-place.invariant.1 c.fetch_block.ensures.reads,
-      c.loop-place.invariant.2,
-      length-set c.loop-place.updates.items c.loop-place.place c.fetch_block.new.update ∙ c.loop-place.invariant.3,
-      map-set_same (λ (u : Update). u.block) c.loop-place.updates.items c.loop-place.place c.fetch_block.new.update c.index_mut.result.now same ∙ c.loop-place.invariant.4,
+      λ fine. c.in_ok-fetch_block.ensures.fine,
+      c.loop-place.invariant.3,
+      length-set c.loop-place.updates.items c.loop-place.place c.fetch_block.new.update ∙ c.loop-place.invariant.4,
+      map-set_same (λ (u : Update). u.block) c.loop-place.updates.items c.loop-place.place c.fetch_block.new.update c.index_mut.result.now same ∙ c.loop-place.invariant.5,
       All-set (λ (u : Update). u.block < g.J.Naming.blocks) c.loop-place.updates.items c.loop-place.place c.fetch_block.new.update
-          (subst (λ (b : ℕ). b < g.J.Naming.blocks) (sym same) (c.loop-place.invariant.5 c.loop-place.place c.index_mut.result.now (within c))) c.loop-place.invariant.5,
+          (subst (λ (b : ℕ). b < g.J.Naming.blocks) (sym same) (c.loop-place.invariant.6 c.loop-place.place c.index_mut.result.now (within c))) c.loop-place.invariant.6,
       λ trusted. AllWithin-more_set c.loop-place.updates.items c.loop-place.place c.fetch_block.new.update (within c)
-          (IsBlockAfter g.J.Naming.blocks c.args.self.now.front c.args.self.now.logged) (c.loop-place.invariant.6 trusted) (after trusted),
+          (IsBlockAfter g.J.Naming.blocks c.args.self.now.front c.args.self.now.logged) (c.loop-place.invariant.7 trusted) (after trusted),
     )
   where
     within : (c : goal.In_ok-fetch_block g) → c.loop-place.place < length c.loop-place.updates.items
-    within c = omega (arith, c.loop-place-test.true, c.loop-place.invariant.3)
+    within c = omega (arith, c.loop-place-test.true, c.loop-place.invariant.4)
 
 pub returns-clause-crash : goal.returns-clause-crash
 returns-clause-crash g c =

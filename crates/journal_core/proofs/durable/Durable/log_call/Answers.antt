@@ -32,19 +32,17 @@ returns-in-Logged-clause-crash g c =
 
 -- none, or another call
 
-pub returns-in_default : goal.returns-in_default
-returns-in_default g c =
+pub returns-in_default-clause-ok : goal.returns-in_default-clause-ok
+returns-in_default-clause-ok g c =
     let answers = of_ok (λ (step : GroupStep). WalLogs c.self.inside.objects step c.log_step.new.self) c.log_step.result c.in_ok-step.step c.in_ok-step.step c.in_ok-step.ensures.only_ok refl c.log_step.ensures.ok in
-    record {
-      ok = answers_logging c.self.inside.objects c.log_step.new.self c.self.invariant.tail _ c.args.self.now c.self.view_is refl c.in_ok-step.step c.in_default.not-Logged answers;
-      fine = search rules;
-      refusal = tt;
-      left = tt;
-      tries = tt;
-      crash = crashes_call g.J.Naming.blocks _ _ _ c.self.invariant c.self.view_is
-          (kept_call g.J.Naming.blocks _ c.self.invariant c.log_step.new.self c.log_step.ensures.crash
-          (λ honest. keeps_logging c.self.inside.objects c.log_step.new.self c.self.invariant.tail c.in_ok-step.step c.in_default.not-Logged answers
-          (of_ok (λ (step : GroupStep). LogsMaps c.self.inside.objects step c.log_step.new.self) c.log_step.result c.in_ok-step.step c.in_ok-step.step c.in_ok-step.ensures.only_ok refl (c.log_step.ensures.maps honest)))
-          (stays_logging c.self.inside.objects c.log_step.new.self c.self.invariant.tail c.in_ok-step.step c.in_default.not-Logged answers))
-          c.log_step.ensures.crash;
-    }
+    answers_logging c.self.inside.objects c.log_step.new.self c.self.invariant.tail _ c.args.self.now c.self.view_is refl c.in_ok-step.step c.in_default.not-Logged answers
+
+pub returns-in_default-clause-crash : goal.returns-in_default-clause-crash
+returns-in_default-clause-crash g c =
+    let answers = of_ok (λ (step : GroupStep). WalLogs c.self.inside.objects step c.log_step.new.self) c.log_step.result c.in_ok-step.step c.in_ok-step.step c.in_ok-step.ensures.only_ok refl c.log_step.ensures.ok in
+    crashes_call g.J.Naming.blocks _ _ _ c.self.invariant c.self.view_is
+    (kept_call g.J.Naming.blocks _ c.self.invariant c.log_step.new.self c.log_step.ensures.crash
+    (λ honest. keeps_logging c.self.inside.objects c.log_step.new.self c.self.invariant.tail c.in_ok-step.step c.in_default.not-Logged answers
+    (of_ok (λ (step : GroupStep). LogsMaps c.self.inside.objects step c.log_step.new.self) c.log_step.result c.in_ok-step.step c.in_ok-step.step c.in_ok-step.ensures.only_ok refl (c.log_step.ensures.maps honest)))
+    (stays_logging c.self.inside.objects c.log_step.new.self c.self.invariant.tail c.in_ok-step.step c.in_default.not-Logged answers))
+    c.log_step.ensures.crash

@@ -9,7 +9,7 @@ use Rattle.journal_objlog.proofs.Refusing.{if_err}
 use Rattle.journal_core.specs.Causes.{Told}
 use Rattle.journal_core.specs.Durables.{DurableState}
 use Rattle.journal_core.specs.Volatiles.{VolatileState, IsFrontRefusal}
-use Rattle.journal_core.specs.Pairs.{IsMarkingRefusal, MarksBoth}
+use Rattle.journal_core.specs.Pairs.{IsMarkDue, IsMarkingRefusal}
 use Rattle.journal_core.proofs.Enduring.{crashes_reads}
 use Rattle.journal_core.proofs.Pairing.{tied_mark}
 use Rattle.journal_core.proofs.durable.Durable.mark.Goals.{then-cut-self-via-then-cut-self, then-cut-self-via-else-cut-self+then-marked-self}
@@ -30,21 +30,32 @@ returns-then-self-marked-clause-crash g c =
     crashes_reads g.J.Naming.blocks _ c.args.self.now c.args.self.now c.self.invariant c.self.view_is (OnlyReads-refl c.args.self.now.objects) refl
 
 pub returns-then-cut-self-clause-only : goal.returns-then-cut-self-clause-only
-returns-then-cut-self-clause-only g c = λ tied no.
+returns-then-cut-self-clause-only g c = λ no due.
     let logged : c.self.inside.logged ≡ c.args.self.now.logged = ap (λ (d : DurableState). d.logged) c.self.view_is in
-    let coming : c.self.inside.coming ≡ c.args.self.now.coming = ap (λ (d : DurableState). d.coming) c.self.view_is in
     let cut : c.memory.inside.memory.cut ≡ c.args.memory.now.memory.cut = ap (λ (v : VolatileState). v.memory.cut) c.memory.view_is in
     let marked : floor c.memory.inside.memory.history ≡ floor c.args.memory.now.memory.history = ap (λ (v : VolatileState). floor v.memory.history) c.memory.view_is in
     elim c.then-cut-self.branch [
-      | then-cut-self-via-then-cut-self w ↦ let h = w.if-cut-self in
-          inl (omega (arith, h.true, c.cut.ensures, cut, logged, coming, tied.cut, c.self.invariant.logged_to_coming))
+      | then-cut-self-via-then-cut-self w ↦ let h = w.if-cut-self in omega (arith, h.true, c.cut.ensures, cut, logged, due.cut)
       | then-cut-self-via-else-cut-self+then-marked-self w ↦ let h = w.if-marked-self in
-          inr (omega (arith, h.true, c.floor-marked.ensures, marked, logged, tied.marked))
+          omega (arith, h.true, c.floor-marked.ensures, marked, logged, due.more)
     ]
 
 pub returns-then-cut-self-clause-crash : goal.returns-then-cut-self-clause-crash
 returns-then-cut-self-clause-crash g c =
     crashes_reads g.J.Naming.blocks _ c.args.self.now c.args.self.now c.self.invariant c.self.view_is (OnlyReads-refl c.args.self.now.objects) refl
+
+pub returns-in_err-mark-clause-refusal : goal.returns-in_err-mark-clause-refusal
+returns-in_err-mark-clause-refusal g c =
+    let logged : c.self.inside.logged ≡ c.args.self.now.logged = ap (λ (d : DurableState). d.logged) c.self.view_is in
+    let cut : c.memory.inside.memory.cut ≡ c.args.memory.now.memory.cut = ap (λ (v : VolatileState). v.memory.cut) c.memory.view_is in
+    let marked : floor c.memory.inside.memory.history ≡ floor c.args.memory.now.memory.history = ap (λ (v : VolatileState). floor v.memory.history) c.memory.view_is in
+    let due : IsMarkDue c.args.memory.now c.args.self.now = record {
+      cut = omega (arith, c.if-cut-self.false, c.cut.ensures, logged, cut);
+      more = omega (arith, c.if-self-marked.false, c.if-marked-self.false, c.floor-marked.ensures, marked, logged);
+    } in
+    if_err c.from_residual-in_err-mark.result _ (IsMarkingRefusal c.args.memory.now c.args.self.now) c.from_residual-in_err-mark.ensures.1
+    (λ (e : Refusal Told) is. subst (λ (r : Refusal Told). IsMarkingRefusal c.args.memory.now c.args.self.now r) (sym is)
+    (inr (due, c.in_err-mark.ensures.refusal)))
 
 pub returns-in_err-mark-clause-crash : goal.returns-in_err-mark-clause-crash
 returns-in_err-mark-clause-crash g c =
@@ -61,11 +72,20 @@ note_mark-requires g c =
           (stable c.self.inside.logged ∷ [], refl));
     }
 
+pub returns-clause-marks : goal.returns-clause-marks
+returns-clause-marks g c = λ done.
+    let logged : c.self.inside.logged ≡ c.args.self.now.logged = ap (λ (d : DurableState). d.logged) c.self.view_is in
+    let cut : c.memory.inside.memory.cut ≡ c.args.memory.now.memory.cut = ap (λ (v : VolatileState). v.memory.cut) c.memory.view_is in
+    let marked : floor c.memory.inside.memory.history ≡ floor c.args.memory.now.memory.history = ap (λ (v : VolatileState). floor v.memory.history) c.memory.view_is in
+    let due : IsMarkDue c.args.memory.now c.args.self.now = record {
+      cut = omega (arith, c.if-cut-self.false, c.cut.ensures, logged, cut);
+      more = omega (arith, c.if-self-marked.false, c.if-marked-self.false, c.floor-marked.ensures, marked, logged);
+    } in
+    record { due = due; memory = search rules; durable = search rules }
+
 pub returns-clause-tied : goal.returns-clause-tied
 returns-clause-tied g c = λ tied.
-    let marks : MarksBoth c.args.memory.now c.args.self.now c.mark.new.self c.note_mark.new.self = search rules in
-    let logged : c.self.inside.logged ≡ c.args.self.now.logged = ap (λ (d : DurableState). d.logged) c.self.view_is in
+    let marks = returns-clause-marks g c refl in
     tied_mark c.args.memory.now c.mark.new.self c.args.self.now c.note_mark.new.self
-    (omega (arith, c.if-self-marked.false, c.floor-marked.ensures, logged, ap (λ (v : VolatileState). floor v.memory.history) c.memory.view_is))
-    (omega (arith, c.if-cut-self.false, c.cut.ensures, logged, ap (λ (v : VolatileState). v.memory.cut) c.memory.view_is))
+    (omega (arith, marks.due.more)) marks.due.cut
     marks tied

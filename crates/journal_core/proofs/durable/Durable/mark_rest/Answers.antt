@@ -11,7 +11,7 @@ use Rattle.journal_core.specs.Causes.{Told}
 use Rattle.journal_core.specs.Updates.{HaveAllSince}
 use Rattle.journal_core.specs.Durables.{DurableState, IsDurable}
 use Rattle.journal_core.specs.Volatiles.{VolatileState, IsVolatile, IsFrontRefusal}
-use Rattle.journal_core.specs.Pairs.{IsRestRefusal}
+use Rattle.journal_core.specs.Pairs.{IsRestDue, IsRestRefusal}
 use Rattle.journal_core.proofs.Enduring.{crashes_reads}
 use Rattle.journal_core.proofs.Pairing.{marks_all, tied_rest, rest_since}
 use Rattle.journal_core.proofs.durable.Durable.mark_rest.Goals.{then-awaits_logging-via-then-awaits_logging, then-awaits_logging-via-else-awaits_logging+then-commits-floor}
@@ -28,18 +28,31 @@ returns-in_err-front_over-clause-crash g c =
     crashes_reads g.J.Naming.blocks _ c.args.self.now c.args.self.now c.self.invariant c.self.view_is (OnlyReads-refl c.args.self.now.objects) refl
 
 pub returns-then-awaits_logging-clause-only : goal.returns-then-awaits_logging-clause-only
-returns-then-awaits_logging-clause-only g c = λ tied fine no.
+returns-then-awaits_logging-clause-only g c = λ no due.
     let commits : c.count-commits.result ≡ count c.args.memory.now.memory.history = c.count-commits.ensures ∙ ap (λ (v : VolatileState). count v.memory.history) c.memory.view_is in
     let marked : floor c.memory.inside.memory.history ≡ floor c.args.memory.now.memory.history = ap (λ (v : VolatileState). floor v.memory.history) c.memory.view_is in
     elim c.then-awaits_logging.branch [
-      | then-awaits_logging-via-then-awaits_logging w ↦ let h = w.if-awaits_logging in inl (c.awaits_logging.ensures.only tied fine h.true)
+      | then-awaits_logging-via-then-awaits_logging w ↦ let h = w.if-awaits_logging in c.awaits_logging.ensures.only h.true due
       | then-awaits_logging-via-else-awaits_logging+then-commits-floor w ↦ let h = w.if-commits-floor in let f = w.floor in
-          inr (omega (arith, h.true, f.ensures, commits, marked))
+          omega (arith, h.true, f.ensures, commits, marked, due.more)
     ]
 
 pub returns-then-awaits_logging-clause-crash : goal.returns-then-awaits_logging-clause-crash
 returns-then-awaits_logging-clause-crash g c =
     crashes_reads g.J.Naming.blocks _ c.args.self.now c.args.self.now c.self.invariant c.self.view_is (OnlyReads-refl c.args.self.now.objects) refl
+
+pub returns-in_err-mark-clause-refusal : goal.returns-in_err-mark-clause-refusal
+returns-in_err-mark-clause-refusal g c =
+    let commits : c.count-commits.result ≡ count c.args.memory.now.memory.history = c.count-commits.ensures ∙ ap (λ (v : VolatileState). count v.memory.history) c.memory.view_is in
+    let due : IsRestDue c.args.memory.now c.args.self.now = record {
+      logged = c.if-awaits_logging.ensures.cut refl;
+      rest = c.if-awaits_logging.ensures.rest refl;
+      tail = c.if-awaits_logging.ensures.tail refl;
+      more = omega (arith, c.if-commits-floor.false, c.floor.ensures, commits, ap (λ (v : VolatileState). floor v.memory.history) c.memory.view_is);
+    } in
+    if_err c.from_residual-in_err-mark.result _ (IsRestRefusal c.args.memory.now c.args.self.now) c.from_residual-in_err-mark.ensures.1
+    (λ (e : Refusal Told) is. subst (λ (r : Refusal Told). IsRestRefusal c.args.memory.now c.args.self.now r) (sym is)
+    (inr (due, c.in_err-mark.ensures.refusal)))
 
 pub returns-in_err-mark-clause-crash : goal.returns-in_err-mark-clause-crash
 returns-in_err-mark-clause-crash g c =
@@ -74,7 +87,13 @@ reach-requires-clause-all g c =
 pub returns-clause-marks : goal.returns-clause-marks
 returns-clause-marks g c = λ done.
     let commits : c.count-commits.result ≡ count c.args.memory.now.memory.history = c.count-commits.ensures ∙ ap (λ (v : VolatileState). count v.memory.history) c.memory.view_is in
-    marks_all c.args.memory.now c.mark.new.self c.args.self.now c.reach.new.self c.note_mark.new.self c.count-commits.result c.front.result c.front-2.result commits
+    let due : IsRestDue c.args.memory.now c.args.self.now = record {
+      logged = c.if-awaits_logging.ensures.cut refl;
+      rest = c.if-awaits_logging.ensures.rest refl;
+      tail = c.if-awaits_logging.ensures.tail refl;
+      more = omega (arith, c.if-commits-floor.false, c.floor.ensures, commits, ap (λ (v : VolatileState). floor v.memory.history) c.memory.view_is);
+    } in
+    marks_all c.args.memory.now c.mark.new.self c.args.self.now c.reach.new.self c.note_mark.new.self c.count-commits.result c.front.result c.front-2.result due commits
     c.in_ok-mark.ensures.added (c.front.ensures.history ∙ ap (λ (v : VolatileState). v.memory.history) c.memory-2.view_is)
     (c.front-2.ensures.history ∙ ap (λ (v : VolatileState). v.memory.history) c.memory-2.view_is) c.reach.ensures.reaches c.note_mark.ensures.marks
 

@@ -1,7 +1,6 @@
-use Rattle.std.proofs.Common.{rules}
-use Rattle.journal_core.specs.Cores.{disk_of}
-use Rattle.journal_core.proofs.Keeping.{leaves_closed}
+use Rattle.journal_core.proofs.Joining.{leaves_lent}
 use Rattle.journal_core.proofs.state.Core.disk.Goals as goal
 
 pub returns-clause-images : goal.returns-clause-images
-returns-clause-images g c = leaves_closed g.J.Naming.blocks _ c.args.self.now (disk_of c.args.self.now) c.self.invariant c.self.view_is (search rules)
+returns-clause-images g c =
+    leaves_lent g.J.Naming.blocks c.self.inside.volatile c.self.inside.durable c.args.self.now c.self.invariant.pair c.self.view_is c.disk.ensures.images

@@ -1,13 +1,17 @@
-use Rattle.std.proofs.Common.{refl, rules}
-use Rattle.journal_core.proofs.Keeping.{crashes_seen, kept_still}
+use Rattle.std.proofs.Common.{rules}
+use Rattle.journal_core.proofs.Joining.{pair_joined, crashes_noticed}
 use Rattle.journal_core.proofs.Events.{answers_session}
 use Rattle.journal_core.proofs.state.Core.session_step.Goals as goal
 
 pub invariant_of-self : goal.invariant_of-self
-invariant_of-self g c = kept_still g.J.Naming.blocks _ _ _ _ c.session.ensures.history c.session.ensures.cut c.self.invariant
+invariant_of-self g c = record {
+  pair = pair_joined g.J.Naming.blocks c.self.inside.volatile c.self.inside.durable c.self.invariant.pair c.session.new.self c.session.result c.session.ensures.others c.session.ensures.same;
+  room = c.self.invariant.room;
+}
 
 pub returns-clause-crash : goal.returns-clause-crash
-returns-clause-crash g c = crashes_seen g.J.Naming.blocks _ _ _ c.self.invariant c.self.view_is (invariant_of-self g c) refl
+returns-clause-crash g c =
+    crashes_noticed g.J.Naming.blocks c.self.inside.volatile c.self.inside.durable c.args.self.now c.self.invariant.pair c.self.view_is c.session.new.self (invariant_of-self g c).pair
 
 pub returns-clause-event : goal.returns-clause-event
 returns-clause-event g c = answers_session _ _ (returns-clause-crash g c) c.session.result (search rules) (search rules) (search rules)

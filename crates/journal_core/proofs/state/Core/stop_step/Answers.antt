@@ -1,17 +1,20 @@
-use Rattle.std.proofs.Common.{true, refl, ap, ◌∙◌}
-use Rattle.journal_core.specs.Cores.{CoreState, core_of}
-use Rattle.journal_core.specs.Memories.{MemoryState}
-use Rattle.journal_core.proofs.Keeping.{crashes_seen, kept_still}
+use Rattle.std.proofs.Common.{true, ap, sym, subst, ◌∙◌}
+use Rattle.journal_core.specs.Volatiles.{VolatileState}
+use Rattle.journal_core.specs.Cores.{CoreState, IsPair, core_of}
+use Rattle.journal_core.proofs.Joining.{pair_noted, crashes_noticed}
 use Rattle.journal_core.proofs.state.Core.stop_step.Goals as goal
 
 pub invariant_of-self : goal.invariant_of-self
-invariant_of-self g c = kept_still g.J.Naming.blocks _ _ _ _ (ap (λ (m : MemoryState). m.history) c.stop.ensures) (ap (λ (m : MemoryState). m.cut) c.stop.ensures) c.self.invariant
+invariant_of-self g c = record {
+  pair = subst (λ (v : VolatileState). IsPair g.J.Naming.blocks v c.self.inside.durable) (sym c.stop.ensures)
+      (pair_noted g.J.Naming.blocks c.self.inside.volatile c.self.inside.durable c.self.invariant.pair c.self.inside.volatile.memory.next true);
+  room = c.self.invariant.room;
+}
 
 pub returns : goal.returns
 returns g c = record {
   stops = record {
-    closed = ap (λ (m : MemoryState). core_of c.self.inside.objects m c.self.inside.logged) c.stop.ensures
-        ∙ ap (λ (s : CoreState). record s { closed = true }) c.self.view_is;
-    crash = crashes_seen g.J.Naming.blocks _ _ _ c.self.invariant c.self.view_is (invariant_of-self g c) refl;
+    closed = ap (λ (v : VolatileState). core_of v c.self.inside.durable) c.stop.ensures ∙ ap (λ (s : CoreState). record s { closed = true }) c.self.view_is;
+    crash = crashes_noticed g.J.Naming.blocks c.self.inside.volatile c.self.inside.durable c.args.self.now c.self.invariant.pair c.self.view_is c.stop.new.self (invariant_of-self g c).pair;
   };
 }

@@ -1,0 +1,51 @@
+use Rattle.std.proofs.Common.{◌≡◌, ◌≢◌, ◌≤◌, ◌++◌, [], map, refl, sym, ap, subst, ◌∙◌, arith, rules}
+use Rattle.journal_world.proofs.Prefixes.{IsPrefix-refl}
+use Rattle.journal_block.specs.declared.update.Update.{Update}
+use Rattle.journal_objlog.specs.ObjectTails.{known_updates, missing_blocks}
+use Rattle.journal_core.specs.Volatiles.{VolatileState, usable}
+use Rattle.journal_core.specs.VolatileCommits.{IsCommitted as IsCommittedIn}
+use Rattle.journal_core.specs.Cores.{IsPair}
+use Rattle.journal_core.proofs.Committing.{OnErr-any}
+use Rattle.journal_core.proofs.Joining.{crashes_pair}
+use Rattle.journal_core.proofs.Admitting.{pair_committed, pair_roomed}
+use Rattle.journal_core.proofs.Fetching.{fetched_all, all_usable}
+use Rattle.journal_core.proofs.durable.Durable.commit_fetched.Goals as goal
+
+pub returns-in_err-fetched-clause-session : goal.returns-in_err-fetched-clause-session
+returns-in_err-fetched-clause-session g c =
+    OnErr-any c.from_residual.result (record { number = refl; mine = refl; seen = IsPrefix-refl c.args.session.now.seen })
+
+pub returns-in_err-fetched-clause-crash : goal.returns-in_err-fetched-clause-crash
+returns-in_err-fetched-clause-crash g c =
+    crashes_pair g.J.Naming.blocks c.args.memory.now c.fetch_step.new.memory c.args.self.now c.fetch_step.new.self c.requires.pair c.fetch_step.ensures.pair c.fetch_step.ensures.crash
+
+pub returns-in-Ok-Done-clause-pair : goal.returns-in-Ok-Done-clause-pair
+returns-in-Ok-Done-clause-pair g c =
+    let it : IsCommittedIn c.args.transaction.now.reads c.args.transaction.now.writes c.args.session.now c.commit-answer.new.session c.fetch_step.new.memory c.commit-answer.new.self = search rules in
+    pair_committed g.J.Naming.blocks c.fetch_step.new.memory c.fetch_step.new.self c.fetch_step.ensures.pair c.commit-answer.new.self c.args.transaction.now.reads
+    c.args.transaction.now.writes c.args.session.now c.commit-answer.new.session c.keeps.ensures it
+
+pub returns-in-Ok-Done-clause-crash : goal.returns-in-Ok-Done-clause-crash
+returns-in-Ok-Done-clause-crash g c =
+    crashes_pair g.J.Naming.blocks c.args.memory.now c.commit-answer.new.self c.args.self.now c.fetch_step.new.self c.requires.pair (returns-in-Ok-Done-clause-pair g c) c.fetch_step.ensures.crash
+
+pub unreachable-requires : goal.unreachable-requires
+unreachable-requires g c =
+    let n = g.J.Naming.blocks in
+    let v = c.fetch_step.new.memory in
+    let f = c.in_ok-fetched.fetched in
+    let writes = c.args.transaction.now.writes in
+    let fresh : v.tail.trimmed ≤ f.commits = omega (arith, c.fetch_step.ensures.pair.tied.trimmed, c.in_ok-fetched.ensures.commits) in
+    let missing : c.in-Ok-Missing.field-0-0.items ≡ missing_blocks n (known_updates (usable v f) v.tail) writes = search rules in
+    let some : c.in-Ok-Missing.field-0-0.items ≢ [] = search rules in
+    let none : missing_blocks n (f.updates ++ v.tail.log.updates) writes ≡ [] =
+    fetched_all n f.updates v.tail.log.updates (map (λ (u : Update). u.block) c.args.rooms.items) writes c.in_ok-fetched.ensures.named
+    (subst (λ (x : VolatileState). map (λ (u : Update). u.block) c.args.rooms.items ≡ missing_blocks n (known_updates [] x.tail) writes) (sym c.in_ok-fetched.ensures.memory) c.requires.named) in
+    some (missing ∙ ap (λ us. missing_blocks n (known_updates us v.tail) writes) (all_usable v f fresh) ∙ none)
+
+pub returns-clause-crash : goal.returns-clause-crash
+returns-clause-crash g c =
+    let pair : IsPair g.J.Naming.blocks c.commit-answer.new.self c.fetch_step.new.self =
+    pair_roomed g.J.Naming.blocks c.fetch_step.new.memory c.fetch_step.new.self c.fetch_step.ensures.pair c.commit-answer.new.self c.commit-answer.new.self.tail.log.room c.keeps.ensures
+    (search rules) in
+    crashes_pair g.J.Naming.blocks c.args.memory.now c.commit-answer.new.self c.args.self.now c.fetch_step.new.self c.requires.pair pair c.fetch_step.ensures.crash

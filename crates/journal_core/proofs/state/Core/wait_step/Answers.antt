@@ -1,0 +1,21 @@
+use Rattle.std.proofs.Common.{◌≤◌, ◌↔◌, IsTrue, IfOk, IfErr, OnOk, subst}
+use Rattle.journal_world.specs.Histories.{floor}
+use Rattle.journal_core.specs.Outsets.{Outset}
+use Rattle.journal_core.specs.Waits.{MayWait, IsWaitRefusal}
+use Rattle.journal_core.specs.Cores.{CoreState}
+use Rattle.journal_core.proofs.Joining.{outset_seen}
+use Rattle.journal_core.proofs.state.Core.wait_step.Goals as goal
+
+pub returns-clause-answer : goal.returns-clause-answer
+returns-clause-answer g c =
+    subst (λ (s : CoreState). IfOk c.wait_step.result (λ marked. IsTrue marked ↔ (c.args.n ≤ floor s.history))) c.self.view_is c.wait_step.ensures.answer
+
+pub returns-clause-goes_on : goal.returns-clause-goes_on
+returns-clause-goes_on g c =
+    subst (λ (o : Outset). OnOk c.wait_step.result (MayWait o c.args.n))
+    (outset_seen g.J.Naming.blocks c.self.inside.volatile c.self.inside.durable c.args.self.now c.self.invariant.pair c.self.view_is) c.wait_step.ensures.goes_on
+
+pub returns-clause-refusal : goal.returns-clause-refusal
+returns-clause-refusal g c =
+    subst (λ (o : Outset). IfErr c.wait_step.result (IsWaitRefusal o c.args.session.now c.args.n))
+    (outset_seen g.J.Naming.blocks c.self.inside.volatile c.self.inside.durable c.args.self.now c.self.invariant.pair c.self.view_is) c.wait_step.ensures.refusal

@@ -1,0 +1,104 @@
+// A commit in memory, with what is fetched for it.
+ghost use Rattle.std.specs.Prelude.{◌≡◌, ◌⊎◌, ◌<◌, [], map, length, IsTrue, IfOk, IfErr, OnOk, OnErr, All};
+ghost use Rattle.journal_world.specs.Maps.{Map, Agrees, overwritten};
+ghost use Rattle.journal_world.specs.Histories.{is_trusted, latest};
+ghost use Rattle.journal_objlog.specs.ObjectTails.{known_updates, missing_blocks};
+ghost use Rattle.journal_history.specs.Tokens.{next_transaction, OnlyExtends, IsReceiptFor};
+ghost use Rattle.journal_core.specs.Cores.{Crashes, IsPair, IsRunning, OnlyReads, core_of};
+ghost use Rattle.journal_core.specs.Durables.{IsCallRefusal};
+ghost use Rattle.journal_core.specs.Memories.{ShowsLonger};
+ghost use Rattle.journal_core.specs.Outsets.{IsCommitRefusal as IsRefusedFrom};
+ghost use Rattle.journal_core.specs.Volatiles.{outset_of};
+ghost use Rattle.journal_core.specs.Commits.{IsCommitted, CanCommit, IsCommitRefusal};
+
+use crate::cause::Cause;
+use crate::durable::Durable;
+use crate::fetched::{Fetched, rooms_of};
+use crate::transaction::Transaction;
+use crate::volatile::Volatile;
+use crate::volatile_commit::CommitStep;
+use journal_block::Update;
+use journal_disk::BlockDisk;
+use journal_history::{Naming, Receipt, Session};
+use journal_objlog::Spares;
+use journal_world::{MapRule, Refusal};
+use std::alloc::Global;
+
+impl<'b, D: BlockDisk, R: MapRule, J: Naming> Durable<'b, D, R, J> {
+    /// Commits in memory, where the blocks that memory lacks are fetched first.
+    pub(crate) fn commit_step(
+        &mut self,
+        alloc: Global,
+        memory: &mut Volatile<'b, R, J>,
+        session: &mut Session<'b, J, R>,
+        transaction: &Transaction<'b, J, R>,
+        spares: &mut Spares,
+    ) -> Result<Receipt<'b, J, R>, Refusal<Cause<'b, J, R>>>
+        requires rule { (m : Map) → m.blocks ≡ J.blocks → R.statement m → Agrees m transaction.now.reads
+            → R.statement (overwritten m transaction.now.writes) }
+        requires pair { IsPair J.blocks memory.old self.old }
+        ensures committed { OnOk result (IsCommitted transaction.now.reads transaction.now.writes session.old session.new (core_of memory.old self.old) (core_of memory.new self.new)) }
+        ensures receipt { IfOk result (IsReceiptFor (next_transaction session.old transaction.now.reads transaction.now.writes) memory.new.memory.history (length memory.old.memory.history)) }
+        ensures can { OnOk result (CanCommit (core_of memory.old self.old) session.old transaction.now) }
+        ensures agrees { OnOk result (IsTrue (is_trusted memory.old.memory.history) → Agrees (latest memory.old.memory.history) transaction.now.reads) }
+        ensures running { OnOk result (IsRunning (core_of memory.new self.new)) }
+        ensures refusal { IfErr result (IsCommitRefusal (core_of memory.old self.old) session.old transaction.now (core_of memory.new self.new)) }
+        ensures same { OnErr result (core_of memory.new self.new ≡ record (core_of memory.old self.old) { objects = (core_of memory.new self.new).objects }) }
+        ensures left { OnErr result (OnlyReads (core_of memory.old self.old).objects (core_of memory.new self.new).objects) }
+        ensures session { OnErr result (OnlyExtends session.old session.new) }
+        ensures longer { IfErr result (ShowsLonger memory.old.memory.history session.new) }
+        ensures pair { IsPair J.blocks memory.new self.new }
+        ensures crash { Crashes (core_of memory.old self.old) (core_of memory.new self.new) }
+    {
+        let nothing = Fetched::nothing(alloc, memory.memory.front());
+        let answer = memory.commit(session, transaction, spares, &nothing);
+        // Called for its contract: what memory keeps by itself.
+        memory.keeps();
+        match answer {
+            Ok(CommitStep::Done(receipt)) => Ok(receipt),
+            Ok(CommitStep::Missing(blocks)) => {
+                let rooms = rooms_of(alloc, &blocks)?;
+                self.commit_fetched(memory, session, transaction, spares, rooms)
+            }
+            Err(why) => Err(why),
+        }
+    }
+
+    /// Commits once the blocks are fetched that memory lacks, for which this is the memory.
+    pub(crate) fn commit_fetched(
+        &mut self,
+        memory: &mut Volatile<'b, R, J>,
+        session: &mut Session<'b, J, R>,
+        transaction: &Transaction<'b, J, R>,
+        spares: &mut Spares,
+        rooms: Vec<Update>,
+    ) -> Result<Receipt<'b, J, R>, Refusal<Cause<'b, J, R>>>
+        requires rule { (m : Map) → m.blocks ≡ J.blocks → R.statement m → Agrees m transaction.now.reads
+            → R.statement (overwritten m transaction.now.writes) }
+        requires blocks { All (λ u. u.block < J.blocks) rooms.items }
+        requires named { map (λ u. u.block) rooms.items ≡ missing_blocks J.blocks (known_updates [] memory.old.tail) transaction.now.writes }
+        requires pair { IsPair J.blocks memory.old self.old }
+        requires running { IsRunning (core_of memory.old self.old) }
+        ensures committed { OnOk result (IsCommitted transaction.now.reads transaction.now.writes session.old session.new (core_of memory.old self.old) (core_of memory.new self.new)) }
+        ensures receipt { IfOk result (IsReceiptFor (next_transaction session.old transaction.now.reads transaction.now.writes) memory.new.memory.history (length memory.old.memory.history)) }
+        ensures agrees { OnOk result (IsTrue (is_trusted memory.old.memory.history) → Agrees (latest memory.old.memory.history) transaction.now.reads) }
+        ensures running { OnOk result (IsRunning (core_of memory.new self.new)) }
+        ensures refusal { IfErr result (λ why.
+            IsCallRefusal self.old self.new why ⊎ IsRefusedFrom (outset_of memory.old) session.old transaction.now why) }
+        ensures same { OnErr result (core_of memory.new self.new ≡ record (core_of memory.old self.old) { objects = (core_of memory.new self.new).objects }) }
+        ensures left { OnErr result (OnlyReads (core_of memory.old self.old).objects (core_of memory.new self.new).objects) }
+        ensures session { OnErr result (OnlyExtends session.old session.new) }
+        ensures longer { IfErr result (ShowsLonger memory.old.memory.history session.new) }
+        ensures pair { IsPair J.blocks memory.new self.new }
+        ensures crash { Crashes (core_of memory.old self.old) (core_of memory.new self.new) }
+    {
+        let fetched = self.fetch_step(memory, rooms)?;
+        let answer = memory.commit(session, transaction, spares, &fetched);
+        memory.keeps();
+        match answer {
+            Ok(CommitStep::Done(receipt)) => Ok(receipt),
+            Ok(CommitStep::Missing(_)) => unreachable!(),
+            Err(why) => Err(why),
+        }
+    }
+}

@@ -1,0 +1,133 @@
+// Steps of both parts, of a pair that is tied: each makes at most one call of the device, and where that fails both parts
+// know of it.
+ghost use Rattle.std.specs.Prelude.{◌≡◌, ◌<◌, false, true, map, IsTrue, IfOk, IfErr, OnOk, OnErr, All};
+ghost use Rattle.journal_objlog.specs.ObjectLogs.{OnlyReads};
+ghost use Rattle.journal_core.specs.Cores.{IsPair, IsRunning, Crashes, core_of};
+ghost use Rattle.journal_core.specs.Durables.{IsCallRefusal, Crashes as CrashesDurable};
+ghost use Rattle.journal_core.specs.Interleavings.{AnswersFetch};
+ghost use Rattle.journal_core.specs.Steps.{LogAnswers, IsLogRefusal, InstallAnswers, IsInstallRefusal, LeavesLog, TriesToLog, TriesToInstall};
+
+use crate::cause::Cause;
+use crate::durable::Durable;
+use crate::fetched::Fetched;
+use crate::step::LogStep;
+use crate::volatile::Volatile;
+use journal_block::Update;
+use journal_disk::BlockDisk;
+use journal_history::Naming;
+use journal_wal::{GroupStep, InstallStep};
+use journal_world::{MapRule, Refusal};
+
+impl<'b, D: BlockDisk, R: MapRule, J: Naming> Durable<'b, D, R, J> {
+    /// Does the next thing of the logger: the device call of the group in flight that is due, or where none is in flight
+    /// what is due of both parts.
+    pub(crate) fn log_step(
+        &mut self,
+        memory: &mut Volatile<'b, R, J>,
+    ) -> Result<LogStep, Refusal<Cause<'b, J, R>>>
+        requires pair { IsPair J.blocks memory.old self.old }
+        requires running { IsRunning (core_of memory.old self.old) }
+        ensures ok { IfOk result (λ step. LogAnswers (core_of memory.old self.old) step (core_of memory.new self.new)) }
+        ensures running { OnOk result (IsRunning (core_of memory.new self.new)) }
+        ensures refusal { IfErr result (IsLogRefusal (core_of memory.old self.old) (core_of memory.new self.new)) }
+        ensures left { OnErr result (LeavesLog (core_of memory.old self.old) (core_of memory.new self.new)) }
+        ensures tries { OnErr result (TriesToLog (core_of memory.old self.old) (core_of memory.new self.new)) }
+        ensures pair { IsPair J.blocks memory.new self.new }
+        ensures fine { OnOk result (memory.new.faulted ≡ false) }
+        ensures crash { Crashes (core_of memory.old self.old) (core_of memory.new self.new) }
+    {
+        match self.log_call() {
+            Ok(GroupStep::Put) => {
+                self.keeps();
+                Ok(LogStep::Put)
+            }
+            Ok(GroupStep::Logged) => {
+                self.keeps();
+                Ok(LogStep::Logged)
+            }
+            Ok(GroupStep::Idle) => {
+                let answer = self.settle(memory);
+                self.keeps();
+                memory.keeps();
+                answer
+            }
+            // There is no tail in the durable part's log.
+            Ok(GroupStep::Cut) => unreachable!(),
+            Err(why) => {
+                memory.fail();
+                self.keeps();
+                Err(why)
+            }
+        }
+    }
+
+    /// Does the next thing of the installer. What is at home then is dropped from memory.
+    pub(crate) fn install_step(
+        &mut self,
+        memory: &mut Volatile<'b, R, J>,
+    ) -> Result<InstallStep, Refusal<Cause<'b, J, R>>>
+        requires pair { IsPair J.blocks memory.old self.old }
+        requires running { IsRunning (core_of memory.old self.old) }
+        ensures ok { IfOk result (λ step. InstallAnswers (core_of memory.old self.old) step (core_of memory.new self.new)) }
+        ensures running { OnOk result (IsRunning (core_of memory.new self.new)) }
+        ensures refusal { IfErr result (IsInstallRefusal (core_of memory.old self.old) (core_of memory.new self.new)) }
+        ensures left { OnErr result (LeavesLog (core_of memory.old self.old) (core_of memory.new self.new)) }
+        ensures tries { OnErr result (TriesToInstall (core_of memory.old self.old) (core_of memory.new self.new)) }
+        ensures pair { IsPair J.blocks memory.new self.new }
+        ensures crash { Crashes (core_of memory.old self.old) (core_of memory.new self.new) }
+    {
+        match self.install_call() {
+            Ok(InstallStep::Freed(upto)) => {
+                self.trim(memory, upto);
+                self.keeps();
+                memory.keeps();
+                Ok(InstallStep::Freed(upto))
+            }
+            Ok(step) => {
+                self.keeps();
+                Ok(step)
+            }
+            Err(Refusal::DeviceFailed(cause)) => {
+                memory.fail();
+                self.keeps();
+                Err(Refusal::DeviceFailed(cause))
+            }
+            Err(why) => Err(why),
+        }
+    }
+
+    /// Reads blocks as they are logged.
+    pub(crate) fn fetch_step(
+        &mut self,
+        memory: &mut Volatile<'b, R, J>,
+        updates: Vec<Update>,
+    ) -> Result<Fetched<'b, J, R>, Refusal<Cause<'b, J, R>>>
+        requires blocks { All (λ u. u.block < J.blocks) updates.items }
+        requires pair { IsPair J.blocks memory.old self.old }
+        requires running { IsRunning (core_of memory.old self.old) }
+        ensures front { IfOk result (λ fetched. fetched.front ≡ self.new.front) }
+        ensures commits { IfOk result (λ fetched. fetched.commits ≡ self.new.logged) }
+        ensures named { IfOk result (λ fetched. map (λ u. u.block) fetched.updates ≡ map (λ u. u.block) updates.items) }
+        ensures memory { OnOk result (memory.new ≡ memory.old) }
+        ensures failed { OnErr result (memory.new ≡ record memory.old { faulted = true }) }
+        ensures refusal { IfErr result (IsCallRefusal self.old self.new) }
+        ensures reads { OnlyReads self.old.objects self.new.objects }
+        ensures others { self.new ≡ record self.old { objects = self.new.objects } }
+        ensures pair { IsPair J.blocks memory.new self.new }
+        ensures crash { CrashesDurable self.old self.new }
+        ensures event { AnswersFetch J.blocks (core_of memory.old self.old) (map (λ u. u.block) updates.items) result (core_of memory.new self.new) }
+    {
+        match self.fetch(updates) {
+            Ok(fetched) => {
+                self.keeps();
+                fetched.holds();
+                Ok(fetched)
+            }
+            Err(why) => {
+                memory.fail();
+                self.keeps();
+                Err(why)
+            }
+        }
+    }
+}

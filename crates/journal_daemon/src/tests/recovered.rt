@@ -1,0 +1,67 @@
+// A journal over a disk whose log was full when it was opened.
+ghost use Rattle.std.specs.Prelude.{◌≡◌};
+ghost use Rattle.journal_disk.specs.Disks.{IsSettled};
+
+use super::beside_daemon::{Ending, waits};
+use super::*;
+use crate::{OpenGate, start};
+use std::thread::join;
+
+/// How many positions the log has.
+const POSITIONS: u64 = 511;
+
+/// Commits and logs one block, again and again, until no position of the log is free.
+fn fill_the_log<'b, J: Naming, W: Wait>(
+    rt: &W,
+    alloc: Global,
+    journal: &Open<'b, MemDisk, J>,
+    session: &mut Client<'b, J>,
+) {
+    for _ in 0..POSITIONS {
+        put(rt, alloc, journal, session, INODE, &[1; 128]);
+        logs(rt, journal, 100);
+    }
+}
+
+/// Opens the disk, and commits and waits beside the daemon. Answers where the log began and ended, and how the commit ended.
+fn makes_room<J: Naming + Send + Sync, H: Abort + Threads + Wait + Sync>(
+    rt: &H,
+    alloc: Global,
+    book: &Book<AnyMap>,
+    disk: MemDisk,
+) -> ((u64, u64), Ending)
+    requires book { book.now ≡ J.book }
+    requires blocks { disk.past.size ≡ J.blocks }
+    requires settled { IsSettled disk.past }
+{
+    let journal: Open<MemDisk, J> = opened_on(rt, alloc, book, disk);
+    let opened = journal.stat(rt);
+    let commits = || {
+        let ending = waits(rt, alloc, &journal, 2);
+        journal.stop(rt);
+        ending
+    };
+    let (_ended, ending) = join(rt, || start(rt, &journal, &OpenGate).is_ok(), commits);
+    let _disk = journal.into_disk();
+    ((opened.start, opened.end), ending)
+}
+
+/// What was recovered lies in the log alone, and takes its room all the same: the installer frees it, so that a commit is
+/// logged.
+pub(super) fn recover_a_full_log<J: Naming + Send + Sync, H: Abort + Threads + Wait + Sync>(
+    rt: &H,
+    alloc: Global,
+    journal: &Open<MemDisk, J>,
+) {
+    let mut session = client(rt, journal);
+    fill_the_log(rt, alloc, journal, &mut session);
+    let image = journal.image(rt, &mut session, &[]);
+    let book: Book<AnyMap> = Book::open::<()>().ok().expect(rt, "a book");
+    let ended = makes_room::<Brand, _>(rt, alloc, &book, image.ok().expect(rt, "an image"));
+    assert_eq!(rt; ended, ((0, POSITIONS), Ending::Stable));
+}
+
+#[test]
+fn a_recovered_log_makes_room(rt: HostRuntime) {
+    try_out(&rt, rt.alloc(), Trial::RecoverAFullLog);
+}

@@ -1,0 +1,12 @@
+use Rattle.std.proofs.Common.{◌≡◌, ◌<◌, List, ℕ, All, map, subst, sym, rules}
+use Rattle.journal_block.specs.declared.update.Update.{Update}
+use Rattle.journal_twophase.proofs.Looking.{rooms_below}
+use Rattle.journal_twophase.proofs.shared.SharedCore.fetch.Goals as goal
+
+pub fetch-requires : goal.fetch-requires
+fetch-requires g c =
+    let rooms = c.in_ok-rooms_of.field-0.items in
+    let named : map (λ (u : Update). u.block) rooms ≡ c.args.blocks.now = search rules in
+    record {
+      blocks = rooms_below g.J.Naming.blocks rooms (subst (λ (bs : List ℕ). All (λ b. b < g.J.Naming.blocks) bs) (sym named) c.requires.below);
+    }

@@ -1,0 +1,13 @@
+use Rattle.journal_twophase.proofs.Knowing.{known}
+use Rattle.journal_twophase.proofs.Committing.{committed}
+use Rattle.journal_twophase.proofs.shared.commit_in.Goals as goal
+
+pub returns-clause-committed : goal.returns-clause-committed
+returns-clause-committed g c =
+    let step = c.commit-answer in
+    let seen = c.seen-seen.ensures in
+    let rule = g.R.MapRule.statement in
+    let blocks = g.J.Naming.blocks in
+    committed rule blocks c.args.transaction.now c.args.session.now step.new.session c.args.volatile.now step.new.self step.result
+    step.ensures.committed step.ensures.receipt step.ensures.can step.ensures.agrees
+    (known rule blocks step.new.session.seen seen.on_disk seen.sound seen.legal)

@@ -1,0 +1,352 @@
+// The disk's lock: device calls, and what needs both parts.
+//
+// A hold of the disk's lock makes at most one device call that changes the disk. Once that is over it may take the memory lock
+// inside: to cut, to mark, to trim, or to note that the device failed.
+ghost use Rattle.std.specs.Prelude.{◌≡◌, ◌<◌, length, IsTrue, IsOkUnless, IfOk, IfErr, OnOk, OnErr, All};
+ghost use Rattle.journal_world.specs.Addresses.{is_valid};
+ghost use Rattle.journal_world.specs.Maps.{Map, Agrees, is_object, value_at, overwritten};
+ghost use Rattle.journal_world.specs.Histories.{is_trusted, latest};
+ghost use Rattle.journal_object.specs.Objects.{size_at};
+ghost use Rattle.journal_disk.specs.Disks.{IsSettled};
+ghost use Rattle.journal_disk.specs.Images.{EveryImage};
+ghost use Rattle.journal_history.specs.Tokens.{OnlyExtends};
+ghost use Rattle.journal_core.specs.Cores.{Leaves};
+ghost use Rattle.journal_core.specs.Durables.{disk_of};
+ghost use Rattle.journal_twophase.specs.Journals.{IsLogRefusal, IsInstallRefusal, IsFetchRefusal, IsCloseRefusal, IsImageRefusal};
+ghost use Rattle.journal_twophase.specs.Transactions.{Finds, IsLookRefusal};
+ghost use Rattle.journal_twophase.specs.Commits.{IsCommitted, IsTryRefusal};
+
+use crate::shared::{Shared, SharedCore, Why, commit_in, is_crowded};
+use journal_block::Block;
+use journal_core::{
+    Cause, CommitStep, Durable, Fetched, Found, GroupStep, InstallStep, LogStep, Spares, Stat,
+    Transaction, Volatile, rooms_of,
+};
+use journal_disk::{BlockDisk, MemDisk};
+use journal_history::{Naming, Receipt, Session};
+use journal_world::{Addr, MapRule, Refusal, Refused};
+use std::sync::{MutexGuard, Wait};
+
+impl<'b, D: BlockDisk, R: MapRule, J: Naming> SharedCore<'b, D, R, J> {
+    // Does the next thing of the logger.
+    pub(crate) fn log_step<W: Wait>(&self, rt: &W) -> Result<LogStep, Why<'b, J, R>>
+        ensures { IfErr result IsLogRefusal }
+    {
+        let answer = self.log_call(rt);
+        self.tell_of_log(rt, &answer);
+        answer
+    }
+
+    // Does the next thing of the logger once all have gone on that a mark woke. Else the first of them that commits again
+    // would have a group for itself, and the others would wait for the next.
+    pub(crate) fn log_gathered<W: Wait>(&self, rt: &W) -> Result<LogStep, Why<'b, J, R>>
+        ensures { IfErr result IsLogRefusal }
+    {
+        self.await_gathered(rt);
+        self.log_step(rt)
+    }
+
+    // The device call of the group in flight that is due, or where none is in flight what is due of both parts.
+    fn log_call<W: Wait>(&self, rt: &W) -> Result<LogStep, Why<'b, J, R>>
+        ensures { IfErr result IsLogRefusal }
+    {
+        let mut durable = self.durable.lock(rt);
+        self.check_running(rt)?;
+        match durable.log_call() {
+            Ok(GroupStep::Put) => Ok(LogStep::Put),
+            Ok(GroupStep::Logged) => Ok(LogStep::Logged),
+            Ok(_) => self.settle(rt, &mut durable),
+            Err(why) => {
+                self.note_fault(rt);
+                Err(why)
+            }
+        }
+    }
+
+    // Marks, cuts, or is idle, in a hold of both locks. Those that a mark is to wake are counted in the same hold.
+    fn settle<W: Wait>(
+        &self,
+        rt: &W,
+        durable: &mut Durable<'b, D, R, J>,
+    ) -> Result<LogStep, Why<'b, J, R>>
+        ensures { IfErr result IsLogRefusal }
+    {
+        let mut shared = self.shared.lock(rt);
+        let answer = durable.settle(&mut shared.volatile);
+        if matches!(answer, Ok(LogStep::Marked(_))) {
+            shared.sleepers.wake();
+        }
+        answer
+    }
+
+    // Wakes those for whom a step of the logger made something, and all where it can be followed by no other.
+    fn tell_of_log<W: Wait>(&self, rt: &W, answer: &Result<LogStep, Why<'b, J, R>>) {
+        match answer {
+            Ok(LogStep::Cut) => self.room.notify_all(),
+            Ok(LogStep::Marked(_)) => self.marked.notify_all(),
+            Ok(LogStep::Logged) if is_crowded(&self.shared.lock(rt)) => self
+                .installing
+                .notify_all(),
+            Err(Refusal::Stale(_)) => self.wake_all(),
+            _ => self.tell_of_fault(answer),
+        }
+    }
+
+    // Does the next thing of the installer.
+    pub(crate) fn install_step<W: Wait>(&self, rt: &W) -> Result<InstallStep, Why<'b, J, R>>
+        ensures { IfErr result IsInstallRefusal }
+    {
+        let answer = self.install_call(rt);
+        if matches!(answer, Ok(InstallStep::Freed(_))) {
+            self.logging.notify_all();
+        }
+        self.tell_of_fault(&answer);
+        answer
+    }
+
+    // The installer's next device call. What is at home then is dropped from memory.
+    fn install_call<W: Wait>(&self, rt: &W) -> Result<InstallStep, Why<'b, J, R>>
+        ensures { IfErr result IsInstallRefusal }
+    {
+        let mut durable = self.durable.lock(rt);
+        self.check_running(rt)?;
+        match durable.install_call() {
+            Ok(InstallStep::Freed(upto)) => {
+                let mut shared = self.shared.lock(rt);
+                durable.trim(&mut shared.volatile, upto);
+                shared.log_start = upto;
+                Ok(InstallStep::Freed(upto))
+            }
+            Err(Refusal::DeviceFailed(cause)) => {
+                self.note_fault(rt);
+                Err(Refusal::DeviceFailed(cause))
+            }
+            answer => answer,
+        }
+    }
+
+    // Does the next thing of the installer where the log is crowded, and is idle otherwise.
+    pub(crate) fn install_where_crowded<W: Wait>(
+        &self,
+        rt: &W,
+    ) -> Result<InstallStep, Why<'b, J, R>>
+        ensures { IfErr result IsInstallRefusal }
+    {
+        if self.has_install_work(rt) {
+            return self.install_step(rt);
+        }
+        Ok(InstallStep::Idle)
+    }
+
+    // Reads an object, and fetches its block where it still is not in memory. The disk's lock is held from the fetch to the next
+    // look in memory, so that of several threads that need one block the first fetches it for all of those that write in it.
+    pub(crate) fn read_fetched<W: Wait>(
+        &self,
+        rt: &W,
+        transaction: &Transaction<'b, J, R>,
+        addr: Addr,
+        nothing: Fetched<'b, J, R>,
+        into: &mut Vec<u8>,
+    ) -> Result<Found<'b, J, R>, Why<'b, J, R>>
+        requires valid { IsTrue (is_valid J.blocks addr) }
+        requires below { addr.block < J.blocks }
+        requires size { length into.old.items ≡ size_at J.blocks addr }
+        ensures value { IfOk result (λ found. IsTrue (is_trusted found.seen) → into.new.items ≡ value_at (latest found.seen) addr) }
+        ensures object { OnOk result (IsTrue (is_object J.blocks (addr, into.new.items))) }
+        ensures found { IfOk result (Finds transaction.now addr) }
+        ensures refusal { IfErr result (IsLookRefusal transaction.now) }
+    {
+        let mut fetched = nothing;
+        let mut durable = self.durable.lock(rt);
+        for _ in rt.forever() {
+            if let Some(found) = self.read_with(rt, transaction, addr, &fetched, into)? {
+                return Ok(found);
+            }
+            fetched = self.fetch(rt, &mut durable, &[addr.block])?;
+        }
+        unreachable!()
+    }
+
+    // Commits, and fetches the blocks that still are not in memory, as `read_fetched` does. The memory lock is held in the end.
+    pub(crate) fn commit_fetched<'s, W: Wait>(
+        &'s self,
+        rt: &W,
+        session: &mut Session<'b, J, R>,
+        transaction: &Transaction<'b, J, R>,
+        spares: &mut Spares,
+        nothing: Fetched<'b, J, R>,
+    ) -> (
+        MutexGuard<'s, Shared<'b, R, J>>,
+        Result<Receipt<'b, J, R>, Why<'b, J, R>>,
+    )
+        requires rule { (m : Map) → m.blocks ≡ J.blocks → R.statement m → Agrees m transaction.now.reads
+            → R.statement (overwritten m transaction.now.writes) }
+        ensures committed { IfOk result.1 (IsCommitted R.statement J.blocks transaction.now.seen transaction.now session.old session.new) }
+        ensures refusal { IfErr result.1 (IsTryRefusal transaction.now session.old) }
+        ensures session { OnErr result.1 (OnlyExtends session.old session.new) }
+    {
+        let mut fetched = nothing;
+        let mut durable = self.durable.lock(rt);
+        for _ in rt.forever() {
+            let mut shared = self.shared.lock(rt);
+            let missing = match commit_in(
+                &mut shared.volatile,
+                session,
+                transaction,
+                spares,
+                &fetched,
+            ) {
+                Ok(CommitStep::Missing(blocks)) => blocks,
+                Ok(CommitStep::Done(receipt)) => return (shared, Ok(receipt)),
+                Err(why) => return (shared, Err(why)),
+            };
+            drop(shared);
+            match self.fetch(rt, &mut durable, &missing) {
+                Ok(blocks) => fetched = blocks,
+                Err(why) => return (self.shared.lock(rt), Err(why)),
+            }
+        }
+        unreachable!()
+    }
+
+    // Reads blocks as they are logged. Answers J1, and J6 where the device failed in this call or before.
+    fn fetch<W: Wait>(
+        &self,
+        rt: &W,
+        durable: &mut Durable<'b, D, R, J>,
+        blocks: &[u64],
+    ) -> Result<Fetched<'b, J, R>, Why<'b, J, R>>
+        requires below { All (λ b. b < J.blocks) blocks.now }
+        ensures refusal { IfErr result IsFetchRefusal }
+    {
+        match durable.fetch(rooms_of(self.alloc, blocks)?) {
+            Ok(fetched) => Ok(fetched),
+            Err(why) => {
+                self.note_fault(rt);
+                Err(why)
+            }
+        }
+    }
+
+    // Notes that a device call failed, in the hold of the disk's lock in which it did.
+    fn note_fault<W: Wait>(&self, rt: &W) {
+        self.shared.lock(rt).volatile.fail();
+    }
+
+    // The numbers of commits and of marks, and where the log on the disk lies.
+    pub(crate) fn stat<W: Wait>(&self, rt: &W) -> Stat {
+        let durable = self.durable.lock(rt);
+        let shared = self.shared.lock(rt);
+        let (start, end) = durable.log_range();
+        Stat {
+            commits: shared.volatile.commits(),
+            floor: shared.volatile.floor(),
+            start,
+            end,
+        }
+    }
+
+    // Shows the session the whole history, and gives the disk up. Answers J9.
+    pub(crate) fn close(
+        self,
+        session: &mut Session<'b, J, R>,
+    ) -> Result<D, Refused<D, Cause<'b, J, R>>>
+        ensures session { OnlyExtends session.old session.new }
+        ensures size { IfOk result (λ disk. (D.state disk).past.size ≡ J.blocks) }
+        ensures trusted { IfOk result (λ disk. is_trusted session.new.seen ≡ (D.state disk).honest) }
+        ensures images { IfOk result (λ disk. IsTrue (D.state disk).honest → EveryImage (D.state disk).past (Leaves session.new.seen)) }
+        ensures refusal { IfErr result (λ refused. IsCloseRefusal refused.refusal) }
+    {
+        let (durable, volatile) = self.into_parts();
+        match show_images(&durable, &volatile, session) {
+            Ok(()) => Ok(durable.into_disk()),
+            Err(refusal) => Err(Refused {
+                refusal,
+                disk: durable.into_disk(),
+            }),
+        }
+    }
+
+    // Gives the disk up.
+    pub(crate) fn into_disk(self) -> D {
+        let (durable, _) = self.into_parts();
+        durable.into_disk()
+    }
+
+    fn into_parts(self) -> (Durable<'b, D, R, J>, Volatile<'b, R, J>) {
+        let SharedCore {
+            alloc: _,
+            durable,
+            shared,
+            room: _,
+            marked: _,
+            logging: _,
+            gathered: _,
+            installing: _,
+        } = self;
+        let Shared {
+            volatile,
+            log_start: _,
+            logger_sleeps: _,
+            sleepers: _,
+        } = shared.into_inner();
+        (durable.into_inner(), volatile)
+    }
+}
+
+impl<'b, R: MapRule, J: Naming> SharedCore<'b, MemDisk, R, J> {
+    // Copies a block of the disk as a read of it would.
+    pub(crate) fn inspect<W: Wait>(&self, rt: &W, block: u64, into: &mut Block)
+        requires { block < J.blocks }
+    {
+        self.durable.lock(rt).disk().peek(block, into);
+    }
+
+    // Each block that has pending writes and their number. Answers J1.
+    pub(crate) fn pending<W: Wait>(&self, rt: &W) -> Result<Vec<(u64, u64)>, Why<'b, J, R>>
+        ensures { IsOkUnless result Refusal.NoMemory }
+    {
+        self.durable.lock(rt).disk().pending()
+    }
+
+    // Shows the session the whole history, and makes an image of the disk by this choice. Answers J1 and J9.
+    pub(crate) fn image<W: Wait>(
+        &self,
+        rt: &W,
+        session: &mut Session<'b, J, R>,
+        choice: &[u32],
+    ) -> Result<MemDisk, Why<'b, J, R>>
+        ensures session { OnlyExtends session.old session.new }
+        ensures size { IfOk result (λ image. image.past.size ≡ J.blocks) }
+        ensures settled { IfOk result (λ image. IsSettled image.past) }
+        ensures stands { IfOk result (λ image. IsTrue (is_trusted session.new.seen) → Leaves session.new.seen image.past.first) }
+        ensures refusal { IfErr result IsImageRefusal }
+    {
+        let durable = self.durable.lock(rt);
+        let shared = self.shared.lock(rt);
+        show_images(&durable, &shared.volatile, session)?;
+        durable.disk().image(choice)
+    }
+
+    // Makes the k-th device call from now on fail.
+    pub(crate) fn fail_in<W: Wait>(&self, rt: &W, k: u64) {
+        self.durable.lock(rt).fail_in(k);
+    }
+}
+
+// Shows the session the whole history, whose marks are all the disk's: each image that a crash may leave of it opens as the map
+// after a front of what the session has then seen. Answers J9.
+fn show_images<'b, D: BlockDisk, R: MapRule, J: Naming>(
+    durable: &Durable<'b, D, R, J>,
+    volatile: &Volatile<'b, R, J>,
+    session: &mut Session<'b, J, R>,
+) -> Result<(), Why<'b, J, R>>
+    ensures session { OnlyExtends session.old session.new }
+    ensures trusted { OnOk result (is_trusted session.new.seen ≡ (disk_of durable.now).honest) }
+    ensures images { OnOk result (IsTrue (disk_of durable.now).honest → EveryImage (disk_of durable.now).past (Leaves session.new.seen)) }
+    ensures refusal { IfErr result IsCloseRefusal }
+{
+    volatile.show_step(session)?;
+    let _disk = durable.disk_under(volatile)?;
+    Ok(())
+}
