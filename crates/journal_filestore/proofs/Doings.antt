@@ -16,9 +16,9 @@ use Rattle.journal_inode.specs.Sound.{HasSoundFiles}
 use Rattle.journal_wal.specs.declared.append.TheConstants.{MAX_UPDATES}
 use Rattle.journal_objlog.specs.Writes.{written_blocks}
 use Rattle.journal_filestore.proofs.Refusing.{written-few}
-use Rattle.journal_filestore.proofs.Overwrites.{Write, pairs_of, AreOnDisk, Overwrites, Overwrites-pairs}
+use Rattle.journal_filestore.proofs.Overwrites.{pairs_of, AreOnDisk, Overwrites, Overwrites-pairs}
 use Rattle.journal_filestore.specs.Files.{Files, files_of}
-use Rattle.journal_filestore.specs.Doing.{GivesPairs, MayBeRead, IsNotYetRead, LearnsThat, WritesObject, Makes, Does}
+use Rattle.journal_filestore.specs.Doing.{GivesPairs, MayBeRead, IsNotYetRead, LearnsThat, Write, WritesObject, Makes, Does}
 
 -- what agrees with a map is given by it
 pub Gives-Agrees : (m : Map) (ps : List Pair) → Agrees m ps → GivesPairs m ps
@@ -193,3 +193,26 @@ IfOk-like (Err e) P Q like holds = tt
 pub OnOk-like : {A E : Type 0} (r : Result A E) (P Q : Type 0) → (P → Q) → OnOk r P → OnOk r Q
 OnOk-like (Ok x) P Q like holds = like holds
 OnOk-like (Err e) P Q like holds = tt
+
+-- who only read left the files as they were
+pub Makes-same : {version : FormatVersion} (blocks : ℕ) (t0 t1 : TxnState) (P : Map → Type 0) → t0.writes ≡ [] → LearnsThat version blocks t0 t1 P
+    → Makes version blocks t0 t1 (λ m n. HasSoundFiles version n × (files_of version n ≡ files_of version m))
+Makes-same blocks t0 t1 P none told = Makes-told blocks t0 t1 P _ none told (λ m sound p. (sound, refl))
+
+-- what is done where blocks are handed out, or where none are
+pub Does-some : {A : Type 0} {version : FormatVersion} (blocks : ℕ) (case : Bool → Files → A → Files → Type 0) (t : TxnState) (answer : A) (room : Bool)
+    → Does version blocks (case room) t.reads t.writes answer → Does version blocks (λ F r F2. (room : Bool) × case room F r F2) t.reads t.writes answer
+Does-some blocks case t answer room does = record {
+  few = does.few;
+  sound = does.sound;
+  answers = λ m on_disk sound agrees. (room, does.answers m on_disk sound agrees);
+}
+
+-- what it makes that learned something before
+pub Makes-after : {version : FormatVersion} (blocks : ℕ) (t0 t1 t2 : TxnState) (P : Map → Type 0) (Q R : Map → Map → Type 0) → LearnsThat version blocks t0 t1 P → Makes version blocks t1 t2 Q
+    → ((m n : Map) → P m → Q m n → R m n) → Makes version blocks t0 t2 R
+Makes-after blocks t0 t1 t2 P Q R told made shows = record {
+  few = made.few;
+  before = λ m seen. told.before m (made.before m seen);
+  now = λ m seen. shows m _ (told.now m (made.before m seen)) (made.now m seen);
+}

@@ -14,7 +14,7 @@ use Rattle.journal_history.specs.Tokens.{SessionState, OnlyExtends, CommitPlace,
 use Rattle.journal_core.specs.Causes.{Told}
 use Rattle.journal_twophase.specs.Transactions.{TxnState, core_of}
 use Rattle.journal_twophase.specs.Commits.{IsCommitted}
-use Rattle.journal_inode.specs.declared.version.FormatVersion.TheVariants.{One}
+use Rattle.journal_inode.specs.declared.version.FormatVersion.{FormatVersion}
 use Rattle.journal_inode.specs.Sound.{HasSoundFiles}
 use Rattle.journal_filestore.specs.declared.fault.Fault.{Fault}
 use Rattle.journal_filestore.specs.declared.fault.Fault.TheVariants.{Refused, Unsure}
@@ -46,9 +46,9 @@ none_true : {A E : Type 0} (r : Result A E) → OnOk r (IsTrue false) → OnOk r
 none_true (Ok x) is = false≢true is
 none_true (Err e) is = tt
 
-module _ {A : Type 0} (blocks : ℕ) (case : Files → Result A Status → Files → Type 0) (t : TxnState) (answer : Result A Status) (old new : SessionState) (receipt : CommitPlace) (c : IsCommitted (HasSoundFiles One) blocks t.began (core_of t) old new receipt) where
+module _ {A : Type 0} {version : FormatVersion} (blocks : ℕ) (case : Files → Result A Status → Files → Type 0) (t : TxnState) (answer : Result A Status) (old new : SessionState) (receipt : CommitPlace) (c : IsCommitted (HasSoundFiles version) blocks t.began (core_of t) old new receipt) where
   -- a transaction that does what the case says is such an operation, where its commit stands
-  pub IsMadeAt-committed : Does One blocks case t.reads t.writes answer → IsMadeAt case old new answer (length c.found)
+  pub IsMadeAt-committed : Does version blocks case t.reads t.writes answer → IsMadeAt version case old new answer (length c.found)
   IsMadeAt-committed does =
       let u : Transaction = record { session = old.number; number = length (commits_of old.number old.mine); reads = t.reads; writes = t.writes } in
       let whole : new.seen ≡ c.found ++ commit u ∷ [] = c.committed.added in
@@ -63,7 +63,7 @@ module _ {A : Type 0} (blocks : ℕ) (case : Files → Result A Status → Files
         one_more = ap (λ h. commits_of new.number h) (ap (λ s. s.mine) c.committed.session) ∙ ap (λ n. commits_of n new.seen) same_number ∙ c.committed.one_more;
         answers = λ trusted.
             let trusted_found : IsTrue (is_trusted c.found) = sym (trusted_before c.found u []) ∙ ap is_trusted (sym whole) ∙ trusted in
-            subst (λ h. case (files_of One (latest h)) answer (files_of One (overwritten (latest h) t.writes))) (sym before)
+            subst (λ h. case (files_of version (latest h)) answer (files_of version (overwritten (latest h) t.writes))) (sym before)
             (does.answers (latest c.found) c.on_disk (c.ruled trusted_found) (c.agrees trusted_found));
         ruled = c.known.sound.ruled;
       }
@@ -80,7 +80,7 @@ module _ {A : Type 0} (blocks : ℕ) (case : Files → Result A Status → Files
 
   -- it is owed where the transaction waits: where the operation does, and is answered Ok
   pub IsCommittedBy-ended : (waits waited : Bool) (owed : Owed CommitPlace) → (IsTrue waits → OnOk answer (IsTrue waited)) → (IsTrue waited → IsTrue waits) → owed ≡ owed_for waited receipt
-      → Does One blocks case t.reads t.writes answer → IsCommittedBy waits case old new (record { answer = answer; owed = owed })
+      → Does version blocks case t.reads t.writes answer → IsCommittedBy version waits case old new (record { answer = answer; owed = owed })
   IsCommittedBy-ended waits waited owed when only owes does = record {
     place = length c.found;
     made = IsMadeAt-committed does;
@@ -101,12 +101,12 @@ begun : {A : Type 0} (xs : List A) (n : ℕ) (y : A) → slice_get xs n ≡ Some
 begun xs n y is none = let past : None ≡ Some y = sym (slice_get_past [] n (omega arith)) ∙ ap (λ h. slice_get h n) (sym none) ∙ is in cc
 
 -- A session that has seen more since
-module _ {A : Type 0} (case : Files → Result A Status → Files → Type 0) (old middle new : SessionState) (more : OnlyExtends middle new) (sound : IsTrue (is_trusted new.seen) → (n : ℕ) → HasSoundFiles One (at new.seen n)) where
-  front_is : (answer : Result A Status) (place : ℕ) → IsMadeAt case old middle answer place → (n : ℕ) → n ≤ place + 1 → take n new.seen ≡ take n middle.seen
+module _ {A : Type 0} {version : FormatVersion} (case : Files → Result A Status → Files → Type 0) (old middle new : SessionState) (more : OnlyExtends middle new) (sound : IsTrue (is_trusted new.seen) → (n : ℕ) → HasSoundFiles version (at new.seen n)) where
+  front_is : (answer : Result A Status) (place : ℕ) → IsMadeAt version case old middle answer place → (n : ℕ) → n ≤ place + 1 → take n new.seen ≡ take n middle.seen
   front_is answer place is n low =
       ap (take n) (sym more.seen.1) ∙ take-append-le n middle.seen more.seen.0 (omega (arith, low, slice_get_within middle.seen place (commit is.made) is.stands))
 
-  IsMadeAt-seen : (answer : Result A Status) (place : ℕ) → IsMadeAt case old middle answer place → IsMadeAt case old new answer place
+  IsMadeAt-seen : (answer : Result A Status) (place : ℕ) → IsMadeAt version case old middle answer place → IsMadeAt version case old new answer place
   IsMadeAt-seen answer place is = record {
     made = is.made;
     stands = ap (λ h. slice_get h place) (sym more.seen.1) ∙ stands_on middle.seen more.seen.0 place (commit is.made) is.stands;
@@ -116,12 +116,12 @@ module _ {A : Type 0} (case : Files → Result A Status → Files → Type 0) (o
     one_more = ap (λ h. commits_of new.number h) more.mine ∙ ap (λ n. commits_of n middle.mine) more.number ∙ is.one_more;
     answers = λ trusted.
         let trusted_middle : IsTrue (is_trusted middle.seen) = sym (is_trusted-append middle.seen more.seen.0 (begun middle.seen place (commit is.made) is.stands)) ∙ ap is_trusted more.seen.1 ∙ trusted in
-        subst (λ h. case (files_of One (latest h)) answer (files_of One (apply is.made (latest h)))) (sym (front_is answer place is place (omega arith))) (is.answers trusted_middle);
+        subst (λ h. case (files_of version (latest h)) answer (files_of version (apply is.made (latest h)))) (sym (front_is answer place is place (omega arith))) (is.answers trusted_middle);
     ruled = sound;
   }
 
   -- what was owed is paid
-  pub IsDone-paid : (waits : Bool) (done : Committed A CommitPlace) → IsCommittedBy waits case old middle done → IsPaid done.owed new → IsExact new → IsDone waits case old new done.answer
+  pub IsDone-paid : (waits : Bool) (done : Committed A CommitPlace) → IsCommittedBy version waits case old middle done → IsPaid done.owed new → IsExact new → IsDone version waits case old new done.answer
   IsDone-paid waits done is paid exact = record {
     place = is.place;
     made = IsMadeAt-seen done.answer is.place is.made;
@@ -145,7 +145,7 @@ module _ {A : Type 0} (case : Files → Result A Status → Files → Type 0) (o
       stable_where (Wait receipt) owes paid waiting = always done.answer _ (covered receipt owes.1 paid)
 
   -- what was owed is refused
-  pub IsFault-unpaid : (waits : Bool) (done : Committed A CommitPlace) (why : Refusal Told) → IsCommittedBy waits case old middle done → IsWait done.owed → IsOperationFault waits case old new (Unsure why)
+  pub IsFault-unpaid : (waits : Bool) (done : Committed A CommitPlace) (why : Refusal Told) → IsCommittedBy version waits case old middle done → IsWait done.owed → IsOperationFault version waits case old new (Unsure why)
   IsFault-unpaid waits done why is wait = (waiting done.owed is.owed wait, (done.answer, is.place, IsMadeAt-seen done.answer is.place is.made))
     where
       waiting : (owed : Owed CommitPlace) → IsOwed waits done.answer middle.seen is.place owed → IsWait owed → IsTrue waits
@@ -153,8 +153,8 @@ module _ {A : Type 0} (case : Files → Result A Status → Files → Type 0) (o
       waiting (Wait receipt) owes wait = owes.0
 
 -- a session that had only seen more before
-module _ {A : Type 0} (case : Files → Result A Status → Files → Type 0) (old middle new : SessionState) (more : OnlyExtends old middle) where
-  IsMadeAt-later : (answer : Result A Status) (place : ℕ) → IsMadeAt case middle new answer place → IsMadeAt case old new answer place
+module _ {A : Type 0} (version : FormatVersion) (case : Files → Result A Status → Files → Type 0) (old middle new : SessionState) (more : OnlyExtends old middle) where
+  IsMadeAt-later : (answer : Result A Status) (place : ℕ) → IsMadeAt version case middle new answer place → IsMadeAt version case old new answer place
   IsMadeAt-later answer place is = record {
     made = is.made;
     stands = is.stands;
@@ -166,7 +166,7 @@ module _ {A : Type 0} (case : Files → Result A Status → Files → Type 0) (o
     ruled = is.ruled;
   }
 
-  pub IsSoon-later : (waits : Bool) (r : Result (Committed A CommitPlace) (Refusal Told)) → IsAnsweredSoon waits case middle new r → IsAnsweredSoon waits case old new r
+  pub IsSoon-later : (waits : Bool) (r : Result (Committed A CommitPlace) (Refusal Told)) → IsAnsweredSoon version waits case middle new r → IsAnsweredSoon version waits case old new r
   IsSoon-later waits (Ok done) is = record {
     place = is.place;
     made = IsMadeAt-later done.answer is.place is.made;
@@ -176,8 +176,8 @@ module _ {A : Type 0} (case : Files → Result A Status → Files → Type 0) (o
   IsSoon-later waits (Err why) is = OnlyExtends-trans old middle new more is
 
 -- the same, said otherwise
-module _ {A : Type 0} (case other : Files → Result A Status → Files → Type 0) (like : (answer : Result A Status) (F F2 : Files) → case F answer F2 → other F answer F2) where
-  IsMadeAt-like : (old new : SessionState) (answer : Result A Status) (place : ℕ) → IsMadeAt case old new answer place → IsMadeAt other old new answer place
+module _ {A : Type 0} (version : FormatVersion) (case other : Files → Result A Status → Files → Type 0) (like : (answer : Result A Status) (F F2 : Files) → case F answer F2 → other F answer F2) where
+  IsMadeAt-like : (old new : SessionState) (answer : Result A Status) (place : ℕ) → IsMadeAt version case old new answer place → IsMadeAt version other old new answer place
   IsMadeAt-like old new answer place is = record {
     made = is.made;
     stands = is.stands;
@@ -189,7 +189,7 @@ module _ {A : Type 0} (case other : Files → Result A Status → Files → Type
     ruled = is.ruled;
   }
 
-  pub IsAnswered-like : (waits : Bool) (old new : SessionState) (r : Result (Result A Status) (Fault Told)) → IsAnswered waits case old new r → IsAnswered waits other old new r
+  pub IsAnswered-like : (waits : Bool) (old new : SessionState) (r : Result (Result A Status) (Fault Told)) → IsAnswered version waits case old new r → IsAnswered version waits other old new r
   IsAnswered-like waits old new (Ok answer) done = record {
     place = done.place;
     made = IsMadeAt-like old new answer done.place done.made;
@@ -199,7 +199,7 @@ module _ {A : Type 0} (case other : Files → Result A Status → Files → Type
   IsAnswered-like waits old new (Err (Refused why)) is = is
   IsAnswered-like waits old new (Err (Unsure why)) is = (is.0, (is.1.0, is.1.1, IsMadeAt-like old new is.1.0 is.1.1 is.1.2))
 
-  pub IsSoon-like : (waits : Bool) (old new : SessionState) (r : Result (Committed A CommitPlace) (Refusal Told)) → IsAnsweredSoon waits case old new r → IsAnsweredSoon waits other old new r
+  pub IsSoon-like : (waits : Bool) (old new : SessionState) (r : Result (Committed A CommitPlace) (Refusal Told)) → IsAnsweredSoon version waits case old new r → IsAnsweredSoon version waits other old new r
   IsSoon-like waits old new (Ok done) is = record {
     place = is.place;
     made = IsMadeAt-like old new done.answer is.place is.made;

@@ -15,7 +15,7 @@ use Rattle.journal_filestore.specs.declared.find.Place.TheVariants.{Gone, Direct
 use Rattle.journal_filestore.specs.Files.{is_file_number, no_entry, entry_of, root_time, files_of}
 use Rattle.journal_filestore.specs.Operations.{FileTarget, of_generation, file_target}
 use Rattle.journal_filestore.specs.Operations.FileTarget.{gone, root, file}
-use Rattle.journal_filestore.specs.Handles.{data_of, place_of, IsAt, IsPlace}
+use Rattle.journal_filestore.specs.Handles.{data_of, place_of, IsAt, IsSmall, IsPlace}
 
 pub is_file_number-from : (i : ℕ) → 2 ≤ i → i < INODES → is_file_number i ≡ true
 is_file_number-from i from to = and_from (nat_le 2 i) (nat_lt i INODES) (le-leb 2 i from) (lt-ltb i INODES to)
@@ -76,18 +76,18 @@ IsAt-found {version} m i generation n sound from to is = by_node n is (subst (Is
     by_node (File f) is placed = by_file f (f.generation == generation) refl is (not_root_file i f from placed)
 
 -- a place of an inode that fits
-pub IsPlace-place_of : (n : Node) (i generation : ℕ) → Fits n → IsPlace i (place_of n i generation)
-IsPlace-place_of (Free g) i generation fits = tt
-IsPlace-place_of (Root t) i generation fits = by_tests (i == 1) (generation == 1) refl
+pub IsPlace-place_of : (version : FormatVersion) (n : Node) (i generation : ℕ) → Fits n → IsSmall version n → IsPlace version i (place_of n i generation)
+IsPlace-place_of version (Free g) i generation fits small = tt
+IsPlace-place_of version (Root t) i generation fits small = by_tests (i == 1) (generation == 1) refl
   where
-    by_tests : (b c : Bool) → (i == 1) ≡ b → IsPlace i (cond (b && c) (Directory t) Gone)
+    by_tests : (b c : Bool) → (i == 1) ≡ b → IsPlace version i (cond (b && c) (Directory t) Gone)
     by_tests true true one = eqb-true i 1 one
     by_tests true false one = tt
     by_tests false c one = tt
-IsPlace-place_of (File f) i generation fits = by_test (f.generation == generation)
+IsPlace-place_of version (File f) i generation fits small = by_test (f.generation == generation)
   where
-    by_test : (b : Bool) → IsPlace i (cond b (Regular f) Gone)
-    by_test true = fits
+    by_test : (b : Bool) → IsPlace version i (cond b (Regular f) Gone)
+    by_test true = (fits, small)
     by_test false = tt
 
 -- what a case is where the handle names this

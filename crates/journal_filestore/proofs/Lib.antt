@@ -4,6 +4,13 @@ pub mod FilesReplaced
 pub mod Doings
 pub mod Finding
 pub mod Placing
+pub mod Among
+pub mod Lasting
+pub mod Gathering
+pub mod Numbering
+pub mod Spreading
+pub mod Becoming
+pub mod Changing
 pub mod Writing
 pub mod Removing
 pub mod Creating
@@ -18,4 +25,3 @@ pub mod SettingCases
 pub mod Removals
 pub mod Portions
 pub mod Creations
-pub mod Becoming

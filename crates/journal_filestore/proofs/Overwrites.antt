@@ -9,14 +9,11 @@ use Rattle.journal_world.specs.Maps.{Map, Pair, SamePairs, value_among, zeros_at
 use Rattle.journal_world.proofs.SameMaps.{value_at-overwritten}
 use Rattle.journal_inode.specs.Places.{Object, addr_of, IsOnDisk, is_same_object, object}
 use Rattle.journal_inode.specs.Places.Object.{superblock, bit, inode, block}
+use Rattle.journal_filestore.specs.Doing.{Write}
 
-abbrev or_else : {A : Type 0} → Option A → Option A → Option A
+abbrev pub or_else : {A : Type 0} → Option A → Option A → Option A
 or_else None p = p
 or_else (Some x) p = Some x
-
--- an object and a value of it
-abbrev pub Write : Type 0
-Write = Object × Value
 
 -- the value that the first write of an object gives it
 abbrev pub written_to : List Write → Object → Option Value
@@ -36,7 +33,7 @@ same_inodes : (i j : ℕ) → ((515 + i / 32 == 515 + j / 32) && (i % 32 * 1024 
 same_inodes i j = grind (arith, nat_tests)
 
 -- an inode lies in no other block
-apart_blocks : (a b : ℕ) (t : Bool) → a ≢ b → ((a == b) && t) ≡ false
+pub apart_blocks : (a b : ℕ) (t : Bool) → a ≢ b → ((a == b) && t) ≡ false
 apart_blocks a b t ne = and_left (a == b) t (ne_eqb a b ne)
 
 and-true : (t : Bool) → (t && true) ≡ t

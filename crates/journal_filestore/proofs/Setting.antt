@@ -1,32 +1,39 @@
 -- What is asked for of a file is set.
-use Rattle.std.proofs.Common.{ℕ, ◌≡◌, ◌<◌, ◌≤◌, ◌-◌, Bool, true, false, cond, ◌==◌, [], ◌∷◌, ◌++◌, length, take, replicate, Option, Some, None, refl, sym, ap, subst, ◌∙◌, arith}
+use Rattle.std.proofs.Common.{ℕ, suc, ◌≡◌, ◌<◌, ◌≤◌, ◌+◌, ◌-◌, ◌*◌, ◌⊎◌, inl, inr, Bool, true, false, List, [], ◌∷◌, ◌++◌, length, take, replicate, slice_range, get_or, Option, Some, None, refl, sym, ap, subst, ◌∙◌, arith, rules, add-one, length-append}
 use Rattle.std.specs.Prelude.{unwrap_or}
-use Rattle.std.proofs.lemmas.Bool.{ltb-false, eqb-true}
+use Rattle.std.proofs.Math.Seq.{take-suc}
+use Rattle.std.proofs.lemmas.Bool.{ltb-false}
+use Rattle.std.proofs.lemmas.List.{same_lists, places, append-nil, length-take-le, length-replicate}
+use Rattle.journal_world.specs.declared.layout.TheConstants.{BLOCK_BYTES}
 use Rattle.journal_world.specs.declared.moment.TheConstants.{MAX_NANOS}
-use Rattle.journal_world.specs.Addresses.{Value}
 use Rattle.journal_world.specs.Maps.{Map}
 use Rattle.journal_twophase.specs.Transactions.{TxnState}
-use Rattle.journal_inode.specs.declared.version.FormatVersion.TheVariants.{One}
+use Rattle.journal_wal.specs.declared.append.TheConstants.{MAX_UPDATES}
+use Rattle.journal_inode.specs.declared.version.FormatVersion.{FormatVersion}
 use Rattle.journal_inode.specs.declared.node.Time.{Time}
 use Rattle.journal_inode.specs.declared.node.FileNode.{FileNode}
 use Rattle.journal_inode.specs.declared.node.Node.TheVariants.{File}
-use Rattle.journal_inode.specs.declared.node.TheConstants.{FILE_BYTES}
-use Rattle.journal_inode.specs.Places.{Object, object, IsOnDisk}
-use Rattle.journal_inode.specs.Places.Object.{superblock, bit, inode, block}
-use Rattle.journal_inode.specs.Nodes.{inode_bytes, Fits}
-use Rattle.journal_inode.specs.Sound.{node_at, stored, content, IsSoundFile, HasSoundFiles}
+use Rattle.journal_inode.specs.declared.node.TheConstants.{MORE_BLOCKS}
+use Rattle.journal_inode.specs.declared.place.TheConstants.{INODES}
+use Rattle.journal_inode.specs.Places.{object}
+use Rattle.journal_inode.specs.Places.Object.{block}
+use Rattle.journal_inode.specs.Nodes.{Fits}
+use Rattle.journal_inode.specs.Versions.{most_bytes, more_count, room_of}
+use Rattle.journal_inode.specs.Sound.{node_at, blocks_of, held, content, IsSoundFile, HasSoundFiles}
+use Rattle.journal_inode.proofs.Blocks.{more_fits, room_enough, length-blocks, length-held}
 use Rattle.journal_filestore.specs.declared.settings.NewTime.{NewTime}
 use Rattle.journal_filestore.specs.declared.settings.NewTime.TheVariants.{Leave, Server, Client}
-use Rattle.journal_filestore.specs.declared.settings.Settings.{Settings}
 use Rattle.journal_filestore.specs.Files.{is_file_number}
-use Rattle.journal_filestore.specs.Operations.{resized, time_after, with_settings, is_no_time, is_too_big}
-use Rattle.journal_filestore.specs.Handles.{data_of, set_node}
-use Rattle.journal_filestore.specs.Doing.{MayBeRead, LearnsThat, WritesObject, Puts, Makes}
-use Rattle.journal_filestore.proofs.Overwrites.{written_to, Overwrites, first_is, first_is_not}
-use Rattle.journal_filestore.proofs.Doings.{HasWritten-none, HasWritten-more, Makes-written}
+use Rattle.journal_filestore.specs.Operations.{time_after, is_no_time, is_too_big, attributes_of_node}
+use Rattle.journal_filestore.specs.Doing.{LearnsThat, WritesEach, AreClear, AreFresh, bits_written, file_written, Puts}
+use Rattle.journal_filestore.specs.Changes.{with_blocks, LacksBlocks, HasChanged, ChangesFile}
+use Rattle.journal_filestore.proofs.Doings.{Tells-like, Makes-like}
 use Rattle.journal_filestore.proofs.FilesReplaced.{IsFileNumber-test}
-use Rattle.journal_filestore.proofs.Resizing.{length-resized, resized-grown, resized-cut}
-use Rattle.journal_filestore.proofs.Writing.{stays, Puts-stays}
+use Rattle.journal_filestore.proofs.Among.{Among, among_left, among_right, all_among, all_from, distinct_pairs, held_append}
+use Rattle.journal_filestore.proofs.Lasting.{Becomes, Makes-each, WritesEach-append, length-bits, length-file_written}
+use Rattle.journal_filestore.proofs.Numbering.{more_rises, size_in_block, blocks_more, absent_more, length-kept, stored-zeros}
+use Rattle.journal_filestore.proofs.Spreading.{cut_off, more_zeros}
+use Rattle.journal_filestore.proofs.Changing.{HadBlocks, HadBlocks-file, Puts-changed}
 
 -- the time that a file has then is a time
 pub time_after-timed : (size : Option ℕ) (t : NewTime) (now old : Time) → is_no_time t ≡ false → now.nanos ≤ MAX_NANOS → old.nanos ≤ MAX_NANOS → (time_after size t now old).nanos ≤ MAX_NANOS
@@ -36,89 +43,275 @@ time_after-timed (Some s) Leave now old is in_second was = in_second
 time_after-timed None Leave now old is in_second was = was
 
 -- a size that is not too big
-pub size_fits : (size : Option ℕ) (old : ℕ) → is_too_big size ≡ false → old ≤ FILE_BYTES → unwrap_or size old ≤ FILE_BYTES
-size_fits None old is was = was
-size_fits (Some size) old is was = ltb-false FILE_BYTES size is
+pub size_fits : (version : FormatVersion) (size : Option ℕ) (old : ℕ) → is_too_big version size ≡ false → old ≤ most_bytes version → unwrap_or size old ≤ most_bytes version
+size_fits version None old is was = was
+size_fits version (Some size) old is was = ltb-false (most_bytes version) size is
 
--- to overwrite the inode alone is to overwrite the block with what it has
-stays-alone : (m n : Map) (i : ℕ) (f g : FileNode) → IsOnDisk m.blocks (block f.block) → Overwrites m n ((inode i, inode_bytes (File g)) ∷ []) → stays m n i f g (stored One m f)
-stays-alone m n i f g here o = record {
-  blocks = o.blocks;
-  objects = λ p there. o.objects p there ∙ same p there;
+-- what is said of a file's bytes may be said otherwise
+pub HasChanged-like : {version : FormatVersion} (blocks : ℕ) (old new : TxnState) (i : ℕ) (f : FileNode) (size : ℕ) (mtime : Time) (p q : Map → List ℕ) (g : FileNode)
+    → ((m : Map) → IsSoundFile version m f → p m ≡ q m) → HasChanged version blocks old new i f size mtime p g → HasChanged version blocks old new i f size mtime q g
+HasChanged-like {version} blocks old new i f size mtime p q g like has = record {
+  attributes = has.attributes;
+  generation = has.generation;
+  makes = Makes-like blocks old new _ _
+      (λ m n sound becomes number here.
+      subst (λ x. Puts version m n i (record { generation = f.generation; file = Some (record { bytes = x; mtime = mtime }) }))
+      (like m (sound.files i f (IsFileNumber-test i number).to here)) (becomes number here))
+      has.makes;
+}
+
+pub ChangesFile-like : {version : FormatVersion} (blocks : ℕ) (old new : TxnState) (i : ℕ) (f : FileNode) (size : ℕ) (mtime : Time) (p q : Map → List ℕ) (g : Option FileNode)
+    → ((m : Map) → IsSoundFile version m f → p m ≡ q m) → ChangesFile version blocks old new i f size mtime p g → ChangesFile version blocks old new i f size mtime q g
+ChangesFile-like blocks old new i f size mtime p q None like lacks = lacks
+ChangesFile-like blocks old new i f size mtime p q (Some g) like has = HasChanged-like blocks old new i f size mtime p q g like has
+
+-- what became of it, where it is known whether blocks were handed out
+pub lacks_of : (version : FormatVersion) (blocks : ℕ) (old new : TxnState) (i : ℕ) (f : FileNode) (size : ℕ) (mtime : Time) (bytes : Map → List ℕ) (o : Option FileNode)
+    → ChangesFile version blocks old new i f size mtime bytes o → o ≡ None → LacksBlocks version blocks old new f.size size
+lacks_of version blocks old new i f size mtime bytes None changes is = changes
+lacks_of version blocks old new i f size mtime bytes (Some g) changes is = absurd (let e : Some g ≡ None = is in cc)
+
+pub changed_of : (version : FormatVersion) (blocks : ℕ) (old new : TxnState) (i : ℕ) (f : FileNode) (size : ℕ) (mtime : Time) (bytes : Map → List ℕ) (o : Option FileNode) (g : FileNode)
+    → ChangesFile version blocks old new i f size mtime bytes o → o ≡ Some g → HasChanged version blocks old new i f size mtime bytes g
+changed_of version blocks old new i f size mtime bytes None g changes is = absurd (let e : None ≡ Some g = is in cc)
+changed_of version blocks old new i f size mtime bytes (Some h) g changes is =
+    subst (HasChanged version blocks old new i f size mtime bytes) (let e : Some h ≡ Some g = is in let same : h ≡ g = cc in same) changes
+
+-- blocks are asked for and not handed out
+pub lacks_taken : (version : FormatVersion) (blocks : ℕ) (old new : TxnState) (took : Bool) (from to count : ℕ) (P : Map → Type 0) → took ≡ false → (took ≡ false → 0 < count) → count ≡ more_count version to - more_count version from
+    → LearnsThat version blocks old new P → LacksBlocks version blocks old new from to
+lacks_taken version blocks old new took from to count P none short count_is told = record {
+  needed = let some : 0 < count = short none in omega (arith, some, count_is);
+  told = Tells-like blocks old new P _ (λ m sound p. tt) told;
+}
+
+-- A file gets zeros behind its bytes
+module _ (version : FormatVersion) (m n : Map) (i : ℕ) (f : FileNode) (fresh bytes : List ℕ) (size : ℕ) (mtime : Time) (number : is_file_number i ≡ true) (sound : HasSoundFiles version m) (is_file : node_at m i ≡ File f)
+    (many : length f.more ≡ MORE_BLOCKS) (fits : Fits (File (with_blocks f (more_count version f.size) fresh size mtime))) (more : f.size ≤ size) (small : size ≤ most_bytes version) (timed : f.mtime.nanos ≤ MAX_NANOS → mtime.nanos ≤ MAX_NANOS)
+    (new_ones : AreFresh (more_count version size - more_count version f.size) fresh) (clear : AreClear m fresh) (zeros_are : bytes ≡ replicate (BLOCK_BYTES * length fresh) 0) where
+  Puts-grown : Becomes m n (file_written i (with_blocks f (more_count version f.size) fresh size mtime) fresh fresh bytes)
+      → Puts version m n i (record { generation = f.generation; file = Some (record { bytes = content version m f ++ replicate (size - f.size) 0; mtime = mtime }) })
+  Puts-grown is =
+      Puts-changed version m n i node p bl [] fresh bl fresh [] bytes number sound
+      (subst (HadBlocks version m i) (sym (append-nil bl)) (HadBlocks-file version m i f low sound is_file)) (distinct_pairs fresh new_ones.distinct) new_ones.bits clear
+      (blocks_more version node (take (more_count version f.size) f.more) fresh refl kept_size) (sym (append-nil (bl ++ fresh))) (λ b has. stays b has)
+      (ap length zeros_are ∙ length-replicate {A = ℕ} (BLOCK_BYTES * length fresh) 0) is
+      (record {
+        born = old.born;
+        size = size_is;
+        small = subst (λ k. k ≤ most_bytes version) size_is small;
+        timed = timed old.timed;
+        absent = absent_more version node (take (more_count version f.size) f.more) fresh refl kept_size;
+        fits = fits;
+      })
+      holds
+    where
+      node : FileNode
+      node = with_blocks f (more_count version f.size) fresh size mtime
+
+      bl : List ℕ
+      bl = blocks_of version f
+
+      p : List ℕ
+      p = content version m f ++ replicate (size - f.size) 0
+
+      low : i < INODES
+      low = (IsFileNumber-test i number).to
+
+      old : IsSoundFile version m f
+      old = sound.files i f low is_file
+
+      more_size : more_count version f.size + length fresh ≡ more_count version size
+      more_size = let rises : more_count version f.size ≤ more_count version size = more_rises version f.size size more in omega (arith, rises, new_ones.count)
+
+      kept_size : length (take (more_count version f.size) f.more) + length fresh ≡ more_count version size
+      kept_size = ap (λ k. k + length fresh) (length-kept version f f.size many old.small) ∙ more_size
+
+      size_is : size ≡ length p
+      size_is =
+          let both : length p ≡ length (content version m f) + length (replicate {A = ℕ} (size - f.size) 0) = length-append (content version m f) (replicate (size - f.size) 0) in
+          omega (arith, both, old.whole, length-replicate {A = ℕ} (size - f.size) 0, more)
+
+      stays : (b : ℕ) → Among bl b ⊎ Among [] b → Among bl b
+      stays b (inl has) = has
+      stays b (inr none) = absurd none
+
+      holds : held m bl ++ bytes ++ [] ≡ p ++ replicate (room_of version size - length p) 0
+      holds =
+          ap (λ v. v ++ bytes ++ []) (stored-zeros version m f old)
+          ∙ ap (λ v. (content version m f ++ replicate (room_of version f.size - length (content version m f)) 0) ++ v ++ []) zeros_are
+          ∙ more_zeros (content version m f) (room_of version f.size) (BLOCK_BYTES * length fresh) size
+          (subst (λ k. k ≤ room_of version f.size) (sym old.whole) (room_enough version f.size old.small)) (subst (λ k. k ≤ size) (sym old.whole) more)
+          (let room : size ≤ room_of version size = room_enough version size small in omega (arith, room, more_size))
+          ∙ ap (λ k. (content version m f ++ replicate (size - k) 0) ++ replicate (room_of version f.size + BLOCK_BYTES * length fresh - length (content version m f ++ replicate (size - k) 0)) 0) old.whole
+          ∙ ap (λ k. p ++ replicate (k - length p) 0) (omega (arith, more_size))
+
+pub Makes-grown : (version : FormatVersion) (blocks i : ℕ) (f g : FileNode) (fresh bytes : List ℕ) (size : ℕ) (mtime : Time) (t0 t1 t2 : TxnState) (took : Bool) → t0.writes ≡ [] → took ≡ true
+    → LearnsThat version blocks t0 t1 (λ m. took ≡ true → AreClear m fresh) → WritesEach blocks t1 t2 (file_written i g fresh fresh bytes)
+    → g ≡ with_blocks f (more_count version f.size) fresh size mtime → Fits (File g) → length f.more ≡ MORE_BLOCKS → f.size ≤ size → size ≤ most_bytes version → (f.mtime.nanos ≤ MAX_NANOS → mtime.nanos ≤ MAX_NANOS)
+    → AreFresh (more_count version size - more_count version f.size) fresh → bytes ≡ replicate (BLOCK_BYTES * length fresh) 0
+    → HasChanged version blocks t0 t2 i f size mtime (λ m. content version m f ++ replicate (size - f.size) 0) g
+Makes-grown version blocks i f g fresh bytes size mtime t0 t1 t2 took none is_taken told wrote is fits many more small timed new_ones zeros_are = record {
+  attributes = ap (attributes_of_node i) is;
+  generation = ap (λ x. x.generation) is;
+  makes = Makes-each blocks t0 t1 t2 _ _ (file_written i g fresh fresh bytes) none told wrote few
+      (λ m n sound clear becomes number here.
+      Puts-grown version m n i f fresh bytes size mtime number sound here many (subst (λ x. Fits (File x)) is fits) more small timed new_ones (clear is_taken) zeros_are
+      (subst (λ x. Becomes m n (file_written i x fresh fresh bytes)) is becomes));
 }
   where
-    by_block : (b : ℕ) (t : Bool) → (b == f.block) ≡ t → object m (block b) ≡ unwrap_or (cond (b == f.block) (Some (stored One m f)) None) (object m (block b))
-    by_block b true is =
-        ap (λ x. object m (block x)) (eqb-true b f.block is)
-        ∙ sym (first_is (b == f.block) (stored One m f) (object m (block b)) None is)
-    by_block b false is = sym (first_is_not (b == f.block) (stored One m f) (object m (block b)) None is)
+    few : length (file_written i g fresh fresh bytes) ≤ MAX_UPDATES
+    few = omega (arith, length-file_written i g fresh fresh bytes, new_ones.count, more_fits version size small)
 
-    same : (p : Object) → IsOnDisk m.blocks p → unwrap_or (written_to ((inode i, inode_bytes (File g)) ∷ []) p) (object m p)
-        ≡ unwrap_or (written_to ((inode i, inode_bytes (File g)) ∷ (block f.block, stored One m f) ∷ []) p) (object m p)
-    same superblock there = refl
-    same (bit k) there = refl
-    same (inode j) there = refl
-    same (block b) there = by_block b (b == f.block) refl
+-- the first numbers, and a piece behind them
+front_and_piece : (xs : List ℕ) (a b : ℕ) → a ≤ b → take a xs ++ slice_range xs a b ≡ take b xs
+front_and_piece xs a b less = same_lists _ _ (search (rules, places)) (λ i d h. grind (arith, places))
 
-module _ (blocks i : ℕ) (f : FileNode) (s : Settings) (now : Time) (small : is_too_big s.size ≡ false) (timed : is_no_time s.mtime ≡ false) (in_second : now.nanos ≤ MAX_NANOS) (fits : Fits (File (set_node f s now))) where
-  -- where the block is what it is to be
-  Puts-set : (m n : Map) (v : Value) → is_file_number i ≡ true → HasSoundFiles One m → node_at m i ≡ File f
-      → v ≡ resized (content One m f) s.size ++ replicate (FILE_BYTES - length (resized (content One m f) s.size)) 0
-      → stays m n i f (set_node f s now) v
-      → Puts One m n i (record { generation = f.generation; file = Some (with_settings (data_of One m f) s now) })
-  Puts-set m n v number sound is_file block_is o =
-      Puts-stays m n i f (set_node f s now) (resized (content One m f) s.size) number sound is_file refl refl refl size
-      (subst (λ x. x ≤ FILE_BYTES) size (size_fits s.size f.size small old.small))
-      (time_after-timed s.size s.mtime now f.mtime timed in_second old.timed) fits
-      (subst (stays m n i f (set_node f s now)) block_is o)
+front_of_front : (xs : List ℕ) (a b : ℕ) → a ≤ b → take a (take b xs) ≡ take a xs
+front_of_front xs a b less = same_lists _ _ (search (rules, places)) (λ i d h. grind (arith, places))
+
+-- A file is cut off, and gives blocks up
+module _ (version : FormatVersion) (m n : Map) (i : ℕ) (f : FileNode) (b : ℕ) (cut v bytes : List ℕ) (size : ℕ) (mtime : Time) (number : is_file_number i ≡ true) (sound : HasSoundFiles version m) (is_file : node_at m i ≡ File f)
+    (many : length f.more ≡ MORE_BLOCKS) (fits : Fits (File (with_blocks f (more_count version size) [] size mtime))) (less : size < f.size) (timed : f.mtime.nanos ≤ MAX_NANOS → mtime.nanos ≤ MAX_NANOS)
+    (b_is : get_or (f.block ∷ f.more) (more_count version size) b ≡ b) (cut_is : cut ≡ slice_range (f.block ∷ f.more) (more_count version size + 1) (more_count version f.size + 1))
+    (v_is : object m (block b) ≡ v) (bytes_are : bytes ≡ take (size - BLOCK_BYTES * more_count version size) v ++ replicate (length v - (size - BLOCK_BYTES * more_count version size)) 0) where
+  Puts-shrunk : Becomes m n (bits_written 0 cut ++ file_written i (with_blocks f (more_count version size) [] size mtime) [] (b ∷ []) bytes)
+      → Puts version m n i (record { generation = f.generation; file = Some (record { bytes = take size (content version m f); mtime = mtime }) })
+  Puts-shrunk is =
+      Puts-changed version m n i node p kept cut [] (take last bl) (b ∷ []) [] bytes number sound
+      (subst (HadBlocks version m i) all_are (HadBlocks-file version m i f low sound is_file)) tt tt tt
+      blocks_are refl stays whole is
+      (record {
+        born = old.born;
+        size = size_is;
+        small = subst (λ k. k ≤ most_bytes version) size_is small;
+        timed = timed old.timed;
+        absent = absent_more version node (take last f.more) [] refl kept_size;
+        fits = fits;
+      })
+      holds
     where
-      old : IsSoundFile One m f
-      old = sound.files i f (IsFileNumber-test i number).to is_file
+      node : FileNode
+      node = with_blocks f (more_count version size) [] size mtime
 
-      size : unwrap_or s.size f.size ≡ length (resized (content One m f) s.size)
-      size = ap (unwrap_or s.size) (sym old.whole) ∙ sym (length-resized (content One m f) s.size)
+      last : ℕ
+      last = more_count version size
 
-  -- no bytes are cut off, and the inode is overwritten
-  pub Makes-set_alone : (g : FileNode) (t0 t1 : TxnState) → t0.writes ≡ [] → WritesObject blocks t0 t1 (inode i) (inode_bytes (File g)) → g ≡ set_node f s now → f.size ≤ g.size
-      → Makes One blocks t0 t1 (λ m n. is_file_number i ≡ true → node_at m i ≡ File f → Puts One m n i (record { generation = f.generation; file = Some (with_settings (data_of One m f) s now) }))
-  Makes-set_alone g t0 t1 fresh wrote is more =
-      Makes-written blocks t0 t1 _ ((inode i, inode_bytes (File g)) ∷ [])
-      (HasWritten-more blocks t0 t1 _ _ _ wrote (HasWritten-none blocks t0 fresh))
-      (λ m seen. subst (λ rs. MayBeRead One blocks rs m) wrote.reads seen)
-      (λ m n seen o number is_file.
-      let old : IsSoundFile One m f = seen.sound.files i f (IsFileNumber-test i number).to is_file in
-      let grows : f.size ≤ unwrap_or s.size f.size = subst (λ x. f.size ≤ x.size) is more in
-      Puts-set m n (stored One m f) number seen.sound is_file
-      (old.padded
-      ∙ ap (λ x. content One m f ++ replicate (FILE_BYTES - x) 0) (sym old.whole)
-      ∙ sym (resized-grown (content One m f) FILE_BYTES s.size (subst (λ x. x ≤ unwrap_or s.size x) (sym old.whole) grows) (subst (λ x. unwrap_or s.size x ≤ FILE_BYTES) (sym old.whole) (size_fits s.size f.size small old.small))))
-      (stays-alone m n i f (set_node f s now) old.on_disk.0 (subst (λ x. Overwrites m n ((inode i, inode_bytes (File x)) ∷ [])) is o)))
-      (omega arith)
+      bl : List ℕ
+      bl = blocks_of version f
 
-  -- some are, and the block is overwritten too
-  pub Makes-set_block : (g : FileNode) (old_block new_block : Value) (t0 t1 t2 t3 : TxnState) → t0.writes ≡ [] → LearnsThat One blocks t0 t1 (λ m. object m (block f.block) ≡ old_block)
-      → WritesObject blocks t1 t2 (block f.block) new_block → WritesObject blocks t2 t3 (inode i) (inode_bytes (File g))
-      → g ≡ set_node f s now → g.size < f.size → length old_block ≡ FILE_BYTES → new_block ≡ take g.size old_block ++ replicate (length old_block - g.size) 0
-      → Makes One blocks t0 t3 (λ m n. is_file_number i ≡ true → node_at m i ≡ File f → Puts One m n i (record { generation = f.generation; file = Some (with_settings (data_of One m f) s now) }))
-  Makes-set_block g old_block new_block t0 t1 t2 t3 fresh read wrote_block wrote_node is less whole cut =
-      Makes-written blocks t0 t3 _ ((inode i, inode_bytes (File g)) ∷ (block f.block, new_block) ∷ [])
-      (HasWritten-more blocks t2 t3 _ _ _ wrote_node
-      (HasWritten-more blocks t1 t2 _ _ _ wrote_block (HasWritten-none blocks t1 (read.writes ∙ fresh))))
-      (λ m seen. read.before m (back m seen))
-      (λ m n seen o number is_file.
-      let here : stored One m f ≡ old_block = read.now m (back m seen) in
-      let old : IsSoundFile One m f = seen.sound.files i f (IsFileNumber-test i number).to is_file in
-      let size : g.size ≡ unwrap_or s.size f.size = ap (λ x. x.size) is in
-      let shrinks : unwrap_or s.size f.size < f.size = subst (λ x. x < f.size) size less in
-      Puts-set m n new_block number seen.sound is_file
-      (cut
-      ∙ ap (λ x. take g.size old_block ++ replicate (x - g.size) 0) whole
-      ∙ ap (λ x. take x old_block ++ replicate (FILE_BYTES - x) 0) (size ∙ ap (unwrap_or s.size) (sym old.whole))
-      ∙ ap (λ x. take (unwrap_or s.size (length (content One m f))) x ++ replicate (FILE_BYTES - unwrap_or s.size (length (content One m f))) 0)
-      (sym here ∙ old.padded ∙ ap (λ x. content One m f ++ replicate (FILE_BYTES - x) 0) (sym old.whole))
-      ∙ sym (resized-cut (content One m f) FILE_BYTES s.size (subst (λ x. unwrap_or s.size x < x) (sym old.whole) shrinks) (subst (λ x. x ≤ FILE_BYTES) (sym old.whole) old.small)))
-      (subst (λ x. stays m n i f x new_block) is o))
-      (omega arith)
-    where
-      back : (m : Map) → MayBeRead One blocks t3.reads m → MayBeRead One blocks t1.reads m
-      back m seen = subst (λ rs. MayBeRead One blocks rs m) (wrote_node.reads ∙ wrote_block.reads) seen
+      numbers : List ℕ
+      numbers = f.block ∷ f.more
+
+      p : List ℕ
+      p = take size (content version m f)
+
+      kept : List ℕ
+      kept = take last bl ++ b ∷ []
+
+      low : i < INODES
+      low = (IsFileNumber-test i number).to
+
+      old : IsSoundFile version m f
+      old = sound.files i f low is_file
+
+      small : size ≤ most_bytes version
+      small = omega (arith, less, old.small)
+
+      rises : last ≤ more_count version f.size
+      rises = more_rises version size f.size (omega (arith, less))
+
+      kept_size : length (take last f.more) + 0 ≡ last
+      kept_size = let kept_length : length (take last f.more) ≡ last = length-kept version f size many small in omega (arith, kept_length)
+
+      -- the blocks that stay
+      first_are : f.block ∷ take last f.more ≡ kept
+      first_are =
+          take-suc numbers last b (let enough : last ≤ MORE_BLOCKS = more_fits version size small in omega (arith, many, enough))
+          ∙ ap (λ x. take last numbers ++ x ∷ []) b_is
+          ∙ ap (λ xs. xs ++ b ∷ []) (sym (front_of_front numbers last (suc (more_count version f.size)) (omega (arith, rises))))
+
+      all_are : bl ≡ kept ++ cut
+      all_are =
+          sym (ap (λ k. take k numbers) (add-one (more_count version f.size)))
+          ∙ sym (front_and_piece numbers (last + 1) (more_count version f.size + 1) (omega (arith, rises)))
+          ∙ ap (λ xs. take (last + 1) numbers ++ xs) (sym cut_is)
+          ∙ ap (λ k. take k numbers ++ cut) (add-one last)
+          ∙ ap (λ xs. xs ++ cut) first_are
+
+      blocks_are : blocks_of version node ≡ kept ++ []
+      blocks_are =
+          blocks_more version node (take last f.more) [] refl kept_size
+          ∙ ap (λ xs. f.block ∷ xs) (append-nil (take last f.more))
+          ∙ first_are
+          ∙ sym (append-nil kept)
+
+      stays : (c : ℕ) → Among (take last bl) c ⊎ Among [] c → Among kept c
+      stays c (inl has) = among_left (take last bl) (b ∷ []) c has
+      stays c (inr none) = absurd none
+
+      in_old : (c : ℕ) → Among kept c → Among bl c
+      in_old c has = subst (λ cs. Among cs c) (sym all_are) (among_left kept cut c has)
+
+      sized : (c : ℕ) → Among kept c → length (object m (block c)) ≡ BLOCK_BYTES
+      sized c has = all_among (λ x. length (object m (block x)) ≡ BLOCK_BYTES) bl c old.sized (in_old c has)
+
+      one : length (object m (block b)) ≡ BLOCK_BYTES
+      one = sized b (among_right (take last bl) (b ∷ []) b (inl refl))
+
+      size_is : size ≡ length p
+      size_is = sym (length-take-le size (content version m f) (subst (λ k. size ≤ k) (sym old.whole) (omega (arith, less))))
+
+      in_block : (BLOCK_BYTES * last ≤ size) × (size ≤ BLOCK_BYTES * last + BLOCK_BYTES)
+      in_block = size_in_block version size small
+
+      whole : length bytes ≡ BLOCK_BYTES * 1
+      whole =
+          ap length bytes_are ∙ length-append (take (size - BLOCK_BYTES * last) v) (replicate (length v - (size - BLOCK_BYTES * last)) 0)
+          ∙ ap (λ k. k + length (replicate {A = ℕ} (length v - (size - BLOCK_BYTES * last)) 0)) (length-take-le (size - BLOCK_BYTES * last) v (omega (arith, length_v, in_block.1)))
+          ∙ ap (λ k. size - BLOCK_BYTES * last + k) (length-replicate {A = ℕ} (length v - (size - BLOCK_BYTES * last)) 0)
+          ∙ (omega (arith, length_v, in_block.1))
+        where
+          length_v : length v ≡ BLOCK_BYTES
+          length_v = ap length (sym v_is) ∙ one
+
+      before : length (held m (take last bl)) ≡ BLOCK_BYTES * last
+      before =
+          length-held m (take last bl) (all_from (λ x. length (object m (block x)) ≡ BLOCK_BYTES) (take last bl) (λ c has. sized c (among_left (take last bl) (b ∷ []) c has)))
+          ∙ ap (λ k. BLOCK_BYTES * k) (length-take-le last bl (omega (arith, length-blocks version f many old.small, rises)))
+
+      stored_is : held m (take last bl) ++ object m (block b) ++ held m cut ≡ content version m f ++ replicate (room_of version f.size - length (content version m f)) 0
+      stored_is =
+          ap (λ x. x ++ held m cut) (sym (held_append m (take last bl) (b ∷ [])))
+          ∙ sym (held_append m kept cut)
+          ∙ ap (held m) (sym all_are)
+          ∙ stored-zeros version m f old
+
+      holds : held m (take last bl) ++ bytes ++ [] ≡ p ++ replicate (room_of version size - length p) 0
+      holds =
+          ap (λ x. held m (take last bl) ++ x ++ []) (bytes_are ∙ ap (λ x. take (size - BLOCK_BYTES * last) x ++ replicate (length x - (size - BLOCK_BYTES * last)) 0) (sym v_is))
+          ∙ cut_off (held m (take last bl)) (object m (block b)) (held m cut) (content version m f) (BLOCK_BYTES * last) (room_of version f.size - length (content version m f)) BLOCK_BYTES size
+          before one in_block.0 in_block.1 (subst (λ k. size ≤ k) (sym old.whole) (omega (arith, less))) stored_is
+          ∙ ap (λ k. p ++ replicate (k - length p) 0) (let e : BLOCK_BYTES * last + BLOCK_BYTES ≡ room_of version size = omega arith in e)
+
+pub Makes-shrunk : (version : FormatVersion) (blocks i : ℕ) (f g : FileNode) (b : ℕ) (cut v bytes : List ℕ) (size : ℕ) (mtime : Time) (t0 t1 t2 t3 : TxnState) → t0.writes ≡ []
+    → LearnsThat version blocks t0 t1 (λ m. object m (block b) ≡ v) → WritesEach blocks t1 t2 (bits_written 0 cut) → WritesEach blocks t2 t3 (file_written i g [] (b ∷ []) bytes)
+    → g ≡ with_blocks f (more_count version size) [] size mtime → Fits (File g) → length f.more ≡ MORE_BLOCKS → size < f.size → f.size ≤ most_bytes version → (f.mtime.nanos ≤ MAX_NANOS → mtime.nanos ≤ MAX_NANOS)
+    → get_or (f.block ∷ f.more) (more_count version size) b ≡ b → cut ≡ slice_range (f.block ∷ f.more) (more_count version size + 1) (more_count version f.size + 1)
+    → length cut ≤ MORE_BLOCKS
+    → bytes ≡ take (size - BLOCK_BYTES * more_count version size) v ++ replicate (length v - (size - BLOCK_BYTES * more_count version size)) 0
+    → HasChanged version blocks t0 t3 i f size mtime (λ m. take size (content version m f)) g
+Makes-shrunk version blocks i f g b cut v bytes size mtime t0 t1 t2 t3 none told wrote_bits wrote_file is fits many less small timed b_is cut_is cut_few bytes_are = record {
+  attributes = ap (attributes_of_node i) is;
+  generation = ap (λ x. x.generation) is;
+  makes = Makes-each blocks t0 t1 t3 _ _ (bits_written 0 cut ++ file_written i g [] (b ∷ []) bytes) none told
+      (WritesEach-append blocks t1 t2 t3 (bits_written 0 cut) (file_written i g [] (b ∷ []) bytes) wrote_bits wrote_file) few
+      (λ m n sound v_is becomes number here.
+      Puts-shrunk version m n i f b cut v bytes size mtime number sound here many (subst (λ x. Fits (File x)) is fits) less timed b_is cut_is v_is bytes_are
+      (subst (λ x. Becomes m n (bits_written 0 cut ++ file_written i x [] (b ∷ []) bytes)) is becomes));
+}
+  where
+    few : length (bits_written 0 cut ++ file_written i g [] (b ∷ []) bytes) ≤ MAX_UPDATES
+    few =
+        let both : length (bits_written 0 cut ++ file_written i g [] (b ∷ []) bytes) ≡ length (bits_written 0 cut) + length (file_written i g [] (b ∷ []) bytes) = length-append (bits_written 0 cut) (file_written i g [] (b ∷ []) bytes) in
+        omega (arith, both, length-bits 0 cut, length-file_written i g [] (b ∷ []) bytes, cut_few)

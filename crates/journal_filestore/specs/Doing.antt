@@ -1,5 +1,7 @@
 -- What a transaction learns of the files, and what it does to them.
-use Rattle.std.specs.Prelude.{ℕ, ◌≡◌, ◌≤◌, false, List, ◌∷◌, length, Some, None, Result}
+use Rattle.std.specs.Prelude.{ℕ, ◌≡◌, ◌≢◌, ◌<◌, ◌≤◌, ◌+◌, ◌-◌, false, List, [], ◌∷◌, ◌++◌, length, take, drop, AllPairs, Some, None, Result}
+use Rattle.std.specs.List.{AllByRecursion}
+use Rattle.journal_world.specs.declared.layout.TheConstants.{FIRST_DATA, BLOCK_BITS, BLOCK_BYTES}
 use Rattle.journal_world.specs.declared.address.Addr.{Addr}
 use Rattle.journal_world.specs.Addresses.{Value, is_same}
 use Rattle.journal_world.specs.Maps.{Map, Pair, Agrees, SamePairs, value_among, value_at, overwritten}
@@ -7,13 +9,15 @@ use Rattle.journal_wal.specs.declared.append.TheConstants.{MAX_UPDATES}
 use Rattle.journal_objlog.specs.Writes.{written_blocks}
 use Rattle.journal_twophase.specs.Transactions.{TxnState}
 use Rattle.journal_inode.specs.declared.version.FormatVersion.{FormatVersion}
-use Rattle.journal_inode.specs.declared.node.TheConstants.{FILE_BYTES}
+use Rattle.journal_inode.specs.declared.node.FileNode.{FileNode}
+use Rattle.journal_inode.specs.declared.node.Node.TheVariants.{File}
+use Rattle.journal_inode.specs.Nodes.{inode_bytes}
 use Rattle.journal_inode.specs.Places.{Object, addr_of, IsOnDisk, object}
-use Rattle.journal_inode.specs.Places.Object.{block}
+use Rattle.journal_inode.specs.Places.Object.{bit, inode, block}
 use Rattle.journal_inode.specs.Sound.{HasSoundFiles}
 use Rattle.journal_filestore.specs.declared.status.Status.{Status}
 use Rattle.journal_filestore.specs.Files.{FileEntry, Files, files_of, with_entry}
-use Rattle.journal_filestore.specs.Operations.{Outcome, with_data}
+use Rattle.journal_filestore.specs.Operations.{Outcome}
 
 -- the map gives each address that the pairs name the value that they give it
 abbrev pub GivesPairs : Map → List Pair → Type 0
@@ -33,6 +37,28 @@ IsNotYetRead t o = value_among t.reads (addr_of o) ≡ None
 abbrev pub ReadsOnly : TxnState → TxnState → Object → Type 0
 ReadsOnly old new o = (a : Addr) → is_same a (addr_of o) ≡ false → value_among new.reads a ≡ value_among old.reads a
 
+-- it has read no data block
+abbrev pub HasReadNoBlocks : TxnState → Type 0
+HasReadNoBlocks t = (b : ℕ) → FIRST_DATA ≤ b → IsNotYetRead t (block b)
+
+-- and no bit
+abbrev pub HasReadNoData : TxnState → Type 0
+HasReadNoData t = HasReadNoBlocks t × ((k : ℕ) → k < BLOCK_BITS → IsNotYetRead t (bit k))
+
+-- a bit of the bitmap may belong to the block
+abbrev pub HasBit : ℕ → Type 0
+HasBit b = (FIRST_DATA ≤ b) × (b < FIRST_DATA + BLOCK_BITS)
+
+-- the bits of these blocks are clear
+abbrev pub AreClear : Map → List ℕ → Type 0
+AreClear m bs = AllByRecursion (λ b. object m (bit (b - FIRST_DATA)) ≡ 0 ∷ []) bs
+
+-- so many blocks, no two of which are one, each with a bit
+pub record AreFresh (n : ℕ) (bs : List ℕ) : Type 0 where
+  pub count : length bs ≡ n
+  pub distinct : AllPairs ◌≢◌ bs
+  pub bits : AllByRecursion HasBit bs
+
 -- The transaction only read, and P holds of each map that it may have read
 pub record LearnsThat (version : FormatVersion) (blocks : ℕ) (old new : TxnState) (P : Map → Type 0) : Type 0 where
   pub writes : new.writes ≡ old.writes
@@ -45,13 +71,28 @@ pub record WritesObject (blocks : ℕ) (old new : TxnState) (o : Object) (v : Va
   pub pairs : SamePairs new.writes ((addr_of o, v) ∷ old.writes)
   pub on_disk : IsOnDisk blocks o
 
--- The transaction overwrote a data block by what data placed in it make of it
-pub record Places (version : FormatVersion) (blocks : ℕ) (old new : TxnState) (b offset : ℕ) (bs : List ℕ) : Type 0 where
-  pub before : (m : Map) → MayBeRead version blocks new.reads m → MayBeRead version blocks old.reads m
-  pub value : Value
-  pub pairs : SamePairs new.writes ((addr_of (block b), value) ∷ old.writes)
-  pub on_disk : IsOnDisk blocks (block b)
-  pub placed : (m : Map) → MayBeRead version blocks new.reads m → length (object m (block b)) ≡ FILE_BYTES → value ≡ with_data (object m (block b)) offset bs
+-- an object and a value of it
+abbrev pub Write : Type 0
+Write = Object × Value
+
+-- The transaction overwrote these objects of the disk, one after another
+abbrev pub WritesEach : ℕ → TxnState → TxnState → List Write → Type 0
+WritesEach blocks old new [] = new ≡ old
+WritesEach blocks old new (w ∷ ws) = (middle : TxnState) × WritesObject blocks old middle w.0 w.1 × WritesEach blocks middle new ws
+
+-- the bits of these blocks, each with this value
+abbrev pub bits_written : ℕ → List ℕ → List Write
+bits_written v [] = []
+bits_written v (b ∷ bs) = (bit (b - FIRST_DATA), v ∷ []) ∷ bits_written v bs
+
+-- these blocks, by bytes that lie one behind another
+abbrev pub blocks_written : List ℕ → List ℕ → List Write
+blocks_written [] bytes = []
+blocks_written (b ∷ bs) bytes = (block b, take BLOCK_BYTES bytes) ∷ blocks_written bs (drop BLOCK_BYTES bytes)
+
+-- a file's new blocks and their bits, other blocks that get bytes, and its inode
+abbrev pub file_written : ℕ → FileNode → List ℕ → List ℕ → List ℕ → List Write
+file_written i f fresh bs bytes = bits_written 1 fresh ++ (blocks_written bs bytes ++ (inode i, inode_bytes (File f)) ∷ [])
 
 -- The map is sound still, and its files are those of before with this entry
 pub record Puts (version : FormatVersion) (m n : Map) (i : ℕ) (e : FileEntry) : Type 0 where

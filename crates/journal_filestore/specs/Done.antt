@@ -9,7 +9,7 @@ use Rattle.journal_history.specs.Tokens.{SessionState, OnlyExtends, IsExact, Com
 use Rattle.journal_core.specs.Causes.{Told}
 use Rattle.journal_twophase.specs.Transactions.{TxnState, core_of}
 use Rattle.journal_twophase.specs.Commits.{IsCommitted}
-use Rattle.journal_inode.specs.declared.version.FormatVersion.TheVariants.{One}
+use Rattle.journal_inode.specs.declared.version.FormatVersion.{FormatVersion}
 use Rattle.journal_inode.specs.Sound.{HasSoundFiles}
 use Rattle.journal_filestore.specs.declared.fault.Fault.{Fault}
 use Rattle.journal_filestore.specs.declared.fault.Fault.TheVariants.{Refused, Unsure}
@@ -20,7 +20,7 @@ use Rattle.journal_filestore.specs.declared.status.Status.{Status}
 use Rattle.journal_filestore.specs.Files.{Files, files_of}
 
 -- The session has one more commit, which stands at this place in the history that it has then seen
-pub record IsMadeAt {A : Type 0} (case : Files → Result A Status → Files → Type 0) (old new : SessionState) (answer : Result A Status) (place : ℕ) : Type 0 where
+pub record IsMadeAt {A : Type 0} (version : FormatVersion) (case : Files → Result A Status → Files → Type 0) (old new : SessionState) (answer : Result A Status) (place : ℕ) : Type 0 where
   pub made : Transaction
   pub stands : slice_get new.seen place ≡ Some (commit made)
   -- after all that the session had seen
@@ -30,27 +30,27 @@ pub record IsMadeAt {A : Type 0} (case : Files → Result A Status → Files →
   pub number : new.number ≡ old.number
   pub one_more : commits_of new.number new.mine ≡ commits_of old.number old.mine ++ made ∷ []
   -- where the disk was honest and settled, the answer fits the files of the maps before and after it, and the map is sound after each number of commits
-  pub answers : IsTrue (is_trusted new.seen) → case (files_of One (latest (take place new.seen))) answer (files_of One (apply made (latest (take place new.seen))))
-  pub ruled : IsTrue (is_trusted new.seen) → (n : ℕ) → HasSoundFiles One (at new.seen n)
+  pub answers : IsTrue (is_trusted new.seen) → case (files_of version (latest (take place new.seen))) answer (files_of version (apply made (latest (take place new.seen))))
+  pub ruled : IsTrue (is_trusted new.seen) → (n : ℕ) → HasSoundFiles version (at new.seen n)
 
 -- The operation was done, and answered
-pub record IsDone {A : Type 0} (waits : Bool) (case : Files → Result A Status → Files → Type 0) (old new : SessionState) (answer : Result A Status) : Type 0 where
+pub record IsDone {A : Type 0} (version : FormatVersion) (waits : Bool) (case : Files → Result A Status → Files → Type 0) (old new : SessionState) (answer : Result A Status) : Type 0 where
   pub place : ℕ
-  pub made : IsMadeAt case old new answer place
+  pub made : IsMadeAt version case old new answer place
   -- the session has no other commits
   pub exact : IsExact new
   -- what waits is marked as stable, with all commits before it, where it is answered Ok
   pub stable : IsTrue waits → OnOk answer (count (take (place + 1) new.seen) ≤ floor new.seen)
 
 -- Refused, it was not done. In doubt, it was done with some answer that the case gives, and is not known to be stable
-abbrev pub IsOperationFault : {A : Type 0} → Bool → (Files → Result A Status → Files → Type 0) → SessionState → SessionState → Fault Told → Type 0
-IsOperationFault waits case old new (Refused why) = OnlyExtends old new
-IsOperationFault {A} waits case old new (Unsure why) = IsTrue waits × ((answer : Result A Status) × (place : ℕ) × IsMadeAt case old new answer place)
+abbrev pub IsOperationFault : {A : Type 0} → FormatVersion → Bool → (Files → Result A Status → Files → Type 0) → SessionState → SessionState → Fault Told → Type 0
+IsOperationFault version waits case old new (Refused why) = OnlyExtends old new
+IsOperationFault {A} version waits case old new (Unsure why) = IsTrue waits × ((answer : Result A Status) × (place : ℕ) × IsMadeAt version case old new answer place)
 
 -- What an operation comes to
-abbrev pub IsAnswered : {A : Type 0} → Bool → (Files → Result A Status → Files → Type 0) → SessionState → SessionState → Result (Result A Status) (Fault Told) → Type 0
-IsAnswered waits case old new (Ok answer) = IsDone waits case old new answer
-IsAnswered waits case old new (Err fault) = IsOperationFault waits case old new fault
+abbrev pub IsAnswered : {A : Type 0} → FormatVersion → Bool → (Files → Result A Status → Files → Type 0) → SessionState → SessionState → Result (Result A Status) (Fault Told) → Type 0
+IsAnswered version waits case old new (Ok answer) = IsDone version waits case old new answer
+IsAnswered version waits case old new (Err fault) = IsOperationFault version waits case old new fault
 
 -- the receipt is of the commit at this place of the history
 pub record IsReceiptOf (history : List Entry) (index : ℕ) (receipt : CommitPlace) : Type 0 where
@@ -64,17 +64,17 @@ IsOwed waits answer history place Nothing = IsTrue waits → OnOk answer ⊥
 IsOwed waits answer history place (Wait receipt) = IsTrue waits × IsReceiptOf history place receipt
 
 -- The operation is committed, and answered. What waits is not waited for yet
-pub record IsCommittedBy {A : Type 0} (waits : Bool) (case : Files → Result A Status → Files → Type 0) (old new : SessionState) (done : Committed A CommitPlace) : Type 0 where
+pub record IsCommittedBy {A : Type 0} (version : FormatVersion) (waits : Bool) (case : Files → Result A Status → Files → Type 0) (old new : SessionState) (done : Committed A CommitPlace) : Type 0 where
   pub place : ℕ
-  pub made : IsMadeAt case old new done.answer place
+  pub made : IsMadeAt version case old new done.answer place
   -- the session has no other commits
   pub exact : IsExact new
   pub owed : IsOwed waits done.answer new.seen place done.owed
 
 -- What an operation comes to that is not waited for. Refused, it was not done
-abbrev pub IsAnsweredSoon : {A : Type 0} → Bool → (Files → Result A Status → Files → Type 0) → SessionState → SessionState → Result (Committed A CommitPlace) (Refusal Told) → Type 0
-IsAnsweredSoon waits case old new (Ok done) = IsCommittedBy waits case old new done
-IsAnsweredSoon waits case old new (Err why) = OnlyExtends old new
+abbrev pub IsAnsweredSoon : {A : Type 0} → FormatVersion → Bool → (Files → Result A Status → Files → Type 0) → SessionState → SessionState → Result (Committed A CommitPlace) (Refusal Told) → Type 0
+IsAnsweredSoon version waits case old new (Ok done) = IsCommittedBy version waits case old new done
+IsAnsweredSoon version waits case old new (Err why) = OnlyExtends old new
 
 -- a mark covers what was owed
 abbrev pub IsPaid : Owed CommitPlace → SessionState → Type 0
@@ -92,7 +92,7 @@ owed_for true receipt = Wait receipt
 owed_for false receipt = Nothing
 
 -- The transaction was committed, and its receipt is owed where it waits
-pub record Ends (blocks : ℕ) (t : TxnState) (waits : Bool) (old new : SessionState) (owed : Owed CommitPlace) : Type 0 where
+pub record Ends (version : FormatVersion) (blocks : ℕ) (t : TxnState) (waits : Bool) (old new : SessionState) (owed : Owed CommitPlace) : Type 0 where
   pub receipt : CommitPlace
-  pub committed : IsCommitted (HasSoundFiles One) blocks t.began (core_of t) old new receipt
+  pub committed : IsCommitted (HasSoundFiles version) blocks t.began (core_of t) old new receipt
   pub owes : owed ≡ owed_for waits receipt

@@ -1,5 +1,5 @@
 -- What a handle names, on the disk and among the files.
-use Rattle.std.specs.Prelude.{ℕ, ◌≡◌, ◌==◌, ◌&&◌, Bool, true, false, Option, Some, None, unwrap_or, if◌then◌else◌}
+use Rattle.std.specs.Prelude.{ℕ, ◌≡◌, ◌≤◌, ◌==◌, ◌&&◌, Bool, true, false, Option, Some, None, if◌then◌else◌}
 use Rattle.journal_world.specs.declared.moment.Moment.{Moment}
 use Rattle.journal_world.specs.Maps.{Map}
 use Rattle.journal_inode.specs.declared.version.FormatVersion.{FormatVersion}
@@ -8,6 +8,7 @@ use Rattle.journal_inode.specs.declared.node.FileNode.{FileNode}
 use Rattle.journal_inode.specs.declared.node.Node.{Node}
 use Rattle.journal_inode.specs.declared.node.Node.TheVariants.{Free, Root, File}
 use Rattle.journal_inode.specs.Nodes.{Fits}
+use Rattle.journal_inode.specs.Versions.{most_bytes}
 use Rattle.journal_inode.specs.Sound.{node_at, content}
 use Rattle.journal_filestore.specs.declared.find.Place.{Place}
 use Rattle.journal_filestore.specs.declared.find.Place.TheVariants.{Gone, Directory, Regular}
@@ -16,7 +17,7 @@ use Rattle.journal_filestore.specs.declared.settings.Settings.{Settings}
 use Rattle.journal_filestore.specs.declared.settings.How.{How}
 use Rattle.journal_filestore.specs.declared.settings.How.TheVariants.{Unchecked, Guarded, Exclusive}
 use Rattle.journal_filestore.specs.Files.{FileData, is_file_number, files_of}
-use Rattle.journal_filestore.specs.Operations.{attributes_of_node, of_root, file_target, time_after}
+use Rattle.journal_filestore.specs.Operations.{attributes_of_node, of_root, file_target}
 use Rattle.journal_filestore.specs.Operations.FileTarget.{gone, root, file}
 
 -- a moment, as inodes have it
@@ -26,10 +27,6 @@ time_of now = record { secs = now.secs; nanos = now.nanos }
 -- the file of an inode
 abbrev pub data_of : FormatVersion → Map → FileNode → FileData
 data_of version m f = record { bytes = content version m f; mtime = f.mtime }
-
--- the inode of a file, with what is asked for
-abbrev pub set_node : FileNode → Settings → Time → FileNode
-set_node f s now = record f { size = unwrap_or s.size f.size; mtime = time_after s.size s.mtime now f.mtime }
 
 -- what is asked for of a file that is created, and whether it may not be there yet
 abbrev pub asked : How → Option (Settings × Bool)
@@ -54,8 +51,13 @@ IsAt version i generation m (Directory t) = (file_target (files_of version m) i 
 IsAt version i generation m (Regular f) =
     (file_target (files_of version m) i generation ≡ file i (data_of version m f)) × (node_at m i ≡ File f) × (is_file_number i ≡ true)
 
--- the numbers of a file's inode fit their bytes, and the root alone is a directory
-abbrev pub IsPlace : ℕ → Place → Type 0
-IsPlace i (Regular f) = Fits (File f)
-IsPlace i (Directory t) = i ≡ 1
-IsPlace i Gone = Unit {0}
+-- a file has no more bytes than its inode has blocks for
+abbrev pub IsSmall : FormatVersion → Node → Type 0
+IsSmall version (File f) = f.size ≤ most_bytes version
+IsSmall version _ = Unit {0}
+
+-- the numbers of a file's inode fit their bytes, its blocks are enough, and the root alone is a directory
+abbrev pub IsPlace : FormatVersion → ℕ → Place → Type 0
+IsPlace version i (Regular f) = Fits (File f) × IsSmall version (File f)
+IsPlace version i (Directory t) = i ≡ 1
+IsPlace version i Gone = Unit {0}

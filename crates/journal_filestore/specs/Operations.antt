@@ -1,9 +1,12 @@
 -- The eight operations on files: of each, the cases in their order, the first that holds is answered.
-use Rattle.std.specs.Prelude.{ℕ, ◌≡◌, ◌+◌, ◌-◌, ◌*◌, Bool, true, false, not, ◌&&◌, ◌||◌, ◌==◌, nat_le, nat_lt, min, if◌then◌else◌, List, [], ◌∷◌, ◌++◌, length, take, drop, replicate, slice_range, Option, Some, None, is_some, unwrap_or, Result, Ok, Err}
+use Rattle.std.specs.Prelude.{ℕ, ◌≡◌, ◌+◌, ◌-◌, ◌*◌, max, Bool, true, false, not, ◌&&◌, ◌||◌, ◌==◌, nat_le, nat_lt, min, if◌then◌else◌, List, [], ◌∷◌, ◌++◌, length, take, drop, replicate, slice_range, Option, Some, None, is_some, unwrap_or, Result, Ok, Err}
 use Rattle.journal_world.specs.declared.moment.TheConstants.{MAX_NANOS}
+use Rattle.journal_inode.specs.declared.version.FormatVersion.{FormatVersion}
+use Rattle.journal_inode.specs.declared.version.FormatVersion.TheVariants.{One, Two}
 use Rattle.journal_inode.specs.declared.node.Time.{Time}
 use Rattle.journal_inode.specs.declared.node.FileNode.{FileNode}
-use Rattle.journal_inode.specs.declared.node.TheConstants.{FILE_BYTES}
+use Rattle.journal_inode.specs.Versions.{most_bytes, more_count}
+use Rattle.journal_filestore.specs.declared.read.TheConstants.{READ_BYTES}
 use Rattle.journal_filestore.specs.declared.status.Status.{Status}
 use Rattle.journal_filestore.specs.declared.status.Status.TheVariants.{NoEntry, Exists, NotDirectory, Invalid, TooBig, NoSpace, Stale, NotSync, NotSupported}
 use Rattle.journal_filestore.specs.declared.reply.Attributes.{Attributes}
@@ -93,9 +96,13 @@ abbrev pub is_no_time : NewTime → Bool
 is_no_time (Client t) = nat_lt MAX_NANOS t.nanos
 is_no_time _ = false
 
-abbrev pub is_too_big : Option ℕ → Bool
-is_too_big None = false
-is_too_big (Some size) = nat_lt FILE_BYTES size
+abbrev pub is_too_big : FormatVersion → Option ℕ → Bool
+is_too_big version None = false
+is_too_big version (Some size) = nat_lt (most_bytes version) size
+
+-- the blocks that a file of the new size has beside those of the old one are not handed out. In version 1 there are none
+abbrev pub lacks_blocks : FormatVersion → Bool → ℕ → ℕ → Bool
+lacks_blocks version room old new = nat_lt (more_count version old) (more_count version new) && not room
 
 -- on the root, which never changes
 abbrev pub root_set : Settings → Option Time → Time → Result Changed Status
@@ -105,13 +112,15 @@ root_set s guard mtime =
     else if is_no_time s.mtime then Err Invalid
     else Ok (record { before = of_root mtime; after = of_root mtime })
 
-abbrev pub setattr_case : Settings → Option Time → Time → Files → FileTarget → Outcome Changed
-setattr_case s guard now F gone = refused Stale F
-setattr_case s guard now F root = (root_set s guard F.root, F)
-setattr_case s guard now F (file i d) =
+-- blocks may be handed out, or none
+abbrev pub setattr_case : FormatVersion → Bool → Settings → Option Time → Time → Files → FileTarget → Outcome Changed
+setattr_case version room s guard now F gone = refused Stale F
+setattr_case version room s guard now F root = (root_set s guard F.root, F)
+setattr_case version room s guard now F (file i d) =
     if is_other_time guard d.mtime then refused NotSync F
     else if is_no_time s.mtime then refused Invalid F
-    else if is_too_big s.size then refused TooBig F
+    else if is_too_big version s.size then refused TooBig F
+    else if lacks_blocks version room (length d.bytes) (unwrap_or s.size (length d.bytes)) then refused NoSpace F
     else changed F i d (with_settings d s now)
 
 -- the number of a name: f and three decimal digits, f002 to f511
@@ -158,12 +167,17 @@ portion offset n i d = record {
   is_end = nat_le (length d.bytes) (offset + n);
 }
 
-abbrev pub read_case : ℕ → ℕ → Files → FileTarget → Outcome PortionState
-read_case offset count F gone = refused Stale F
-read_case offset count F root = refused Invalid F
-read_case offset count F (file i d) = (Ok (portion offset (min count (length d.bytes - offset)) i d), F)
+-- how many bytes are read of those that lie behind the offset. In version 1 there are no more than one call reads
+abbrev pub portion_length : FormatVersion → ℕ → ℕ → ℕ
+portion_length One count left = min count left
+portion_length Two count left = min (min count READ_BYTES) left
 
--- the block after data was placed in it
+abbrev pub read_case : FormatVersion → ℕ → ℕ → Files → FileTarget → Outcome PortionState
+read_case version offset count F gone = refused Stale F
+read_case version offset count F root = refused Invalid F
+read_case version offset count F (file i d) = (Ok (portion offset (portion_length version count (length d.bytes - offset)) i d), F)
+
+-- the blocks after data was placed in them
 abbrev pub with_data : List ℕ → ℕ → List ℕ → List ℕ
 with_data block offset bs = take offset block ++ bs ++ drop (offset + length bs) block
 
@@ -176,16 +190,18 @@ abbrev pub is_waiting : Stability → Bool
 is_waiting Unstable = false
 is_waiting Stable = true
 
-abbrev pub write_case : ℕ → ℕ → List ℕ → Time → Files → FileTarget → Outcome Changed
-write_case offset count bs now F gone = refused Stale F
-write_case offset count bs now F root = refused Invalid F
-write_case offset count bs now F (file i d) =
+-- blocks may be handed out, or none
+abbrev pub write_case : FormatVersion → Bool → ℕ → ℕ → List ℕ → Time → Files → FileTarget → Outcome Changed
+write_case version room offset count bs now F gone = refused Stale F
+write_case version room offset count bs now F root = refused Invalid F
+write_case version room offset count bs now F (file i d) =
     if not (count == length bs) then refused Invalid F
     else if count == 0 then (Ok (record { before = attributes i d; after = attributes i d }), F)
-    else if nat_lt FILE_BYTES (offset + count) then refused TooBig F
+    else if nat_lt (most_bytes version) (offset + count) then refused TooBig F
+    else if lacks_blocks version room (length d.bytes) (max (length d.bytes) (offset + count)) then refused NoSpace F
     else changed F i d (record { bytes = placed d.bytes offset bs; mtime = now })
 
--- CREATE. A block may be handed out, or none
+-- CREATE. Blocks may be handed out, or none
 abbrev pub new_file : Settings → Time → FileData
 new_file s now = record { bytes = replicate (unwrap_or s.size 0) 0; mtime = time_after (Some 0) s.mtime now now }
 
@@ -195,34 +211,35 @@ created F i generation d = (
   with_entry F i (record { generation = generation; file = Some d }),
 )
 
-abbrev pub create_new : Bool → Settings → Time → Files → ℕ → Outcome Found
-create_new room s now F i =
-    if is_too_big s.size then refused TooBig F
+abbrev pub create_new : FormatVersion → Bool → Settings → Time → Files → ℕ → Outcome Found
+create_new version room s now F i =
+    if is_too_big version s.size then refused TooBig F
     else if not room || (F.at i).generation == 4294967295 then refused NoSpace F
     else created F i ((F.at i).generation + 1) (new_file s now)
 
 -- an existing file is set as by SETATTR
-abbrev pub create_over : Settings → Time → Files → ℕ → FileData → Outcome Found
-create_over s now F i d =
-    if is_too_big s.size then refused TooBig F
+abbrev pub create_over : FormatVersion → Bool → Settings → Time → Files → ℕ → FileData → Outcome Found
+create_over version room s now F i d =
+    if is_too_big version s.size then refused TooBig F
+    else if lacks_blocks version room (length d.bytes) (unwrap_or s.size (length d.bytes)) then refused NoSpace F
     else created F i (F.at i).generation (with_settings d s now)
 
-abbrev pub create_file : Bool → Bool → Settings → Time → Files → ℕ → Option FileData → Outcome Found
-create_file room guarded s now F i (Some d) = if guarded then refused Exists F else create_over s now F i d
-create_file room guarded s now F i None = create_new room s now F i
+abbrev pub create_file : FormatVersion → Bool → Bool → Settings → Time → Files → ℕ → Option FileData → Outcome Found
+create_file version room guarded s now F i (Some d) = if guarded then refused Exists F else create_over version room s now F i d
+create_file version room guarded s now F i None = create_new version room s now F i
 
-abbrev pub create_number : Bool → Bool → Settings → Time → Files → Option ℕ → Outcome Found
-create_number room guarded s now F None = refused Invalid F
-create_number room guarded s now F (Some i) =
-    if is_no_time s.mtime then refused Invalid F else create_file room guarded s now F i (F.at i).file
+abbrev pub create_number : FormatVersion → Bool → Bool → Settings → Time → Files → Option ℕ → Outcome Found
+create_number version room guarded s now F None = refused Invalid F
+create_number version room guarded s now F (Some i) =
+    if is_no_time s.mtime then refused Invalid F else create_file version room guarded s now F i (F.at i).file
 
-abbrev pub create_how : Bool → List ℕ → How → Time → Files → Outcome Found
-create_how room name Exclusive now F = refused NotSupported F
-create_how room name (Guarded s) now F = create_number room true s now F (number_of_name name)
-create_how room name (Unchecked s) now F = create_number room false s now F (number_of_name name)
+abbrev pub create_how : FormatVersion → Bool → List ℕ → How → Time → Files → Outcome Found
+create_how version room name Exclusive now F = refused NotSupported F
+create_how version room name (Guarded s) now F = create_number version room true s now F (number_of_name name)
+create_how version room name (Unchecked s) now F = create_number version room false s now F (number_of_name name)
 
-abbrev pub create_case : Bool → List ℕ → How → Time → Files → FileTarget → Outcome Found
-create_case room name how now F dir = in_root F dir (create_how room name how now F)
+abbrev pub create_case : FormatVersion → Bool → List ℕ → How → Time → Files → FileTarget → Outcome Found
+create_case version room name how now F dir = in_root F dir (create_how version room name how now F)
 
 -- REMOVE: the root's attributes, which stay; the generation is kept
 abbrev pub remove_file : Files → ℕ → ℕ → Option FileData → Outcome Attributes
@@ -267,20 +284,20 @@ pub data Reply : Type 0 where
   committed : Result Attributes Status → Reply
 
 -- The call, answered at a moment: it leads from these files to those with this reply
-pub data Op : Call → Time → Files → Reply → Files → Type 0 where
+pub data Op (version : FormatVersion) : Call → Time → Files → Reply → Files → Type 0 where
   answers_getattr : (i g : ℕ) (now : Time) (F F2 : Files) (r : Result Attributes Status)
-      → (r, F2) ≡ getattr_case F (file_target F i g) → Op (getattr i g) now F (got r) F2
-  answers_setattr : (i g : ℕ) (s : Settings) (guard : Option Time) (now : Time) (F F2 : Files) (r : Result Changed Status)
-      → (r, F2) ≡ setattr_case s guard now F (file_target F i g) → Op (setattr i g s guard) now F (set r) F2
+      → (r, F2) ≡ getattr_case F (file_target F i g) → Op version (getattr i g) now F (got r) F2
+  answers_setattr : (i g : ℕ) (s : Settings) (guard : Option Time) (room : Bool) (now : Time) (F F2 : Files) (r : Result Changed Status)
+      → (r, F2) ≡ setattr_case version room s guard now F (file_target F i g) → Op version (setattr i g s guard) now F (set r) F2
   answers_lookup : (i g : ℕ) (name : List ℕ) (now : Time) (F F2 : Files) (r : Result Found Status)
-      → (r, F2) ≡ lookup_case name F (file_target F i g) → Op (lookup i g name) now F (found r) F2
+      → (r, F2) ≡ lookup_case name F (file_target F i g) → Op version (lookup i g name) now F (found r) F2
   answers_read : (i g offset count : ℕ) (now : Time) (F F2 : Files) (r : Result PortionState Status)
-      → (r, F2) ≡ read_case offset count F (file_target F i g) → Op (read i g offset count) now F (bytes_read r) F2
-  answers_write : (i g offset count : ℕ) (bs : List ℕ) (now : Time) (F F2 : Files) (r : Result Changed Status)
-      → (r, F2) ≡ write_case offset count bs now F (file_target F i g) → Op (write i g offset count bs) now F (wrote r) F2
+      → (r, F2) ≡ read_case version offset count F (file_target F i g) → Op version (read i g offset count) now F (bytes_read r) F2
+  answers_write : (i g offset count : ℕ) (bs : List ℕ) (room : Bool) (now : Time) (F F2 : Files) (r : Result Changed Status)
+      → (r, F2) ≡ write_case version room offset count bs now F (file_target F i g) → Op version (write i g offset count bs) now F (wrote r) F2
   answers_create : (i g : ℕ) (name : List ℕ) (how : How) (room : Bool) (now : Time) (F F2 : Files) (r : Result Found Status)
-      → (r, F2) ≡ create_case room name how now F (file_target F i g) → Op (create i g name how) now F (made r) F2
+      → (r, F2) ≡ create_case version room name how now F (file_target F i g) → Op version (create i g name how) now F (made r) F2
   answers_remove : (i g : ℕ) (name : List ℕ) (now : Time) (F F2 : Files) (r : Result Attributes Status)
-      → (r, F2) ≡ remove_case name F (file_target F i g) → Op (remove i g name) now F (removed r) F2
+      → (r, F2) ≡ remove_case name F (file_target F i g) → Op version (remove i g name) now F (removed r) F2
   answers_commit : (i g : ℕ) (now : Time) (F F2 : Files) (r : Result Attributes Status)
-      → (r, F2) ≡ commit_case F (file_target F i g) → Op (commit i g) now F (committed r) F2
+      → (r, F2) ≡ commit_case F (file_target F i g) → Op version (commit i g) now F (committed r) F2

@@ -15,7 +15,7 @@ use crate::store::{Answer, FileFault, FileTxn};
 use crate::{Attributes, FileStore, Handle, Soon, Status};
 use journal_disk::BlockDisk;
 use journal_history::{Naming, Session};
-use journal_inode::SoundFiles;
+use journal_inode::{SoundFiles, Version};
 use std::sync::Wait;
 
 // The attributes of a file, once all before is stable.
@@ -24,7 +24,7 @@ pub(crate) struct Commit {
     handle: Handle,
 }
 
-impl<J: Naming> Operation<J> for Commit {
+impl<J: Naming, V: Version> Operation<J, V> for Commit {
     type Reply = Attributes;
 
     ghost case = { λ w F r F2. (r, F2) ≡ commit_case F (file_target F w.handle.number w.handle.generation) };
@@ -38,9 +38,9 @@ impl<J: Naming> Operation<J> for Commit {
     fn attempt<'j, 'b, D: BlockDisk, W: Wait>(
         &self,
         rt: &W,
-        txn: &mut FileTxn<'j, 'b, D, J>,
+        txn: &mut FileTxn<'j, 'b, D, J, V>,
         _space: &mut Space,
-    ) -> Result<Answer<Attributes>, GivenUp<'b, J>> {
+    ) -> Result<Answer<Attributes>, GivenUp<'b, J, V>> {
         match find(rt, txn, self.handle)? {
             Place::Gone => Ok(Err(Status::Stale)),
             Place::Directory(_) => Ok(Err(Status::Invalid)),
@@ -49,7 +49,7 @@ impl<J: Naming> Operation<J> for Commit {
     }
 }
 
-impl<'b, D: BlockDisk, J: Naming> FileStore<'b, D, J> {
+impl<'b, D: BlockDisk, J: Naming, V: Version> FileStore<'b, D, J, V> {
     /// COMMIT (RFC 1813, 3.3.21): the attributes of a file, once all that the session had seen is stable, with all
     /// that was written before. Its own transaction changes nothing, and waits until it is stable: a mark of it is a
     /// mark of all commits before it.
@@ -58,10 +58,10 @@ impl<'b, D: BlockDisk, J: Naming> FileStore<'b, D, J> {
     pub fn commit<W: Wait>(
         &self,
         rt: &W,
-        session: &mut Session<'b, J, SoundFiles>,
+        session: &mut Session<'b, J, SoundFiles<V>>,
         handle: Handle,
-    ) -> Result<Answer<Attributes>, FileFault<'b, J>>
-        ensures answered { IsAnswered true (λ F r F2. (now : Time) → Op (commit handle.number handle.generation) now F (committed r) F2) session.old session.new result }
+    ) -> Result<Answer<Attributes>, FileFault<'b, J, V>>
+        ensures answered { IsAnswered V.VERSION true (λ F r F2. (now : Time) → Op V.VERSION (commit handle.number handle.generation) now F (committed r) F2) session.old session.new result }
         ensures refusal { IfErr result (IsFaultOf session.new) }
     {
         self.run(rt, session, &Commit { handle })
@@ -72,10 +72,10 @@ impl<'b, D: BlockDisk, J: Naming> FileStore<'b, D, J> {
     pub fn commit_soon<W: Wait>(
         &self,
         rt: &W,
-        session: &mut Session<'b, J, SoundFiles>,
+        session: &mut Session<'b, J, SoundFiles<V>>,
         handle: Handle,
-    ) -> Soon<'b, J, Attributes>
-        ensures answered { IsAnsweredSoon true (λ F r F2. (now : Time) → Op (commit handle.number handle.generation) now F (committed r) F2) session.old session.new result }
+    ) -> Soon<'b, J, Attributes, V>
+        ensures answered { IsAnsweredSoon V.VERSION true (λ F r F2. (now : Time) → Op V.VERSION (commit handle.number handle.generation) now F (committed r) F2) session.old session.new result }
         ensures refusal { IfErr result IsFilesRefusal }
     {
         self.run_soon(rt, session, &Commit { handle })

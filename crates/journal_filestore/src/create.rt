@@ -1,13 +1,11 @@
 // CREATE.
 ghost use Rattle.std.specs.Prelude.{ℕ, ◌≡◌, ◌<◌, ◌≤◌, Bool, Some, true, false, [], IfOk, IfErr};
-ghost use Rattle.journal_world.specs.declared.layout.TheConstants.{FIRST_DATA, BLOCK_BITS};
-ghost use Rattle.journal_inode.specs.declared.version.FormatVersion.TheVariants.{One};
 ghost use Rattle.journal_inode.specs.declared.node.Node.TheVariants.{Free, File};
 ghost use Rattle.journal_inode.specs.Nodes.{Fits};
+ghost use Rattle.journal_inode.specs.Versions.{most_bytes};
 ghost use Rattle.journal_inode.specs.Sound.{node_at};
-ghost use Rattle.journal_inode.specs.Places.Object.{block, bit};
 ghost use Rattle.journal_filestore.specs.Files.{is_file_number, files_of};
-ghost use Rattle.journal_filestore.specs.Doing.{IsNotYetRead, Leads, Makes};
+ghost use Rattle.journal_filestore.specs.Doing.{HasReadNoData, Leads, Makes};
 ghost use Rattle.journal_filestore.specs.Done.{IsAnswered, IsAnsweredSoon};
 ghost use Rattle.journal_filestore.specs.Faults.{IsFaultOf, IsGivenUp, IsFilesRefusal};
 ghost use Rattle.journal_filestore.specs.Handles.{time_of, data_of, asked, found_node};
@@ -15,22 +13,21 @@ ghost use Rattle.journal_filestore.specs.Operations.{Op, file_target, create_cas
 ghost use Rattle.journal_filestore.specs.Operations.Call.{create};
 ghost use Rattle.journal_filestore.specs.Operations.Reply.{made};
 
+use crate::blocks::{more_of, take_blocks, write_file};
 use crate::find::{Place, find};
 use crate::name::number_of;
-use crate::objects::{read_bit, read_node, write_bit, write_block, write_node};
+use crate::objects::read_node;
 use crate::operation::{GivenUp, Operation};
 use crate::reply::{attributes_of, root_attributes};
 use crate::set_file::{is_no_time, is_too_big, set_file, time_after};
 use crate::space::Space;
 use crate::store::{Answer, FileFault, FileTxn};
 use crate::{FileStore, Found, Handle, How, Settings, Soon, Status};
-use journal_alloc::Alloc;
 use journal_disk::BlockDisk;
 use journal_history::{Naming, Session};
-use journal_inode::{FileNode, MORE_BLOCKS, Node, SoundFiles, Time};
-use journal_world::{Kind, Moment};
-use std::alloc::Global;
-use std::sync::{Mutex, Wait};
+use journal_inode::{FileNode, Node, SoundFiles, Time, Version};
+use journal_world::{BLOCK_BYTES, Moment};
+use std::sync::Wait;
 
 // A file of a name, made or set.
 #[derive(Drop)]
@@ -39,14 +36,12 @@ pub(crate) struct Create<'a> {
     name: &'a [u8],
     how: How,
     moment: Moment,
-    free: &'a Mutex<Alloc>,
-    alloc: Global,
 }
 
-impl<'a, J: Naming> Operation<J> for Create<'a> {
+impl<'a, J: Naming, V: Version> Operation<J, V> for Create<'a> {
     type Reply = Found;
 
-    ghost case = { λ w F r F2. (room : Bool) × ((r, F2) ≡ create_case room w.name.now w.how (time_of w.moment) F (file_target F w.directory.number w.directory.generation)) };
+    ghost case = { λ w F r F2. (room : Bool) × ((r, F2) ≡ create_case V.VERSION room w.name.now w.how (time_of w.moment) F (file_target F w.directory.number w.directory.generation)) };
 
     ghost is_waiting = { λ w. true };
 
@@ -57,9 +52,9 @@ impl<'a, J: Naming> Operation<J> for Create<'a> {
     fn attempt<'j, 'b, D: BlockDisk, W: Wait>(
         &self,
         rt: &W,
-        txn: &mut FileTxn<'j, 'b, D, J>,
+        txn: &mut FileTxn<'j, 'b, D, J, V>,
         space: &mut Space,
-    ) -> Result<Answer<Found>, GivenUp<'b, J>> {
+    ) -> Result<Answer<Found>, GivenUp<'b, J, V>> {
         let root = match find(rt, txn, self.directory)? {
             Place::Gone => return Ok(Err(Status::Stale)),
             Place::Regular(_) => return Ok(Err(Status::NotDirectory)),
@@ -76,7 +71,7 @@ impl<'a, J: Naming> Operation<J> for Create<'a> {
         }
         match read_node(rt, txn, number)? {
             Node::Free(last) => self.make(rt, txn, space, root, number, last, settings),
-            Node::File(file) => self.set(rt, txn, root, number, file, settings, is_guarded),
+            Node::File(file) => self.set(rt, txn, space, root, number, file, settings, is_guarded),
             Node::Root(_) => Ok(Err(Status::Exists)),
         }
     }
@@ -95,77 +90,80 @@ fn asked(how: How) -> Option<(Settings, bool)>
 
 impl<'a> Create<'a> {
     // The file is there, and is set, where it may be there.
-    fn set<'j, 'b, D: BlockDisk, J: Naming, W: Wait>(
+    fn set<'j, 'b, D: BlockDisk, J: Naming, V: Version, W: Wait>(
         &self,
         rt: &W,
-        txn: &mut FileTxn<'j, 'b, D, J>,
+        txn: &mut FileTxn<'j, 'b, D, J, V>,
+        space: &mut Space,
         root: Time,
         number: u32,
         file: FileNode,
         settings: Settings,
         is_guarded: bool,
-    ) -> Result<Answer<Found>, GivenUp<'b, J>>
+    ) -> Result<Answer<Found>, GivenUp<'b, J, V>>
         requires number { is_file_number number ≡ true }
         requires fits { Fits (File file) }
+        requires whole { file.size ≤ most_bytes V.VERSION }
         requires timed { is_no_time settings.mtime ≡ false }
-        requires unread { FIRST_DATA ≤ file.block → IsNotYetRead txn.old (block file.block) }
+        requires space { space.old.taken.items ≡ [] }
+        requires unread { HasReadNoData txn.old }
         requires writes { txn.old.writes ≡ [] }
-        ensures makes { IfOk result (λ answer. Makes One J.blocks txn.old txn.new (λ m n. node_at m number ≡ File file → (files_of One m).root ≡ root
-            → Leads One n answer (create_file true is_guarded settings (time_of self.now.moment) (files_of One m) number (Some (data_of One m file))))) }
+        ensures makes { IfOk result (λ answer. Makes V.VERSION J.blocks txn.old txn.new (λ m n. node_at m number ≡ File file → (files_of V.VERSION m).root ≡ root
+            → (room : Bool) × Leads V.VERSION n answer (create_file V.VERSION room is_guarded settings (time_of self.now.moment) (files_of V.VERSION m) number (Some (data_of V.VERSION m file))))) }
         ensures refusal { IfErr result IsGivenUp }
     {
         if is_guarded {
             return Ok(Err(Status::Exists));
         }
-        if is_too_big(settings.size) {
+        if is_too_big(V::VERSION, settings.size) {
             return Ok(Err(Status::TooBig));
         }
-        let after = set_file(rt, txn, number, file, settings, self.moment)?;
-        Ok(Ok(found(number, after, root)))
+        match set_file(rt, txn, space, number, file, settings, self.moment)? {
+            None => Ok(Err(Status::NoSpace)),
+            Some(after) => Ok(Ok(found(number, after, root))),
+        }
     }
 
-    // The number is free, and gets a file, in a block that is free.
-    fn make<'j, 'b, D: BlockDisk, J: Naming, W: Wait>(
+    // The number is free, and gets a file, in blocks that are free.
+    fn make<'j, 'b, D: BlockDisk, J: Naming, V: Version, W: Wait>(
         &self,
         rt: &W,
-        txn: &mut FileTxn<'j, 'b, D, J>,
+        txn: &mut FileTxn<'j, 'b, D, J, V>,
         space: &mut Space,
         root: Time,
         number: u32,
         last: u32,
         settings: Settings,
-    ) -> Result<Answer<Found>, GivenUp<'b, J>>
+    ) -> Result<Answer<Found>, GivenUp<'b, J, V>>
         requires number { is_file_number number ≡ true }
         requires timed { is_no_time settings.mtime ≡ false }
-        requires unread { (k : ℕ) → k < BLOCK_BITS → IsNotYetRead txn.old (bit k) }
+        requires space { space.old.taken.items ≡ [] }
+        requires unread { HasReadNoData txn.old }
         requires writes { txn.old.writes ≡ [] }
-        ensures makes { IfOk result (λ answer. Makes One J.blocks txn.old txn.new (λ m n. node_at m number ≡ Free last → (files_of One m).root ≡ root
-            → (room : Bool) × Leads One n answer (create_new room settings (time_of self.now.moment) (files_of One m) number))) }
+        ensures makes { IfOk result (λ answer. Makes V.VERSION J.blocks txn.old txn.new (λ m n. node_at m number ≡ Free last → (files_of V.VERSION m).root ≡ root
+            → (room : Bool) × Leads V.VERSION n answer (create_new V.VERSION room settings (time_of self.now.moment) (files_of V.VERSION m) number))) }
         ensures refusal { IfErr result IsGivenUp }
     {
-        if is_too_big(settings.size) {
+        if is_too_big(V::VERSION, settings.size) {
             return Ok(Err(Status::TooBig));
         }
         if last == u32::MAX {
             return Ok(Err(Status::NoSpace));
         }
-        let Some(block) = space.take(rt, self.free) else {
-            return Ok(Err(Status::NoSpace));
-        };
-        if read_bit(rt, txn, block)? {
+        let size = settings.size.unwrap_or(0);
+        let count = 1 + V::VERSION.more_count(size);
+        if !take_blocks(rt, txn, space, count)? {
             return Ok(Err(Status::NoSpace));
         }
         let file = FileNode {
             generation: last + 1,
-            size: settings.size.unwrap_or(0),
-            block,
-            more: [0; MORE_BLOCKS],
+            size,
+            block: space.taken[0],
+            more: more_of(&space.taken[1..], &[]),
             mtime: time_after(settings, self.moment, Time::at(self.moment)),
         };
-        let zeros = Kind::Block.zeros(self.alloc)?;
-        write_block(rt, txn, block, zeros.bytes())?;
-        write_bit(rt, txn, block, true)?;
-        write_node(rt, txn, number, &Node::File(file))?;
+        let zeros = vec![in space.alloc; 0; count * BLOCK_BYTES]?;
+        write_file(rt, txn, number, file, &space.taken, &space.taken, &zeros)?;
         Ok(Ok(found(number, file, root)))
     }
 }
@@ -181,7 +179,7 @@ fn found(number: u32, file: FileNode, root: Time) -> Found
     }
 }
 
-impl<'b, D: BlockDisk, J: Naming> FileStore<'b, D, J> {
+impl<'b, D: BlockDisk, J: Naming, V: Version> FileStore<'b, D, J, V> {
     /// CREATE (RFC 1813, 3.3.8): makes a file of a name in the root, of the size given or none and all zeros, with a
     /// generation that no file of its number had; or sets the file, where it is there and `how` allows it. It waits
     /// until it is stable.
@@ -189,18 +187,18 @@ impl<'b, D: BlockDisk, J: Naming> FileStore<'b, D, J> {
     /// The first that holds is answered: `Stale` where the handle's file was removed; `NotDirectory` where it is a
     /// file's; `NotSupported` for `Exclusive`; `Invalid` where the name is not `f` and three digits, from `f002` to `f511`,
     /// or a time is given that is none; `Exists` where the file is there and `how` is `Guarded`; `TooBig` where the size is
-    /// above `FILE_BYTES`; `NoSpace` where no block is handed out, or the number's generation is at its greatest. Blocks
-    /// that calls at work hold are not handed out, so `NoSpace` may come while one is free.
+    /// above what a file of the version has; `NoSpace` where its blocks are not handed out, or the number's generation is at
+    /// its greatest. Blocks that calls at work hold are not handed out, so `NoSpace` may come while one is free.
     pub fn create<W: Wait>(
         &self,
         rt: &W,
-        session: &mut Session<'b, J, SoundFiles>,
+        session: &mut Session<'b, J, SoundFiles<V>>,
         directory: Handle,
         name: &[u8],
         how: How,
         now: Moment,
-    ) -> Result<Answer<Found>, FileFault<'b, J>>
-        ensures answered { IsAnswered true (λ F r F2. Op (create directory.number directory.generation name.now how) (time_of now) F (made r) F2) session.old session.new result }
+    ) -> Result<Answer<Found>, FileFault<'b, J, V>>
+        ensures answered { IsAnswered V.VERSION true (λ F r F2. Op V.VERSION (create directory.number directory.generation name.now how) (time_of now) F (made r) F2) session.old session.new result }
         ensures refusal { IfErr result (IsFaultOf session.new) }
     {
         let create = Create {
@@ -208,8 +206,6 @@ impl<'b, D: BlockDisk, J: Naming> FileStore<'b, D, J> {
             name,
             how,
             moment: now,
-            free: &self.free,
-            alloc: self.alloc,
         };
         self.run(rt, session, &create)
     }
@@ -219,13 +215,13 @@ impl<'b, D: BlockDisk, J: Naming> FileStore<'b, D, J> {
     pub fn create_soon<W: Wait>(
         &self,
         rt: &W,
-        session: &mut Session<'b, J, SoundFiles>,
+        session: &mut Session<'b, J, SoundFiles<V>>,
         directory: Handle,
         name: &[u8],
         how: How,
         now: Moment,
-    ) -> Soon<'b, J, Found>
-        ensures answered { IsAnsweredSoon true (λ F r F2. Op (create directory.number directory.generation name.now how) (time_of now) F (made r) F2) session.old session.new result }
+    ) -> Soon<'b, J, Found, V>
+        ensures answered { IsAnsweredSoon V.VERSION true (λ F r F2. Op V.VERSION (create directory.number directory.generation name.now how) (time_of now) F (made r) F2) session.old session.new result }
         ensures refusal { IfErr result IsFilesRefusal }
     {
         let create = Create {
@@ -233,8 +229,6 @@ impl<'b, D: BlockDisk, J: Naming> FileStore<'b, D, J> {
             name,
             how,
             moment: now,
-            free: &self.free,
-            alloc: self.alloc,
         };
         self.run_soon(rt, session, &create)
     }

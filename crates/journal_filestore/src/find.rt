@@ -1,8 +1,7 @@
 // What a handle names.
 ghost use Rattle.std.specs.Prelude.{◌≡◌, [], IfOk, IfErr, OnOk};
-ghost use Rattle.journal_inode.specs.declared.version.FormatVersion.TheVariants.{One};
 ghost use Rattle.journal_inode.specs.Places.Object.{inode};
-ghost use Rattle.journal_filestore.specs.Doing.{LearnsThat, ReadsOnly};
+ghost use Rattle.journal_filestore.specs.Doing.{LearnsThat, ReadsOnly, HasReadNoData};
 ghost use Rattle.journal_filestore.specs.Faults.{IsGivenUp};
 ghost use Rattle.journal_filestore.specs.Handles.{IsAt, IsPlace, place_of};
 
@@ -12,7 +11,7 @@ use crate::operation::GivenUp;
 use crate::store::FileTxn;
 use journal_disk::BlockDisk;
 use journal_history::Naming;
-use journal_inode::{FileNode, Node, Time};
+use journal_inode::{FileNode, Node, Time, Version};
 use std::sync::Wait;
 
 // What a handle names.
@@ -27,16 +26,17 @@ pub enum Place {
 }
 
 // Finds what a handle names, as a transaction's first step.
-pub(crate) fn find<'j, 'b, D: BlockDisk, J: Naming, W: Wait>(
+pub(crate) fn find<'j, 'b, D: BlockDisk, J: Naming, V: Version, W: Wait>(
     rt: &W,
-    txn: &mut FileTxn<'j, 'b, D, J>,
+    txn: &mut FileTxn<'j, 'b, D, J, V>,
     handle: Handle,
-) -> Result<Place, GivenUp<'b, J>>
+) -> Result<Place, GivenUp<'b, J, V>>
     requires reads { txn.old.reads ≡ [] }
     requires writes { txn.old.writes ≡ [] }
-    ensures told { IfOk result (λ place. LearnsThat One J.blocks txn.old txn.new (λ m. IsAt One handle.number handle.generation m place)) }
+    ensures told { IfOk result (λ place. LearnsThat V.VERSION J.blocks txn.old txn.new (λ m. IsAt V.VERSION handle.number handle.generation m place)) }
     ensures reads { OnOk result (ReadsOnly txn.old txn.new (inode handle.number)) }
-    ensures fits { IfOk result (IsPlace handle.number) }
+    ensures no_data { OnOk result (HasReadNoData txn.new) }
+    ensures fits { IfOk result (IsPlace V.VERSION handle.number) }
     ensures refusal { IfErr result IsGivenUp }
 {
     let node = read_node(rt, txn, handle.number)?;

@@ -15,7 +15,7 @@ use crate::store::{Answer, FileFault, FileTxn};
 use crate::{Attributes, FileStore, Handle, Status};
 use journal_disk::BlockDisk;
 use journal_history::{Naming, Session};
-use journal_inode::SoundFiles;
+use journal_inode::{SoundFiles, Version};
 use std::sync::Wait;
 
 // The attributes of what a handle names.
@@ -24,7 +24,7 @@ pub(crate) struct GetAttr {
     handle: Handle,
 }
 
-impl<J: Naming> Operation<J> for GetAttr {
+impl<J: Naming, V: Version> Operation<J, V> for GetAttr {
     type Reply = Attributes;
 
     ghost case = { λ w F r F2. (r, F2) ≡ getattr_case F (file_target F w.handle.number w.handle.generation) };
@@ -38,9 +38,9 @@ impl<J: Naming> Operation<J> for GetAttr {
     fn attempt<'j, 'b, D: BlockDisk, W: Wait>(
         &self,
         rt: &W,
-        txn: &mut FileTxn<'j, 'b, D, J>,
+        txn: &mut FileTxn<'j, 'b, D, J, V>,
         _space: &mut Space,
-    ) -> Result<Answer<Attributes>, GivenUp<'b, J>> {
+    ) -> Result<Answer<Attributes>, GivenUp<'b, J, V>> {
         match find(rt, txn, self.handle)? {
             Place::Gone => Ok(Err(Status::Stale)),
             Place::Directory(mtime) => Ok(Ok(root_attributes(mtime))),
@@ -49,17 +49,17 @@ impl<J: Naming> Operation<J> for GetAttr {
     }
 }
 
-impl<'b, D: BlockDisk, J: Naming> FileStore<'b, D, J> {
+impl<'b, D: BlockDisk, J: Naming, V: Version> FileStore<'b, D, J, V> {
     /// GETATTR (RFC 1813, 3.3.1): the attributes of a file or of the root.
     ///
     /// Answers `Stale` where the handle's file was removed. It does not wait until it is stable.
     pub fn getattr<W: Wait>(
         &self,
         rt: &W,
-        session: &mut Session<'b, J, SoundFiles>,
+        session: &mut Session<'b, J, SoundFiles<V>>,
         handle: Handle,
-    ) -> Result<Answer<Attributes>, FileFault<'b, J>>
-        ensures answered { IsAnswered false (λ F r F2. (now : Time) → Op (getattr handle.number handle.generation) now F (got r) F2) session.old session.new result }
+    ) -> Result<Answer<Attributes>, FileFault<'b, J, V>>
+        ensures answered { IsAnswered V.VERSION false (λ F r F2. (now : Time) → Op V.VERSION (getattr handle.number handle.generation) now F (got r) F2) session.old session.new result }
         ensures refusal { IfErr result (IsFaultOf session.new) }
     {
         self.run(rt, session, &GetAttr { handle })

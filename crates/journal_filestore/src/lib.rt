@@ -14,6 +14,7 @@
 //! operation, and `specs/Done.antt` what an operation is in the history.
 #![tactic(auto)]
 
+mod blocks;
 mod commit;
 mod create;
 mod fault;
@@ -41,6 +42,7 @@ pub use fault::Fault;
 pub use handle::Handle;
 pub use owed::{Committed, Owed, Soon};
 pub use portion::Portion;
+pub use read::READ_BYTES;
 pub use reply::{Attributes, Changed, Found};
 pub use settings::{How, NewTime, Settings, Stability};
 pub use status::Status;

@@ -17,7 +17,7 @@ use crate::store::{Answer, FileFault, FileTxn};
 use crate::{FileStore, Found, Handle, Status};
 use journal_disk::BlockDisk;
 use journal_history::{Naming, Session};
-use journal_inode::{Node, SoundFiles};
+use journal_inode::{Node, SoundFiles, Version};
 use std::sync::Wait;
 
 // A file by its name.
@@ -27,7 +27,7 @@ pub(crate) struct Lookup<'a> {
     name: &'a [u8],
 }
 
-impl<'a, J: Naming> Operation<J> for Lookup<'a> {
+impl<'a, J: Naming, V: Version> Operation<J, V> for Lookup<'a> {
     type Reply = Found;
 
     ghost case = { λ w F r F2. (r, F2) ≡ lookup_case w.name.now F (file_target F w.directory.number w.directory.generation) };
@@ -41,9 +41,9 @@ impl<'a, J: Naming> Operation<J> for Lookup<'a> {
     fn attempt<'j, 'b, D: BlockDisk, W: Wait>(
         &self,
         rt: &W,
-        txn: &mut FileTxn<'j, 'b, D, J>,
+        txn: &mut FileTxn<'j, 'b, D, J, V>,
         _space: &mut Space,
-    ) -> Result<Answer<Found>, GivenUp<'b, J>> {
+    ) -> Result<Answer<Found>, GivenUp<'b, J, V>> {
         let root = match find(rt, txn, self.directory)? {
             Place::Gone => return Ok(Err(Status::Stale)),
             Place::Regular(_) => return Ok(Err(Status::NotDirectory)),
@@ -63,7 +63,7 @@ impl<'a, J: Naming> Operation<J> for Lookup<'a> {
     }
 }
 
-impl<'b, D: BlockDisk, J: Naming> FileStore<'b, D, J> {
+impl<'b, D: BlockDisk, J: Naming, V: Version> FileStore<'b, D, J, V> {
     /// LOOKUP (RFC 1813, 3.3.3): the file of a name in the root.
     ///
     /// The first that holds is answered: `Stale` where the handle's file was removed, `NotDirectory` where it is a
@@ -71,11 +71,11 @@ impl<'b, D: BlockDisk, J: Naming> FileStore<'b, D, J> {
     pub fn lookup<W: Wait>(
         &self,
         rt: &W,
-        session: &mut Session<'b, J, SoundFiles>,
+        session: &mut Session<'b, J, SoundFiles<V>>,
         directory: Handle,
         name: &[u8],
-    ) -> Result<Answer<Found>, FileFault<'b, J>>
-        ensures answered { IsAnswered false (λ F r F2. (now : Time) → Op (lookup directory.number directory.generation name.now) now F (found r) F2) session.old session.new result }
+    ) -> Result<Answer<Found>, FileFault<'b, J, V>>
+        ensures answered { IsAnswered V.VERSION false (λ F r F2. (now : Time) → Op V.VERSION (lookup directory.number directory.generation name.now) now F (found r) F2) session.old session.new result }
         ensures refusal { IfErr result (IsFaultOf session.new) }
     {
         self.run(rt, session, &Lookup { directory, name })

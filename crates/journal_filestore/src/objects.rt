@@ -6,7 +6,6 @@ ghost use Rattle.journal_world.specs.declared.layout.TheConstants.{FIRST_DATA, B
 ghost use Rattle.journal_world.specs.Addresses.{is_value_of, is_valid, kind_of};
 ghost use Rattle.journal_world.specs.Maps.{is_object, is_value_at};
 ghost use Rattle.journal_twophase.specs.Transactions.{holding, ReadsValue, Overwrites};
-ghost use Rattle.journal_inode.specs.declared.version.FormatVersion.TheVariants.{One};
 ghost use Rattle.journal_inode.specs.declared.place.TheConstants.{INODES};
 ghost use Rattle.journal_inode.specs.declared.node.TheConstants.{NODE_BYTES};
 ghost use Rattle.journal_inode.specs.Places.{object};
@@ -14,22 +13,23 @@ ghost use Rattle.journal_inode.specs.Places.Object.{bit, inode, block};
 ghost use Rattle.journal_inode.specs.Nodes.{inode_bytes, Fits};
 ghost use Rattle.journal_inode.specs.Sound.{node_at};
 ghost use Rattle.journal_filestore.specs.Faults.{IsGivenUp};
-ghost use Rattle.journal_filestore.specs.Doing.{LearnsThat, WritesObject, IsNotYetRead, ReadsOnly};
+ghost use Rattle.journal_filestore.specs.Handles.{IsSmall};
+ghost use Rattle.journal_filestore.specs.Doing.{LearnsThat, WritesObject, IsNotYetRead, ReadsOnly, HasReadNoData, HasBit};
 
 use crate::operation::{AttemptFault, GivenUp};
 use crate::store::FileTxn;
 use journal_disk::BlockDisk;
 use journal_history::Naming;
-use journal_inode::{Node, bit_addr, block_addr, inode_addr};
+use journal_inode::{FormatVersion, Node, Version, bit_addr, block_addr, inode_addr};
 use journal_world::{Addr, BLOCK_BITS, FIRST_DATA, Refusal, Value};
 use std::sync::Wait;
 
 // Reads an address, as `Txn::read` does.
-fn read<'j, 'b, D: BlockDisk, J: Naming, W: Wait>(
+fn read<'j, 'b, D: BlockDisk, J: Naming, V: Version, W: Wait>(
     rt: &W,
-    txn: &mut FileTxn<'j, 'b, D, J>,
+    txn: &mut FileTxn<'j, 'b, D, J, V>,
     addr: Addr,
-) -> Result<Value, GivenUp<'b, J>>
+) -> Result<Value, GivenUp<'b, J, V>>
     ensures reads { IfOk result (λ value. ReadsValue (holding txn.old addr) addr value txn.new) }
     ensures object { IfOk result (λ value. IsTrue (is_object J.blocks (addr, value))) }
     ensures refusal { IfErr result IsGivenUp }
@@ -41,12 +41,12 @@ fn read<'j, 'b, D: BlockDisk, J: Naming, W: Wait>(
 }
 
 // Overwrites an address, as `Txn::overwrite` does.
-fn overwrite<'j, 'b, D: BlockDisk, J: Naming, W: Wait>(
+fn overwrite<'j, 'b, D: BlockDisk, J: Naming, V: Version, W: Wait>(
     rt: &W,
-    txn: &mut FileTxn<'j, 'b, D, J>,
+    txn: &mut FileTxn<'j, 'b, D, J, V>,
     addr: Addr,
     bytes: &[u8],
-) -> Result<(), GivenUp<'b, J>>
+) -> Result<(), GivenUp<'b, J, V>>
     requires kind { IsTrue (is_valid J.blocks addr) → is_value_at (kind_of J.blocks addr.block) bytes.now ≡ true }
     ensures overwrites { OnOk result (Overwrites (holding txn.old addr) addr bytes.now txn.new) }
     ensures object { OnOk result (IsTrue (is_object J.blocks (addr, bytes.now))) }
@@ -59,32 +59,49 @@ fn overwrite<'j, 'b, D: BlockDisk, J: Naming, W: Wait>(
 }
 
 // Reads an inode.
-pub(crate) fn read_node<'j, 'b, D: BlockDisk, J: Naming, W: Wait>(
+pub(crate) fn read_node<'j, 'b, D: BlockDisk, J: Naming, V: Version, W: Wait>(
     rt: &W,
-    txn: &mut FileTxn<'j, 'b, D, J>,
+    txn: &mut FileTxn<'j, 'b, D, J, V>,
     number: u32,
-) -> Result<Node, GivenUp<'b, J>>
+) -> Result<Node, GivenUp<'b, J, V>>
     requires number { number < INODES }
     requires unread { IsNotYetRead txn.old (inode number) }
     requires writes { txn.old.writes ≡ [] }
-    ensures told { IfOk result (λ node. LearnsThat One J.blocks txn.old txn.new (λ m. node_at m number ≡ node)) }
+    ensures told { IfOk result (λ node. LearnsThat V.VERSION J.blocks txn.old txn.new (λ m. node_at m number ≡ node)) }
     ensures reads { OnOk result (ReadsOnly txn.old txn.new (inode number)) }
+    ensures no_data { OnOk result (HasReadNoData txn.old → HasReadNoData txn.new) }
     ensures fits { IfOk result Fits }
+    ensures small { IfOk result (IsSmall V.VERSION) }
     ensures refusal { IfErr result IsGivenUp }
 {
     let value = read(rt, txn, inode_addr(number))?;
-    Ok(Node::read(value.bytes()))
+    let node = Node::read(value.bytes());
+    if !is_small(V::VERSION, node) {
+        return Err(AttemptFault::Refused(Refusal::BadAddress));
+    }
+    Ok(node)
+}
+
+// Whether a file has no more bytes than its inode has blocks for.
+fn is_small(version: FormatVersion, node: Node) -> bool
+    ensures { IsTrue result ↔ IsSmall version node }
+{
+    match node {
+        Node::File(file) => file.size <= version.most_bytes(),
+        _ => true,
+    }
 }
 
 // Reads a data block.
-pub(crate) fn read_block<'j, 'b, D: BlockDisk, J: Naming, W: Wait>(
+pub(crate) fn read_block<'j, 'b, D: BlockDisk, J: Naming, V: Version, W: Wait>(
     rt: &W,
-    txn: &mut FileTxn<'j, 'b, D, J>,
+    txn: &mut FileTxn<'j, 'b, D, J, V>,
     number: u64,
-) -> Result<Value, GivenUp<'b, J>>
+) -> Result<Value, GivenUp<'b, J, V>>
     requires unread { FIRST_DATA ≤ number → IsNotYetRead txn.old (block number) }
     requires writes { txn.old.writes ≡ [] }
-    ensures told { IfOk result (λ value. LearnsThat One J.blocks txn.old txn.new (λ m. object m (block number) ≡ value)) }
+    ensures told { IfOk result (λ value. LearnsThat V.VERSION J.blocks txn.old txn.new (λ m. object m (block number) ≡ value)) }
+    ensures reads { OnOk result (ReadsOnly txn.old txn.new (block number)) }
     ensures whole { IfOk result (λ value. length value ≡ 4096) }
     ensures data_block { OnOk result (FIRST_DATA ≤ number) }
     ensures refusal { IfErr result IsGivenUp }
@@ -96,16 +113,17 @@ pub(crate) fn read_block<'j, 'b, D: BlockDisk, J: Naming, W: Wait>(
 }
 
 // Reads the bit of a data block: whether it is set.
-pub(crate) fn read_bit<'j, 'b, D: BlockDisk, J: Naming, W: Wait>(
+pub(crate) fn read_bit<'j, 'b, D: BlockDisk, J: Naming, V: Version, W: Wait>(
     rt: &W,
-    txn: &mut FileTxn<'j, 'b, D, J>,
+    txn: &mut FileTxn<'j, 'b, D, J, V>,
     number: u64,
-) -> Result<bool, GivenUp<'b, J>>
-    requires unread { (k : ℕ) → k < BLOCK_BITS → IsNotYetRead txn.old (bit k) }
+) -> Result<bool, GivenUp<'b, J, V>>
+    requires unread { HasBit number → IsNotYetRead txn.old (bit (number - FIRST_DATA)) }
     requires writes { txn.old.writes ≡ [] }
-    ensures told { IfOk result (λ is_set. LearnsThat One J.blocks txn.old txn.new
+    ensures told { IfOk result (λ is_set. LearnsThat V.VERSION J.blocks txn.old txn.new
         (λ m. object m (bit (number - FIRST_DATA)) ≡ (if is_set then 1 else 0) ∷ [])) }
-    ensures data_block { OnOk result (FIRST_DATA ≤ number) }
+    ensures reads { OnOk result (ReadsOnly txn.old txn.new (bit (number - FIRST_DATA))) }
+    ensures data_block { OnOk result (HasBit number) }
     ensures refusal { IfErr result IsGivenUp }
 {
     if !has_bit(number) {
@@ -116,12 +134,12 @@ pub(crate) fn read_bit<'j, 'b, D: BlockDisk, J: Naming, W: Wait>(
 }
 
 // Overwrites an inode.
-pub(crate) fn write_node<'j, 'b, D: BlockDisk, J: Naming, W: Wait>(
+pub(crate) fn write_node<'j, 'b, D: BlockDisk, J: Naming, V: Version, W: Wait>(
     rt: &W,
-    txn: &mut FileTxn<'j, 'b, D, J>,
+    txn: &mut FileTxn<'j, 'b, D, J, V>,
     number: u32,
     node: &Node,
-) -> Result<(), GivenUp<'b, J>>
+) -> Result<(), GivenUp<'b, J, V>>
     requires { number < INODES }
     ensures writes { OnOk result (WritesObject J.blocks txn.old txn.new (inode number) (inode_bytes node.now)) }
     ensures refusal { IfErr result IsGivenUp }
@@ -130,12 +148,12 @@ pub(crate) fn write_node<'j, 'b, D: BlockDisk, J: Naming, W: Wait>(
 }
 
 // Overwrites an inode by its bytes.
-fn write_inode<'j, 'b, D: BlockDisk, J: Naming, W: Wait>(
+fn write_inode<'j, 'b, D: BlockDisk, J: Naming, V: Version, W: Wait>(
     rt: &W,
-    txn: &mut FileTxn<'j, 'b, D, J>,
+    txn: &mut FileTxn<'j, 'b, D, J, V>,
     number: u32,
     bytes: &[u8],
-) -> Result<(), GivenUp<'b, J>>
+) -> Result<(), GivenUp<'b, J, V>>
     requires number { number < INODES }
     requires whole { length bytes.now ≡ NODE_BYTES }
     ensures writes { OnOk result (WritesObject J.blocks txn.old txn.new (inode number) bytes.now) }
@@ -145,12 +163,12 @@ fn write_inode<'j, 'b, D: BlockDisk, J: Naming, W: Wait>(
 }
 
 // Overwrites a data block.
-pub(crate) fn write_block<'j, 'b, D: BlockDisk, J: Naming, W: Wait>(
+pub(crate) fn write_block<'j, 'b, D: BlockDisk, J: Naming, V: Version, W: Wait>(
     rt: &W,
-    txn: &mut FileTxn<'j, 'b, D, J>,
+    txn: &mut FileTxn<'j, 'b, D, J, V>,
     number: u64,
     bytes: &[u8],
-) -> Result<(), GivenUp<'b, J>>
+) -> Result<(), GivenUp<'b, J, V>>
     requires whole { length bytes.now ≡ BLOCK_BYTES }
     ensures writes { OnOk result (WritesObject J.blocks txn.old txn.new (block number) bytes.now) }
     ensures refusal { IfErr result IsGivenUp }
@@ -162,12 +180,12 @@ pub(crate) fn write_block<'j, 'b, D: BlockDisk, J: Naming, W: Wait>(
 }
 
 // Overwrites the bit of a data block.
-pub(crate) fn write_bit<'j, 'b, D: BlockDisk, J: Naming, W: Wait>(
+pub(crate) fn write_bit<'j, 'b, D: BlockDisk, J: Naming, V: Version, W: Wait>(
     rt: &W,
-    txn: &mut FileTxn<'j, 'b, D, J>,
+    txn: &mut FileTxn<'j, 'b, D, J, V>,
     number: u64,
     is_set: bool,
-) -> Result<(), GivenUp<'b, J>>
+) -> Result<(), GivenUp<'b, J, V>>
     ensures writes { OnOk result (WritesObject J.blocks txn.old txn.new (bit (number - FIRST_DATA)) ((if is_set then 1 else 0) ∷ [])) }
     ensures refusal { IfErr result IsGivenUp }
 {
@@ -179,7 +197,7 @@ pub(crate) fn write_bit<'j, 'b, D: BlockDisk, J: Naming, W: Wait>(
 
 // Whether a bit of the bitmap may belong to the block.
 fn has_bit(number: u64) -> bool
-    ensures { IsTrue result ↔ ((FIRST_DATA ≤ number) × (number < FIRST_DATA + BLOCK_BITS)) }
+    ensures { IsTrue result ↔ HasBit number }
 {
     FIRST_DATA <= number && number < FIRST_DATA + u64::from(BLOCK_BITS)
 }

@@ -4,14 +4,13 @@ ghost use Rattle.journal_filestore.specs.declared.status.Status.{Status};
 ghost use Rattle.journal_filestore.specs.Files.{Files};
 ghost use Rattle.journal_filestore.specs.Doing.{Does};
 ghost use Rattle.journal_filestore.specs.Faults.{IsGivenUp, fault_at};
-ghost use Rattle.journal_inode.specs.declared.version.FormatVersion.TheVariants.{One};
 
 use crate::space::Space;
 use crate::store::{Answer, FileTxn};
 use journal_core::Cause;
 use journal_disk::BlockDisk;
 use journal_history::Naming;
-use journal_inode::SoundFiles;
+use journal_inode::{SoundFiles, Version};
 use journal_world::{Addr, Refusal};
 use std::alloc::AllocError;
 use std::sync::Wait;
@@ -26,7 +25,7 @@ pub enum AttemptFault<C> {
 }
 
 // Why an attempt at an operation on files is given up.
-pub(crate) type GivenUp<'b, J> = AttemptFault<Cause<'b, J, SoundFiles>>;
+pub(crate) type GivenUp<'b, J, V> = AttemptFault<Cause<'b, J, SoundFiles<V>>>;
 
 impl<C> AttemptFault<C> {
     // What a call that asked for the address was refused by.
@@ -52,7 +51,7 @@ impl<C> From<AllocError> for AttemptFault<C> {
 }
 
 // An operation: what one attempt at it reads and overwrites, and which case it then answers.
-pub(crate) trait Operation<J: Naming> {
+pub(crate) trait Operation<J: Naming, V: Version> {
     type Reply: Drop;
 
     // The answer fits the files before and after.
@@ -69,11 +68,12 @@ pub(crate) trait Operation<J: Naming> {
     fn attempt<'j, 'b, D: BlockDisk, W: Wait>(
         &self,
         rt: &W,
-        txn: &mut FileTxn<'j, 'b, D, J>,
+        txn: &mut FileTxn<'j, 'b, D, J, V>,
         space: &mut Space,
-    ) -> Result<Answer<Self::Reply>, GivenUp<'b, J>>
+    ) -> Result<Answer<Self::Reply>, GivenUp<'b, J, V>>
         requires reads { txn.old.reads ≡ [] }
         requires writes { txn.old.writes ≡ [] }
-        ensures does { IfOk result (Does One J.blocks (case self.now) txn.new.reads txn.new.writes) }
+        requires space { space.old.taken.items ≡ [] }
+        ensures does { IfOk result (Does V.VERSION J.blocks (case self.now) txn.new.reads txn.new.writes) }
         ensures refusal { IfErr result IsGivenUp };
 }

@@ -2,7 +2,7 @@
 use crate::store::Answer;
 use journal_core::Cause;
 use journal_history::Receipt;
-use journal_inode::SoundFiles;
+use journal_inode::{SoundFiles, VersionOne};
 use journal_world::Refusal;
 
 /// What is owed for an operation that is committed, before its answer may be told.
@@ -24,7 +24,7 @@ pub struct Committed<A, P> {
 }
 
 /// What an operation comes to that is not waited for: committed, or refused by the journal, without a commit.
-pub type Soon<'b, J, A> = Result<
-    Committed<A, Receipt<'b, J, SoundFiles>>,
-    Refusal<Cause<'b, J, SoundFiles>>,
+pub type Soon<'b, J, A, V = VersionOne> = Result<
+    Committed<A, Receipt<'b, J, SoundFiles<V>>>,
+    Refusal<Cause<'b, J, SoundFiles<V>>>,
 >;

@@ -1,48 +1,49 @@
 // What READ answers.
-ghost use Rattle.std.specs.Prelude.{◌≡◌, ◌≤◌, length, slice_range};
+ghost use Rattle.std.specs.Prelude.{◌≡◌, ◌≤◌, ◌-◌, length, slice_range};
+ghost use Rattle.journal_filestore.specs.declared.read.TheConstants.{READ_BYTES};
 
 use crate::Attributes;
-use journal_world::Value;
 use std::marker::Model;
 
-/// A portion of a file, with the file's attributes. It holds the file's block, and lends what was asked for.
+/// A portion of a file, with the file's attributes. It holds blocks of the file, and lends what was asked for.
 #[derive(Debug, Drop)]
 pub struct Portion {
     file: Attributes,
-    block: Value,
+    blocks: Vec<u8>,
     from: usize,
     to: usize,
     is_end: bool,
 }
 
 impl Model for Portion {
-    ghost use Rattle.std.specs.Prelude.{◌≤◌, length, slice_range};
+    ghost use Rattle.std.specs.Prelude.{◌≤◌, ◌-◌, length, slice_range};
+    ghost use Rattle.journal_filestore.specs.declared.read.TheConstants.{READ_BYTES};
     ghost use Rattle.journal_filestore.specs.Operations.{PortionState};
 
     ghost Value = { PortionState };
 
-    ghost view = { λ p. record { file = p.file; bytes = slice_range p.block p.from p.to; is_end = p.is_end } };
+    ghost view = { λ p. record { file = p.file; bytes = slice_range p.blocks.items p.from p.to; is_end = p.is_end } };
 
-    ghost invariant = { λ p. (p.from ≤ p.to) × (p.to ≤ length p.block) × (length p.block ≤ 4096) };
+    ghost invariant = { λ p. (p.from ≤ p.to) × (p.to ≤ length p.blocks.items) × (p.to - p.from ≤ READ_BYTES) };
 }
 
 impl Portion {
-    // The bytes of a block from one place to another.
+    // The bytes of blocks from one place to another.
     pub(crate) fn new(
         file: Attributes,
-        block: Value,
+        blocks: Vec<u8>,
         from: usize,
         to: usize,
         is_end: bool,
     ) -> Portion
         requires in_order { from ≤ to }
-        requires in_range { to ≤ length block }
-        requires short { length block ≤ 4096 }
-        ensures { result ≡ record { file = file; bytes = slice_range block from to; is_end = is_end } }
+        requires in_range { to ≤ length blocks.items }
+        requires short { to - from ≤ READ_BYTES }
+        ensures { result ≡ record { file = file; bytes = slice_range blocks.items from to; is_end = is_end } }
     {
         Portion {
             file,
-            block,
+            blocks,
             from,
             to,
             is_end,
@@ -59,9 +60,9 @@ impl Portion {
     /// The bytes.
     pub fn bytes(&self) -> &[u8]
         ensures bytes { result.now ≡ self.now.bytes }
-        ensures short { length self.now.bytes ≤ 4096 }
+        ensures short { length self.now.bytes ≤ READ_BYTES }
     {
-        &self.block.bytes()[self.from..self.to]
+        &self.blocks[self.from..self.to]
     }
 
     /// Whether they reach the file's end.

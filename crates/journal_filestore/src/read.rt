@@ -1,25 +1,29 @@
 // READ.
-ghost use Rattle.std.specs.Prelude.{◌≡◌, ◌≤◌, ◌-◌, false, min, IfErr};
+ghost use Rattle.std.specs.Prelude.{◌≡◌, ◌≤◌, ◌-◌, false, IfErr};
 ghost use Rattle.journal_inode.specs.declared.node.Time.{Time};
+ghost use Rattle.journal_inode.specs.Versions.{most_bytes};
 ghost use Rattle.journal_filestore.specs.Done.{IsAnswered};
 ghost use Rattle.journal_filestore.specs.Faults.{IsFaultOf};
-ghost use Rattle.journal_filestore.specs.Operations.{Op, file_target, read_case};
+ghost use Rattle.journal_filestore.specs.Operations.{Op, file_target, portion_length, read_case};
 ghost use Rattle.journal_filestore.specs.Operations.Call.{read};
 ghost use Rattle.journal_filestore.specs.Operations.Reply.{bytes_read};
 
+use crate::blocks::read_blocks;
 use crate::find::{Place, find};
-use crate::objects::read_block;
-use crate::operation::{AttemptFault, GivenUp, Operation};
+use crate::operation::{GivenUp, Operation};
 use crate::reply::attributes_of;
 use crate::space::Space;
 use crate::store::{Answer, FileFault, FileTxn};
 use crate::{FileStore, Handle, Portion, Status};
 use journal_disk::BlockDisk;
 use journal_history::{Naming, Session};
-use journal_inode::{FILE_BYTES, FileNode, SoundFiles};
-use journal_world::{Refusal, Value};
+use journal_inode::{FormatVersion, SoundFiles, Version};
+use journal_world::BLOCK_BYTES;
 use std::alloc::Global;
 use std::sync::Wait;
+
+/// The most bytes that one READ gives.
+pub const READ_BYTES: u64 = 8192;
 
 // A portion of a file.
 #[derive(Drop)]
@@ -30,10 +34,10 @@ pub(crate) struct Read {
     alloc: Global,
 }
 
-impl<J: Naming> Operation<J> for Read {
+impl<J: Naming, V: Version> Operation<J, V> for Read {
     type Reply = Portion;
 
-    ghost case = { λ w F r F2. (r, F2) ≡ read_case w.offset w.count F (file_target F w.handle.number w.handle.generation) };
+    ghost case = { λ w F r F2. (r, F2) ≡ read_case V.VERSION w.offset w.count F (file_target F w.handle.number w.handle.generation) };
 
     ghost is_waiting = { λ w. false };
 
@@ -44,53 +48,59 @@ impl<J: Naming> Operation<J> for Read {
     fn attempt<'j, 'b, D: BlockDisk, W: Wait>(
         &self,
         rt: &W,
-        txn: &mut FileTxn<'j, 'b, D, J>,
+        txn: &mut FileTxn<'j, 'b, D, J, V>,
         _space: &mut Space,
-    ) -> Result<Answer<Portion>, GivenUp<'b, J>> {
+    ) -> Result<Answer<Portion>, GivenUp<'b, J, V>> {
         let file = match find(rt, txn, self.handle)? {
             Place::Gone => return Ok(Err(Status::Stale)),
             Place::Directory(_) => return Ok(Err(Status::Invalid)),
             Place::Regular(file) => file,
         };
         let read = attributes_of(self.handle.number, file);
-        let length = length_read(file.size, self.offset, self.count);
+        let length = length_read(V::VERSION, file.size, self.offset, self.count);
         if length == 0 {
-            let nothing = Value::new(Vec::new(self.alloc));
+            let nothing = Vec::new(self.alloc);
             let is_end = self.offset >= file.size;
             return Ok(Ok(Portion::new(read, nothing, 0, 0, is_end)));
         }
-        let block = read_block(rt, txn, file.block)?;
         let end = self.offset + length;
-        if end > FILE_BYTES {
-            return Err(AttemptFault::Refused(Refusal::BadAddress));
-        }
+        let first = self.offset as usize / BLOCK_BYTES;
+        let after = (end as usize - 1) / BLOCK_BYTES + 1;
+        let blocks = read_blocks(rt, txn, &file.numbers()[first..after])?;
+        let from = self.offset as usize - first * BLOCK_BYTES;
         let is_end = end >= file.size;
-        Ok(Ok(Portion::new(read, block, self.offset as usize, end as usize, is_end)))
+        Ok(Ok(Portion::new(read, blocks, from, from + length as usize, is_end)))
     }
 }
 
-// How many bytes are read: what lies from the offset to the file's end, and no more than were asked for.
-fn length_read(size: u64, offset: u64, count: u32) -> u64
-    ensures value { result ≡ min count (size - offset) }
+// How many bytes are read: what lies from the offset to the file's end, and no more than were asked for, or than one call
+// reads.
+fn length_read(version: FormatVersion, size: u64, offset: u64, count: u32) -> u64
+    requires small { size ≤ most_bytes version }
+    ensures value { result ≡ portion_length version count (size - offset) }
+    ensures short { result ≤ READ_BYTES }
+    ensures within { result ≤ size - offset }
 {
-    size.saturating_sub(offset).min(u64::from(count))
+    u64::from(count)
+        .min(READ_BYTES)
+        .min(size.saturating_sub(offset))
 }
 
-impl<'b, D: BlockDisk, J: Naming> FileStore<'b, D, J> {
-    /// READ (RFC 1813, 3.3.6): the bytes of a file from an offset on, `count` of them or as many as there are, and
-    /// whether they reach its end. It changes no time.
+impl<'b, D: BlockDisk, J: Naming, V: Version> FileStore<'b, D, J, V> {
+    /// READ (RFC 1813, 3.3.6): the bytes of a file from an offset on, `count` of them or as many as there are, at most
+    /// `READ_BYTES`, and whether they reach its end. It changes no time.
     ///
     /// The first that holds is answered: `Stale` where the handle's file was removed, `Invalid` on the root. It does
     /// not wait until it is stable.
     pub fn read<W: Wait>(
         &self,
         rt: &W,
-        session: &mut Session<'b, J, SoundFiles>,
+        session: &mut Session<'b, J, SoundFiles<V>>,
         handle: Handle,
         offset: u64,
         count: u32,
-    ) -> Result<Answer<Portion>, FileFault<'b, J>>
-        ensures answered { IsAnswered false (λ F r F2. (now : Time) → Op (read handle.number handle.generation offset count) now F (bytes_read r) F2) session.old session.new result }
+    ) -> Result<Answer<Portion>, FileFault<'b, J, V>>
+        ensures answered { IsAnswered V.VERSION false (λ F r F2. (now : Time) → Op V.VERSION (read handle.number handle.generation offset count) now F (bytes_read r) F2) session.old session.new result }
         ensures refusal { IfErr result (IsFaultOf session.new) }
     {
         let read = Read {

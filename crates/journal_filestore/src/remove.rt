@@ -7,9 +7,10 @@ ghost use Rattle.journal_filestore.specs.Operations.{Op, file_target, remove_cas
 ghost use Rattle.journal_filestore.specs.Operations.Call.{remove};
 ghost use Rattle.journal_filestore.specs.Operations.Reply.{removed};
 
+use crate::blocks::write_bits;
 use crate::find::{Place, find};
 use crate::name::number_of;
-use crate::objects::{read_node, write_bit, write_node};
+use crate::objects::{read_node, write_node};
 use crate::operation::{GivenUp, Operation};
 use crate::reply::root_attributes;
 use crate::space::Space;
@@ -17,7 +18,7 @@ use crate::store::{Answer, FileFault, FileTxn};
 use crate::{Attributes, FileStore, Handle, Soon, Status};
 use journal_disk::BlockDisk;
 use journal_history::{Naming, Session};
-use journal_inode::{Node, SoundFiles};
+use journal_inode::{Node, SoundFiles, Version};
 use std::sync::Wait;
 
 // A file, removed by its name.
@@ -27,7 +28,7 @@ pub(crate) struct Remove<'a> {
     name: &'a [u8],
 }
 
-impl<'a, J: Naming> Operation<J> for Remove<'a> {
+impl<'a, J: Naming, V: Version> Operation<J, V> for Remove<'a> {
     type Reply = Attributes;
 
     ghost case = { λ w F r F2. (r, F2) ≡ remove_case w.name.now F (file_target F w.directory.number w.directory.generation) };
@@ -41,9 +42,9 @@ impl<'a, J: Naming> Operation<J> for Remove<'a> {
     fn attempt<'j, 'b, D: BlockDisk, W: Wait>(
         &self,
         rt: &W,
-        txn: &mut FileTxn<'j, 'b, D, J>,
+        txn: &mut FileTxn<'j, 'b, D, J, V>,
         space: &mut Space,
-    ) -> Result<Answer<Attributes>, GivenUp<'b, J>> {
+    ) -> Result<Answer<Attributes>, GivenUp<'b, J, V>> {
         let root = match find(rt, txn, self.directory)? {
             Place::Gone => return Ok(Err(Status::Stale)),
             Place::Regular(_) => return Ok(Err(Status::NotDirectory)),
@@ -55,14 +56,16 @@ impl<'a, J: Naming> Operation<J> for Remove<'a> {
         let Node::File(file) = read_node(rt, txn, number)? else {
             return Ok(Err(Status::NoEntry));
         };
+        let count = 1 + V::VERSION.more_count(file.size);
+        let numbers = file.numbers();
+        space.give_up(&numbers[..count])?;
+        write_bits(rt, txn, &numbers[..count], false)?;
         write_node(rt, txn, number, &Node::Free(file.generation))?;
-        write_bit(rt, txn, file.block, false)?;
-        space.free(file.block);
         Ok(Ok(root_attributes(root)))
     }
 }
 
-impl<'b, D: BlockDisk, J: Naming> FileStore<'b, D, J> {
+impl<'b, D: BlockDisk, J: Naming, V: Version> FileStore<'b, D, J, V> {
     /// REMOVE (RFC 1813, 3.3.12): removes the file of a name from the root, whose attributes are answered. The number
     /// keeps its generation, so that no handle of the file names a later one. It waits until it is stable.
     ///
@@ -71,11 +74,11 @@ impl<'b, D: BlockDisk, J: Naming> FileStore<'b, D, J> {
     pub fn remove<W: Wait>(
         &self,
         rt: &W,
-        session: &mut Session<'b, J, SoundFiles>,
+        session: &mut Session<'b, J, SoundFiles<V>>,
         directory: Handle,
         name: &[u8],
-    ) -> Result<Answer<Attributes>, FileFault<'b, J>>
-        ensures answered { IsAnswered true (λ F r F2. (now : Time) → Op (remove directory.number directory.generation name.now) now F (removed r) F2) session.old session.new result }
+    ) -> Result<Answer<Attributes>, FileFault<'b, J, V>>
+        ensures answered { IsAnswered V.VERSION true (λ F r F2. (now : Time) → Op V.VERSION (remove directory.number directory.generation name.now) now F (removed r) F2) session.old session.new result }
         ensures refusal { IfErr result (IsFaultOf session.new) }
     {
         self.run(rt, session, &Remove { directory, name })
@@ -86,11 +89,11 @@ impl<'b, D: BlockDisk, J: Naming> FileStore<'b, D, J> {
     pub fn remove_soon<W: Wait>(
         &self,
         rt: &W,
-        session: &mut Session<'b, J, SoundFiles>,
+        session: &mut Session<'b, J, SoundFiles<V>>,
         directory: Handle,
         name: &[u8],
-    ) -> Soon<'b, J, Attributes>
-        ensures answered { IsAnsweredSoon true (λ F r F2. (now : Time) → Op (remove directory.number directory.generation name.now) now F (removed r) F2) session.old session.new result }
+    ) -> Soon<'b, J, Attributes, V>
+        ensures answered { IsAnsweredSoon V.VERSION true (λ F r F2. (now : Time) → Op V.VERSION (remove directory.number directory.generation name.now) now F (removed r) F2) session.old session.new result }
         ensures refusal { IfErr result IsFilesRefusal }
     {
         self.run_soon(rt, session, &Remove { directory, name })

@@ -1,71 +1,124 @@
 // What is asked for of a file is set, as SETATTR and CREATE do.
-ghost use Rattle.std.specs.Prelude.{◌≡◌, ◌<◌, ◌≤◌, ◌-◌, [], ◌++◌, Some, true, false, take, length, replicate, IfOk, IfErr, OnOk};
-ghost use Rattle.journal_world.specs.declared.layout.TheConstants.{FIRST_DATA};
-ghost use Rattle.journal_inode.specs.declared.version.FormatVersion.TheVariants.{One};
+ghost use Rattle.std.specs.Prelude.{◌≡◌, ◌<◌, ◌≤◌, ◌-◌, [], ◌++◌, unwrap_or, false, take, length, replicate, IfOk, IfErr};
 ghost use Rattle.journal_inode.specs.declared.node.Node.TheVariants.{File};
 ghost use Rattle.journal_inode.specs.declared.place.TheConstants.{INODES};
 ghost use Rattle.journal_inode.specs.Nodes.{IsTime, Fits};
-ghost use Rattle.journal_inode.specs.Sound.{node_at};
-ghost use Rattle.journal_inode.specs.Places.Object.{block};
-ghost use Rattle.journal_filestore.specs.Files.{is_file_number};
+ghost use Rattle.journal_inode.specs.Sound.{content};
+ghost use Rattle.journal_inode.specs.Versions.{most_bytes};
+ghost use Rattle.journal_world.specs.declared.moment.TheConstants.{MAX_NANOS};
 ghost use Rattle.journal_filestore.specs.Faults.{IsGivenUp};
-ghost use Rattle.journal_filestore.specs.Doing.{IsNotYetRead, Puts, Makes};
-ghost use Rattle.journal_filestore.specs.Handles.{time_of, data_of, set_node};
-ghost use Rattle.journal_filestore.specs.Operations.{is_no_time, is_too_big, time_after, with_settings};
+ghost use Rattle.journal_filestore.specs.Doing.{HasReadNoData};
+ghost use Rattle.journal_filestore.specs.Changes.{ChangesFile, HasChanged};
+ghost use Rattle.journal_filestore.specs.Handles.{time_of};
+ghost use Rattle.journal_filestore.specs.Operations.{is_no_time, is_too_big, time_after, resized};
 
-use crate::objects::{read_block, write_block, write_node};
+use crate::blocks::{take_blocks, with_blocks, write_bits, write_file};
+use crate::objects::read_block;
 use crate::operation::GivenUp;
+use crate::space::Space;
 use crate::store::FileTxn;
 use crate::{NewTime, Settings};
 use journal_disk::BlockDisk;
 use journal_history::Naming;
-use journal_inode::{FILE_BYTES, FileNode, Node, Time};
-use journal_world::{MAX_NANOS, Moment};
+use journal_inode::{FileNode, FormatVersion, Time, Version};
+use journal_world::{BLOCK_BYTES, MAX_NANOS, Moment};
 use std::sync::Wait;
 
-// Sets what is asked for of the file that stands at the number. The block is written only where bytes of the file
-// are to become zero.
-pub(crate) fn set_file<'j, 'b, D: BlockDisk, J: Naming, W: Wait>(
+// Sets what is asked for of the file that stands at the number; `None` where it needs more blocks than are handed out.
+pub(crate) fn set_file<'j, 'b, D: BlockDisk, J: Naming, V: Version, W: Wait>(
     rt: &W,
-    txn: &mut FileTxn<'j, 'b, D, J>,
+    txn: &mut FileTxn<'j, 'b, D, J, V>,
+    space: &mut Space,
     number: u32,
     file: FileNode,
     settings: Settings,
     now: Moment,
-) -> Result<FileNode, GivenUp<'b, J>>
+) -> Result<Option<FileNode>, GivenUp<'b, J, V>>
     requires number { number < INODES }
     requires fits { Fits (File file) }
-    requires small { is_too_big settings.size ≡ false }
+    requires whole { file.size ≤ most_bytes V.VERSION }
+    requires small { is_too_big V.VERSION settings.size ≡ false }
     requires timed { is_no_time settings.mtime ≡ false }
-    requires unread { FIRST_DATA ≤ file.block → IsNotYetRead txn.old (block file.block) }
+    requires space { space.old.taken.items ≡ [] }
+    requires unread { HasReadNoData txn.old }
     requires writes { txn.old.writes ≡ [] }
-    ensures node { IfOk result (λ after. after ≡ set_node file settings (time_of now)) }
-    ensures makes { OnOk result (Makes One J.blocks txn.old txn.new (λ m n. is_file_number number ≡ true → node_at m number ≡ File file
-        → Puts One m n number (record { generation = file.generation; file = Some (with_settings (data_of One m file) settings (time_of now)) }))) }
+    ensures changes { IfOk result (ChangesFile V.VERSION J.blocks txn.old txn.new number file
+        (unwrap_or settings.size file.size) (time_after settings.size settings.mtime (time_of now) file.mtime)
+        (λ m. resized (content V.VERSION m file) settings.size)) }
     ensures refusal { IfErr result IsGivenUp }
 {
-    let after = set_node(file, settings, now);
-    if after.size >= file.size {
-        write_node(rt, txn, number, &Node::File(after))?;
-        return Ok(after);
+    let size = settings.size.unwrap_or(file.size);
+    let mtime = time_after(settings, now, file.mtime);
+    if size < file.size {
+        return Ok(Some(shrink(rt, txn, space, number, file, size, mtime)?));
     }
-    let mut block = read_block(rt, txn, file.block)?.into_bytes();
-    cut_off(&mut block, after.size as usize);
-    write_block(rt, txn, file.block, &block)?;
-    write_node(rt, txn, number, &Node::File(after))?;
+    grow(rt, txn, space, number, file, size, mtime)
+}
+// Cuts a file off, which frees the blocks that lie behind.
+fn shrink<'j, 'b, D: BlockDisk, J: Naming, V: Version, W: Wait>(
+    rt: &W,
+    txn: &mut FileTxn<'j, 'b, D, J, V>,
+    space: &mut Space,
+    number: u32,
+    file: FileNode,
+    size: u64,
+    mtime: Time,
+) -> Result<FileNode, GivenUp<'b, J, V>>
+    requires number { number < INODES }
+    requires fits { Fits (File file) }
+    requires whole { file.size ≤ most_bytes V.VERSION }
+    requires less { size < file.size }
+    requires timed { file.mtime.nanos ≤ MAX_NANOS → mtime.nanos ≤ MAX_NANOS }
+    requires unread { HasReadNoData txn.old }
+    requires writes { txn.old.writes ≡ [] }
+    ensures changes { IfOk result (HasChanged V.VERSION J.blocks txn.old txn.new number file size mtime (λ m. take size (content V.VERSION m file))) }
+    ensures refusal { IfErr result IsGivenUp }
+{
+    let last = V::VERSION.more_count(size);
+    let had = V::VERSION.more_count(file.size);
+    let numbers = file.numbers();
+    let cut = &numbers[last + 1..had + 1];
+    let mut block = read_block(rt, txn, numbers[last])?.into_bytes();
+    cut_off(&mut block, size as usize - last * BLOCK_BYTES);
+    space.give_up(cut)?;
+    write_bits(rt, txn, cut, false)?;
+    let after = with_blocks(file, last, &[], size, mtime);
+    write_file(rt, txn, number, after, &[], &[numbers[last]], &block)?;
     Ok(after)
 }
 
-// The file's inode, with what is asked for.
-fn set_node(file: FileNode, settings: Settings, now: Moment) -> FileNode
-    ensures node { result ≡ set_node file settings (time_of now) }
-    ensures fits { Fits (File result) }
+// Gives a file zeros behind its bytes, as many as there may be none, and the blocks for them; `None` where they are not
+// handed out.
+fn grow<'j, 'b, D: BlockDisk, J: Naming, V: Version, W: Wait>(
+    rt: &W,
+    txn: &mut FileTxn<'j, 'b, D, J, V>,
+    space: &mut Space,
+    number: u32,
+    file: FileNode,
+    size: u64,
+    mtime: Time,
+) -> Result<Option<FileNode>, GivenUp<'b, J, V>>
+    requires number { number < INODES }
+    requires fits { Fits (File file) }
+    requires small { size ≤ most_bytes V.VERSION }
+    requires more { file.size ≤ size }
+    requires timed { file.mtime.nanos ≤ MAX_NANOS → mtime.nanos ≤ MAX_NANOS }
+    requires space { space.old.taken.items ≡ [] }
+    requires unread { HasReadNoData txn.old }
+    requires writes { txn.old.writes ≡ [] }
+    ensures changes { IfOk result (ChangesFile V.VERSION J.blocks txn.old txn.new number file size mtime
+        (λ m. content V.VERSION m file ++ replicate (size - file.size) 0)) }
+    ensures refusal { IfErr result IsGivenUp }
 {
-    FileNode {
-        size: settings.size.unwrap_or(file.size),
-        mtime: time_after(settings, now, file.mtime),
-        ..file
+    let had = V::VERSION.more_count(file.size);
+    let count = V::VERSION.more_count(size) - had;
+    if !take_blocks(rt, txn, space, count)? {
+        return Ok(None);
     }
+    let zeros = vec![in space.alloc; 0; count * BLOCK_BYTES]?;
+    let after = with_blocks(file, had, &space.taken, size, mtime);
+    write_file(rt, txn, number, after, &space.taken, &space.taken, &zeros)?;
+    Ok(Some(after))
 }
 
 // The time that a file has then.
@@ -98,12 +151,12 @@ pub(crate) fn is_no_time(mtime: NewTime) -> bool
     }
 }
 
-// Whether a size is given that no file has.
-pub(crate) fn is_too_big(size: Option<u64>) -> bool
-    ensures { result ≡ is_too_big size }
+// Whether a size is given that no file of this version has.
+pub(crate) fn is_too_big(version: FormatVersion, size: Option<u64>) -> bool
+    ensures { result ≡ is_too_big version size }
 {
     match size {
         None => false,
-        Some(size) => size > FILE_BYTES,
+        Some(size) => size > version.most_bytes(),
     }
 }

@@ -1,5 +1,5 @@
 // SETATTR.
-ghost use Rattle.std.specs.Prelude.{◌≡◌, true, IfErr};
+ghost use Rattle.std.specs.Prelude.{◌≡◌, Bool, true, IfErr};
 ghost use Rattle.journal_filestore.specs.Done.{IsAnswered, IsAnsweredSoon};
 ghost use Rattle.journal_filestore.specs.Faults.{IsFaultOf, IsFilesRefusal};
 ghost use Rattle.journal_filestore.specs.Handles.{time_of};
@@ -16,7 +16,7 @@ use crate::store::{Answer, FileFault, FileTxn};
 use crate::{Changed, FileStore, Handle, Settings, Soon, Status};
 use journal_disk::BlockDisk;
 use journal_history::{Naming, Session};
-use journal_inode::{SoundFiles, Time};
+use journal_inode::{SoundFiles, Time, Version};
 use journal_world::Moment;
 use std::sync::Wait;
 
@@ -29,10 +29,10 @@ pub(crate) struct SetSize {
     moment: Moment,
 }
 
-impl<J: Naming> Operation<J> for SetSize {
+impl<J: Naming, V: Version> Operation<J, V> for SetSize {
     type Reply = Changed;
 
-    ghost case = { λ w F r F2. (r, F2) ≡ setattr_case w.settings w.guard (time_of w.moment) F (file_target F w.handle.number w.handle.generation) };
+    ghost case = { λ w F r F2. (room : Bool) × ((r, F2) ≡ setattr_case V.VERSION room w.settings w.guard (time_of w.moment) F (file_target F w.handle.number w.handle.generation)) };
 
     ghost is_waiting = { λ w. true };
 
@@ -43,9 +43,9 @@ impl<J: Naming> Operation<J> for SetSize {
     fn attempt<'j, 'b, D: BlockDisk, W: Wait>(
         &self,
         rt: &W,
-        txn: &mut FileTxn<'j, 'b, D, J>,
-        _space: &mut Space,
-    ) -> Result<Answer<Changed>, GivenUp<'b, J>> {
+        txn: &mut FileTxn<'j, 'b, D, J, V>,
+        space: &mut Space,
+    ) -> Result<Answer<Changed>, GivenUp<'b, J, V>> {
         let file = match find(rt, txn, self.handle)? {
             Place::Gone => return Ok(Err(Status::Stale)),
             Place::Directory(mtime) => return Ok(self.root_set(mtime)),
@@ -57,15 +57,17 @@ impl<J: Naming> Operation<J> for SetSize {
         if is_no_time(self.settings.mtime) {
             return Ok(Err(Status::Invalid));
         }
-        if is_too_big(self.settings.size) {
+        if is_too_big(V::VERSION, self.settings.size) {
             return Ok(Err(Status::TooBig));
         }
         let number = self.handle.number;
-        let after = set_file(rt, txn, number, file, self.settings, self.moment)?;
-        Ok(Ok(Changed {
-            before: attributes_of(number, file),
-            after: attributes_of(number, after),
-        }))
+        match set_file(rt, txn, space, number, file, self.settings, self.moment)? {
+            None => Ok(Err(Status::NoSpace)),
+            Some(after) => Ok(Ok(Changed {
+                before: attributes_of(number, file),
+                after: attributes_of(number, after),
+            })),
+        }
     }
 }
 
@@ -101,24 +103,25 @@ fn is_other_time(guard: Option<Time>, mtime: Time) -> bool
     }
 }
 
-impl<'b, D: BlockDisk, J: Naming> FileStore<'b, D, J> {
+impl<'b, D: BlockDisk, J: Naming, V: Version> FileStore<'b, D, J, V> {
     /// SETATTR (RFC 1813, 3.3.2): sets the size of a file, its time, or both. Bytes past a smaller size become zero,
     /// and a greater one shows zeros. The time becomes the one given, or the moment where it is asked for or where a
     /// size is given alone. It waits until it is stable.
     ///
     /// The first that holds is answered: `Stale` where the handle's file was removed; on the root `Invalid` where a
     /// size is given; `NotSync` where a guard is given and is not the file's time; `Invalid` where a time is given that
-    /// is none; `TooBig` where the size is above `FILE_BYTES`. The root's attributes never change.
+    /// is none; `TooBig` where the size is above what a file of the version has; `NoSpace` where it needs more blocks than
+    /// are handed out. The root's attributes never change.
     pub fn set_size<W: Wait>(
         &self,
         rt: &W,
-        session: &mut Session<'b, J, SoundFiles>,
+        session: &mut Session<'b, J, SoundFiles<V>>,
         handle: Handle,
         settings: Settings,
         guard: Option<Time>,
         now: Moment,
-    ) -> Result<Answer<Changed>, FileFault<'b, J>>
-        ensures answered { IsAnswered true (λ F r F2. Op (setattr handle.number handle.generation settings guard) (time_of now) F (set r) F2) session.old session.new result }
+    ) -> Result<Answer<Changed>, FileFault<'b, J, V>>
+        ensures answered { IsAnswered V.VERSION true (λ F r F2. Op V.VERSION (setattr handle.number handle.generation settings guard) (time_of now) F (set r) F2) session.old session.new result }
         ensures refusal { IfErr result (IsFaultOf session.new) }
     {
         let set = SetSize {
@@ -135,13 +138,13 @@ impl<'b, D: BlockDisk, J: Naming> FileStore<'b, D, J> {
     pub fn set_size_soon<W: Wait>(
         &self,
         rt: &W,
-        session: &mut Session<'b, J, SoundFiles>,
+        session: &mut Session<'b, J, SoundFiles<V>>,
         handle: Handle,
         settings: Settings,
         guard: Option<Time>,
         now: Moment,
-    ) -> Soon<'b, J, Changed>
-        ensures answered { IsAnsweredSoon true (λ F r F2. Op (setattr handle.number handle.generation settings guard) (time_of now) F (set r) F2) session.old session.new result }
+    ) -> Soon<'b, J, Changed, V>
+        ensures answered { IsAnsweredSoon V.VERSION true (λ F r F2. Op V.VERSION (setattr handle.number handle.generation settings guard) (time_of now) F (set r) F2) session.old session.new result }
         ensures refusal { IfErr result IsFilesRefusal }
     {
         let set = SetSize {

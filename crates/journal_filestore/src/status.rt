@@ -12,9 +12,9 @@ pub enum Status {
     NotDirectory,
     /// An argument has no meaning there.
     Invalid,
-    /// A file has at most `FILE_BYTES` bytes.
+    /// No file of the disk's version has so many bytes.
     TooBig,
-    /// No block is free, or the number has had all its generations.
+    /// The blocks that are needed are not free, or the number has had all its generations.
     NoSpace,
     /// The handle's file was removed.
     Stale,

@@ -7,7 +7,6 @@ ghost use Rattle.journal_disk.specs.Images.{EveryImage};
 ghost use Rattle.journal_history.specs.Tokens.{OnlyExtends, IsExact};
 ghost use Rattle.journal_core.specs.Cores.{Leaves};
 ghost use Rattle.journal_core.specs.Openings.{HasWellFormedLog, IsOpenRefusal, OnlyReadsDisk};
-ghost use Rattle.journal_inode.specs.declared.version.FormatVersion.TheVariants.{One};
 ghost use Rattle.journal_inode.specs.Sound.{HasSoundFiles};
 ghost use Rattle.journal_twophase.specs.Journals.{BeginsWith, IsCloseRefusal};
 ghost use Rattle.journal_twophase.specs.Waits.{IsWaitRefusal};
@@ -23,7 +22,7 @@ use journal_alloc::Alloc;
 use journal_core::Cause;
 use journal_disk::BlockDisk;
 use journal_history::{Book, Naming, Receipt, Session};
-use journal_inode::SoundFiles;
+use journal_inode::{FormatVersion, SoundFiles, Version, VersionOne};
 use journal_twophase::{Journal, Txn};
 use journal_world::{Addr, FIRST_DATA, Refusal, Refused};
 use std::alloc::Global;
@@ -34,27 +33,27 @@ use std::sync::{Mutex, Wait};
 pub type Answer<A> = Result<A, Status>;
 
 /// Why an operation on files has no answer.
-pub type FileFault<'b, J> = Fault<Cause<'b, J, SoundFiles>>;
+pub type FileFault<'b, J, V = VersionOne> = Fault<Cause<'b, J, SoundFiles<V>>>;
 
 /// Why the journal below refuses.
-pub(crate) type Why<'b, J> = Refusal<Cause<'b, J, SoundFiles>>;
+pub(crate) type Why<'b, J, V> = Refusal<Cause<'b, J, SoundFiles<V>>>;
 
 /// A transaction on files.
-pub(crate) type FileTxn<'j, 'b, D, J> = Txn<'j, 'b, D, SoundFiles, J>;
+pub(crate) type FileTxn<'j, 'b, D, J, V> = Txn<'j, 'b, D, SoundFiles<V>, J>;
 
 // How often an attempt that was refused by J5 is made again.
 const RETRIES: u32 = 8;
 
 /// The files of a disk, which threads share by `&`. Contracts see the history at the opening of its journal.
 #[derive(Drop)]
-pub struct FileStore<'b, D: BlockDisk, J: Naming> {
+pub struct FileStore<'b, D: BlockDisk, J: Naming, V: Version = VersionOne> {
     pub(crate) alloc: Global,
-    journal: Journal<'b, D, SoundFiles, J>,
+    journal: Journal<'b, D, SoundFiles<V>, J>,
     // The numbers of the blocks that no file has. A file that is on its way has its block's number too.
     pub(crate) free: Mutex<Alloc>,
 }
 
-impl<'b, D: BlockDisk, J: Naming> Model for FileStore<'b, D, J> {
+impl<'b, D: BlockDisk, J: Naming, V: Version> Model for FileStore<'b, D, J, V> {
     ghost use Rattle.journal_twophase.specs.Journals.{JournalState};
 
     ghost Value = { JournalState };
@@ -62,7 +61,7 @@ impl<'b, D: BlockDisk, J: Naming> Model for FileStore<'b, D, J> {
     ghost view = { λ store. store.journal };
 }
 
-impl<'b, D: BlockDisk, J: Naming> FileStore<'b, D, J> {
+impl<'b, D: BlockDisk, J: Naming, V: Version> FileStore<'b, D, J, V> {
     /// Mounts a disk on which nothing is pending: opens its journal under the rule of sound files, which tells which
     /// of its blocks are free.
     ///
@@ -70,15 +69,15 @@ impl<'b, D: BlockDisk, J: Naming> FileStore<'b, D, J> {
     /// back, with nothing written.
     pub fn mount(
         alloc: Global,
-        book: &'b Book<SoundFiles>,
+        book: &'b Book<SoundFiles<V>>,
         disk: D,
-    ) -> Result<FileStore<'b, D, J>, Refused<D, Cause<'b, J, SoundFiles>>>
+    ) -> Result<FileStore<'b, D, J, V>, Refused<D, Cause<'b, J, SoundFiles<V>>>>
         requires book { book.now ≡ J.book }
         requires blocks { (D.state disk).past.size ≡ J.blocks }
         requires settled { IsTrue (D.state disk).honest → IsSettled (D.state disk).past }
-        ensures begun { IfOk result (λ store. BeginsWith (HasSoundFiles One) (D.state disk) store.start) }
+        ensures begun { IfOk result (λ store. BeginsWith (HasSoundFiles V.VERSION) (D.state disk) store.start) }
         ensures well_formed { IsTrue (D.state disk).honest → OnOk result (HasWellFormedLog (D.state disk)) }
-        ensures refusal { IfErr result (λ refused. IsOpenRefusal (HasSoundFiles One) (D.state disk) (D.state refused.disk) refused.refusal) }
+        ensures refusal { IfErr result (λ refused. IsOpenRefusal (HasSoundFiles V.VERSION) (D.state disk) (D.state refused.disk) refused.refusal) }
         ensures left { IfErr result (λ refused. OnlyReadsDisk (D.state disk) (D.state refused.disk)) }
     {
         let rule = SoundFiles::new(alloc);
@@ -95,10 +94,17 @@ impl<'b, D: BlockDisk, J: Naming> FileStore<'b, D, J> {
     }
 
     /// The journal, for sessions, and for the steps of the logger and the installer.
-    pub fn journal(&self) -> &Journal<'b, D, SoundFiles, J>
+    pub fn journal(&self) -> &Journal<'b, D, SoundFiles<V>, J>
         ensures { result.now ≡ self.now }
     {
         &self.journal
+    }
+
+    /// The version of the format that the disk is of.
+    pub fn version(&self) -> FormatVersion
+        ensures { result ≡ V.VERSION }
+    {
+        V::VERSION
     }
 
     /// Ends the store, and gives the disk up, as `Journal::close` does. The session has then seen the whole history,
@@ -109,8 +115,8 @@ impl<'b, D: BlockDisk, J: Naming> FileStore<'b, D, J> {
     /// is then given up too.
     pub fn close(
         self,
-        session: &mut Session<'b, J, SoundFiles>,
-    ) -> Result<D, Refused<D, Cause<'b, J, SoundFiles>>>
+        session: &mut Session<'b, J, SoundFiles<V>>,
+    ) -> Result<D, Refused<D, Cause<'b, J, SoundFiles<V>>>>
         ensures session { OnlyExtends session.old session.new }
         ensures trusted { IfOk result (λ disk. is_trusted session.new.seen ≡ (D.state disk).honest) }
         ensures images { IfOk result (λ disk. IsTrue (D.state disk).honest → EveryImage (D.state disk).past (Leaves session.new.seen)) }
@@ -125,13 +131,13 @@ impl<'b, D: BlockDisk, J: Naming> FileStore<'b, D, J> {
     }
 
     // Does an operation, and waits for what is owed before it is answered.
-    pub(crate) fn run<O: Operation<J>, W: Wait>(
+    pub(crate) fn run<O: Operation<J, V>, W: Wait>(
         &self,
         rt: &W,
-        session: &mut Session<'b, J, SoundFiles>,
+        session: &mut Session<'b, J, SoundFiles<V>>,
         operation: &O,
-    ) -> Result<Answer<O::Reply>, FileFault<'b, J>>
-        ensures answered { IsAnswered (O.is_waiting operation.now) (O.case operation.now) session.old session.new result }
+    ) -> Result<Answer<O::Reply>, FileFault<'b, J, V>>
+        ensures answered { IsAnswered V.VERSION (O.is_waiting operation.now) (O.case operation.now) session.old session.new result }
         ensures refusal { IfErr result (IsFaultOf session.new) }
     {
         let Committed { answer, owed } = match self.run_soon(rt, session, operation) {
@@ -151,9 +157,9 @@ impl<'b, D: BlockDisk, J: Naming> FileStore<'b, D, J> {
     fn wait_for<W: Wait>(
         &self,
         rt: &W,
-        session: &mut Session<'b, J, SoundFiles>,
-        owed: Owed<Receipt<'b, J, SoundFiles>>,
-    ) -> Result<(), Why<'b, J>>
+        session: &mut Session<'b, J, SoundFiles<V>>,
+        owed: Owed<Receipt<'b, J, SoundFiles<V>>>,
+    ) -> Result<(), Why<'b, J, V>>
         ensures paid { OnOk result (IsPaid owed.entry session.new) }
         ensures owes { OnErr result (IsWait owed.entry) }
         ensures exact { OnOk result (IsExact session.old → IsExact session.new) }
@@ -173,13 +179,13 @@ impl<'b, D: BlockDisk, J: Naming> FileStore<'b, D, J> {
     // Attempts an operation until it is committed, or refused by another number than J5, or refused by J5 once more
     // after the last retry. Before each retry it waits for the slot that was held, so that it is refused by J5 only
     // where others took slots in between each time.
-    pub(crate) fn run_soon<O: Operation<J>, W: Wait>(
+    pub(crate) fn run_soon<O: Operation<J, V>, W: Wait>(
         &self,
         rt: &W,
-        session: &mut Session<'b, J, SoundFiles>,
+        session: &mut Session<'b, J, SoundFiles<V>>,
         operation: &O,
-    ) -> Soon<'b, J, O::Reply>
-        ensures answered { IsAnsweredSoon (O.is_waiting operation.now) (O.case operation.now) session.old session.new result }
+    ) -> Soon<'b, J, O::Reply, V>
+        ensures answered { IsAnsweredSoon V.VERSION (O.is_waiting operation.now) (O.case operation.now) session.old session.new result }
         ensures refusal { IfErr result IsFilesRefusal }
     {
         for _ in 0..RETRIES {
@@ -196,7 +202,7 @@ impl<'b, D: BlockDisk, J: Naming> FileStore<'b, D, J> {
 
     // Waits until nobody holds the slot of the address, by a transaction that only reads it: it holds no other slot,
     // so it waits for this one. What refuses the read refuses the next attempt too.
-    fn await_slot<W: Wait>(&self, rt: &W, session: &mut Session<'b, J, SoundFiles>, held: Addr)
+    fn await_slot<W: Wait>(&self, rt: &W, session: &mut Session<'b, J, SoundFiles<V>>, held: Addr)
         ensures { OnlyExtends session.old session.new }
     {
         let mut txn = self.journal.begin(self.alloc, session);
@@ -205,17 +211,17 @@ impl<'b, D: BlockDisk, J: Naming> FileStore<'b, D, J> {
     }
 
     // One attempt: committed, or undone. Where another holds a slot that it needs, the address of that slot.
-    fn once<O: Operation<J>, W: Wait>(
+    fn once<O: Operation<J, V>, W: Wait>(
         &self,
         rt: &W,
-        session: &mut Session<'b, J, SoundFiles>,
+        session: &mut Session<'b, J, SoundFiles<V>>,
         operation: &O,
-    ) -> Result<Soon<'b, J, O::Reply>, Addr>
-        ensures answered { IfOk result (IsAnsweredSoon (O.is_waiting operation.now) (O.case operation.now) session.old session.new) }
+    ) -> Result<Soon<'b, J, O::Reply, V>, Addr>
+        ensures answered { IfOk result (IsAnsweredSoon V.VERSION (O.is_waiting operation.now) (O.case operation.now) session.old session.new) }
         ensures refusal { IfOk result (λ outcome. IfErr outcome IsFilesRefusal) }
         ensures held { OnErr result (OnlyExtends session.old session.new) }
     {
-        let mut space = Space::new();
+        let mut space = Space::new(self.alloc, &self.free);
         let mut txn = self.journal.begin(self.alloc, session);
         let answer = match operation.attempt(rt, &mut txn, &mut space) {
             Ok(answer) => answer,
@@ -231,20 +237,20 @@ impl<'b, D: BlockDisk, J: Naming> FileStore<'b, D, J> {
         let waits = is_awaited(operation.waits(), &answer);
         match end(rt, session, txn, waits) {
             Ok(owed) => {
-                space.committed(rt, &self.free);
+                space.committed(rt);
                 Ok(Ok(Committed { answer, owed }))
             }
             Err(why) => {
-                space.undone(rt, &self.free);
+                space.undone(rt);
                 Ok(Err(why))
             }
         }
     }
 
     // Gives an attempt up, with its slots and with what it took.
-    fn undo<'j, W: Wait>(&self, rt: &W, txn: FileTxn<'j, 'b, D, J>, space: Space) {
+    fn undo<'j, W: Wait>(&self, rt: &W, txn: FileTxn<'j, 'b, D, J, V>, space: Space) {
         txn.abort(rt);
-        space.undone(rt, &self.free);
+        space.undone(rt);
     }
 }
 
@@ -257,15 +263,15 @@ fn is_awaited<A>(waits: bool, answer: &Answer<A>) -> bool
 }
 
 // Commits a transaction: its receipt is owed where it waits.
-fn end<'j, 'b, D: BlockDisk, J: Naming, W: Wait>(
+fn end<'j, 'b, D: BlockDisk, J: Naming, V: Version, W: Wait>(
     rt: &W,
-    session: &mut Session<'b, J, SoundFiles>,
-    txn: FileTxn<'j, 'b, D, J>,
+    session: &mut Session<'b, J, SoundFiles<V>>,
+    txn: FileTxn<'j, 'b, D, J, V>,
     waits: bool,
-) -> Result<Owed<Receipt<'b, J, SoundFiles>>, Why<'b, J>>
-    requires rule { (m : Map) → m.blocks ≡ J.blocks → HasSoundFiles One m → Agrees m txn.reads → HasSoundFiles One (overwritten m txn.writes) }
+) -> Result<Owed<Receipt<'b, J, SoundFiles<V>>>, Why<'b, J, V>>
+    requires rule { (m : Map) → m.blocks ≡ J.blocks → HasSoundFiles V.VERSION m → Agrees m txn.reads → HasSoundFiles V.VERSION (overwritten m txn.writes) }
     requires few { written_blocks txn.writes ≤ MAX_UPDATES }
-    ensures ended { IfOk result (Ends J.blocks txn.entry waits session.old session.new) }
+    ensures ended { IfOk result (Ends V.VERSION J.blocks txn.entry waits session.old session.new) }
     ensures session { OnErr result (OnlyExtends session.old session.new) }
     ensures refusal { IfErr result IsFilesRefusal }
 {

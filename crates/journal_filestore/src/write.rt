@@ -1,19 +1,20 @@
 // WRITE.
-ghost use Rattle.std.specs.Prelude.{◌≡◌, ◌≤◌, ◌+◌, [], length, IfErr, OnOk};
-ghost use Rattle.journal_world.specs.declared.layout.TheConstants.{FIRST_DATA};
-ghost use Rattle.journal_inode.specs.declared.version.FormatVersion.TheVariants.{One};
-ghost use Rattle.journal_inode.specs.declared.node.TheConstants.{FILE_BYTES};
-ghost use Rattle.journal_inode.specs.Places.Object.{block};
-ghost use Rattle.journal_filestore.specs.Doing.{IsNotYetRead, Places};
+ghost use Rattle.std.specs.Prelude.{◌≡◌, ◌<◌, ◌≤◌, ◌+◌, ◌-◌, max, Bool, [], length, IfOk, IfErr, OnOk};
+ghost use Rattle.journal_inode.specs.declared.node.Node.TheVariants.{File};
+ghost use Rattle.journal_inode.specs.Nodes.{Fits};
+ghost use Rattle.journal_inode.specs.Sound.{content};
+ghost use Rattle.journal_inode.specs.Versions.{most_bytes, more_count};
+ghost use Rattle.journal_filestore.specs.Doing.{HasReadNoBlocks, HasReadNoData, AreClear, AreFresh, Makes};
+ghost use Rattle.journal_filestore.specs.Changes.{with_blocks, FileBecomes, ChangesFile};
 ghost use Rattle.journal_filestore.specs.Faults.{IsGivenUp, IsFaultOf, IsFilesRefusal};
 ghost use Rattle.journal_filestore.specs.Done.{IsAnswered, IsAnsweredSoon};
 ghost use Rattle.journal_filestore.specs.Handles.{time_of};
-ghost use Rattle.journal_filestore.specs.Operations.{Op, file_target, write_case, with_data, is_waiting};
+ghost use Rattle.journal_filestore.specs.Operations.{Op, file_target, write_case, placed, with_data, is_waiting};
 ghost use Rattle.journal_filestore.specs.Operations.Call.{write};
 ghost use Rattle.journal_filestore.specs.Operations.Reply.{wrote};
 
+use crate::blocks::{read_span, take_blocks, with_blocks, write_file};
 use crate::find::{Place, find};
-use crate::objects::{read_block, write_block, write_node};
 use crate::operation::{GivenUp, Operation};
 use crate::reply::attributes_of;
 use crate::space::Space;
@@ -21,8 +22,8 @@ use crate::store::{Answer, FileFault, FileTxn};
 use crate::{Changed, FileStore, Handle, Soon, Stability, Status};
 use journal_disk::BlockDisk;
 use journal_history::{Naming, Session};
-use journal_inode::{FILE_BYTES, FileNode, Node, SoundFiles, Time};
-use journal_world::Moment;
+use journal_inode::{FileNode, SoundFiles, Time, Version};
+use journal_world::{BLOCK_BYTES, Moment};
 use std::sync::Wait;
 
 // Some bytes, placed in a file.
@@ -36,10 +37,10 @@ pub(crate) struct Write<'a> {
     moment: Moment,
 }
 
-impl<'a, J: Naming> Operation<J> for Write<'a> {
+impl<'a, J: Naming, V: Version> Operation<J, V> for Write<'a> {
     type Reply = Changed;
 
-    ghost case = { λ w F r F2. (r, F2) ≡ write_case w.offset w.count w.bytes.now (time_of w.moment) F (file_target F w.handle.number w.handle.generation) };
+    ghost case = { λ w F r F2. (room : Bool) × ((r, F2) ≡ write_case V.VERSION room w.offset w.count w.bytes.now (time_of w.moment) F (file_target F w.handle.number w.handle.generation)) };
 
     ghost is_waiting = { λ w. is_waiting w.stability };
 
@@ -50,9 +51,9 @@ impl<'a, J: Naming> Operation<J> for Write<'a> {
     fn attempt<'j, 'b, D: BlockDisk, W: Wait>(
         &self,
         rt: &W,
-        txn: &mut FileTxn<'j, 'b, D, J>,
-        _space: &mut Space,
-    ) -> Result<Answer<Changed>, GivenUp<'b, J>> {
+        txn: &mut FileTxn<'j, 'b, D, J, V>,
+        space: &mut Space,
+    ) -> Result<Answer<Changed>, GivenUp<'b, J, V>> {
         let file = match find(rt, txn, self.handle)? {
             Place::Gone => return Ok(Err(Status::Stale)),
             Place::Directory(_) => return Ok(Err(Status::Invalid)),
@@ -70,46 +71,92 @@ impl<'a, J: Naming> Operation<J> for Write<'a> {
             }));
         }
         let end = self.offset.saturating_add(u64::from(self.count));
-        if end > FILE_BYTES {
+        if end > V::VERSION.most_bytes() {
             return Ok(Err(Status::TooBig));
         }
-        put_data(rt, txn, file.block, self.offset as usize, self.bytes)?;
-        let written = FileNode {
-            size: file.size.max(end),
-            mtime: Time::at(self.moment),
-            ..file
-        };
-        write_node(rt, txn, number, &Node::File(written))?;
-        Ok(Ok(Changed {
-            before,
-            after: attributes_of(number, written),
-        }))
+        match self.put(rt, txn, space, file)? {
+            None => Ok(Err(Status::NoSpace)),
+            Some(written) => Ok(Ok(Changed {
+                before,
+                after: attributes_of(number, written),
+            })),
+        }
     }
 }
 
-// Places the data in a file's block, which is read only where it does not fill it.
-fn put_data<'j, 'b, D: BlockDisk, J: Naming, W: Wait>(
-    rt: &W,
-    txn: &mut FileTxn<'j, 'b, D, J>,
-    number: u64,
-    offset: usize,
-    bytes: &[u8],
-) -> Result<(), GivenUp<'b, J>>
-    requires room { offset + length bytes.now ≤ FILE_BYTES }
-    requires unread { FIRST_DATA ≤ number → IsNotYetRead txn.old (block number) }
-    requires writes { txn.old.writes ≡ [] }
-    ensures places { OnOk result (Places One J.blocks txn.old txn.new number offset bytes.now) }
-    ensures refusal { IfErr result IsGivenUp }
-{
-    if bytes.len() as u64 == FILE_BYTES {
-        return write_block(rt, txn, number, bytes);
+impl<'a> Write<'a> {
+    // Places the bytes in the file; `None` where it needs more blocks than are handed out.
+    fn put<'j, 'b, D: BlockDisk, J: Naming, V: Version, W: Wait>(
+        &self,
+        rt: &W,
+        txn: &mut FileTxn<'j, 'b, D, J, V>,
+        space: &mut Space,
+        file: FileNode,
+    ) -> Result<Option<FileNode>, GivenUp<'b, J, V>>
+        requires fits { Fits (File file) }
+        requires small { file.size ≤ most_bytes V.VERSION }
+        requires some { 0 < length self.now.bytes.now }
+        requires end { self.now.offset + length self.now.bytes.now ≤ most_bytes V.VERSION }
+        requires space { space.old.taken.items ≡ [] }
+        requires unread { HasReadNoData txn.old }
+        requires writes { txn.old.writes ≡ [] }
+        ensures changes { IfOk result (ChangesFile V.VERSION J.blocks txn.old txn.new self.now.handle.number file
+            (max file.size (self.now.offset + length self.now.bytes.now)) (time_of self.now.moment)
+            (λ m. placed (content V.VERSION m file) self.now.offset self.now.bytes.now)) }
+        ensures refusal { IfErr result IsGivenUp }
+    {
+        let size = file.size.max(self.offset + self.bytes.len() as u64);
+        let had = V::VERSION.more_count(file.size);
+        let count = V::VERSION.more_count(size) - had;
+        if !take_blocks(rt, txn, space, count)? {
+            return Ok(None);
+        }
+        let written = with_blocks(file, had, &space.taken, size, Time::at(self.moment));
+        self.put_bytes(rt, txn, file, written, space)?;
+        Ok(Some(written))
     }
-    let mut block = read_block(rt, txn, number)?.into_bytes();
-    place(&mut block, offset, bytes);
-    write_block(rt, txn, number, &block)
+
+    // Overwrites what changes. What the blocks hold that the bytes do not fill is read, and new ones begin as zeros.
+    fn put_bytes<'j, 'b, D: BlockDisk, J: Naming, V: Version, W: Wait>(
+        &self,
+        rt: &W,
+        txn: &mut FileTxn<'j, 'b, D, J, V>,
+        file: FileNode,
+        written: FileNode,
+        space: &Space,
+    ) -> Result<(), GivenUp<'b, J, V>>
+        requires written { written ≡ with_blocks file (more_count V.VERSION file.size) space.now.taken.items
+            (max file.size (self.now.offset + length self.now.bytes.now)) (time_of self.now.moment) }
+        requires fits { Fits (File written) }
+        requires whole { Fits (File file) }
+        requires fresh { AreFresh (more_count V.VERSION written.size - more_count V.VERSION file.size) space.now.taken.items }
+        requires small { file.size ≤ most_bytes V.VERSION }
+        requires some { 0 < length self.now.bytes.now }
+        requires end { self.now.offset + length self.now.bytes.now ≤ most_bytes V.VERSION }
+        requires unread { HasReadNoBlocks txn.old }
+        requires writes { txn.old.writes ≡ [] }
+        ensures makes { OnOk result (Makes V.VERSION J.blocks txn.old txn.new (λ m n. AreClear m space.now.taken.items
+            → FileBecomes V.VERSION m n self.now.handle.number file (placed (content V.VERSION m file) self.now.offset self.now.bytes.now) (time_of self.now.moment))) }
+        ensures refusal { IfErr result IsGivenUp }
+    {
+        let had = V::VERSION.more_count(file.size) + 1;
+        let offset = self.offset as usize;
+        let first = had.min(offset / BLOCK_BYTES);
+        let after = (offset + self.bytes.len() - 1) / BLOCK_BYTES + 1;
+        let numbers = written.numbers();
+        let changed = &numbers[first..after];
+        let number = self.handle.number;
+        if self.bytes.len() == changed.len() * BLOCK_BYTES {
+            return write_file(rt, txn, number, written, &space.taken, changed, self.bytes);
+        }
+        let old = &numbers[first..had.min(after)];
+        let mut bytes = read_span(rt, txn, old, changed.len(), space.alloc)?;
+        place(&mut bytes, offset - first * BLOCK_BYTES, self.bytes);
+        write_file(rt, txn, number, written, &space.taken, changed, &bytes)
+    }
 }
 
-// Places the data in a block.
+// Places the data in blocks.
 fn place(block: &mut Vec<u8>, offset: usize, bytes: &[u8])
     requires { offset + length bytes.now ≤ length block.old.items }
     ensures { block.new.items ≡ with_data block.old.items offset bytes.now }
@@ -117,25 +164,25 @@ fn place(block: &mut Vec<u8>, offset: usize, bytes: &[u8])
     block[offset..offset + bytes.len()].copy_from_slice(bytes);
 }
 
-impl<'b, D: BlockDisk, J: Naming> FileStore<'b, D, J> {
+impl<'b, D: BlockDisk, J: Naming, V: Version> FileStore<'b, D, J, V> {
     /// WRITE (RFC 1813, 3.3.7): places bytes in a file from an offset on, with zeros before them where the file was
     /// shorter. The file's time becomes the moment. It waits until it is stable where `stability` says so.
     ///
     /// The first that holds is answered: `Stale` where the handle's file was removed, `Invalid` on the root and where
     /// `count` is not the number of bytes, a success that changes nothing where there are none, `TooBig` where the
-    /// file would have more than `FILE_BYTES` bytes.
+    /// file would have more bytes than one of its version has, `NoSpace` where it needs more blocks than are handed out.
     pub fn write<W: Wait>(
         &self,
         rt: &W,
-        session: &mut Session<'b, J, SoundFiles>,
+        session: &mut Session<'b, J, SoundFiles<V>>,
         handle: Handle,
         offset: u64,
         count: u32,
         bytes: &[u8],
         stability: Stability,
         now: Moment,
-    ) -> Result<Answer<Changed>, FileFault<'b, J>>
-        ensures answered { IsAnswered (is_waiting stability) (λ F r F2. Op (write handle.number handle.generation offset count bytes.now) (time_of now) F (wrote r) F2) session.old session.new result }
+    ) -> Result<Answer<Changed>, FileFault<'b, J, V>>
+        ensures answered { IsAnswered V.VERSION (is_waiting stability) (λ F r F2. Op V.VERSION (write handle.number handle.generation offset count bytes.now) (time_of now) F (wrote r) F2) session.old session.new result }
         ensures refusal { IfErr result (IsFaultOf session.new) }
     {
         let write = Write {
@@ -154,15 +201,15 @@ impl<'b, D: BlockDisk, J: Naming> FileStore<'b, D, J> {
     pub fn write_soon<W: Wait>(
         &self,
         rt: &W,
-        session: &mut Session<'b, J, SoundFiles>,
+        session: &mut Session<'b, J, SoundFiles<V>>,
         handle: Handle,
         offset: u64,
         count: u32,
         bytes: &[u8],
         stability: Stability,
         now: Moment,
-    ) -> Soon<'b, J, Changed>
-        ensures answered { IsAnsweredSoon (is_waiting stability) (λ F r F2. Op (write handle.number handle.generation offset count bytes.now) (time_of now) F (wrote r) F2) session.old session.new result }
+    ) -> Soon<'b, J, Changed, V>
+        ensures answered { IsAnsweredSoon V.VERSION (is_waiting stability) (λ F r F2. Op V.VERSION (write handle.number handle.generation offset count bytes.now) (time_of now) F (wrote r) F2) session.old session.new result }
         ensures refusal { IfErr result IsFilesRefusal }
     {
         let write = Write {

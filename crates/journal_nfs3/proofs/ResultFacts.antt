@@ -65,7 +65,7 @@ lookup_short r =
     let d = post_op_attributes.spelling r.directory in
     omega (arith, length-append object (a ++ d), length-append a d, length-handle r.object, after_short r.attributes, after_short r.directory)
 
-read_short : (r : ReadResults) → length r.bytes ≤ 4096 → length (read_results.spelling r) ≤ 4300
+read_short : (r : ReadResults) → length r.bytes ≤ 8192 → length (read_results.spelling r) ≤ 8396
 unfolding read_results
 read_short r h =
     let a = post_op_attributes.spelling r.attributes in
@@ -133,11 +133,11 @@ pub lookup_err : (why : NfsError) → IsResult (Lookup (Err (why, None)))
 unfolding results
 lookup_err why = record { has = err_has lookup_results post_op_attributes why None (none_has fattr); short = omega (arith, err_short lookup_results post_op_attributes why None 88 (after_short None)) }
 
-pub read_ok : (p : PortionState) → fattr.Has (fattr_of p.file) → length p.bytes ≤ 4096 → IsResult (Read (Ok (read_results_of p)))
+pub read_ok : (p : PortionState) → fattr.Has (fattr_of p.file) → length p.bytes ≤ 8192 → IsResult (Read (Ok (read_results_of p)))
 unfolding results read_results word
 read_ok p file h =
     let has : read_results.Has (read_results_of p) = (some_has fattr (fattr_of p.file) file, (omega (arith, h), (boolean_has p.is_end, bytes_has p.bytes (omega (arith, h))))) in
-    record { has = ok_has read_results post_op_attributes (read_results_of p) has; short = omega (arith, ok_short read_results post_op_attributes (read_results_of p) 4300 (read_short (read_results_of p) h)) }
+    record { has = ok_has read_results post_op_attributes (read_results_of p) has; short = omega (arith, ok_short read_results post_op_attributes (read_results_of p) 8396 (read_short (read_results_of p) h)) }
 
 pub read_err : (why : NfsError) → IsResult (Read (Err (why, None)))
 unfolding results

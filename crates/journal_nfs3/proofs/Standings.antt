@@ -29,13 +29,13 @@ use Rattle.journal_nfs3.specs.Answers.{procedure_for}
 
 -- what does not wait is owed nothing
 pub unwaited : {A : Type 0} (case : Files → Result A Status → Files → Type 0) (old new : SessionState) (answer : Result (Result A Status) (Fault Told))
-    → IsAnswered false case old new answer → IsAnsweredAs (owing Nothing) false case old new answer
+    → IsAnswered One false case old new answer → IsAnsweredAs (owing Nothing) false case old new answer
 unwaited case old new (Ok answer) d = record { place = d.place; made = d.made; exact = d.exact; so_far = λ wt. absurd (false≢true wt) }
 unwaited case old new (Err (Refused why)) d = (d, refl)
 unwaited case old new (Err (Unsure why)) d = absurd (false≢true d.0)
 
 pub unpaid : {A : Type 0} (waits : Bool) (case : Files → Result A Status → Files → Type 0) (old new : SessionState) (answer : Result (Committed A CommitPlace) (Refusal Told))
-    → IsAnsweredSoon waits case old new answer → IsAnsweredAs (owing (soon_owed answer)) waits case old new (soon_answer answer)
+    → IsAnsweredSoon One waits case old new answer → IsAnsweredAs (owing (soon_owed answer)) waits case old new (soon_answer answer)
 unpaid waits case old new (Ok done) d = record { place = d.place; made = d.made; exact = d.exact; so_far = d.owed }
 unpaid waits case old new (Err why) d = (d, refl)
 
@@ -88,7 +88,7 @@ answer_refused waits case old new receipt history why (Err (Unsure other)) d = a
 -- A session that has seen more since
 module _ (old middle new : SessionState) (receipt : CommitPlace) (more : OnlyExtends middle new) (sound : IsTrue (is_trusted new.seen) → (n : ℕ) → HasSoundFiles One (at new.seen n)) where
   committed : {A : Type 0} (waits : Bool) (case : Files → Result A Status → Files → Type 0) (answer : Result A Status) → IsDoneAs (owing (Wait receipt)) waits case old middle answer
-      → IsCommittedBy waits case old middle (record { answer = answer; owed = Wait receipt })
+      → IsCommittedBy One waits case old middle (record { answer = answer; owed = Wait receipt })
   committed waits case answer d = record { place = d.place; made = d.made; exact = d.exact; owed = d.so_far }
 
   answer_waited : {A : Type 0} (waits : Bool) (case : Files → Result A Status → Files → Type 0) (answer : Result (Result A Status) (Fault Told)) → receipt.count ≤ floor new.seen → IsExact new

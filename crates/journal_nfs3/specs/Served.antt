@@ -9,6 +9,7 @@ use Rattle.journal_world.specs.Histories.Entry.{commit}
 use Rattle.journal_history.specs.Tokens.{SessionState, OnlyExtends, IsExact, CommitPlace}
 use Rattle.journal_core.specs.Causes.{Told}
 use Rattle.journal_inode.specs.declared.node.Time.{Time}
+use Rattle.journal_inode.specs.declared.version.FormatVersion.TheVariants.{One}
 use Rattle.journal_filestore.specs.declared.fault.Fault.{Fault}
 use Rattle.journal_filestore.specs.declared.fault.Fault.TheVariants.{Refused, Unsure}
 use Rattle.journal_filestore.specs.declared.owed.Committed.{Committed}
@@ -107,7 +108,7 @@ IsSoFar (owing owed) waits answer seen place = IsOwed waits answer seen place ow
 -- The operation was done, and answered
 pub record IsDoneAs {A : Type 0} (standing : Standing) (waits : Bool) (case : Files → Result A Status → Files → Type 0) (old new : SessionState) (answer : Result A Status) : Type 0 where
   pub place : ℕ
-  pub made : IsMadeAt case old new answer place
+  pub made : IsMadeAt One case old new answer place
   -- the session has no other commits
   pub exact : IsExact new
   pub so_far : IsSoFar standing waits answer new.seen place
@@ -115,7 +116,7 @@ pub record IsDoneAs {A : Type 0} (standing : Standing) (waits : Bool) (case : Fi
 -- Refused, it was not done. In doubt, it was done with some answer that the case gives, and is not known to be stable
 abbrev pub IsFaultAs : {A : Type 0} → Standing → Bool → (Files → Result A Status → Files → Type 0) → SessionState → SessionState → Fault Told → Type 0
 IsFaultAs standing waits case old new (Refused why) = OnlyExtends old new × OwesNothing standing
-IsFaultAs {A} (marked history) waits case old new (Unsure why) = IsTrue waits × ((answer : Result A Status) × (place : ℕ) × IsMadeAt case old new answer place)
+IsFaultAs {A} (marked history) waits case old new (Unsure why) = IsTrue waits × ((answer : Result A Status) × (place : ℕ) × IsMadeAt One case old new answer place)
 IsFaultAs (owing owed) waits case old new (Unsure why) = ⊥
 
 abbrev pub IsAnsweredAs : {A : Type 0} → Standing → Bool → (Files → Result A Status → Files → Type 0) → SessionState → SessionState → Result (Result A Status) (Fault Told) → Type 0
@@ -138,28 +139,28 @@ Performs {A} standing handle waits case as_results old results new = (outcome : 
 abbrev pub ServesAs : Standing → List ℕ → Time → Operation → SessionState → Results → SessionState → Type 0
 ServesAs standing verifier now operation.Null old results new = (results ≡ Null) × (new ≡ old) × OwesNothing standing
 ServesAs standing verifier now (operation.GetAttributes h) old results new =
-    Performs standing (handle_in h) false (λ k F r F2. (t : Time) → Op (call.getattr k.number k.generation) t F (reply.got r) F2)
+    Performs standing (handle_in h) false (λ k F r F2. (t : Time) → Op One (call.getattr k.number k.generation) t F (reply.got r) F2)
     (λ r. GetAttributes (outcome_of fattr_of tt r)) old results new
 ServesAs standing verifier now (operation.SetAttributes h a guard) old results new =
-    Performs standing (handle_in h) true (λ k F r F2. Op (call.setattr k.number k.generation (settings_of a) guard) now F (reply.set r) F2)
+    Performs standing (handle_in h) true (λ k F r F2. Op One (call.setattr k.number k.generation (settings_of a) guard) now F (reply.set r) F2)
     (λ r. SetAttributes (outcome_of change_of no_change r)) old results new
 ServesAs standing verifier now (operation.Lookup e) old results new =
-    Performs standing (handle_in e.directory) false (λ k F r F2. (t : Time) → Op (call.lookup k.number k.generation e.called) t F (reply.found r) F2)
+    Performs standing (handle_in e.directory) false (λ k F r F2. (t : Time) → Op One (call.lookup k.number k.generation e.called) t F (reply.found r) F2)
     (λ r. Lookup (outcome_of lookup_of None r)) old results new
 ServesAs standing verifier now (operation.Read h offset count) old results new =
-    Performs standing (handle_in h) false (λ k F r F2. (t : Time) → Op (call.read k.number k.generation offset count) t F (reply.bytes_read r) F2)
+    Performs standing (handle_in h) false (λ k F r F2. (t : Time) → Op One (call.read k.number k.generation offset count) t F (reply.bytes_read r) F2)
     (λ r. Read (outcome_of read_results_of None r)) old results new
 ServesAs standing verifier now (operation.Write h offset count how bytes) old results new =
-    Performs standing (handle_in h) (waits how) (λ k F r F2. Op (call.write k.number k.generation offset count bytes) now F (reply.wrote r) F2)
+    Performs standing (handle_in h) (waits how) (λ k F r F2. Op One (call.write k.number k.generation offset count bytes) now F (reply.wrote r) F2)
     (λ r. Write (outcome_of (write_of count how verifier) no_change r)) old results new
 ServesAs standing verifier now (operation.Create e how) old results new =
-    Performs standing (handle_in e.directory) true (λ k F r F2. Op (call.create k.number k.generation e.called (ways_of how)) now F (reply.made r) F2)
+    Performs standing (handle_in e.directory) true (λ k F r F2. Op One (call.create k.number k.generation e.called (ways_of how)) now F (reply.made r) F2)
     (λ r. Create (outcome_of create_of no_change r)) old results new
 ServesAs standing verifier now (operation.Remove e) old results new =
-    Performs standing (handle_in e.directory) true (λ k F r F2. (t : Time) → Op (call.remove k.number k.generation e.called) t F (reply.removed r) F2)
+    Performs standing (handle_in e.directory) true (λ k F r F2. (t : Time) → Op One (call.remove k.number k.generation e.called) t F (reply.removed r) F2)
     (λ r. Remove (outcome_of unchanged_of no_change r)) old results new
 ServesAs standing verifier now (operation.Commit h offset count) old results new =
-    Performs standing (handle_in h) true (λ k F r F2. (t : Time) → Op (call.commit k.number k.generation) t F (reply.committed r) F2)
+    Performs standing (handle_in h) true (λ k F r F2. (t : Time) → Op One (call.commit k.number k.generation) t F (reply.committed r) F2)
     (λ r. Commit (outcome_of (commit_of verifier) no_change r)) old results new
 
 -- the same of an operation that has waited: what is to be stable is marked in what the session then has seen

@@ -1,5 +1,6 @@
 // Running the operations on the file store, each up to its commit.
 ghost use Rattle.std.specs.Prelude.{◌≡◌, true, false, Result};
+ghost use Rattle.journal_inode.specs.declared.version.FormatVersion.TheVariants.{One};
 ghost use Rattle.journal_filestore.specs.declared.owed.Owed.TheVariants.{Nothing};
 ghost use Rattle.journal_inode.specs.declared.node.Time.{Time};
 ghost use Rattle.journal_filestore.specs.Handles.{time_of};
@@ -151,7 +152,7 @@ fn get_attributes<'b, D: BlockDisk, J: Naming, W: Wait>(
     handle: &[u8],
 ) -> Result<Attributes, NfsError>
     ensures { TellsOutcome (owing Nothing) (handle_in handle.now) false
-        (λ k F r F2. (t : Time) → Op (getattr k.number k.generation) t F (got r) F2)
+        (λ k F r F2. (t : Time) → Op One (getattr k.number k.generation) t F (got r) F2)
         session.old session.new result }
 {
     let Some(handle) = read_handle(handle) else {
@@ -170,7 +171,7 @@ fn set_attributes<'b, D: BlockDisk, J: Naming, W: Wait>(
     moment: Moment,
 ) -> Soon<'b, J, Result<Changed, NfsError>>
     ensures { TellsOutcome (owing result.owed) (handle_in arguments.now.handle.now) true
-        (λ k F r F2. Op (setattr k.number k.generation (settings_of arguments.now.attributes) arguments.now.guard) (time_of moment) F (set r) F2)
+        (λ k F r F2. Op One (setattr k.number k.generation (settings_of arguments.now.attributes) arguments.now.guard) (time_of moment) F (set r) F2)
         session.old session.new result.told }
 {
     let Some(handle) = read_handle(arguments.handle) else {
@@ -189,7 +190,7 @@ fn look_up<'b, D: BlockDisk, J: Naming, W: Wait>(
     entry: &DirectoryEntry<'_>,
 ) -> Result<Found, NfsError>
     ensures { TellsOutcome (owing Nothing) (handle_in entry.now.directory.now) false
-        (λ k F r F2. (t : Time) → Op (lookup k.number k.generation entry.now.name.now) t F (found r) F2)
+        (λ k F r F2. (t : Time) → Op One (lookup k.number k.generation entry.now.name.now) t F (found r) F2)
         session.old session.new result }
 {
     let Some(handle) = read_handle(entry.directory) else {
@@ -207,7 +208,7 @@ fn read_bytes<'b, D: BlockDisk, J: Naming, W: Wait>(
     range: &FileRange<'_>,
 ) -> Result<Portion, NfsError>
     ensures { TellsOutcome (owing Nothing) (handle_in range.now.handle.now) false
-        (λ k F r F2. (t : Time) → Op (read k.number k.generation range.now.offset range.now.count) t F (bytes_read r) F2)
+        (λ k F r F2. (t : Time) → Op One (read k.number k.generation range.now.offset range.now.count) t F (bytes_read r) F2)
         session.old session.new result }
 {
     let Some(handle) = read_handle(range.handle) else {
@@ -226,7 +227,7 @@ fn write_bytes<'b, D: BlockDisk, J: Naming, W: Wait>(
     moment: Moment,
 ) -> Soon<'b, J, Result<Changed, NfsError>>
     ensures { TellsOutcome (owing result.owed) (handle_in arguments.now.handle.now) (waits arguments.now.how)
-        (λ k F r F2. Op (write k.number k.generation arguments.now.offset arguments.now.count arguments.now.bytes.now) (time_of moment) F (wrote r) F2)
+        (λ k F r F2. Op One (write k.number k.generation arguments.now.offset arguments.now.count arguments.now.bytes.now) (time_of moment) F (wrote r) F2)
         session.old session.new result.told }
 {
     let Some(handle) = read_handle(arguments.handle) else {
@@ -261,7 +262,7 @@ fn create_file<'b, D: BlockDisk, J: Naming, W: Wait>(
     moment: Moment,
 ) -> Soon<'b, J, Result<Found, NfsError>>
     ensures { TellsOutcome (owing result.owed) (handle_in arguments.now.entry.directory.now) true
-        (λ k F r F2. Op (create k.number k.generation arguments.now.entry.name.now (ways_of (how_of arguments.now.how))) (time_of moment) F (made r) F2)
+        (λ k F r F2. Op One (create k.number k.generation arguments.now.entry.name.now (ways_of (how_of arguments.now.how))) (time_of moment) F (made r) F2)
         session.old session.new result.told }
 {
     let Some(handle) = read_handle(arguments.entry.directory) else {
@@ -280,7 +281,7 @@ fn remove_file<'b, D: BlockDisk, J: Naming, W: Wait>(
     entry: &DirectoryEntry<'_>,
 ) -> Soon<'b, J, Result<Attributes, NfsError>>
     ensures { TellsOutcome (owing result.owed) (handle_in entry.now.directory.now) true
-        (λ k F r F2. (t : Time) → Op (remove k.number k.generation entry.now.name.now) t F (removed r) F2)
+        (λ k F r F2. (t : Time) → Op One (remove k.number k.generation entry.now.name.now) t F (removed r) F2)
         session.old session.new result.told }
 {
     let Some(handle) = read_handle(entry.directory) else {
@@ -298,7 +299,7 @@ fn commit_files<'b, D: BlockDisk, J: Naming, W: Wait>(
     range: &FileRange<'_>,
 ) -> Soon<'b, J, Result<Attributes, NfsError>>
     ensures { TellsOutcome (owing result.owed) (handle_in range.now.handle.now) true
-        (λ k F r F2. (t : Time) → Op (commit k.number k.generation) t F (committed r) F2)
+        (λ k F r F2. (t : Time) → Op One (commit k.number k.generation) t F (committed r) F2)
         session.old session.new result.told }
 {
     let Some(handle) = read_handle(range.handle) else {

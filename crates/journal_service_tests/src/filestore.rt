@@ -4,6 +4,7 @@ mod cases;
 mod mounts;
 mod storms;
 mod turns;
+mod versions;
 
 use crate::stores::{Wrong, on_disk};
 use crate::stories::Story;

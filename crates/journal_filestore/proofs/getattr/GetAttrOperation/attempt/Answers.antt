@@ -3,7 +3,6 @@ use Rattle.journal_filestore.specs.Files.{files_of}
 use Rattle.journal_filestore.specs.Operations.{getattr_case, of_root}
 use Rattle.journal_filestore.proofs.Answering.{Does-gone, Does-directory, Does-regular, attributes-data}
 use Rattle.journal_filestore.proofs.getattr.GetAttrOperation.attempt.Goals as goal
-use Rattle.journal_inode.specs.declared.version.FormatVersion.TheVariants.{One}
 
 pub returns-in-Gone : goal.returns-in-Gone
 returns-in-Gone g c = let h = c.args.self.now.handle in record {
@@ -21,6 +20,6 @@ returns-in-Directory g c = let h = c.args.self.now.handle in record {
 pub returns-in-Regular : goal.returns-in-Regular
 returns-in-Regular g c = let h = c.args.self.now.handle in record {
   does = Does-regular _ getattr_case h.number h.generation _ _ _ c.requires.writes c.in_ok-find.ensures.told _ _ c.in-Regular.is
-      (λ m sound. ap (λ x. (Ok x, files_of One m)) (attributes-data m _ _ sound ∙ sym c.attributes_of.ensures));
+      (λ m sound. ap (λ x. (Ok x, files_of g.V.Version.VERSION m)) (attributes-data m _ _ sound ∙ sym c.attributes_of.ensures));
   refusal = tt;
 }

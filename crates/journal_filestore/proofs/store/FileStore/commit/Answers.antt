@@ -3,4 +3,4 @@ use Rattle.journal_filestore.proofs.Ending.{IsAnswered-like}
 use Rattle.journal_filestore.proofs.store.FileStore.commit.Goals as goal
 
 pub returns-clause-answered : goal.returns-clause-answered
-returns-clause-answered g c = IsAnswered-like _ _ (λ answer F F2 case now. answers_commit _ _ now F F2 answer case) _ _ _ _ c.run.ensures.answered
+returns-clause-answered g c = IsAnswered-like _ _ _ (λ answer F F2 case now. answers_commit _ _ now F F2 answer case) _ _ _ _ c.run.ensures.answered

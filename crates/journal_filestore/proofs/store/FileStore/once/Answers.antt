@@ -5,7 +5,7 @@ use Rattle.journal_filestore.proofs.store.FileStore.once.Goals as goal
 
 pub returns-in-Ok-end-clause-answered : goal.returns-in-Ok-end-clause-answered
 returns-in-Ok-end-clause-answered g c =
-    subst (λ w. IsAnsweredSoon w (g.O.Operation.case c.args.operation.now) c.args.session.now c.end.new.session (Ok (record { answer = c.in-Ok.answer; owed = c.in-Ok-end.owed }))) c.waits.ensures
-    (IsSoon-later (g.O.Operation.case c.args.operation.now) c.args.session.now c.begin-txn.new.session c.end.new.session c.begin-txn.ensures.session c.waits.result (Ok (record { answer = c.in-Ok.answer; owed = c.in-Ok-end.owed }))
+    subst (λ w. IsAnsweredSoon g.V.Version.VERSION w (g.O.Operation.case c.args.operation.now) c.args.session.now c.end.new.session (Ok (record { answer = c.in-Ok.answer; owed = c.in-Ok-end.owed }))) c.waits.ensures
+    (IsSoon-later g.V.Version.VERSION (g.O.Operation.case c.args.operation.now) c.args.session.now c.begin-txn.new.session c.end.new.session c.begin-txn.ensures.session c.waits.result (Ok (record { answer = c.in-Ok.answer; owed = c.in-Ok-end.owed }))
     (IsCommittedBy-ended g.J.Naming.blocks _ c.attempt.new.txn c.in-Ok.answer c.begin-txn.new.session c.end.new.session c.in-Ok-end.ensures.ended.receipt c.in-Ok-end.ensures.ended.committed
     c.waits.result c.is_awaited-waits.result c.in-Ok-end.owed c.is_awaited-waits.ensures.success c.is_awaited-waits.ensures.waits c.in-Ok-end.ensures.ended.owes c.in-Ok.ensures.does))
