@@ -1,10 +1,12 @@
-// Preloaded under a program, this refuses one request for memory: the REFUSE-th of the process, counted from 1.
+// Preloaded under a program, this refuses one request for memory or for a thread: the REFUSE-th of the process, counted
+// from 1.
 // At the end it writes "REQUESTS REFUSED" (the number of requests, and 1 where one was refused) to the file that
 // REFUSE_REPORT names. With REFUSE 0 or none nothing is refused, and the requests are counted.
 #define _GNU_SOURCE
 #include <dlfcn.h>
 #include <errno.h>
 #include <fcntl.h>
+#include <pthread.h>
 #include <stdatomic.h>
 #include <stddef.h>
 #include <stdio.h>
@@ -22,6 +24,7 @@ static void *(*next_calloc)(size_t, size_t);
 static void *(*next_realloc)(void *, size_t);
 static void *(*next_aligned_alloc)(size_t, size_t);
 static int (*next_posix_memalign)(void **, size_t, size_t);
+static int (*next_pthread_create)(pthread_t *, const pthread_attr_t *, void *(*)(void *), void *);
 
 // What dlsym itself asks for, before the C library's functions are found. It is never given back.
 static char early[4096];
@@ -33,6 +36,7 @@ __attribute__((constructor)) static void start(void) {
     next_realloc = dlsym(RTLD_NEXT, "realloc");
     next_aligned_alloc = dlsym(RTLD_NEXT, "aligned_alloc");
     next_posix_memalign = dlsym(RTLD_NEXT, "posix_memalign");
+    next_pthread_create = dlsym(RTLD_NEXT, "pthread_create");
     const char *chosen = getenv("REFUSE");
     atomic_store(&requests, 0);
     refused_request = chosen ? atol(chosen) : 0;
@@ -104,4 +108,10 @@ int posix_memalign(void **block, size_t alignment, size_t size) {
     if (!next_posix_memalign)
         start();
     return is_refused() ? ENOMEM : next_posix_memalign(block, alignment, size);
+}
+
+int pthread_create(pthread_t *thread, const pthread_attr_t *attributes, void *(*work)(void *), void *given) {
+    if (!next_pthread_create)
+        start();
+    return is_refused() ? EAGAIN : next_pthread_create(thread, attributes, work, given);
 }

@@ -1,5 +1,5 @@
 -- What has come of a stream is spelled in its bytes.
-use Rattle.std.proofs.Common.{◌≡◌, ℕ, zero, suc, ◌+◌, ◌-◌, ◌%◌, ◌^◌, ◌<◌, ◌≤◌, Bool, true, false, List, [], ◌∷◌, ◌++◌, length, get_or, refl, sym, ap, subst, ◌∙◌, append_assoc, arith, ◌⊎◌, inl, inr}
+use Rattle.std.proofs.Common.{◌≡◌, ℕ, zero, suc, ◌+◌, ◌-◌, ◌%◌, ◌^◌, ◌<◌, ◌≤◌, Bool, true, false, List, [], ◌∷◌, ◌++◌, length, take, get_or, refl, sym, ap, subst, ◌∙◌, append_assoc, arith, ◌⊎◌, inl, inr}
 use Rattle.std.specs.Prelude.{◌≢◌, nat_le, nat_lt, ◌==◌, if◌then◌else◌, map}
 use Rattle.std.specs.List.{flat_map, AllByRecursion}
 use Rattle.std.specs.Int.{w32, from_be_bytes}
@@ -187,6 +187,13 @@ all_parts bytes s [] fits h = subst (λ (x : List ℕ). SpellsStream x s) (sym (
 all_parts bytes s (b ∷ more) fits h =
     subst (λ (x : List ℕ). SpellsStream x (after (byte_came s.records s.begun s.part b) more)) (append_assoc bytes (b ∷ []) more)
     (all_parts (bytes ++ b ∷ []) (byte_came s.records s.begun s.part b) more (λ i. fits (suc i)) (byte_parts bytes s b (fits 0) h))
+
+-- the bytes of a front are bytes
+pub front_fits : (n : ℕ) (bytes : List ℕ) → ((i : ℕ) → get_or bytes i 0 < 256) → (i : ℕ) → get_or (take n bytes) i 0 < 256
+front_fits zero bytes fits i = omega arith
+front_fits (suc n) [] fits i = omega arith
+front_fits (suc n) (b ∷ bytes) fits zero = fits 0
+front_fits (suc n) (b ∷ bytes) fits (suc i) = front_fits n bytes (λ j. fits (suc j)) i
 
 nothing : SpellsStream [] fresh
 nothing = record { cuts = []; before = []; tail = []; is = refl; each = tt; records = refl; fits = omega arith; rest = (refl, refl) }

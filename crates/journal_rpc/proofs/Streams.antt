@@ -1,9 +1,9 @@
 -- What comes of a stream, in one piece or in several.
-use Rattle.std.proofs.Common.{◌≡◌, ℕ, ◌+◌, ◌-◌, ◌%◌, ◌^◌, ◌<◌, Bool, true, false, eqb, List, [], ◌∷◌, ◌++◌, length, take, refl, sym, ap, subst, ◌∙◌, append_assoc, arith}
+use Rattle.std.proofs.Common.{◌≡◌, ℕ, ◌+◌, ◌-◌, ◌%◌, ◌^◌, ◌<◌, Bool, true, false, eqb, List, [], ◌∷◌, ◌++◌, length, take, drop, refl, sym, ap, subst, ◌∙◌, append_assoc, arith}
 use Rattle.std.specs.Prelude.{Result, Ok, Err, OnOk, OnErr, is_err, slice_index_or, if◌then◌else◌, ◌==◌, nat_lt, nat_le}
 use Rattle.std.specs.Int.{w32, from_be_bytes}
 use Rattle.std.proofs.lemmas.Bool.{ne_eqb, eq-eqb}
-use Rattle.std.proofs.lemmas.List.{append-nil}
+use Rattle.std.proofs.lemmas.List.{append-nil, take-append-drop}
 use Rattle.journal_rpc.specs.declared.part.Part.{Part}
 use Rattle.journal_rpc.specs.declared.part.Part.TheVariants.{Start, First, Second, Third, Body, TooLong}
 use Rattle.journal_rpc.specs.Stream.{Stream, record_limit, stream_ended, byte_came, after, ExtendsStream, Grown, Completed}
@@ -30,6 +30,14 @@ pub too_long_stays : (s : Stream) (bytes : List ℕ) → s.part ≡ TooLong → 
 too_long_stays s bytes is =
     let e : s ≡ stream s.records s.begun TooLong = ap (λ p. stream s.records s.begun p) is in
     e ∙ sym (after_too_long s.records s.begun bytes) ∙ ap (λ (t : Stream). after t bytes) (sym e)
+
+-- where a header took a record above the limit, what stands behind it changes nothing
+pub all_came : (old new : Stream) (n : ℕ) (piece : List ℕ) → new ≡ after old (take n piece) → new.part ≡ TooLong → new ≡ after old piece
+all_came old new n piece is long =
+    too_long_stays new (drop n piece) long
+    ∙ ap (λ (s : Stream). after s (drop n piece)) is
+    ∙ sym (after-append old (take n piece) (drop n piece))
+    ∙ ap (after old) (take-append-drop n piece)
 
 -- ---- a stream that goes on
 

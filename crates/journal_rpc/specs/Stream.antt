@@ -1,5 +1,5 @@
 -- Records on a stream, byte by byte (RFC 5531, section 11).
-use Rattle.std.specs.Prelude.{◌≡◌, ℕ, ◌+◌, ◌-◌, ◌^◌, ◌%◌, ◌==◌, nat_lt, nat_le, Bool, true, false, if◌then◌else◌, List, [], ◌∷◌, ◌++◌, length}
+use Rattle.std.specs.Prelude.{◌≡◌, ℕ, ◌+◌, ◌-◌, ◌^◌, ◌%◌, ◌==◌, nat_lt, nat_le, Bool, true, false, if◌then◌else◌, List, [], ◌∷◌, ◌++◌, length, take, Result, Ok, Err}
 use Rattle.std.specs.Int.{w32, from_be_bytes}
 use Rattle.journal_rpc.specs.declared.part.Part.{Part}
 use Rattle.journal_rpc.specs.declared.part.Part.TheVariants.{Start, First, Second, Third, Body, TooLong}
@@ -14,6 +14,10 @@ pub record Stream : Type 0 where
 -- the most bytes of a record, its fragments together
 abbrev pub record_limit : ℕ
 record_limit = 16384
+
+-- so many complete records wait at most
+abbrev pub waiting_limit : ℕ
+waiting_limit = 1024
 
 -- a stream of which nothing has come
 abbrev pub fresh : Stream
@@ -48,6 +52,11 @@ byte_came records begun TooLong b = record { records = records; begun = begun; p
 unfoldable pub after : Stream → List ℕ → Stream
 after s [] = s
 after s (b ∷ bs) = after (byte_came s.records s.begun s.part b) bs
+
+-- what was taken of a piece: a front, or all where a record was too long
+abbrev pub front_taken : {E : Type 0} → Result ℕ E → List ℕ → List ℕ
+front_taken (Ok taken) piece = take taken piece
+front_taken (Err why) piece = piece
 
 -- The new stream has all that the old one had, and perhaps more: the record that was begun has grown, or it
 -- is complete with what came of it

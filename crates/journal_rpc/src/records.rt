@@ -1,12 +1,12 @@
 // Records out of pieces of a stream.
 ghost use Rattle.std.specs.Prelude.{◌≡◌, ◌≢◌, ℕ, ◌+◌, ◌<◌, ◌≤◌, List, [], ◌∷◌, ◌++◌, length, take, OnOk, OnErr, IfOk, MatchOption, MatchBool, IsErrOf};
-ghost use Rattle.journal_rpc.specs.Stream.{fresh, after, stream_ended, stream_opened, Stream, ExtendsStream, IsBetween};
+ghost use Rattle.journal_rpc.specs.Stream.{fresh, after, stream_ended, stream_opened, Stream, ExtendsStream, IsBetween, waiting_limit, front_taken};
 ghost use Rattle.journal_rpc.specs.Cuts.{SpellsStream};
 ghost use Rattle.journal_rpc.specs.Parts.{HasMore};
 ghost use Rattle.journal_rpc.specs.declared.part.Part.TheVariants.{Body, TooLong};
 
 use crate::part::Part;
-use crate::protocol::{LAST_FRAGMENT, RECORD_BYTES};
+use crate::protocol::{LAST_FRAGMENT, RECORD_BYTES, WAITING_RECORDS};
 use std::alloc::{AllocError, Global};
 use std::collections::VecDeque;
 use std::marker::Model;
@@ -101,42 +101,53 @@ impl Records {
         }
     }
 
-    /// Takes the next piece of the stream. What has come is then what would have come in one piece.
+    /// Takes the next piece of the stream, up to where `WAITING_RECORDS` records wait, and answers how many bytes it took.
+    /// What has come is then what would have come with these in one piece.
     ///
     /// Where growing is refused nothing has changed. Where a header takes a record above `RECORD_BYTES`
     /// the records before it have come, and it stays so.
-    pub fn feed(&mut self, piece: &[u8]) -> Result<(), FeedRefused>
-        ensures ok { OnOk result ((self.new ≡ after self.old piece.now) × (self.new.part ≢ TooLong)) }
+    pub fn feed(&mut self, piece: &[u8]) -> Result<usize, FeedRefused>
+        ensures ok { IfOk result (λ taken. (taken ≤ length piece.now)
+            × (self.new ≡ after self.old (take taken piece.now)) × (self.new.part ≢ TooLong)) }
+
+        // It takes all, or so many records wait.
+        ensures all { IfOk result (λ taken. taken < length piece.now → waiting_limit ≤ length self.new.records) }
+
+        // No more of them wait, however short they are.
+        ensures few { length self.old.records ≤ waiting_limit → length self.new.records ≤ waiting_limit }
         ensures no_memory { IsErrOf result FeedRefused.NoMemory → self.new ≡ self.old }
         ensures too_long { IsErrOf result FeedRefused.TooLong
             → (self.new ≡ after self.old piece.now) × (self.new.part ≡ TooLong) }
 
-        // Where the bytes so far were the spellings of what had come, they are with the piece too.
+        // Where the bytes so far were the spellings of what had come, they are with those that were taken too.
         ensures spelled { result ≢ Err FeedRefused.NoMemory → (bytes : List ℕ) → SpellsStream bytes self.old
-            → SpellsStream (bytes ++ piece.now) self.new }
+            → SpellsStream (bytes ++ front_taken result piece.now) self.new }
     {
         let (records, bytes, part) = (self.waiting.len(), self.begun.len(), self.part);
-        if self.take_in(piece).is_err() {
+        let Ok(taken) = self.take_in(piece) else {
             self.go_back(records, bytes, part);
             return Err(FeedRefused::NoMemory);
-        }
+        };
         match self.part {
             Part::TooLong => Err(FeedRefused::TooLong),
-            _ => Ok(()),
+            _ => Ok(taken),
         }
     }
 
-    // Takes all of the piece.
-    fn take_in(&mut self, piece: &[u8]) -> Result<(), AllocError>
-        ensures ok { OnOk result (self.new ≡ after self.old piece.now) }
+    // Takes the piece up to where enough records wait, and answers how many bytes it took.
+    fn take_in(&mut self, piece: &[u8]) -> Result<usize, AllocError>
+        ensures ok { IfOk result (λ taken. (taken ≤ length piece.now)
+            × (self.new ≡ after self.old (take taken piece.now))) }
+        ensures all { IfOk result (λ taken. taken < length piece.now → waiting_limit ≤ length self.new.records) }
+        ensures few { length self.old.records ≤ waiting_limit → length self.new.records ≤ waiting_limit }
         ensures err { OnErr result (ExtendsStream self.old self.new) }
     {
         let mut rest = piece;
-        while !rest.is_empty() {
+        while !rest.is_empty() && self.waiting.len() < WAITING_RECORDS {
             let (_, more) = rest.split_at(self.take_front(rest)?);
             rest = more;
         }
-        Ok(())
+        Ok(piece.len() - rest.len())
     }
 
     // Takes some bytes at the front, as many as go together, and answers how many.
@@ -144,6 +155,7 @@ impl Records {
         requires { 0 < length bytes.now }
         ensures ok { IfOk result (λ n. (0 < n) × (n ≤ length bytes.now)
             × (self.new ≡ after self.old (take n bytes.now))) }
+        ensures one { length self.new.records ≤ length self.old.records + 1 }
         ensures err { OnErr result (ExtendsStream self.old self.new) }
     {
         let byte = bytes[0];
@@ -168,6 +180,7 @@ impl Records {
         requires within { length bytes.now ≤ left }
         requires here { self.old.part ≡ Body last left }
         ensures ok { OnOk result (self.new ≡ after self.old bytes.now) }
+        ensures one { length self.new.records ≤ length self.old.records + 1 }
         ensures err { OnErr result (ExtendsStream self.old self.new) }
     {
         self.begun.extend_from_slice(bytes)?;
@@ -184,6 +197,7 @@ impl Records {
     // A header has come.
     fn open_fragment(&mut self, header: u32) -> Result<(), AllocError>
         ensures ok { OnOk result (self.new ≡ stream_opened self.old.records self.old.begun header) }
+        ensures one { length self.new.records ≤ length self.old.records + 1 }
         ensures err { OnErr result (self.new ≡ self.old) }
     {
         let last = header >= LAST_FRAGMENT;
@@ -204,6 +218,7 @@ impl Records {
     // A fragment is at its end.
     fn end_fragment(&mut self, last: bool) -> Result<(), AllocError>
         ensures ok { OnOk result (self.new ≡ stream_ended self.old.records self.old.begun last) }
+        ensures one { length self.new.records ≤ length self.old.records + 1 }
         ensures err { OnErr result (self.new ≡ self.old) }
     {
         if last {

@@ -3,7 +3,9 @@ pub mod Behind
 pub mod Counting
 pub mod Serving
 pub mod Settling
+pub mod PieceSteps
 pub mod Sends
+pub mod Slices
 pub mod Staying
 pub mod Steps
 pub mod Turns

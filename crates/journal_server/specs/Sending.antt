@@ -1,8 +1,11 @@
 -- Records that were answered, and replies that were sent.
-use Rattle.std.specs.Prelude.{◌≡◌, ◌≢◌, ℕ, ◌+◌, ◌<◌, ◌^◌, List, [], ◌∷◌, ◌++◌, length, Option, None}
+use Rattle.std.specs.Prelude.{◌≡◌, ◌≢◌, ℕ, ◌+◌, ◌<◌, ◌≤◌, ◌^◌, List, [], ◌∷◌, ◌++◌, length, take, Option, None, ◌⊎◌}
 use Rattle.std.specs.Io.KnownBytes.{Appends}
 use Rattle.journal_rpc.specs.Calls.{Message, message}
-use Rattle.journal_rpc.specs.Stream.{Stream}
+use Rattle.journal_rpc.specs.Stream.{Stream, after}
+use Rattle.journal_rpc.specs.declared.part.Part.TheVariants.{TooLong}
+use Rattle.journal_server.specs.declared.pieces.Taken.{Taken}
+use Rattle.journal_server.specs.declared.pieces.Taken.TheVariants.{Front, Overlong}
 use Rattle.journal_server.specs.declared.replying.Turn.{Turn}
 use Rattle.journal_server.specs.declared.replying.Turn.TheVariants as turns
 use Rattle.journal_server.specs.Output.{AllReplies}
@@ -99,3 +102,17 @@ pub record SentInPart {S : Type 0} (answers : Message → S → S → List ℕ �
   pub records : old.records ≡ answered ++ behind
   pub replied : AllReplies answers answered before now text
   pub sent : AppendsFront held holds text
+
+-- what was taken of a piece: a front of it that is not empty, or all, where a record was too long
+abbrev pub Takes : Taken → Stream → Stream → List ℕ → Type 0
+Takes (Front count) old new piece = (0 < count) × (count ≤ length piece) × (new ≡ after old (take count piece)) × (new.part ≢ TooLong)
+Takes Overlong old new piece = (new ≡ after old piece) × (new.part ≡ TooLong)
+
+-- a piece has come and its calls were answered, and the stream goes on
+abbrev pub GoesOn : {S : Type 0} → (Message → S → S → List ℕ → Type 0) → Stream → Stream → S → S → Option (List ℕ) → Option (List ℕ) → ℕ → ℕ → Type 0
+GoesOn answers fed new before now held holds count counted = Sent answers fed new before now held holds count counted × (fed.part ≢ TooLong)
+
+-- a piece has come, and its calls were answered up to a bad record: a header that goes above the limit, or a record that is no call
+abbrev pub EndsBad : {S : Type 0} → (Message → S → S → List ℕ → Type 0) → Stream → Stream → S → S → Option (List ℕ) → Option (List ℕ) → ℕ → ℕ → Type 0
+EndsBad answers fed new before now held holds count counted =
+    ((fed.part ≡ TooLong) × Sent answers fed new before now held holds count counted) ⊎ SentUpToBad answers fed before now held holds count counted

@@ -1,13 +1,11 @@
 // A connection, from its first byte to its end.
-ghost use Rattle.std.specs.Prelude.{◌≡◌, ◌≢◌, ◌<◌, ◌^◌, length, IfOk, OnErr, MatchBool};
-ghost use Rattle.journal_rpc.specs.Stream.{after};
-ghost use Rattle.journal_rpc.specs.declared.part.Part.TheVariants.{TooLong};
+ghost use Rattle.std.specs.Prelude.{◌≡◌, ◌<◌, ◌^◌, length, IfOk, OnErr};
 ghost use Rattle.journal_server.specs.Output.{IsReply, RepliesUpToBad, records_of, answered_of};
 ghost use Rattle.journal_server.specs.Connections.{Exchanges, IsEnd, Closes, IsBeginning};
 ghost use Rattle.journal_server.specs.Serving.{Finished, Failed};
 
 use crate::holding::Holding;
-use crate::replying::answer_and_send;
+use crate::pieces::answer_piece;
 use crate::service::{Clock, Service};
 use crate::streams::read_piece;
 use journal_daemon::Gate;
@@ -16,15 +14,14 @@ use journal_filestore::FileStore;
 use journal_history::{Naming, Session};
 use journal_inode::SoundFiles;
 use journal_nfs3::Verifier;
-use journal_rpc::{FeedRefused, Records};
-use std::alloc::{AllocError, Global};
+use journal_rpc::Records;
+use std::alloc::Global;
 use std::io::{Read, Write};
 use std::sync::Wait;
 
 // The most bytes that are read at once. The calls of a piece that are to be stable are waited for once: so a piece holds
-// fifteen WRITEs of a whole block, and no more records, each of which takes memory however short it is, than four peers may
-// send at one time.
-const PIECE_BYTES: usize = 65_536;
+// thirty-one WRITEs of a whole block.
+const PIECE_BYTES: usize = 131_072;
 
 /// How a connection ended that was served to its end.
 #[derive(Clone, Copy, Debug, PartialEq, Eq)]
@@ -60,7 +57,7 @@ pub enum ConnFault {
 /// Answers the calls that the reader gives, in order, up to the first bad record, each at the clock's moment behind the
 /// gate, which it passes as `number` with the count of the calls before it. The replies go to the writer.
 ///
-/// It reads at most 64 KiB at once, and answers all calls that are complete then, in turns of at most 64 KiB or 1024
+/// It reads at most 128 KiB at once, and answers all calls that are complete then, in turns of at most 64 KiB or 1024
 /// replies, before it reads on. Of a turn it does all calls, and waits once until the last of those is stable that are to be:
 /// the replies in front of the first of them go out before, and the others after. It may wait for the peer, and for the
 /// journal.
@@ -140,44 +137,22 @@ fn answer_all<'b, R: Read, W: Write, D: BlockDisk, J: Naming, C: Clock, G: Gate,
             let end = end_of(&records);
             return Ok(Served { answered, end });
         }
-        let Ok(short) = take_piece(&mut records, &buffer[..count]) else {
-            return Err(ConnFault::NoMemory);
-        };
-        match answer_and_send(
+        let goes_on = answer_piece(
             rt,
             service,
             session,
             &mut records,
             &mut holding,
             &mut answered,
+            &buffer[..count],
             writer,
-        ) {
-            Ok(true) => {
-                if !short {
-                    let end = End::BadRecord;
-                    return Ok(Served { answered, end });
-                }
-            }
-            Ok(false) => {
-                let end = End::BadRecord;
-                return Ok(Served { answered, end });
-            }
-            Err(fault) => return Err(fault),
+        )?;
+        if !goes_on {
+            let end = End::BadRecord;
+            return Ok(Served { answered, end });
         }
     }
     Err(ConnFault::ReadFailed)
-}
-
-// Takes a piece. `false` says that a header took a record above the limit.
-fn take_piece(records: &mut Records, piece: &[u8]) -> Result<bool, AllocError>
-    ensures fed { IfOk result (λ short. records.new ≡ after records.old piece.now) }
-    ensures short { IfOk result (λ short. MatchBool short (records.new.part ≢ TooLong) (records.new.part ≡ TooLong)) }
-{
-    match records.feed(piece) {
-        Ok(()) => Ok(true),
-        Err(FeedRefused::TooLong) => Ok(false),
-        Err(FeedRefused::NoMemory) => Err(AllocError),
-    }
 }
 
 // Which end it is where nothing is left to read.

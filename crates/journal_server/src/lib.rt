@@ -17,6 +17,7 @@ mod ends;
 mod holding;
 mod laws;
 mod line;
+mod pieces;
 mod replying;
 mod service;
 mod source;

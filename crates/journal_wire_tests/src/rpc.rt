@@ -1,5 +1,7 @@
 // Streams of records, what is a call, and replies, as RFC 5531 has them.
-use journal_rpc::{FeedRefused, RECORD_BYTES, Records, Results, read_call, write_reply};
+use journal_rpc::{
+    FeedRefused, RECORD_BYTES, Records, Results, WAITING_RECORDS, read_call, write_reply,
+};
 use journal_xdr::Writer;
 use std::alloc::{AllocError, Global};
 use std::test::*;
@@ -20,17 +22,17 @@ const CALL: [u32; 11] = [0x8000_0028, 1, 0, 2, 0x186a3, 3, 0, 0, 0, 0, 0];
 const CALL_IN_FRAGMENTS: [u32; 13] = [0x14, 1, 0, 2, 0x186a3, 3, 0, 0x8000_0014, 0, 0, 0, 0, 0];
 
 // Feeds a piece, and again where memory was refused: nothing had changed.
-fn feed(records: &mut Records, piece: &[u8]) -> Result<(), FeedRefused> {
+fn feed(records: &mut Records, piece: &[u8]) -> Result<usize, FeedRefused> {
     match records.feed(piece) {
         Err(FeedRefused::NoMemory) => records.feed(piece),
         taken => taken,
     }
 }
 
-// Feeds a stream in pieces of at most so many bytes, and says whether each was taken.
+// Feeds a stream in pieces of at most so many bytes, and says whether each was taken whole.
 fn feed_all(records: &mut Records, stream: &[u8], piece: usize) -> bool {
     for piece in stream.chunks(piece.max(1)) {
-        if feed(records, piece).is_err() {
+        if feed(records, piece) != Ok(piece.len()) {
             return false;
         }
     }
@@ -89,10 +91,34 @@ fn a_record_above_the_limit(rt: HostRuntime) -> Result<(), Fail> {
     assert_eq!(rt;
         (greatest, fed, before),
         (
-            (Ok(()), true),
+            (Ok(full.len()), true),
             (Err(FeedRefused::TooLong), Err(FeedRefused::TooLong)),
             (false, true, true)
         )
+    );
+    Ok(())
+}
+
+// One empty record more than may wait, in one piece: it is taken once another has made room.
+#[test]
+fn a_piece_of_more_records_than_may_wait(rt: HostRuntime) -> Result<(), Fail> {
+    let mut piece = Vec::new(rt.alloc());
+    for _ in 0..=WAITING_RECORDS {
+        piece.extend_from_slice(&[0x80, 0, 0, 0])?;
+    }
+    let rest = piece.get(4 * WAITING_RECORDS..).ok_or("one is left")?;
+    let mut records = Records::new(rt.alloc());
+    let first = feed(&mut records, &piece);
+    let full = feed(&mut records, rest);
+    let came = comes(&mut records, &[]);
+    let last = feed(&mut records, rest);
+    let mut left = 0usize;
+    for _ in 0..=WAITING_RECORDS {
+        left = left.saturating_add(usize::from(comes(&mut records, &[])));
+    }
+    assert_eq!(rt;
+        (first, full, came, last, left),
+        (Ok(4 * WAITING_RECORDS), Ok(0), true, Ok(4), WAITING_RECORDS)
     );
     Ok(())
 }

@@ -179,14 +179,16 @@ fn a_connection_is_given_up(rt: HostRuntime) {
     assert_eq!(rt; on_new_disk(&rt, rt.alloc(), 532, &story), Ok(()));
 }
 
-// A hundred calls that come together are answered in order, by one write.
-const HUNDRED: &str = "
+// A hundred calls that come together are answered in order, by one write; eleven hundred by two, since no more than 1024
+// replies are held at once, and no more calls wait.
+const TOGETHER: &str = "
 9999 0 9999 9999 100 0 : = EndOfInput 100 1
+99999 0 99999 99999 1100 0 : = EndOfInput 1100 2
 ";
 
 #[test]
 fn replies_that_are_ready_go_out_together(rt: HostRuntime) {
-    let story = Story::Connections(HUNDRED);
+    let story = Story::Connections(TOGETHER);
     assert_eq!(rt; on_new_disk(&rt, rt.alloc(), 532, &story), Ok(()));
 }
 

@@ -1,9 +1,13 @@
-use Rattle.std.proofs.Common.{◌≡◌, length}
-use Rattle.journal_rpc.specs.Stream.{after, ExtendsStream}
+use Rattle.std.proofs.Common.{◌≡◌, ◌≤◌, ◌++◌, List, ℕ, length}
+use Rattle.journal_rpc.specs.Stream.{after, waiting_limit, ExtendsStream}
 use Rattle.journal_rpc.proofs.records.Records.take_in.Given as goal
 
-abbrev pub invariant-loop-rest : goal.invariant-loop-rest
-invariant-loop-rest l = record { told : after l.self l.rest ≡ after l.fn.self l.piece; grown : ExtendsStream l.fn.self l.self }
+abbrev pub invariant-loop-self : goal.invariant-loop-self
+invariant-loop-self l = record {
+  told : (done : List ℕ) × (l.piece ≡ done ++ l.rest) × (l.self ≡ after l.fn.self done);
+  few : length l.fn.self.records ≤ waiting_limit → length l.self.records ≤ waiting_limit;
+  grown : ExtendsStream l.fn.self l.self;
+}
 
-abbrev pub decreases-loop-rest : goal.decreases-loop-rest
-decreases-loop-rest l = length l.rest
+abbrev pub decreases-loop-self : goal.decreases-loop-self
+decreases-loop-self l = length l.rest
