@@ -1,6 +1,7 @@
 // Runs of a journal, in one thread and in several, and beside a logger and an installer.
 mod barriers;
 mod beside_daemon;
+mod crashes;
 mod gated_disk;
 mod one_thread;
 mod openings;

@@ -139,10 +139,12 @@ fn each_end_comes_where_it_should(rt: HostRuntime) {
     assert_eq!(rt; on_new_disk(&rt, rt.alloc(), 532, &story), Ok(()));
 }
 
-// A header above the limit alone, no input at all, and streams that fail: a reader behind a call, and a writer that takes 5
-// bytes of the reply, 5 and 2.
+// A header above the limit alone, a credential above its limit, a reply, no input at all, and streams that fail: a reader
+// behind a call, and a writer that takes 5 bytes of the reply, 5 and 2.
 const GIVEN_UP: &str = "
 9999 0 9999 9999 0 0 : 0x80004001 = BadRecord 0 0
+9999 0 9999 9999 0 0 : 0x80000020 0x11 0 2 0x186a3 3 0 0 0x191 = BadRecord 0 0
+9999 0 9999 9999 0 0 : 0x80000008 0x14 1 = BadRecord 0 0
 9999 0 9999 9999 0 0 : = EndOfInput 0 0
 30 1 9999 9999 1 0 : = ReadFailed 1 1
 9999 0 5 12 1 0 : = WriteFailed 1 4
