@@ -5,7 +5,7 @@
     python3 examples/nfs_client.py PORT ls               prints the name and the size of each file
     python3 examples/nfs_client.py PORT rm NAME          removes the file
 
-A name is f002 to f511, and a file has at most 4096 bytes. Each run is one connection.
+A name is f002 to f511, and a file has at most 49152 bytes, or 4096 on a disk of version 1. Each run is one connection.
 """
 import socket
 import struct
@@ -13,6 +13,7 @@ import sys
 
 LOOKUP, READ, WRITE, CREATE, REMOVE = 3, 6, 7, 8, 12
 FILE_SYNC = 2
+AT_ONCE = 8192  # so many bytes are read or written by a call
 STATUSES = {0: "OK", 2: "NOENT", 5: "IO", 17: "EXIST", 20: "NOTDIR", 22: "INVAL", 27: "FBIG", 28: "NOSPC", 70: "STALE",
             10001: "BADHANDLE", 10002: "NOT_SYNC", 10004: "NOTSUPP", 10006: "SERVERFAULT", 10008: "JUKEBOX"}
 ROOT = b"JNL1" + struct.pack(">2I", 1, 1)  # the handle of the only folder
@@ -74,13 +75,19 @@ def put(service, name, text):
     # UNCHECKED, and of all that can be set the size alone.
     made = service.call(CREATE, entry(name) + struct.pack(">5IQ2I", 0, 0, 0, 0, 1, len(data), 0, 0))
     handle = made[8:20]
-    service.call(WRITE, opaque(handle) + struct.pack(">Q2I", 0, len(data), FILE_SYNC) + opaque(data))
+    for offset in range(0, len(data), AT_ONCE):
+        piece = data[offset : offset + AT_ONCE]
+        service.call(WRITE, opaque(handle) + struct.pack(">Q2I", offset, len(piece), FILE_SYNC) + opaque(piece))
 
 
 def read(service, handle):
-    reply = service.call(READ, opaque(handle) + struct.pack(">QI", 0, 4096))
-    (count,) = struct.unpack_from(">I", reply, 88)
-    return reply[100 : 100 + count]
+    """All bytes of a file. Each READ says whether it reaches the end."""
+    data, is_end = b"", False
+    while not is_end:
+        reply = service.call(READ, opaque(handle) + struct.pack(">QI", len(data), AT_ONCE))
+        count, is_end = struct.unpack_from(">2I", reply, 88)
+        data += reply[100 : 100 + count]
+    return data
 
 
 def get(service, name):

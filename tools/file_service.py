@@ -12,7 +12,7 @@ from typing import NamedTuple, Optional
 sys.path.insert(0, str(Path(__file__).resolve().parent.parent / "examples"))
 from nfs_client import CREATE, FILE_SYNC, LOOKUP, READ, REMOVE, WRITE, Refused, Service, entry, files, opaque, read
 
-FILE_BYTES = 4096
+FILE_BYTES = 8192  # two blocks, which one READ gives
 SECONDS = 60
 GETATTR, SETATTR, COMMIT = 1, 2, 21
 UNSTABLE, DATA_SYNC = 0, 1

@@ -191,7 +191,7 @@ fn is_answered<'b, J: Naming, W: Wait>(
     let Some(call) = read_call(record.bytes()) else {
         return Ok(false);
     };
-    let reply = match answer::<_, _, _, ()>(rt, alloc, session, &call, files, NOW, VERIFIER) {
+    let reply = match answer::<_, _, _, _, ()>(rt, alloc, session, &call, files, NOW, VERIFIER) {
         Ok(reply) => reply,
         Err(why) => return Err(refused(why)),
     };

@@ -3,7 +3,7 @@ use Rattle.std.specs.Prelude.{ℕ, ◌≡◌, ◌⊎◌, ◌<◌, ◌≤◌, ◌
 use Rattle.std.specs.Fmt.{decimal}
 use Rattle.journal_world.specs.declared.layout.TheConstants.{MIN_BLOCKS, MAX_BLOCKS}
 use Rattle.journal_command.specs.declared.ask.Ask.{Ask}
-use Rattle.journal_command.specs.declared.ask.Ask.TheVariants.{Script, Format, Check, Serve}
+use Rattle.journal_command.specs.declared.ask.Ask.TheVariants.{Script, Format, Check, Migrate, Serve}
 use Rattle.journal_command.specs.declared.ask.AskFault.{AskFault}
 use Rattle.journal_command.specs.declared.ask.AskFault.TheVariants.{Usage, BadSize}
 
@@ -19,6 +19,10 @@ AsksFormat words path n = (n < 2 ^ 32) × (words ≡ codes "format" ∷ path ∷
 abbrev pub AsksCheck : List (List ℕ) → List ℕ → Type 0
 AsksCheck words path = words ≡ codes "check" ∷ path ∷ []
 
+-- the words ask that the disk in the file at the path becomes one of version 2
+abbrev pub AsksMigrate : List (List ℕ) → List ℕ → Type 0
+AsksMigrate words path = words ≡ codes "migrate" ∷ path ∷ []
+
 -- the words ask for the service of the file at the path, at a port, to so many connections
 abbrev pub AsksServe : List (List ℕ) → List ℕ → ℕ → ℕ → Type 0
 AsksServe words path port k = (port < 2 ^ 16) × (k < 2 ^ 32) × (words ≡ codes "serve" ∷ path ∷ decimal port ∷ decimal k ∷ [])
@@ -32,6 +36,7 @@ abbrev pub AsksFor : List (List ℕ) → Ask → Type 0
 AsksFor words (Script blocks) = AsksScript words blocks × IsSize blocks
 AsksFor words (Format path blocks) = AsksFormat words path.now blocks × IsSize blocks
 AsksFor words (Check path) = AsksCheck words path.now
+AsksFor words (Migrate path) = AsksMigrate words path.now
 AsksFor words (Serve path port connections) = AsksServe words path.now port connections
 
 -- the words ask for a disk of so many blocks, in memory or in a file
@@ -44,5 +49,6 @@ CannotBegin words Usage =
     ((n : ℕ) → AsksScript words n → ⊥)
     × ((path : List ℕ) (n : ℕ) → AsksFormat words path n → ⊥)
     × ((path : List ℕ) → AsksCheck words path → ⊥)
+    × ((path : List ℕ) → AsksMigrate words path → ⊥)
     × ((path : List ℕ) (port k : ℕ) → AsksServe words path port k → ⊥)
 CannotBegin words BadSize = (n : ℕ) × MayBeAsked words n × (IsSize n → ⊥)

@@ -1,6 +1,6 @@
 // What the words of a program ask for.
 ghost use Rattle.std.specs.Prelude.{ℕ, map, string_bytes, IfOk, IfErr, IfSome, IfNone, OnOk, List};
-ghost use Rattle.journal_command.specs.Asks.{AsksScript, AsksFormat, AsksCheck, AsksServe, AsksFor, IsSize, MayBeAsked, CannotBegin};
+ghost use Rattle.journal_command.specs.Asks.{AsksScript, AsksFormat, AsksCheck, AsksMigrate, AsksServe, AsksFor, IsSize, MayBeAsked, CannotBegin};
 
 use crate::number::{read_number, read_port};
 use journal_world::Layout;
@@ -20,6 +20,10 @@ pub enum Ask<'w> {
     },
     /// Look whether the disk in the file at the path is sound.
     Check {
+        path: &'w str,
+    },
+    /// Make the disk in the file at the path one of version 2.
+    Migrate {
         path: &'w str,
     },
     /// Serve the files of the disk in the file at the path, at a port, or at one that is free where that is 0, to so many
@@ -58,6 +62,9 @@ impl<'w> Ask<'w> {
         }
         if let Some(path) = check_asked(words) {
             return Ok(Ask::Check { path });
+        }
+        if let Some(path) = migrate_asked(words) {
+            return Ok(Ask::Migrate { path });
         }
         match serve_asked(words) {
             Some((path, port, connections)) => Ok(Ask::Serve {
@@ -104,6 +111,17 @@ fn check_asked(words: &[String]) -> Option<&str>
 {
     match words {
         [what, path] if what.as_str() == "check" => Some(path.as_str()),
+        _ => None,
+    }
+}
+
+// Which file the words ask to make one of version 2, where they do.
+fn migrate_asked(words: &[String]) -> Option<&str>
+    ensures some { IfSome result (λ path. AsksMigrate (map string_bytes words.now) path.now) }
+    ensures none { IfNone result ((path : List ℕ) → AsksMigrate (map string_bytes words.now) path → ⊥) }
+{
+    match words {
+        [what, path] if what.as_str() == "migrate" => Some(path.as_str()),
         _ => None,
     }
 }

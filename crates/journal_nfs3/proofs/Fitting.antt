@@ -1,17 +1,19 @@
 -- Values whose numbers are in range are in the grammar.
-use Rattle.std.proofs.Common.{◌≡◌, ℕ, ◌<◌, ◌^◌, Bool, true, false, cond, List, length, Option, Some, None, Ok, Err, refl, arith}
+use Rattle.std.proofs.Common.{◌≡◌, ℕ, ◌<◌, ◌^◌, Bool, true, false, cond, List, length, Option, Some, None, Ok, Err, refl, arith, lit<}
 use Rattle.std.specs.Prelude.{◌==◌}
 use Rattle.std.proofs.lemmas.Bool.{le-leb}
 use Rattle.journal_xdr.specs.Items.{Item}
 use Rattle.journal_xdr.specs.Basic.{word, hyper, boolean, fixed, opaque, optional}
 use Rattle.journal_inode.specs.declared.node.Time.{Time}
+use Rattle.journal_inode.specs.declared.version.FormatVersion.{FormatVersion}
+use Rattle.journal_inode.specs.declared.version.FormatVersion.TheVariants.{One, Two}
 use Rattle.journal_filestore.specs.declared.reply.Attributes.{Attributes}
 use Rattle.journal_nfs3.specs.Arguments.{time}
 use Rattle.journal_nfs3.specs.declared.results.NfsError.{NfsError}
 use Rattle.journal_nfs3.specs.declared.results.NfsError.TheVariants.{NoEntry, Io, Exists, NotDirectory, Invalid, TooBig, NoSpace, Stale, BadHandle, NotSync, NotSupported, ServerFault, Jukebox}
 use Rattle.journal_nfs3.specs.Handles.{FileHandle, file_handle}
 use Rattle.journal_nfs3.specs.Results.{status, outcome, given_handle, Fattr, fattr, Before, before, change}
-use Rattle.journal_nfs3.specs.Profile.{fattr_of, before_of, no_change}
+use Rattle.journal_nfs3.specs.Profile.{used_bytes, fattr_of, before_of, no_change}
 use Rattle.journal_nfs3.proofs.WholeLaws.{is_whole}
 use Rattle.journal_nfs3.proofs.ResultLaws.{file_handle_laws}
 
@@ -23,16 +25,21 @@ below : (b : Bool) (x y limit : ℕ) → x < limit → y < limit → cond b x y 
 below true x y limit hx hy = hx
 below false x y limit hx hy = hy
 
-pub fattr_has : (a : Attributes) → a.number < 2 ^ 32 → a.size < 2 ^ 64 → a.mtime.secs < 2 ^ 32 → a.mtime.nanos < 2 ^ 32 → fattr.Has (fattr_of a)
+-- what the blocks of a file have is far below the greatest number of 8 bytes
+used_few : (version : FormatVersion) (size : ℕ) → used_bytes version size < 2 ^ 64
+used_few One size = lit< tt
+used_few Two size = omega arith
+
+pub fattr_has : (version : FormatVersion) (a : Attributes) → a.number < 2 ^ 32 → a.size < 2 ^ 64 → a.mtime.secs < 2 ^ 32 → a.mtime.nanos < 2 ^ 32 → fattr.Has (fattr_of version a)
 unfolding fattr word hyper
-fattr_has a number size secs nanos =
+fattr_has version a number size secs nanos =
     let t : time.Has a.mtime = time_has a.mtime secs nanos in (
       below (a.number == 1) 2 1 _ (omega arith) (omega arith),
       (
         below (a.number == 1) 493 420 _ (omega arith) (omega arith),
         (
           below (a.number == 1) 2 1 _ (omega arith) (omega arith),
-          (omega arith, (omega arith, (size, (below (a.number == 1) 0 4096 _ (omega arith) (omega arith), ((omega arith, omega arith), (omega arith, (omega arith, (t, (t, t))))))))),
+          (omega arith, (omega arith, (size, (below (a.number == 1) 0 _ _ (omega arith) (used_few version a.size), ((omega arith, omega arith), (omega arith, (omega arith, (t, (t, t))))))))),
         ),
       ),
     )

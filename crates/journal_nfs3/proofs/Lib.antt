@@ -8,3 +8,4 @@ pub mod ResultFacts
 pub mod Marked
 pub mod Standings
 pub mod Owed
+pub mod Using

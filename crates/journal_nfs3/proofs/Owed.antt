@@ -6,7 +6,7 @@ use Rattle.journal_world.specs.Histories.{Entry, floor, is_trusted, at}
 use Rattle.journal_history.specs.Tokens.{SessionState, OnlyExtends, IsExact, CommitPlace}
 use Rattle.journal_core.specs.declared.refusal_number.RefusalNumber.TheVariants.{J6}
 use Rattle.journal_core.specs.Causes.{Told, unexplained}
-use Rattle.journal_inode.specs.declared.version.FormatVersion.TheVariants.{One}
+use Rattle.journal_inode.specs.declared.version.FormatVersion.{FormatVersion}
 use Rattle.journal_inode.specs.declared.node.Time.{Time}
 use Rattle.journal_inode.specs.Sound.{HasSoundFiles}
 use Rattle.journal_rpc.specs.declared.replies.CallRefused.{CallRefused}
@@ -17,14 +17,14 @@ use Rattle.journal_filestore.specs.Done.{IsPaid}
 use Rattle.journal_nfs3.specs.declared.procedure.Procedure.{Procedure}
 use Rattle.journal_nfs3.specs.declared.procedure.Procedure.TheVariants as procedure
 use Rattle.journal_nfs3.specs.declared.results.NfsError.{NfsError}
-use Rattle.journal_nfs3.specs.declared.results.NfsError.TheVariants.{Io, ServerFault, Jukebox}
+use Rattle.journal_nfs3.specs.declared.results.NfsError.TheVariants.{ServerFault}
 use Rattle.journal_nfs3.specs.declared.soon.Awaited.{Awaited}
 use Rattle.journal_nfs3.specs.declared.soon.SoonReply.{SoonReply}
 use Rattle.journal_nfs3.specs.Arguments.{Operation}
 use Rattle.journal_nfs3.specs.Results.{Results, results_text, procedure_of_results}
-use Rattle.journal_nfs3.specs.declared.results.Results as code_results
+use Rattle.journal_nfs3.specs.declared.results.FormatResults.{FormatResults}
 use Rattle.journal_nfs3.specs.Profile.{results_of, refused_results}
-use Rattle.journal_nfs3.specs.Served.{refusal_error, marked, owing, OwesNothing, ServesAs}
+use Rattle.journal_nfs3.specs.Served.{refusal_error, marked, owing, OwesNothing}
 use Rattle.journal_nfs3.specs.Answers.{procedure_for, IsResult, ServesCall, sent, outcome_seen, AnswersAs, Answers, owed_for, awaited_of, IsCallOf, AnswersSoon, TakesPlace}
 use Rattle.journal_nfs3.proofs.ResultFacts.{null_result, get_attributes_err, set_attributes_err, lookup_err, read_err, write_err, create_err, remove_err, commit_err}
 use Rattle.journal_nfs3.proofs.Standings.{serves_paid, serves_stays, serves_waited, serves_takes_place, serves_unsure}
@@ -72,43 +72,43 @@ told_alike Fenced = (NoMemory, refl)
 
 -- ---- what is told of a call
 
-call_paid : (verifier : List ℕ) (now : Time) (asked : Result Operation CallRefused) (old new then : SessionState) (owed : Owed CommitPlace) (outcome : Result Results CallRefused) → IsPaid owed then
-    → ServesCall (owing owed) verifier now asked old outcome new → ServesCall (marked then.seen) verifier now asked old outcome new
-call_paid verifier now (Err why) old new then owed outcome paid h = (h.0, h.1, tt)
-call_paid verifier now (Ok operation) old new then owed outcome paid h = (h.0, h.1, serves_paid verifier now operation old new then owed h.0 paid h.2, h.3, h.4)
+call_paid : (version : FormatVersion) (verifier : List ℕ) (now : Time) (asked : Result Operation CallRefused) (old new then : SessionState) (owed : Owed CommitPlace) (outcome : Result Results CallRefused) → IsPaid owed then
+    → ServesCall version (owing owed) verifier now asked old outcome new → ServesCall version (marked then.seen) verifier now asked old outcome new
+call_paid version verifier now (Err why) old new then owed outcome paid h = (h.0, h.1, tt)
+call_paid version verifier now (Ok operation) old new then owed outcome paid h = (h.0, h.1, serves_paid version verifier now operation old new then owed h.0 paid h.2, h.3, h.4)
 
-pub answers_paid : (verifier : List ℕ) (now : Time) (xid : ℕ) (asked : Result Operation CallRefused) (old new then : SessionState) (owed : Owed CommitPlace) (text : List ℕ)
-    → AnswersAs (owing owed) verifier now xid asked old new text → IsPaid owed then → AnswersAs (marked then.seen) verifier now xid asked old new text
-answers_paid verifier now xid asked old new then owed text a paid =
-    record { outcome = a.outcome; comes = call_paid verifier now asked old new then owed a.outcome paid a.comes; is_sent = a.is_sent }
+pub answers_paid : (version : FormatVersion) (verifier : List ℕ) (now : Time) (xid : ℕ) (asked : Result Operation CallRefused) (old new then : SessionState) (owed : Owed CommitPlace) (text : List ℕ)
+    → AnswersAs version (owing owed) verifier now xid asked old new text → IsPaid owed then → AnswersAs version (marked then.seen) verifier now xid asked old new text
+answers_paid version verifier now xid asked old new then owed text a paid =
+    record { outcome = a.outcome; comes = call_paid version verifier now asked old new then owed a.outcome paid a.comes; is_sent = a.is_sent }
 
-call_stays : (verifier : List ℕ) (now : Time) (asked : Result Operation CallRefused) (old new : SessionState) (history longer : List Entry) (outcome : Result Results CallRefused) → floor history ≤ floor longer
-    → ServesCall (marked history) verifier now asked old outcome new → ServesCall (marked longer) verifier now asked old outcome new
-call_stays verifier now (Err why) old new history longer outcome grows h = (h.0, h.1, tt)
-call_stays verifier now (Ok operation) old new history longer outcome grows h = (h.0, h.1, serves_stays verifier now operation old new history longer h.0 grows h.2, h.3, h.4)
+call_stays : (version : FormatVersion) (verifier : List ℕ) (now : Time) (asked : Result Operation CallRefused) (old new : SessionState) (history longer : List Entry) (outcome : Result Results CallRefused) → floor history ≤ floor longer
+    → ServesCall version (marked history) verifier now asked old outcome new → ServesCall version (marked longer) verifier now asked old outcome new
+call_stays version verifier now (Err why) old new history longer outcome grows h = (h.0, h.1, tt)
+call_stays version verifier now (Ok operation) old new history longer outcome grows h = (h.0, h.1, serves_stays version verifier now operation old new history longer h.0 grows h.2, h.3, h.4)
 
-pub answers_stay : (verifier : List ℕ) (now : Time) (xid : ℕ) (asked : Result Operation CallRefused) (old new : SessionState) (history longer : List Entry) (text : List ℕ)
-    → AnswersAs (marked history) verifier now xid asked old new text → floor history ≤ floor longer → AnswersAs (marked longer) verifier now xid asked old new text
-answers_stay verifier now xid asked old new history longer text a grows =
-    record { outcome = a.outcome; comes = call_stays verifier now asked old new history longer a.outcome grows a.comes; is_sent = a.is_sent }
+pub answers_stay : (version : FormatVersion) (verifier : List ℕ) (now : Time) (xid : ℕ) (asked : Result Operation CallRefused) (old new : SessionState) (history longer : List Entry) (text : List ℕ)
+    → AnswersAs version (marked history) verifier now xid asked old new text → floor history ≤ floor longer → AnswersAs version (marked longer) verifier now xid asked old new text
+answers_stay version verifier now xid asked old new history longer text a grows =
+    record { outcome = a.outcome; comes = call_stays version verifier now asked old new history longer a.outcome grows a.comes; is_sent = a.is_sent }
 
 -- a refused call owes nothing
 owes_none : (receipt : CommitPlace) → OwesNothing (owing (Wait receipt)) → ⊥
 owes_none receipt e = absurd cc
 
-call_takes_place : (verifier : List ℕ) (now : Time) (asked : Result Operation CallRefused) (old new : SessionState) (receipt : CommitPlace) (history : List Entry) (p : Procedure) (why : Refusal Told) (outcome : Result Results CallRefused)
-    → IsCallOf p asked → ServesCall (owing (Wait receipt)) verifier now asked old outcome new → ServesCall (marked history) verifier now asked old (Ok (refused_results p (refusal_error why))) new
-call_takes_place verifier now (Err other) old new receipt history p why outcome is h = absurd is
-call_takes_place verifier now (Ok operation) old new receipt history p why outcome is h =
-    subst (λ (q : Procedure). ServesCall (marked history) verifier now (Ok operation) old (Ok (refused_results q (refusal_error why))) new) (sym is)
-    (refused_results (procedure_for operation) (refusal_error why), refl, serves_takes_place verifier now operation old new receipt history why h.0 h.2, refused_procedure _ _, refused_fits _ _)
+call_takes_place : (version : FormatVersion) (verifier : List ℕ) (now : Time) (asked : Result Operation CallRefused) (old new : SessionState) (receipt : CommitPlace) (history : List Entry) (p : Procedure) (why : Refusal Told) (outcome : Result Results CallRefused)
+    → IsCallOf p asked → ServesCall version (owing (Wait receipt)) verifier now asked old outcome new → ServesCall version (marked history) verifier now asked old (Ok (refused_results p (refusal_error why))) new
+call_takes_place version verifier now (Err other) old new receipt history p why outcome is h = absurd is
+call_takes_place version verifier now (Ok operation) old new receipt history p why outcome is h =
+    subst (λ (q : Procedure). ServesCall version (marked history) verifier now (Ok operation) old (Ok (refused_results q (refusal_error why))) new) (sym is)
+    (refused_results (procedure_for operation) (refusal_error why), refl, serves_takes_place version verifier now operation old new receipt history why h.0 h.2, refused_procedure _ _, refused_fits _ _)
 
 pub takes_place : {C : Type 0} (xid : ℕ) (p : Procedure) (why : Refusal C) → TakesPlace xid p (sent xid (Ok (refused_results p (refusal_error why))))
 takes_place xid p why =
     let alike = told_alike why in
     subst (λ (e : NfsError). TakesPlace xid p (sent xid (Ok (refused_results p e)))) alike.1
-    (λ verifier now asked old new receipt soon history is a.
-    record { outcome = Ok (refused_results p (refusal_error alike.0)); comes = call_takes_place verifier now asked old new receipt history p alike.0 a.outcome is a.comes; is_sent = refl })
+    (λ version verifier now asked old new receipt soon history is a.
+    record { outcome = Ok (refused_results p (refusal_error alike.0)); comes = call_takes_place version verifier now asked old new receipt history p alike.0 a.outcome is a.comes; is_sent = refl })
 
 -- the same of a text that is known
 pub takes_place_so : {C : Type 0} (xid : ℕ) (p : Procedure) (why : Refusal C) (text : List ℕ) → text ≡ sent xid (Ok (refused_results p (refusal_error why))) → TakesPlace xid p text
@@ -117,35 +117,35 @@ takes_place_so xid p why text is = subst (TakesPlace xid p) (sym is) (takes_plac
 -- ---- a session that waited for what is owed
 
 -- a session's history has sound files after each number of commits
-abbrev pub IsRuled : SessionState → Type 0
-IsRuled s = IsTrue (is_trusted s.seen) → (n : ℕ) → HasSoundFiles One (at s.seen n)
+abbrev pub IsRuled : FormatVersion → SessionState → Type 0
+IsRuled version s = IsTrue (is_trusted s.seen) → (n : ℕ) → HasSoundFiles version (at s.seen n)
 
-call_waited : (verifier : List ℕ) (now : Time) (asked : Result Operation CallRefused) (old middle new : SessionState) (receipt : CommitPlace) (outcome : Result Results CallRefused) → OnlyExtends middle new → IsRuled new
-    → receipt.count ≤ floor new.seen → IsExact new → ServesCall (owing (Wait receipt)) verifier now asked old outcome middle → ServesCall (marked new.seen) verifier now asked old outcome new
-call_waited verifier now (Err why) old middle new receipt outcome more sound paid exact h = absurd (owes_none receipt h.2)
-call_waited verifier now (Ok operation) old middle new receipt outcome more sound paid exact h =
-    (h.0, h.1, serves_waited verifier now operation old middle new receipt h.0 more sound paid exact h.2, h.3, h.4)
+call_waited : (version : FormatVersion) (verifier : List ℕ) (now : Time) (asked : Result Operation CallRefused) (old middle new : SessionState) (receipt : CommitPlace) (outcome : Result Results CallRefused) → OnlyExtends middle new → IsRuled version new
+    → receipt.count ≤ floor new.seen → IsExact new → ServesCall version (owing (Wait receipt)) verifier now asked old outcome middle → ServesCall version (marked new.seen) verifier now asked old outcome new
+call_waited version verifier now (Err why) old middle new receipt outcome more sound paid exact h = absurd (owes_none receipt h.2)
+call_waited version verifier now (Ok operation) old middle new receipt outcome more sound paid exact h =
+    (h.0, h.1, serves_waited version verifier now operation old middle new receipt h.0 more sound paid exact h.2, h.3, h.4)
 
-pub answers_waited : (verifier : List ℕ) (now : Time) (xid : ℕ) (asked : Result Operation CallRefused) (old middle new : SessionState) (receipt : CommitPlace) (text : List ℕ) → OnlyExtends middle new → IsRuled new
-    → receipt.count ≤ floor new.seen → IsExact new → AnswersAs (owing (Wait receipt)) verifier now xid asked old middle text → Answers verifier now xid asked old new text
-answers_waited verifier now xid asked old middle new receipt text more sound paid exact a =
-    record { outcome = a.outcome; comes = call_waited verifier now asked old middle new receipt a.outcome more sound paid exact a.comes; is_sent = a.is_sent }
+pub answers_waited : (version : FormatVersion) (verifier : List ℕ) (now : Time) (xid : ℕ) (asked : Result Operation CallRefused) (old middle new : SessionState) (receipt : CommitPlace) (text : List ℕ) → OnlyExtends middle new → IsRuled version new
+    → receipt.count ≤ floor new.seen → IsExact new → AnswersAs version (owing (Wait receipt)) verifier now xid asked old middle text → Answers version verifier now xid asked old new text
+answers_waited version verifier now xid asked old middle new receipt text more sound paid exact a =
+    record { outcome = a.outcome; comes = call_waited version verifier now asked old middle new receipt a.outcome more sound paid exact a.comes; is_sent = a.is_sent }
 
-call_unsure : (verifier : List ℕ) (now : Time) (asked : Result Operation CallRefused) (old middle new : SessionState) (receipt : CommitPlace) (history : List Entry) (p : Procedure) (why : Refusal Told) (outcome : Result Results CallRefused)
-    → OnlyExtends middle new → IsRuled new → IsCallOf p asked → ServesCall (owing (Wait receipt)) verifier now asked old outcome middle
-    → ServesCall (marked history) verifier now asked old (Ok (refused_results p (refusal_error why))) new
-call_unsure verifier now (Err other) old middle new receipt history p why outcome more sound is h = absurd is
-call_unsure verifier now (Ok operation) old middle new receipt history p why outcome more sound is h =
-    subst (λ (q : Procedure). ServesCall (marked history) verifier now (Ok operation) old (Ok (refused_results q (refusal_error why))) new) (sym is)
-    (refused_results (procedure_for operation) (refusal_error why), refl, serves_unsure verifier now operation old middle new receipt history why h.0 more sound h.2, refused_procedure _ _, refused_fits _ _)
+call_unsure : (version : FormatVersion) (verifier : List ℕ) (now : Time) (asked : Result Operation CallRefused) (old middle new : SessionState) (receipt : CommitPlace) (history : List Entry) (p : Procedure) (why : Refusal Told) (outcome : Result Results CallRefused)
+    → OnlyExtends middle new → IsRuled version new → IsCallOf p asked → ServesCall version (owing (Wait receipt)) verifier now asked old outcome middle
+    → ServesCall version (marked history) verifier now asked old (Ok (refused_results p (refusal_error why))) new
+call_unsure version verifier now (Err other) old middle new receipt history p why outcome more sound is h = absurd is
+call_unsure version verifier now (Ok operation) old middle new receipt history p why outcome more sound is h =
+    subst (λ (q : Procedure). ServesCall version (marked history) verifier now (Ok operation) old (Ok (refused_results q (refusal_error why))) new) (sym is)
+    (refused_results (procedure_for operation) (refusal_error why), refl, serves_unsure version verifier now operation old middle new receipt history why h.0 more sound h.2, refused_procedure _ _, refused_fits _ _)
 
-pub answers_unsure : {C : Type 0} (verifier : List ℕ) (now : Time) (xid : ℕ) (asked : Result Operation CallRefused) (old middle new : SessionState) (receipt : CommitPlace) (p : Procedure) (why : Refusal C) (soon : List ℕ)
-    → OnlyExtends middle new → IsRuled new → IsCallOf p asked → AnswersAs (owing (Wait receipt)) verifier now xid asked old middle soon
-    → Answers verifier now xid asked old new (sent xid (Ok (refused_results p (refusal_error why))))
-answers_unsure verifier now xid asked old middle new receipt p why soon more sound is a =
+pub answers_unsure : {C : Type 0} (version : FormatVersion) (verifier : List ℕ) (now : Time) (xid : ℕ) (asked : Result Operation CallRefused) (old middle new : SessionState) (receipt : CommitPlace) (p : Procedure) (why : Refusal C) (soon : List ℕ)
+    → OnlyExtends middle new → IsRuled version new → IsCallOf p asked → AnswersAs version (owing (Wait receipt)) verifier now xid asked old middle soon
+    → Answers version verifier now xid asked old new (sent xid (Ok (refused_results p (refusal_error why))))
+answers_unsure version verifier now xid asked old middle new receipt p why soon more sound is a =
     let alike = told_alike why in
-    subst (λ (e : NfsError). Answers verifier now xid asked old new (sent xid (Ok (refused_results p e)))) alike.1
-    (record { outcome = Ok (refused_results p (refusal_error alike.0)); comes = call_unsure verifier now asked old middle new receipt new.seen p alike.0 a.outcome more sound is a.comes; is_sent = refl })
+    subst (λ (e : NfsError). Answers version verifier now xid asked old new (sent xid (Ok (refused_results p e)))) alike.1
+    (record { outcome = Ok (refused_results p (refusal_error alike.0)); comes = call_unsure version verifier now asked old middle new receipt new.seen p alike.0 a.outcome more sound is a.comes; is_sent = refl })
 
 -- ---- what is owed for the reply of a call
 
@@ -157,8 +157,8 @@ on_err (Ok v) p = tt
 on_err (Err e) p = p
 
 -- what is owed is owed with the call's procedure
-module _ (verifier : List ℕ) (now : Time) (xid : ℕ) (old new : SessionState) where
-  owed_kept : (asked : Result Operation CallRefused) (outcome : Result Results CallRefused) (owed : Owed CommitPlace) → ServesCall (owing owed) verifier now asked old outcome new → owed_for (awaited_of outcome owed) ≡ owed
+module _ (version : FormatVersion) (verifier : List ℕ) (now : Time) (xid : ℕ) (old new : SessionState) where
+  owed_kept : (asked : Result Operation CallRefused) (outcome : Result Results CallRefused) (owed : Owed CommitPlace) → ServesCall version (owing owed) verifier now asked old outcome new → owed_for (awaited_of outcome owed) ≡ owed
   owed_kept (Err why) outcome owed h = subst (λ (o : Owed CommitPlace). owed_for (awaited_of outcome o) ≡ o) (sym h.2) (none outcome)
     where
       none : (o : Result Results CallRefused) → owed_for (awaited_of o nothing) ≡ nothing
@@ -170,7 +170,7 @@ module _ (verifier : List ℕ) (now : Time) (xid : ℕ) (old new : SessionState)
       same Nothing = refl
       same (Wait receipt) = refl
 
-  of_call : (asked : Result Operation CallRefused) (outcome : Result Results CallRefused) (owed : Owed CommitPlace) → ServesCall (owing owed) verifier now asked old outcome new
+  of_call : (asked : Result Operation CallRefused) (outcome : Result Results CallRefused) (owed : Owed CommitPlace) → ServesCall version (owing owed) verifier now asked old outcome new
       → IfSome (awaited_of outcome owed) (λ (a : Awaited CommitPlace). IsCallOf a.procedure asked)
   of_call (Err why) outcome owed h = subst (λ (o : Owed CommitPlace). IfSome (awaited_of outcome o) (λ (a : Awaited CommitPlace). IsCallOf a.procedure (Err why))) (sym h.2) (none outcome)
     where
@@ -184,63 +184,63 @@ module _ (verifier : List ℕ) (now : Time) (xid : ℕ) (old new : SessionState)
       same Nothing = tt
       same (Wait receipt) = h.3
 
-  pub answers_soon : (asked : Result Operation CallRefused) (outcome : Result Results CallRefused) (owed : Owed CommitPlace) (soon : SoonReply CommitPlace) → ServesCall (owing owed) verifier now asked old outcome new
-      → soon.reply.items ≡ sent xid outcome → soon.owed ≡ awaited_of outcome owed → AnswersSoon verifier now xid asked old new soon
+  pub answers_soon : (asked : Result Operation CallRefused) (outcome : Result Results CallRefused) (owed : Owed CommitPlace) (soon : SoonReply CommitPlace) → ServesCall version (owing owed) verifier now asked old outcome new
+      → soon.reply.items ≡ sent xid outcome → soon.owed ≡ awaited_of outcome owed → AnswersSoon version verifier now xid asked old new soon
   answers_soon asked outcome owed soon h text is = record {
     answers = record {
       outcome = outcome;
-      comes = subst (λ (o : Owed CommitPlace). ServesCall (owing o) verifier now asked old outcome new) (sym (ap owed_for is ∙ owed_kept asked outcome owed h)) h;
+      comes = subst (λ (o : Owed CommitPlace). ServesCall version (owing o) verifier now asked old outcome new) (sym (ap owed_for is ∙ owed_kept asked outcome owed h)) h;
       is_sent = text;
     };
     procedure = subst (λ (a : Option (Awaited CommitPlace)). IfSome a (λ (b : Awaited CommitPlace). IsCallOf b.procedure asked)) (sym is) (of_call asked outcome owed h);
   }
 
   -- a reply that was lost, of which nothing is known to be stable
-  pub loses : (asked : Result Operation CallRefused) (outcome : Result Results CallRefused) (owed : Owed CommitPlace) → ServesCall (owing owed) verifier now asked old outcome new
-      → (history : List Entry) → (reply : List ℕ) × AnswersAs (marked history) verifier now xid asked old new reply
+  pub loses : (asked : Result Operation CallRefused) (outcome : Result Results CallRefused) (owed : Owed CommitPlace) → ServesCall version (owing owed) verifier now asked old outcome new
+      → (history : List Entry) → (reply : List ℕ) × AnswersAs version (marked history) verifier now xid asked old new reply
   loses asked outcome Nothing h history =
       let then : SessionState = record { number = 0; mine = history; seen = history } in
-      (sent xid outcome, record { outcome = outcome; comes = call_paid verifier now asked old new then Nothing outcome tt h; is_sent = refl })
+      (sent xid outcome, record { outcome = outcome; comes = call_paid version verifier now asked old new then Nothing outcome tt h; is_sent = refl })
   loses (Err why) outcome (Wait receipt) h history = absurd (owes_none receipt h.2)
   loses (Ok operation) outcome (Wait receipt) h history =
       let results = Ok (refused_results (procedure_for operation) ServerFault) in
-      (sent xid results, record { outcome = results; comes = call_takes_place verifier now (Ok operation) old new receipt history (procedure_for operation) NoMemory outcome refl h; is_sent = refl })
+      (sent xid results, record { outcome = results; comes = call_takes_place version verifier now (Ok operation) old new receipt history (procedure_for operation) NoMemory outcome refl h; is_sent = refl })
 
 -- a reply of the code's outcome is one of what it stands for
-pub sent_seen : (xid : ℕ) (told : Result code_results.Results CallRefused) → one_fragment (reply (λ (r : code_results.Results). results_text (results_of r)) xid told) ≡ sent xid (outcome_seen told)
+pub sent_seen : (xid : ℕ) (told : Result FormatResults CallRefused) → one_fragment (reply (λ (r : FormatResults). results_text (results_of r.version r.results)) xid told) ≡ sent xid (outcome_seen told)
 sent_seen xid (Ok r) = refl
 sent_seen xid (Err why) = refl
 
 -- ---- the reply that is told in the end
 
-module _ (verifier : List ℕ) (now : Time) (xid : ℕ) (asked : Result Operation CallRefused) (old middle : SessionState) (soon : SoonReply CommitPlace) (a : AnswersSoon verifier now xid asked old middle soon) where
+module _ (version : FormatVersion) (verifier : List ℕ) (now : Time) (xid : ℕ) (asked : Result Operation CallRefused) (old middle : SessionState) (soon : SoonReply CommitPlace) (a : AnswersSoon version verifier now xid asked old middle soon) where
   -- nothing is owed
-  pub settled_soon : soon.owed ≡ None → Answers verifier now xid asked old middle soon.reply.items
+  pub settled_soon : soon.owed ≡ None → Answers version verifier now xid asked old middle soon.reply.items
   settled_soon e =
-      answers_paid verifier now xid asked old middle middle Nothing soon.reply.items
-      (subst (λ (o : Option (Awaited CommitPlace)). AnswersAs (owing (owed_for o)) verifier now xid asked old middle soon.reply.items) e a.answers) tt
+      answers_paid version verifier now xid asked old middle middle Nothing soon.reply.items
+      (subst (λ (o : Option (Awaited CommitPlace)). AnswersAs version (owing (owed_for o)) verifier now xid asked old middle soon.reply.items) e a.answers) tt
 
-  module _ (new : SessionState) (awaited : Awaited CommitPlace) (e : soon.owed ≡ Some awaited) (more : OnlyExtends middle new) (sound : IsRuled new) where
-    owing_it : AnswersAs (owing (Wait awaited.receipt)) verifier now xid asked old middle soon.reply.items
-    owing_it = subst (λ (o : Option (Awaited CommitPlace)). AnswersAs (owing (owed_for o)) verifier now xid asked old middle soon.reply.items) e a.answers
+  module _ (new : SessionState) (awaited : Awaited CommitPlace) (e : soon.owed ≡ Some awaited) (more : OnlyExtends middle new) (sound : IsRuled version new) where
+    owing_it : AnswersAs version (owing (Wait awaited.receipt)) verifier now xid asked old middle soon.reply.items
+    owing_it = subst (λ (o : Option (Awaited CommitPlace)). AnswersAs version (owing (owed_for o)) verifier now xid asked old middle soon.reply.items) e a.answers
 
     -- a mark covers the receipt
-    pub waited_soon : (stable : ℕ) → awaited.receipt.count ≤ stable → stable ≤ floor new.seen → IsExact new → Answers verifier now xid asked old new soon.reply.items
-    waited_soon stable covers marks exact = answers_waited verifier now xid asked old middle new awaited.receipt soon.reply.items more sound (omega (arith, covers, marks)) exact owing_it
+    pub waited_soon : (stable : ℕ) → awaited.receipt.count ≤ stable → stable ≤ floor new.seen → IsExact new → Answers version verifier now xid asked old new soon.reply.items
+    waited_soon stable covers marks exact = answers_waited version verifier now xid asked old middle new awaited.receipt soon.reply.items more sound (omega (arith, covers, marks)) exact owing_it
 
     -- the wait was refused
-    pub unsure_soon : {C : Type 0} (why : Refusal C) → Answers verifier now xid asked old new (sent xid (Ok (refused_results awaited.procedure (refusal_error why))))
+    pub unsure_soon : {C : Type 0} (why : Refusal C) → Answers version verifier now xid asked old new (sent xid (Ok (refused_results awaited.procedure (refusal_error why))))
     unsure_soon why =
-        answers_unsure verifier now xid asked old middle new awaited.receipt awaited.procedure why soon.reply.items more sound
+        answers_unsure version verifier now xid asked old middle new awaited.receipt awaited.procedure why soon.reply.items more sound
         (subst (λ (o : Option (Awaited CommitPlace)). IfSome o (λ (b : Awaited CommitPlace). IsCallOf b.procedure asked)) e a.procedure) owing_it
 
     -- told by a reply, if memory is there for it
     pub unsure_ok : {C T E : Type 0} (why : Refusal C) (items : T → List ℕ) (r : Result T E) → IfOk r (λ v. items v ≡ sent xid (Ok (refused_results awaited.procedure (refusal_error why))))
-        → IfOk r (λ v. Answers verifier now xid asked old new (items v))
-    unsure_ok why items (Ok v) is = subst (Answers verifier now xid asked old new) (sym is) (unsure_soon why)
+        → IfOk r (λ v. Answers version verifier now xid asked old new (items v))
+    unsure_ok why items (Ok v) is = subst (Answers version verifier now xid asked old new) (sym is) (unsure_soon why)
     unsure_ok why items (Err x) is = tt
 
     -- that reply is lost
-    pub unsure_lost : {C T E : Type 0} (why : Refusal C) (r : Result T E) → OnErr r ((reply : List ℕ) × Answers verifier now xid asked old new reply)
+    pub unsure_lost : {C T E : Type 0} (why : Refusal C) (r : Result T E) → OnErr r ((reply : List ℕ) × Answers version verifier now xid asked old new reply)
     unsure_lost why (Ok v) = tt
     unsure_lost why (Err x) = (sent xid (Ok (refused_results awaited.procedure (refusal_error why))), unsure_soon why)

@@ -5,6 +5,7 @@ use Rattle.journal_xdr.specs.Items.{Item}
 use Rattle.journal_xdr.specs.Basic.{word, boolean, fixed, opaque, optional}
 use Rattle.journal_xdr.specs.BasicLaws.{length-word, length-hyper, length-boolean, opaque_short}
 use Rattle.journal_inode.specs.declared.node.Time.{Time}
+use Rattle.journal_inode.specs.declared.version.FormatVersion.{FormatVersion}
 use Rattle.journal_filestore.specs.declared.reply.Attributes.{Attributes}
 use Rattle.journal_filestore.specs.declared.reply.Changed.{Changed}
 use Rattle.journal_filestore.specs.declared.reply.Found.{Found}
@@ -123,21 +124,21 @@ pub set_attributes_err : (why : NfsError) → IsResult (SetAttributes (Err (why,
 unfolding results
 set_attributes_err why = record { has = err_has change change why no_change no_change_has; short = omega (arith, err_short change change why no_change 116 (change_short no_change)) }
 
-pub lookup_ok : (f : Found) → given_handle.Has (found_handle f) → fattr.Has (fattr_of f.file) → fattr.Has (fattr_of f.root) → IsResult (Lookup (Ok (lookup_of f)))
+pub lookup_ok : (version : FormatVersion) (f : Found) → given_handle.Has (found_handle f) → fattr.Has (fattr_of version f.file) → fattr.Has (fattr_of version f.root) → IsResult (Lookup (Ok (lookup_of version f)))
 unfolding results lookup_results
-lookup_ok f h file root =
-    let has : lookup_results.Has (lookup_of f) = (h, (some_has fattr (fattr_of f.file) file, some_has fattr (fattr_of f.root) root)) in
-    record { has = ok_has lookup_results post_op_attributes (lookup_of f) has; short = omega (arith, ok_short lookup_results post_op_attributes (lookup_of f) 192 (lookup_short (lookup_of f))) }
+lookup_ok version f h file root =
+    let has : lookup_results.Has (lookup_of version f) = (h, (some_has fattr (fattr_of version f.file) file, some_has fattr (fattr_of version f.root) root)) in
+    record { has = ok_has lookup_results post_op_attributes (lookup_of version f) has; short = omega (arith, ok_short lookup_results post_op_attributes (lookup_of version f) 192 (lookup_short (lookup_of version f))) }
 
 pub lookup_err : (why : NfsError) → IsResult (Lookup (Err (why, None)))
 unfolding results
 lookup_err why = record { has = err_has lookup_results post_op_attributes why None (none_has fattr); short = omega (arith, err_short lookup_results post_op_attributes why None 88 (after_short None)) }
 
-pub read_ok : (p : PortionState) → fattr.Has (fattr_of p.file) → length p.bytes ≤ 8192 → IsResult (Read (Ok (read_results_of p)))
+pub read_ok : (version : FormatVersion) (p : PortionState) → fattr.Has (fattr_of version p.file) → length p.bytes ≤ 8192 → IsResult (Read (Ok (read_results_of version p)))
 unfolding results read_results word
-read_ok p file h =
-    let has : read_results.Has (read_results_of p) = (some_has fattr (fattr_of p.file) file, (omega (arith, h), (boolean_has p.is_end, bytes_has p.bytes (omega (arith, h))))) in
-    record { has = ok_has read_results post_op_attributes (read_results_of p) has; short = omega (arith, ok_short read_results post_op_attributes (read_results_of p) 8396 (read_short (read_results_of p) h)) }
+read_ok version p file h =
+    let has : read_results.Has (read_results_of version p) = (some_has fattr (fattr_of version p.file) file, (omega (arith, h), (boolean_has p.is_end, bytes_has p.bytes (omega (arith, h))))) in
+    record { has = ok_has read_results post_op_attributes (read_results_of version p) has; short = omega (arith, ok_short read_results post_op_attributes (read_results_of version p) 8396 (read_short (read_results_of version p) h)) }
 
 pub read_err : (why : NfsError) → IsResult (Read (Err (why, None)))
 unfolding results
@@ -149,10 +150,10 @@ stable_has Unstable = (omega arith, refl)
 stable_has DataSync = (omega arith, refl)
 stable_has FileSync = (omega arith, refl)
 
-pub write_ok : (c : Changed) (count : ℕ) (how : StableHow) (verifier : List ℕ) → change.Has (change_of c) → count < 2 ^ 32 → length verifier ≡ 8 → IsResult (Write (Ok (write_of count how verifier c)))
+pub write_ok : (version : FormatVersion) (c : Changed) (count : ℕ) (how : StableHow) (verifier : List ℕ) → change.Has (change_of version c) → count < 2 ^ 32 → length verifier ≡ 8 → IsResult (Write (Ok (write_of version count how verifier c)))
 unfolding results write_results word
-write_ok c count how verifier h n long =
-    let r = write_of count how verifier c in
+write_ok version c count how verifier h n long =
+    let r = write_of version count how verifier c in
     let has : write_results.Has r = (h, (n, (stable_has how, verifier_has verifier long))) in
     record { has = ok_has write_results change r has; short = omega (arith, ok_short write_results change r 132 (write_short r long)) }
 
@@ -160,11 +161,11 @@ pub write_err : (why : NfsError) → IsResult (Write (Err (why, no_change)))
 unfolding results
 write_err why = record { has = err_has write_results change why no_change no_change_has; short = omega (arith, err_short write_results change why no_change 116 (change_short no_change)) }
 
-pub create_ok : (f : Found) → given_handle.Has (found_handle f) → fattr.Has (fattr_of f.file) → change.Has (unchanged_of f.root) → IsResult (Create (Ok (create_of f)))
+pub create_ok : (version : FormatVersion) (f : Found) → given_handle.Has (found_handle f) → fattr.Has (fattr_of version f.file) → change.Has (unchanged_of version f.root) → IsResult (Create (Ok (create_of version f)))
 unfolding results create_results
-create_ok f h file root =
-    let has : create_results.Has (create_of f) = (some_has given_handle (found_handle f) h, (some_has fattr (fattr_of f.file) file, root)) in
-    record { has = ok_has create_results change (create_of f) has; short = omega (arith, ok_short create_results change (create_of f) 224 (create_short (create_of f))) }
+create_ok version f h file root =
+    let has : create_results.Has (create_of version f) = (some_has given_handle (found_handle f) h, (some_has fattr (fattr_of version f.file) file, root)) in
+    record { has = ok_has create_results change (create_of version f) has; short = omega (arith, ok_short create_results change (create_of version f) 224 (create_short (create_of version f))) }
 
 pub create_err : (why : NfsError) → IsResult (Create (Err (why, no_change)))
 unfolding results
@@ -178,10 +179,10 @@ pub remove_err : (why : NfsError) → IsResult (Remove (Err (why, no_change)))
 unfolding results
 remove_err why = record { has = err_has change change why no_change no_change_has; short = omega (arith, err_short change change why no_change 116 (change_short no_change)) }
 
-pub commit_ok : (a : Attributes) (verifier : List ℕ) → change.Has (unchanged_of a) → length verifier ≡ 8 → IsResult (Commit (Ok (commit_of verifier a)))
+pub commit_ok : (version : FormatVersion) (a : Attributes) (verifier : List ℕ) → change.Has (unchanged_of version a) → length verifier ≡ 8 → IsResult (Commit (Ok (commit_of version verifier a)))
 unfolding results commit_results
-commit_ok a verifier h long =
-    let r = commit_of verifier a in
+commit_ok version a verifier h long =
+    let r = commit_of version verifier a in
     let has : commit_results.Has r = (h, verifier_has verifier long) in
     record { has = ok_has commit_results change r has; short = omega (arith, ok_short commit_results change r 124 (commit_short r long)) }
 

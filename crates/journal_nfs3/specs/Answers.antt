@@ -3,6 +3,7 @@ use Rattle.std.specs.Prelude.{ℕ, ◌≡◌, ◌<◌, ◌^◌, List, length, Op
 use Rattle.journal_world.specs.Histories.{Entry}
 use Rattle.journal_history.specs.Tokens.{SessionState, CommitPlace}
 use Rattle.journal_inode.specs.declared.node.Time.{Time}
+use Rattle.journal_inode.specs.declared.version.FormatVersion.{FormatVersion}
 use Rattle.journal_rpc.specs.declared.replies.CallRefused.{CallRefused}
 use Rattle.journal_rpc.specs.Replies.{one_fragment, reply}
 use Rattle.journal_filestore.specs.declared.owed.Owed.{Owed}
@@ -12,7 +13,7 @@ use Rattle.journal_nfs3.specs.declared.procedure.Procedure.TheVariants as proced
 use Rattle.journal_nfs3.specs.declared.soon.Awaited.{Awaited}
 use Rattle.journal_nfs3.specs.declared.soon.SoonReply.{SoonReply}
 use Rattle.journal_nfs3.specs.Arguments.{Operation, Null, GetAttributes, SetAttributes, Lookup, Read, Write, Create, Remove, Commit}
-use Rattle.journal_nfs3.specs.declared.results.Results as code_results
+use Rattle.journal_nfs3.specs.declared.results.FormatResults.{FormatResults}
 use Rattle.journal_nfs3.specs.Results.{Results, results, results_text, procedure_of_results}
 use Rattle.journal_nfs3.specs.Profile.{results_of}
 use Rattle.journal_nfs3.specs.Served.{Standing, marked, owing, OwesNothing, ServesAs}
@@ -34,24 +35,24 @@ pub record IsResult (r : Results) : Type 0 where
   pub short : length (results_text r) < 2 ^ 30
 
 -- What a call comes to, and how far it is: why it is refused, and then it does nothing; or the results of its operation, which is done
-abbrev pub ServesCall : Standing → List ℕ → Time → Result Operation CallRefused → SessionState → Result Results CallRefused → SessionState → Type 0
-ServesCall standing verifier now (Err why) old outcome new = (outcome ≡ Err why) × (new ≡ old) × OwesNothing standing
-ServesCall standing verifier now (Ok operation) old outcome new =
-    (r : Results) × (outcome ≡ Ok r) × ServesAs standing verifier now operation old r new × (procedure_of_results r ≡ procedure_for operation) × IsResult r
+abbrev pub ServesCall : FormatVersion → Standing → List ℕ → Time → Result Operation CallRefused → SessionState → Result Results CallRefused → SessionState → Type 0
+ServesCall version standing verifier now (Err why) old outcome new = (outcome ≡ Err why) × (new ≡ old) × OwesNothing standing
+ServesCall version standing verifier now (Ok operation) old outcome new =
+    (r : Results) × (outcome ≡ Ok r) × ServesAs version standing verifier now operation old r new × (procedure_of_results r ≡ procedure_for operation) × IsResult r
 
 -- a reply as it is sent: a record of one fragment
 abbrev pub sent : ℕ → Result Results CallRefused → List ℕ
 sent xid outcome = one_fragment (reply results_text xid outcome)
 
 -- The text is the reply to a call with this number, which asks this, the session has seen that then, and so far is the reply
-pub record AnswersAs (standing : Standing) (verifier : List ℕ) (now : Time) (xid : ℕ) (asked : Result Operation CallRefused) (old new : SessionState) (text : List ℕ) : Type 0 where
+pub record AnswersAs (version : FormatVersion) (standing : Standing) (verifier : List ℕ) (now : Time) (xid : ℕ) (asked : Result Operation CallRefused) (old new : SessionState) (text : List ℕ) : Type 0 where
   pub outcome : Result Results CallRefused
-  pub comes : ServesCall standing verifier now asked old outcome new
+  pub comes : ServesCall version standing verifier now asked old outcome new
   pub is_sent : text ≡ sent xid outcome
 
 -- the same of a reply that has waited: what is to be stable is marked in what the session then has seen
-abbrev pub Answers : List ℕ → Time → ℕ → Result Operation CallRefused → SessionState → SessionState → List ℕ → Type 0
-Answers verifier now xid asked old new text = AnswersAs (marked new.seen) verifier now xid asked old new text
+abbrev pub Answers : FormatVersion → List ℕ → Time → ℕ → Result Operation CallRefused → SessionState → SessionState → List ℕ → Type 0
+Answers version verifier now xid asked old new text = AnswersAs version (marked new.seen) verifier now xid asked old new text
 
 -- ---- replies that are not waited for
 
@@ -66,19 +67,19 @@ IsCallOf p (Ok operation) = p ≡ procedure_for operation
 IsCallOf p (Err why) = ⊥
 
 -- The reply to a call that is committed, and what is owed before it may be told
-pub record AnswersSoon (verifier : List ℕ) (now : Time) (xid : ℕ) (asked : Result Operation CallRefused) (old new : SessionState) (soon : SoonReply CommitPlace) : Type 0 where
-  pub answers : AnswersAs (owing (owed_for soon.owed)) verifier now xid asked old new soon.reply.items
+pub record AnswersSoon (version : FormatVersion) (verifier : List ℕ) (now : Time) (xid : ℕ) (asked : Result Operation CallRefused) (old new : SessionState) (soon : SoonReply CommitPlace) : Type 0 where
+  pub answers : AnswersAs version (owing (owed_for soon.owed)) verifier now xid asked old new soon.reply.items
   pub procedure : IfSome soon.owed (λ awaited. IsCallOf awaited.procedure asked)
 
 -- The text may stand in place of a reply to a call with this number and of this procedure for which a wait is owed: it says that it is not known to be stable
 abbrev pub TakesPlace : ℕ → Procedure → List ℕ → Type 0
 TakesPlace xid procedure text =
-    (verifier : List ℕ) (now : Time) (asked : Result Operation CallRefused) (old new : SessionState) (receipt : CommitPlace) (soon : List ℕ) (history : List Entry)
-    → IsCallOf procedure asked → AnswersAs (owing (Wait receipt)) verifier now xid asked old new soon → AnswersAs (marked history) verifier now xid asked old new text
+    (version : FormatVersion) (verifier : List ℕ) (now : Time) (asked : Result Operation CallRefused) (old new : SessionState) (receipt : CommitPlace) (soon : List ℕ) (history : List Entry)
+    → IsCallOf procedure asked → AnswersAs version (owing (Wait receipt)) verifier now xid asked old new soon → AnswersAs version (marked history) verifier now xid asked old new text
 
 -- what the code's outcome stands for
-abbrev pub outcome_seen : Result code_results.Results CallRefused → Result Results CallRefused
-outcome_seen (Ok r) = Ok (results_of r)
+abbrev pub outcome_seen : Result FormatResults CallRefused → Result Results CallRefused
+outcome_seen (Ok r) = Ok (results_of r.version r.results)
 outcome_seen (Err why) = Err why
 
 -- what is owed for a reply, with its procedure

@@ -9,7 +9,7 @@ use Rattle.journal_world.specs.Histories.Entry.{commit}
 use Rattle.journal_history.specs.Tokens.{SessionState, OnlyExtends, IsExact, CommitPlace}
 use Rattle.journal_core.specs.Causes.{Told}
 use Rattle.journal_inode.specs.declared.node.Time.{Time}
-use Rattle.journal_inode.specs.declared.version.FormatVersion.TheVariants.{One}
+use Rattle.journal_inode.specs.declared.version.FormatVersion.{FormatVersion}
 use Rattle.journal_filestore.specs.declared.fault.Fault.{Fault}
 use Rattle.journal_filestore.specs.declared.fault.Fault.TheVariants.{Refused, Unsure}
 use Rattle.journal_filestore.specs.declared.owed.Committed.{Committed}
@@ -106,66 +106,66 @@ IsSoFar (marked history) waits answer seen place = IsTrue waits → OnOk answer 
 IsSoFar (owing owed) waits answer seen place = IsOwed waits answer seen place owed
 
 -- The operation was done, and answered
-pub record IsDoneAs {A : Type 0} (standing : Standing) (waits : Bool) (case : Files → Result A Status → Files → Type 0) (old new : SessionState) (answer : Result A Status) : Type 0 where
+pub record IsDoneAs {A : Type 0} (version : FormatVersion) (standing : Standing) (waits : Bool) (case : Files → Result A Status → Files → Type 0) (old new : SessionState) (answer : Result A Status) : Type 0 where
   pub place : ℕ
-  pub made : IsMadeAt One case old new answer place
+  pub made : IsMadeAt version case old new answer place
   -- the session has no other commits
   pub exact : IsExact new
   pub so_far : IsSoFar standing waits answer new.seen place
 
 -- Refused, it was not done. In doubt, it was done with some answer that the case gives, and is not known to be stable
-abbrev pub IsFaultAs : {A : Type 0} → Standing → Bool → (Files → Result A Status → Files → Type 0) → SessionState → SessionState → Fault Told → Type 0
-IsFaultAs standing waits case old new (Refused why) = OnlyExtends old new × OwesNothing standing
-IsFaultAs {A} (marked history) waits case old new (Unsure why) = IsTrue waits × ((answer : Result A Status) × (place : ℕ) × IsMadeAt One case old new answer place)
-IsFaultAs (owing owed) waits case old new (Unsure why) = ⊥
+abbrev pub IsFaultAs : {A : Type 0} → FormatVersion → Standing → Bool → (Files → Result A Status → Files → Type 0) → SessionState → SessionState → Fault Told → Type 0
+IsFaultAs version standing waits case old new (Refused why) = OnlyExtends old new × OwesNothing standing
+IsFaultAs {A} version (marked history) waits case old new (Unsure why) = IsTrue waits × ((answer : Result A Status) × (place : ℕ) × IsMadeAt version case old new answer place)
+IsFaultAs version (owing owed) waits case old new (Unsure why) = ⊥
 
-abbrev pub IsAnsweredAs : {A : Type 0} → Standing → Bool → (Files → Result A Status → Files → Type 0) → SessionState → SessionState → Result (Result A Status) (Fault Told) → Type 0
-IsAnsweredAs standing waits case old new (Ok answer) = IsDoneAs standing waits case old new answer
-IsAnsweredAs standing waits case old new (Err fault) = IsFaultAs standing waits case old new fault
+abbrev pub IsAnsweredAs : {A : Type 0} → FormatVersion → Standing → Bool → (Files → Result A Status → Files → Type 0) → SessionState → SessionState → Result (Result A Status) (Fault Told) → Type 0
+IsAnsweredAs version standing waits case old new (Ok answer) = IsDoneAs version standing waits case old new answer
+IsAnsweredAs version standing waits case old new (Err fault) = IsFaultAs version standing waits case old new fault
 
 -- ---- operations
 
 -- What is told of an operation on what the handle names: that it is none, or what the file store answers by this case
-abbrev pub TellsOutcome : {A : Type 0} → Standing → Option FileHandle → Bool → (FileHandle → Files → Result A Status → Files → Type 0) → SessionState → SessionState → Result A NfsError → Type 0
-TellsOutcome standing None waits case old new outcome = (outcome ≡ Err BadHandle) × (new ≡ old) × OwesNothing standing
-TellsOutcome {A} standing (Some handle) waits case old new outcome =
-    (answer : Result (Result A Status) (Fault Told)) × IsAnsweredAs standing waits (case handle) old new answer × (outcome ≡ told answer)
+abbrev pub TellsOutcome : {A : Type 0} → FormatVersion → Standing → Option FileHandle → Bool → (FileHandle → Files → Result A Status → Files → Type 0) → SessionState → SessionState → Result A NfsError → Type 0
+TellsOutcome version standing None waits case old new outcome = (outcome ≡ Err BadHandle) × (new ≡ old) × OwesNothing standing
+TellsOutcome {A} version standing (Some handle) waits case old new outcome =
+    (answer : Result (Result A Status) (Fault Told)) × IsAnsweredAs version standing waits (case handle) old new answer × (outcome ≡ told answer)
 
 -- the same, with the results that are made of it
-abbrev pub Performs : {A : Type 0} → Standing → Option FileHandle → Bool → (FileHandle → Files → Result A Status → Files → Type 0) → (Result A NfsError → Results) → SessionState → Results → SessionState → Type 0
-Performs {A} standing handle waits case as_results old results new = (outcome : Result A NfsError) × TellsOutcome standing handle waits case old new outcome × (results ≡ as_results outcome)
+abbrev pub Performs : {A : Type 0} → FormatVersion → Standing → Option FileHandle → Bool → (FileHandle → Files → Result A Status → Files → Type 0) → (Result A NfsError → Results) → SessionState → Results → SessionState → Type 0
+Performs {A} version standing handle waits case as_results old results new = (outcome : Result A NfsError) × TellsOutcome version standing handle waits case old new outcome × (results ≡ as_results outcome)
 
 -- What an operation does at a moment, from what its session had seen to what it then has seen, its results, and how far they are
-abbrev pub ServesAs : Standing → List ℕ → Time → Operation → SessionState → Results → SessionState → Type 0
-ServesAs standing verifier now operation.Null old results new = (results ≡ Null) × (new ≡ old) × OwesNothing standing
-ServesAs standing verifier now (operation.GetAttributes h) old results new =
-    Performs standing (handle_in h) false (λ k F r F2. (t : Time) → Op One (call.getattr k.number k.generation) t F (reply.got r) F2)
-    (λ r. GetAttributes (outcome_of fattr_of tt r)) old results new
-ServesAs standing verifier now (operation.SetAttributes h a guard) old results new =
-    Performs standing (handle_in h) true (λ k F r F2. Op One (call.setattr k.number k.generation (settings_of a) guard) now F (reply.set r) F2)
-    (λ r. SetAttributes (outcome_of change_of no_change r)) old results new
-ServesAs standing verifier now (operation.Lookup e) old results new =
-    Performs standing (handle_in e.directory) false (λ k F r F2. (t : Time) → Op One (call.lookup k.number k.generation e.called) t F (reply.found r) F2)
-    (λ r. Lookup (outcome_of lookup_of None r)) old results new
-ServesAs standing verifier now (operation.Read h offset count) old results new =
-    Performs standing (handle_in h) false (λ k F r F2. (t : Time) → Op One (call.read k.number k.generation offset count) t F (reply.bytes_read r) F2)
-    (λ r. Read (outcome_of read_results_of None r)) old results new
-ServesAs standing verifier now (operation.Write h offset count how bytes) old results new =
-    Performs standing (handle_in h) (waits how) (λ k F r F2. Op One (call.write k.number k.generation offset count bytes) now F (reply.wrote r) F2)
-    (λ r. Write (outcome_of (write_of count how verifier) no_change r)) old results new
-ServesAs standing verifier now (operation.Create e how) old results new =
-    Performs standing (handle_in e.directory) true (λ k F r F2. Op One (call.create k.number k.generation e.called (ways_of how)) now F (reply.made r) F2)
-    (λ r. Create (outcome_of create_of no_change r)) old results new
-ServesAs standing verifier now (operation.Remove e) old results new =
-    Performs standing (handle_in e.directory) true (λ k F r F2. (t : Time) → Op One (call.remove k.number k.generation e.called) t F (reply.removed r) F2)
-    (λ r. Remove (outcome_of unchanged_of no_change r)) old results new
-ServesAs standing verifier now (operation.Commit h offset count) old results new =
-    Performs standing (handle_in h) true (λ k F r F2. (t : Time) → Op One (call.commit k.number k.generation) t F (reply.committed r) F2)
-    (λ r. Commit (outcome_of (commit_of verifier) no_change r)) old results new
+abbrev pub ServesAs : FormatVersion → Standing → List ℕ → Time → Operation → SessionState → Results → SessionState → Type 0
+ServesAs version standing verifier now operation.Null old results new = (results ≡ Null) × (new ≡ old) × OwesNothing standing
+ServesAs version standing verifier now (operation.GetAttributes h) old results new =
+    Performs version standing (handle_in h) false (λ k F r F2. (t : Time) → Op version (call.getattr k.number k.generation) t F (reply.got r) F2)
+    (λ r. GetAttributes (outcome_of (fattr_of version) tt r)) old results new
+ServesAs version standing verifier now (operation.SetAttributes h a guard) old results new =
+    Performs version standing (handle_in h) true (λ k F r F2. Op version (call.setattr k.number k.generation (settings_of a) guard) now F (reply.set r) F2)
+    (λ r. SetAttributes (outcome_of (change_of version) no_change r)) old results new
+ServesAs version standing verifier now (operation.Lookup e) old results new =
+    Performs version standing (handle_in e.directory) false (λ k F r F2. (t : Time) → Op version (call.lookup k.number k.generation e.called) t F (reply.found r) F2)
+    (λ r. Lookup (outcome_of (lookup_of version) None r)) old results new
+ServesAs version standing verifier now (operation.Read h offset count) old results new =
+    Performs version standing (handle_in h) false (λ k F r F2. (t : Time) → Op version (call.read k.number k.generation offset count) t F (reply.bytes_read r) F2)
+    (λ r. Read (outcome_of (read_results_of version) None r)) old results new
+ServesAs version standing verifier now (operation.Write h offset count how bytes) old results new =
+    Performs version standing (handle_in h) (waits how) (λ k F r F2. Op version (call.write k.number k.generation offset count bytes) now F (reply.wrote r) F2)
+    (λ r. Write (outcome_of (write_of version count how verifier) no_change r)) old results new
+ServesAs version standing verifier now (operation.Create e how) old results new =
+    Performs version standing (handle_in e.directory) true (λ k F r F2. Op version (call.create k.number k.generation e.called (ways_of how)) now F (reply.made r) F2)
+    (λ r. Create (outcome_of (create_of version) no_change r)) old results new
+ServesAs version standing verifier now (operation.Remove e) old results new =
+    Performs version standing (handle_in e.directory) true (λ k F r F2. (t : Time) → Op version (call.remove k.number k.generation e.called) t F (reply.removed r) F2)
+    (λ r. Remove (outcome_of (unchanged_of version) no_change r)) old results new
+ServesAs version standing verifier now (operation.Commit h offset count) old results new =
+    Performs version standing (handle_in h) true (λ k F r F2. (t : Time) → Op version (call.commit k.number k.generation) t F (reply.committed r) F2)
+    (λ r. Commit (outcome_of (commit_of version verifier) no_change r)) old results new
 
 -- the same of an operation that has waited: what is to be stable is marked in what the session then has seen
-abbrev pub Serves : List ℕ → Time → Operation → SessionState → Results → SessionState → Type 0
-Serves verifier now operation old results new = ServesAs (marked new.seen) verifier now operation old results new
+abbrev pub Serves : FormatVersion → List ℕ → Time → Operation → SessionState → Results → SessionState → Type 0
+Serves version verifier now operation old results new = ServesAs version (marked new.seen) verifier now operation old results new
 
 -- ---- what is stable once it is answered
 

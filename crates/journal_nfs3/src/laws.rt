@@ -1,11 +1,19 @@
 // What holds of all arguments and results.
-ghost use Rattle.std.specs.Prelude.{◌≡◌, ◌↔◌, ◌≤◌, ℕ, List, IsTrue, Option, Result, Some, Ok, Err};
+ghost use Rattle.std.specs.Prelude.{◌≡◌, ◌↔◌, ◌<◌, ◌≤◌, ◌*◌, ℕ, List, length, IsTrue, Option, Result, Some, Ok, Err};
+ghost use Rattle.journal_world.specs.declared.layout.TheConstants.{BLOCK_BYTES};
+ghost use Rattle.journal_world.specs.Maps.{Map};
 ghost use Rattle.journal_world.specs.Histories.{Entry, floor};
 ghost use Rattle.journal_history.specs.Tokens.{SessionState};
+ghost use Rattle.journal_inode.specs.declared.version.FormatVersion.{FormatVersion};
 ghost use Rattle.journal_inode.specs.declared.node.Time.{Time};
+ghost use Rattle.journal_inode.specs.declared.node.FileNode.{FileNode};
+ghost use Rattle.journal_inode.specs.declared.node.Node.TheVariants.{File};
+ghost use Rattle.journal_inode.specs.declared.place.TheConstants.{INODES};
+ghost use Rattle.journal_inode.specs.Sound.{node_at, blocks_of, HasSoundFiles};
 ghost use Rattle.journal_xdr.specs.Items.{IsGrammar};
 ghost use Rattle.journal_filestore.specs.declared.owed.Owed.{Owed};
 ghost use Rattle.journal_filestore.specs.Done.{IsPaid};
+ghost use Rattle.journal_filestore.specs.Operations.{attributes_of_node};
 ghost use Rattle.journal_history.specs.Tokens.{CommitPlace};
 ghost use Rattle.journal_rpc.specs.declared.replies.CallRefused.{CallRefused};
 ghost use Rattle.journal_rpc.specs.declared.replies.CallRefused.TheVariants.{GarbageArguments};
@@ -15,6 +23,7 @@ ghost use Rattle.journal_nfs3.specs.Whole.{IsSpelling};
 ghost use Rattle.journal_nfs3.specs.Handles.{FileHandle, used_handle, handle_in};
 ghost use Rattle.journal_nfs3.specs.Calls.{called};
 ghost use Rattle.journal_nfs3.specs.Results.{Results, results};
+ghost use Rattle.journal_nfs3.specs.Profile.{fattr_of};
 ghost use Rattle.journal_nfs3.specs.Served.{marked, owing, Serves, has_to_wait, is_accepted, CommitsOnceAt, IsMarked};
 ghost use Rattle.journal_nfs3.specs.Answers.{AnswersAs};
 
@@ -46,18 +55,24 @@ pub fn handles_are_spellings()
 /// mark that covers it, at its place, and all commits before it. So it is of COMMIT (RFC 1813, section 3.3.21),
 /// SETATTR, CREATE, REMOVE, and WRITE with DATA_SYNC or FILE_SYNC.
 pub fn answers_that_wait_are_stable()
-    ensures { (verifier : List ℕ) (now : Time) (operation : Operation) (old new : SessionState) (r : Results)
-        → IsTrue (has_to_wait operation) → IsTrue (is_accepted r) → Serves verifier now operation old r new
+    ensures { (version : FormatVersion) (verifier : List ℕ) (now : Time) (operation : Operation) (old new : SessionState) (r : Results)
+        → IsTrue (has_to_wait operation) → IsTrue (is_accepted r) → Serves version verifier now operation old r new
         → (place : ℕ) × CommitsOnceAt old new place × IsMarked new.seen place }
 {}
 
 /// A reply that is owed a wait is what the call's reply is to be once a mark covers its receipt: that mark stands for what
 /// is stable of it. It stays so in each history that has greater marks.
 pub fn owed_replies_are_told_once_paid()
-    ensures paid { (verifier : List ℕ) (now : Time) (xid : ℕ) (asked : Result Operation CallRefused) (old new then : SessionState)
+    ensures paid { (version : FormatVersion) (verifier : List ℕ) (now : Time) (xid : ℕ) (asked : Result Operation CallRefused) (old new then : SessionState)
         (owed : Owed CommitPlace) (text : List ℕ)
-        → AnswersAs (owing owed) verifier now xid asked old new text → IsPaid owed then → AnswersAs (marked then.seen) verifier now xid asked old new text }
-    ensures stays { (verifier : List ℕ) (now : Time) (xid : ℕ) (asked : Result Operation CallRefused) (old new : SessionState)
+        → AnswersAs version (owing owed) verifier now xid asked old new text → IsPaid owed then → AnswersAs version (marked then.seen) verifier now xid asked old new text }
+    ensures stays { (version : FormatVersion) (verifier : List ℕ) (now : Time) (xid : ℕ) (asked : Result Operation CallRefused) (old new : SessionState)
         (history longer : List Entry) (text : List ℕ)
-        → AnswersAs (marked history) verifier now xid asked old new text → floor history ≤ floor longer → AnswersAs (marked longer) verifier now xid asked old new text }
+        → AnswersAs version (marked history) verifier now xid asked old new text → floor history ≤ floor longer → AnswersAs version (marked longer) verifier now xid asked old new text }
+{}
+
+/// A file uses the bytes of its blocks, 4096 for each; in version 1 it has one.
+pub fn files_use_their_blocks()
+    ensures { (version : FormatVersion) (m : Map) → HasSoundFiles version m → (i : ℕ) (f : FileNode) → i < INODES → node_at m i ≡ File f
+        → (fattr_of version (attributes_of_node i f)).used ≡ BLOCK_BYTES * length (blocks_of version f) }
 {}

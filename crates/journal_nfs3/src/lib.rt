@@ -28,8 +28,8 @@ mod writing;
 
 pub use decision::{PROGRAM, VERSION};
 pub use laws::{
-    answers_that_wait_are_stable, arguments_are_spellings, handles_are_spellings,
-    owed_replies_are_told_once_paid, results_are_spellings,
+    answers_that_wait_are_stable, arguments_are_spellings, files_use_their_blocks,
+    handles_are_spellings, owed_replies_are_told_once_paid, results_are_spellings,
 };
 pub use procedure::Procedure;
 pub use replying::{answer, answer_soon, refused_reply};

@@ -12,14 +12,14 @@ ghost use Rattle.journal_nfs3.specs.Answers.{sent, ServesCall, Answers, AnswersA
 
 use crate::decision::decide;
 use crate::procedure::Procedure;
-use crate::results::{Results, Verifier};
+use crate::results::{FormatResults, Results, Verifier};
 use crate::serving::serve_soon;
 use crate::soon::{Awaited, Due, SoonReply};
 use crate::telling::refusal_error;
 use journal_disk::BlockDisk;
 use journal_filestore::{FileStore, Owed};
 use journal_history::{Naming, Receipt, Session};
-use journal_inode::SoundFiles;
+use journal_inode::{FormatVersion, SoundFiles, Version};
 use journal_rpc::{Call, CallRefused, write_reply};
 use journal_world::{Moment, Refusal};
 use std::alloc::Global;
@@ -44,18 +44,18 @@ const REPLY_BYTES: usize = 256;
 ///
 /// Answers J1 `NoMemory`, and nothing else, where memory for the reply is refused. The operation is done all the
 /// same, and its reply is lost.
-pub fn answer<'b, D: BlockDisk, J: Naming, W: Wait, C>(
+pub fn answer<'b, D: BlockDisk, J: Naming, V: Version, W: Wait, C>(
     rt: &W,
     alloc: Global,
-    session: &mut Session<'b, J, SoundFiles>,
+    session: &mut Session<'b, J, SoundFiles<V>>,
     call: &Call<'_>,
-    files: &FileStore<'b, D, J>,
+    files: &FileStore<'b, D, J, V>,
     moment: Moment,
     verifier: Verifier,
 ) -> Result<Vec<u8>, Refusal<C>>
-    ensures answered { IfOk result (λ reply. Answers verifier.0 (time_of moment) call.now.xid
+    ensures answered { IfOk result (λ reply. Answers V.VERSION verifier.0 (time_of moment) call.now.xid
         (asks (asked_of call.now.asked)) session.old session.new reply.items) }
-    ensures lost { OnErr result ((reply : List ℕ) × Answers verifier.0 (time_of moment) call.now.xid
+    ensures lost { OnErr result ((reply : List ℕ) × Answers V.VERSION verifier.0 (time_of moment) call.now.xid
         (asks (asked_of call.now.asked)) session.old session.new reply) }
     ensures refusal { IsOkUnless result Refusal.NoMemory }
 {
@@ -80,18 +80,18 @@ pub fn answer<'b, D: BlockDisk, J: Naming, W: Wait, C>(
 ///
 /// Answers J1 `NoMemory`, and nothing else, where memory for the reply is refused. The operation is done all the
 /// same, and its reply is lost.
-pub fn answer_soon<'b, D: BlockDisk, J: Naming, W: Wait, C>(
+pub fn answer_soon<'b, D: BlockDisk, J: Naming, V: Version, W: Wait, C>(
     rt: &W,
     alloc: Global,
-    session: &mut Session<'b, J, SoundFiles>,
+    session: &mut Session<'b, J, SoundFiles<V>>,
     call: &Call<'_>,
-    files: &FileStore<'b, D, J>,
+    files: &FileStore<'b, D, J, V>,
     moment: Moment,
     verifier: Verifier,
-) -> Result<SoonReply<Receipt<'b, J, SoundFiles>>, Refusal<C>>
-    ensures answered { IfOk result (AnswersSoon verifier.0 (time_of moment) call.now.xid
+) -> Result<SoonReply<Receipt<'b, J, SoundFiles<V>>>, Refusal<C>>
+    ensures answered { IfOk result (AnswersSoon V.VERSION verifier.0 (time_of moment) call.now.xid
         (asks (asked_of call.now.asked)) session.old session.new) }
-    ensures lost { OnErr result ((history : List Entry) → (reply : List ℕ) × AnswersAs (marked history) verifier.0
+    ensures lost { OnErr result ((history : List Entry) → (reply : List ℕ) × AnswersAs V.VERSION (marked history) verifier.0
         (time_of moment) call.now.xid (asks (asked_of call.now.asked)) session.old session.new reply) }
     ensures refusal { IsOkUnless result Refusal.NoMemory }
 {
@@ -117,22 +117,27 @@ pub fn refused_reply<C, E>(
     ensures refusal { IsOkUnless result Refusal.NoMemory }
 {
     let results = Results::refused(procedure, refusal_error(why));
+    // It tells of no file, and is the same in each version.
+    let results = FormatResults {
+        version: FormatVersion::One,
+        results,
+    };
     results.are_in_grammar();
     let outcome = Ok(results);
     Ok(write_reply(alloc, xid, &outcome, REPLY_BYTES)?)
 }
 
 // What a call comes to that is not waited for: why it is refused, or the results of its operation, which is done.
-fn run_soon<'b, D: BlockDisk, J: Naming, W: Wait>(
+fn run_soon<'b, D: BlockDisk, J: Naming, V: Version, W: Wait>(
     rt: &W,
-    session: &mut Session<'b, J, SoundFiles>,
+    session: &mut Session<'b, J, SoundFiles<V>>,
     call: &Call<'_>,
-    files: &FileStore<'b, D, J>,
+    files: &FileStore<'b, D, J, V>,
     moment: Moment,
     verifier: Verifier,
-) -> Due<Result<Results, CallRefused>, Receipt<'b, J, SoundFiles>>
-    ensures comes { ServesCall (owing result.owed) verifier.0 (time_of moment) (asks (asked_of call.now.asked)) session.old (outcome_seen result.told) session.new }
-    ensures short { ForOk result.told (λ r. length (results_text (results_of r)) < 2 ^ 30) }
+) -> Due<Result<FormatResults, CallRefused>, Receipt<'b, J, SoundFiles<V>>>
+    ensures comes { ServesCall V.VERSION (owing result.owed) verifier.0 (time_of moment) (asks (asked_of call.now.asked)) session.old (outcome_seen result.told) session.new }
+    ensures short { ForOk result.told (λ r. length (results_text (results_of r.version r.results)) < 2 ^ 30) }
 {
     let operation = match decide(call) {
         Ok(operation) => operation,
@@ -142,6 +147,10 @@ fn run_soon<'b, D: BlockDisk, J: Naming, W: Wait>(
         told: results,
         owed,
     } = serve_soon(rt, session, files, &operation, moment, verifier);
+    let results = FormatResults {
+        version: files.version(),
+        results,
+    };
     results.are_in_grammar();
     Due {
         told: Ok(results),
@@ -150,7 +159,10 @@ fn run_soon<'b, D: BlockDisk, J: Naming, W: Wait>(
 }
 
 // What is owed, with the procedure of the results that it is owed for.
-fn awaited<P: Drop>(outcome: &Result<Results, CallRefused>, owed: Owed<P>) -> Option<Awaited<P>>
+fn awaited<P: Drop>(
+    outcome: &Result<FormatResults, CallRefused>,
+    owed: Owed<P>,
+) -> Option<Awaited<P>>
     ensures { result ≡ awaited_of (outcome_seen outcome.now) owed }
 {
     match (outcome, owed) {
@@ -163,9 +175,14 @@ fn awaited<P: Drop>(outcome: &Result<Results, CallRefused>, owed: Owed<P>) -> Op
 }
 
 // The room that is reserved for a reply.
-fn room_for(outcome: &Result<Results, CallRefused>) -> usize {
+fn room_for(outcome: &Result<FormatResults, CallRefused>) -> usize {
     match outcome {
-        Ok(Results::Read(Ok(portion))) => REPLY_BYTES + portion.bytes().len(),
+        Ok(
+            FormatResults {
+                results: Results::Read(Ok(portion)),
+                ..
+            },
+        ) => REPLY_BYTES + portion.bytes().len(),
         _ => REPLY_BYTES,
     }
 }

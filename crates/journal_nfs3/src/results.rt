@@ -1,5 +1,6 @@
 // What procedures answer.
 ghost use Rattle.std.specs.Prelude.{◌≡◌, ◌++◌, OnOk};
+ghost use Rattle.journal_inode.specs.declared.version.FormatVersion.{FormatVersion};
 ghost use Rattle.journal_nfs3.specs.Results.{procedure_of_results};
 ghost use Rattle.journal_nfs3.specs.Profile.{results_of, refused_results};
 
@@ -10,6 +11,7 @@ use crate::writing::{
     write_set_attributes, write_write,
 };
 use journal_filestore::{Attributes, Changed, Found, Portion};
+use journal_inode::FormatVersion;
 use journal_xdr::Writer;
 use std::alloc::AllocError;
 
@@ -59,26 +61,9 @@ pub(crate) enum Results {
 }
 
 impl Results {
-    // The procedure that answers so.
-    pub(crate) fn procedure(&self) -> Procedure
-        ensures { result ≡ procedure_of_results (results_of self.now) }
-    {
-        match self {
-            Results::Null => Procedure::Null,
-            Results::GetAttributes(_) => Procedure::GetAttributes,
-            Results::SetAttributes(_) => Procedure::SetAttributes,
-            Results::Lookup(_) => Procedure::Lookup,
-            Results::Read(_) => Procedure::Read,
-            Results::Write { .. } => Procedure::Write,
-            Results::Create(_) => Procedure::Create,
-            Results::Remove(_) => Procedure::Remove,
-            Results::Commit { .. } => Procedure::Commit,
-        }
-    }
-
     // What a procedure answers that is refused so: nothing is told of any file, and nothing of what was asked.
     pub(crate) fn refused(procedure: Procedure, why: NfsError) -> Results
-        ensures { results_of result ≡ refused_results procedure why }
+        ensures { (version : FormatVersion) → results_of version result ≡ refused_results procedure why }
     {
         match procedure {
             Procedure::Null => Results::Null,
@@ -102,29 +87,58 @@ impl Results {
     }
 }
 
-impl journal_rpc::Results for Results {
+// The same of files of a version of the format, which says how many bytes they use.
+#[derive(Debug, Drop)]
+pub(crate) struct FormatResults {
+    pub version: FormatVersion,
+    pub results: Results,
+}
+
+impl FormatResults {
+    // The procedure that answers so.
+    pub(crate) fn procedure(&self) -> Procedure
+        ensures { result ≡ procedure_of_results (results_of self.now.version self.now.results) }
+    {
+        match &self.results {
+            Results::Null => Procedure::Null,
+            Results::GetAttributes(_) => Procedure::GetAttributes,
+            Results::SetAttributes(_) => Procedure::SetAttributes,
+            Results::Lookup(_) => Procedure::Lookup,
+            Results::Read(_) => Procedure::Read,
+            Results::Write { .. } => Procedure::Write,
+            Results::Create(_) => Procedure::Create,
+            Results::Remove(_) => Procedure::Remove,
+            Results::Commit { .. } => Procedure::Commit,
+        }
+    }
+}
+
+impl journal_rpc::Results for FormatResults {
     ghost use Rattle.journal_nfs3.specs.Profile.{results_of};
     ghost use Rattle.journal_nfs3.specs.Results.{results_text};
 
-    ghost spelling = { λ r. results_text (results_of r) };
+    ghost spelling = { λ r. results_text (results_of r.version r.results) };
 
     #[tactic(auto, unfolding(crate::specs::Results::results))]
     fn write(&self, writer: &mut Writer) -> Result<(), AllocError> {
-        match self {
+        let version = self.version;
+        match &self.results {
             Results::Null => Ok(()),
-            Results::GetAttributes(outcome) => write_get_attributes(writer, outcome),
-            Results::SetAttributes(outcome) => write_set_attributes(writer, outcome),
-            Results::Lookup(outcome) => write_lookup(writer, outcome),
-            Results::Read(outcome) => write_read(writer, outcome),
+            Results::GetAttributes(outcome) => write_get_attributes(writer, version, outcome),
+            Results::SetAttributes(outcome) => write_set_attributes(writer, version, outcome),
+            Results::Lookup(outcome) => write_lookup(writer, version, outcome),
+            Results::Read(outcome) => write_read(writer, version, outcome),
             Results::Write {
                 outcome,
                 count,
                 how,
                 verifier,
-            } => write_write(writer, outcome, *count, *how, *verifier),
-            Results::Create(outcome) => write_create(writer, outcome),
-            Results::Remove(outcome) => write_remove(writer, outcome),
-            Results::Commit { outcome, verifier } => write_commit(writer, outcome, *verifier),
+            } => write_write(writer, version, outcome, *count, *how, *verifier),
+            Results::Create(outcome) => write_create(writer, version, outcome),
+            Results::Remove(outcome) => write_remove(writer, version, outcome),
+            Results::Commit { outcome, verifier } => write_commit(
+                writer, version, outcome, *verifier,
+            ),
         }
     }
 }

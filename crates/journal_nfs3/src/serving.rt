@@ -1,6 +1,5 @@
 // Running the operations on the file store, each up to its commit.
 ghost use Rattle.std.specs.Prelude.{◌≡◌, true, false, Result};
-ghost use Rattle.journal_inode.specs.declared.version.FormatVersion.TheVariants.{One};
 ghost use Rattle.journal_filestore.specs.declared.owed.Owed.TheVariants.{Nothing};
 ghost use Rattle.journal_inode.specs.declared.node.Time.{Time};
 ghost use Rattle.journal_filestore.specs.Handles.{time_of};
@@ -25,24 +24,24 @@ use crate::telling::{settings_of, stability_of, told, told_soon, ways_of};
 use journal_disk::BlockDisk;
 use journal_filestore::{Attributes, Changed, FileStore, Found, Portion};
 use journal_history::{Naming, Receipt, Session};
-use journal_inode::SoundFiles;
+use journal_inode::{SoundFiles, Version};
 use journal_world::Moment;
 use std::sync::Wait;
 
 // What a procedure answers whose operation is committed, and the receipt that is owed for it.
-type Soon<'b, J, T> = Due<T, Receipt<'b, J, SoundFiles>>;
+type Soon<'b, J, V, T> = Due<T, Receipt<'b, J, SoundFiles<V>>>;
 
 // Runs an operation at a moment, up to its commit.
-pub(crate) fn serve_soon<'b, D: BlockDisk, J: Naming, W: Wait>(
+pub(crate) fn serve_soon<'b, D: BlockDisk, J: Naming, V: Version, W: Wait>(
     rt: &W,
-    session: &mut Session<'b, J, SoundFiles>,
-    files: &FileStore<'b, D, J>,
+    session: &mut Session<'b, J, SoundFiles<V>>,
+    files: &FileStore<'b, D, J, V>,
     operation: &Operation<'_>,
     moment: Moment,
     verifier: Verifier,
-) -> Soon<'b, J, Results>
-    ensures serves { ServesAs (owing result.owed) verifier.0 (time_of moment) (operation_of operation.now) session.old (results_of result.told) session.new }
-    ensures procedure { procedure_of_results (results_of result.told) ≡ procedure_for (operation_of operation.now) }
+) -> Soon<'b, J, V, Results>
+    ensures serves { ServesAs V.VERSION (owing result.owed) verifier.0 (time_of moment) (operation_of operation.now) session.old (results_of V.VERSION result.told) session.new }
+    ensures procedure { procedure_of_results (results_of V.VERSION result.told) ≡ procedure_for (operation_of operation.now) }
 {
     // Each arm returns by itself, since some of them hold a receipt and the others do not.
     match operation {
@@ -145,14 +144,14 @@ fn commit_results<P>(
 
 // GETATTR (RFC 1813, section 3.3.1).
 #[tactic(auto, using(crate::proofs::Standings::unwaited))]
-fn get_attributes<'b, D: BlockDisk, J: Naming, W: Wait>(
+fn get_attributes<'b, D: BlockDisk, J: Naming, V: Version, W: Wait>(
     rt: &W,
-    session: &mut Session<'b, J, SoundFiles>,
-    files: &FileStore<'b, D, J>,
+    session: &mut Session<'b, J, SoundFiles<V>>,
+    files: &FileStore<'b, D, J, V>,
     handle: &[u8],
 ) -> Result<Attributes, NfsError>
-    ensures { TellsOutcome (owing Nothing) (handle_in handle.now) false
-        (λ k F r F2. (t : Time) → Op One (getattr k.number k.generation) t F (got r) F2)
+    ensures { TellsOutcome V.VERSION (owing Nothing) (handle_in handle.now) false
+        (λ k F r F2. (t : Time) → Op V.VERSION (getattr k.number k.generation) t F (got r) F2)
         session.old session.new result }
 {
     let Some(handle) = read_handle(handle) else {
@@ -163,15 +162,15 @@ fn get_attributes<'b, D: BlockDisk, J: Naming, W: Wait>(
 
 // SETATTR (RFC 1813, section 3.3.2).
 #[tactic(auto, using(crate::proofs::Standings::unpaid))]
-fn set_attributes<'b, D: BlockDisk, J: Naming, W: Wait>(
+fn set_attributes<'b, D: BlockDisk, J: Naming, V: Version, W: Wait>(
     rt: &W,
-    session: &mut Session<'b, J, SoundFiles>,
-    files: &FileStore<'b, D, J>,
+    session: &mut Session<'b, J, SoundFiles<V>>,
+    files: &FileStore<'b, D, J, V>,
     arguments: &SetArguments<'_>,
     moment: Moment,
-) -> Soon<'b, J, Result<Changed, NfsError>>
-    ensures { TellsOutcome (owing result.owed) (handle_in arguments.now.handle.now) true
-        (λ k F r F2. Op One (setattr k.number k.generation (settings_of arguments.now.attributes) arguments.now.guard) (time_of moment) F (set r) F2)
+) -> Soon<'b, J, V, Result<Changed, NfsError>>
+    ensures { TellsOutcome V.VERSION (owing result.owed) (handle_in arguments.now.handle.now) true
+        (λ k F r F2. Op V.VERSION (setattr k.number k.generation (settings_of arguments.now.attributes) arguments.now.guard) (time_of moment) F (set r) F2)
         session.old session.new result.told }
 {
     let Some(handle) = read_handle(arguments.handle) else {
@@ -183,14 +182,14 @@ fn set_attributes<'b, D: BlockDisk, J: Naming, W: Wait>(
 
 // LOOKUP (RFC 1813, section 3.3.3).
 #[tactic(auto, using(crate::proofs::Standings::unwaited))]
-fn look_up<'b, D: BlockDisk, J: Naming, W: Wait>(
+fn look_up<'b, D: BlockDisk, J: Naming, V: Version, W: Wait>(
     rt: &W,
-    session: &mut Session<'b, J, SoundFiles>,
-    files: &FileStore<'b, D, J>,
+    session: &mut Session<'b, J, SoundFiles<V>>,
+    files: &FileStore<'b, D, J, V>,
     entry: &DirectoryEntry<'_>,
 ) -> Result<Found, NfsError>
-    ensures { TellsOutcome (owing Nothing) (handle_in entry.now.directory.now) false
-        (λ k F r F2. (t : Time) → Op One (lookup k.number k.generation entry.now.name.now) t F (found r) F2)
+    ensures { TellsOutcome V.VERSION (owing Nothing) (handle_in entry.now.directory.now) false
+        (λ k F r F2. (t : Time) → Op V.VERSION (lookup k.number k.generation entry.now.name.now) t F (found r) F2)
         session.old session.new result }
 {
     let Some(handle) = read_handle(entry.directory) else {
@@ -201,14 +200,14 @@ fn look_up<'b, D: BlockDisk, J: Naming, W: Wait>(
 
 // READ (RFC 1813, section 3.3.6).
 #[tactic(auto, using(crate::proofs::Standings::unwaited))]
-fn read_bytes<'b, D: BlockDisk, J: Naming, W: Wait>(
+fn read_bytes<'b, D: BlockDisk, J: Naming, V: Version, W: Wait>(
     rt: &W,
-    session: &mut Session<'b, J, SoundFiles>,
-    files: &FileStore<'b, D, J>,
+    session: &mut Session<'b, J, SoundFiles<V>>,
+    files: &FileStore<'b, D, J, V>,
     range: &FileRange<'_>,
 ) -> Result<Portion, NfsError>
-    ensures { TellsOutcome (owing Nothing) (handle_in range.now.handle.now) false
-        (λ k F r F2. (t : Time) → Op One (read k.number k.generation range.now.offset range.now.count) t F (bytes_read r) F2)
+    ensures { TellsOutcome V.VERSION (owing Nothing) (handle_in range.now.handle.now) false
+        (λ k F r F2. (t : Time) → Op V.VERSION (read k.number k.generation range.now.offset range.now.count) t F (bytes_read r) F2)
         session.old session.new result }
 {
     let Some(handle) = read_handle(range.handle) else {
@@ -219,15 +218,15 @@ fn read_bytes<'b, D: BlockDisk, J: Naming, W: Wait>(
 
 // WRITE (RFC 1813, section 3.3.7).
 #[tactic(auto, using(crate::proofs::Standings::unpaid))]
-fn write_bytes<'b, D: BlockDisk, J: Naming, W: Wait>(
+fn write_bytes<'b, D: BlockDisk, J: Naming, V: Version, W: Wait>(
     rt: &W,
-    session: &mut Session<'b, J, SoundFiles>,
-    files: &FileStore<'b, D, J>,
+    session: &mut Session<'b, J, SoundFiles<V>>,
+    files: &FileStore<'b, D, J, V>,
     arguments: &WriteArguments<'_>,
     moment: Moment,
-) -> Soon<'b, J, Result<Changed, NfsError>>
-    ensures { TellsOutcome (owing result.owed) (handle_in arguments.now.handle.now) (waits arguments.now.how)
-        (λ k F r F2. Op One (write k.number k.generation arguments.now.offset arguments.now.count arguments.now.bytes.now) (time_of moment) F (wrote r) F2)
+) -> Soon<'b, J, V, Result<Changed, NfsError>>
+    ensures { TellsOutcome V.VERSION (owing result.owed) (handle_in arguments.now.handle.now) (waits arguments.now.how)
+        (λ k F r F2. Op V.VERSION (write k.number k.generation arguments.now.offset arguments.now.count arguments.now.bytes.now) (time_of moment) F (wrote r) F2)
         session.old session.new result.told }
 {
     let Some(handle) = read_handle(arguments.handle) else {
@@ -254,15 +253,15 @@ fn write_bytes<'b, D: BlockDisk, J: Naming, W: Wait>(
 
 // CREATE (RFC 1813, section 3.3.8).
 #[tactic(auto, using(crate::proofs::Standings::unpaid))]
-fn create_file<'b, D: BlockDisk, J: Naming, W: Wait>(
+fn create_file<'b, D: BlockDisk, J: Naming, V: Version, W: Wait>(
     rt: &W,
-    session: &mut Session<'b, J, SoundFiles>,
-    files: &FileStore<'b, D, J>,
+    session: &mut Session<'b, J, SoundFiles<V>>,
+    files: &FileStore<'b, D, J, V>,
     arguments: &CreateArguments<'_>,
     moment: Moment,
-) -> Soon<'b, J, Result<Found, NfsError>>
-    ensures { TellsOutcome (owing result.owed) (handle_in arguments.now.entry.directory.now) true
-        (λ k F r F2. Op One (create k.number k.generation arguments.now.entry.name.now (ways_of (how_of arguments.now.how))) (time_of moment) F (made r) F2)
+) -> Soon<'b, J, V, Result<Found, NfsError>>
+    ensures { TellsOutcome V.VERSION (owing result.owed) (handle_in arguments.now.entry.directory.now) true
+        (λ k F r F2. Op V.VERSION (create k.number k.generation arguments.now.entry.name.now (ways_of (how_of arguments.now.how))) (time_of moment) F (made r) F2)
         session.old session.new result.told }
 {
     let Some(handle) = read_handle(arguments.entry.directory) else {
@@ -274,14 +273,14 @@ fn create_file<'b, D: BlockDisk, J: Naming, W: Wait>(
 
 // REMOVE (RFC 1813, section 3.3.12).
 #[tactic(auto, using(crate::proofs::Standings::unpaid))]
-fn remove_file<'b, D: BlockDisk, J: Naming, W: Wait>(
+fn remove_file<'b, D: BlockDisk, J: Naming, V: Version, W: Wait>(
     rt: &W,
-    session: &mut Session<'b, J, SoundFiles>,
-    files: &FileStore<'b, D, J>,
+    session: &mut Session<'b, J, SoundFiles<V>>,
+    files: &FileStore<'b, D, J, V>,
     entry: &DirectoryEntry<'_>,
-) -> Soon<'b, J, Result<Attributes, NfsError>>
-    ensures { TellsOutcome (owing result.owed) (handle_in entry.now.directory.now) true
-        (λ k F r F2. (t : Time) → Op One (remove k.number k.generation entry.now.name.now) t F (removed r) F2)
+) -> Soon<'b, J, V, Result<Attributes, NfsError>>
+    ensures { TellsOutcome V.VERSION (owing result.owed) (handle_in entry.now.directory.now) true
+        (λ k F r F2. (t : Time) → Op V.VERSION (remove k.number k.generation entry.now.name.now) t F (removed r) F2)
         session.old session.new result.told }
 {
     let Some(handle) = read_handle(entry.directory) else {
@@ -292,14 +291,14 @@ fn remove_file<'b, D: BlockDisk, J: Naming, W: Wait>(
 
 // COMMIT (RFC 1813, section 3.3.21), whatever its offset and count.
 #[tactic(auto, using(crate::proofs::Standings::unpaid))]
-fn commit_files<'b, D: BlockDisk, J: Naming, W: Wait>(
+fn commit_files<'b, D: BlockDisk, J: Naming, V: Version, W: Wait>(
     rt: &W,
-    session: &mut Session<'b, J, SoundFiles>,
-    files: &FileStore<'b, D, J>,
+    session: &mut Session<'b, J, SoundFiles<V>>,
+    files: &FileStore<'b, D, J, V>,
     range: &FileRange<'_>,
-) -> Soon<'b, J, Result<Attributes, NfsError>>
-    ensures { TellsOutcome (owing result.owed) (handle_in range.now.handle.now) true
-        (λ k F r F2. (t : Time) → Op One (commit k.number k.generation) t F (committed r) F2)
+) -> Soon<'b, J, V, Result<Attributes, NfsError>>
+    ensures { TellsOutcome V.VERSION (owing result.owed) (handle_in range.now.handle.now) true
+        (λ k F r F2. (t : Time) → Op V.VERSION (commit k.number k.generation) t F (committed r) F2)
         session.old session.new result.told }
 {
     let Some(handle) = read_handle(range.handle) else {

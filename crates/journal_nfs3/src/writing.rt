@@ -3,13 +3,14 @@ ghost use Rattle.std.specs.Prelude.{◌≡◌, ◌++◌, OnOk, Some, None};
 ghost use Rattle.journal_xdr.specs.Items.{Writes};
 ghost use Rattle.journal_nfs3.specs.Arguments.{time};
 ghost use Rattle.journal_nfs3.specs.Results.{given_handle, fattr, post_op_attributes, before, change, lookup_results, read_results, write_results, create_results, commit_results, outcome, nothing};
-ghost use Rattle.journal_nfs3.specs.Profile.{fattr_of, before_of, change_of, unchanged_of, no_change, lookup_of, read_results_of, write_of, create_of, commit_of, outcome_of, status_text};
+ghost use Rattle.journal_nfs3.specs.Profile.{used_bytes, fattr_of, before_of, change_of, unchanged_of, no_change, lookup_of, read_results_of, write_of, create_of, commit_of, outcome_of, status_text};
 
 use crate::arguments::StableHow;
 use crate::handle::HANDLE_MARK;
 use crate::results::{NfsError, Verifier};
 use journal_filestore::{Attributes, Changed, Found, Portion};
-use journal_inode::Time;
+use journal_inode::{FormatVersion, Time};
+use journal_world::BLOCK_BYTES;
 use journal_xdr::Writer;
 use std::alloc::AllocError;
 
@@ -25,28 +26,25 @@ const ROOT: u32 = 1;
 // The only file system.
 const FILE_SYSTEM: u64 = 1;
 
-// What differs between files and the root, beside size and time: the type (RFC 1813, section 2.5, ftype3), the
-// mode, the number of links and the bytes that are used.
+// What differs between files and the root, beside what a file has itself: the type (RFC 1813, section 2.5, ftype3), the
+// mode and the number of links.
 #[derive(Clone, Copy)]
 struct Shape {
     kind: u32,
     mode: u32,
     links: u32,
-    used: u64,
 }
 
 const FILE_SHAPE: Shape = Shape {
     kind: 1,
     mode: 0o644,
     links: 1,
-    used: 4096,
 };
 
 const ROOT_SHAPE: Shape = Shape {
     kind: 2,
     mode: 0o755,
     links: 2,
-    used: 0,
 };
 
 // What else a procedure tells of files, and does not where it refuses.
@@ -65,15 +63,27 @@ fn write_time(writer: &mut Writer, value: Time) -> Result<(), AllocError>
     writer.word(value.nanos)
 }
 
+// How many bytes the blocks of a file of this size have. No file has more bytes than its version's most.
+fn used_bytes(version: FormatVersion, size: u64) -> u64
+    ensures { result ≡ used_bytes version size }
+{
+    let more = version.more_count(size.min(version.most_bytes()));
+    BLOCK_BYTES as u64 * (1 + more as u64)
+}
+
 // Writes the attributes of a file or of the root (RFC 1813, section 2.5, fattr3).
 #[tactic(auto, unfolding(crate::specs::Results::fattr))]
-fn write_attributes(writer: &mut Writer, attributes: &Attributes) -> Result<(), AllocError>
-    ensures { OnOk result (Writes fattr (fattr_of attributes.now) writer.old writer.new) }
+fn write_attributes(
+    writer: &mut Writer,
+    version: FormatVersion,
+    attributes: &Attributes,
+) -> Result<(), AllocError>
+    ensures { OnOk result (Writes fattr (fattr_of version attributes.now) writer.old writer.new) }
 {
-    let shape = if attributes.number == ROOT {
-        ROOT_SHAPE
+    let (shape, used) = if attributes.number == ROOT {
+        (ROOT_SHAPE, 0)
     } else {
-        FILE_SHAPE
+        (FILE_SHAPE, used_bytes(version, attributes.size))
     };
     writer.word(shape.kind)?;
     writer.word(shape.mode)?;
@@ -82,7 +92,7 @@ fn write_attributes(writer: &mut Writer, attributes: &Attributes) -> Result<(), 
     writer.word(0)?;
     writer.word(0)?;
     writer.hyper(attributes.size)?;
-    writer.hyper(shape.used)?;
+    writer.hyper(used)?;
     // No device.
     writer.word(0)?;
     writer.word(0)?;
@@ -94,11 +104,15 @@ fn write_attributes(writer: &mut Writer, attributes: &Attributes) -> Result<(), 
 }
 
 // Writes attributes that are told (RFC 1813, section 2.5, post_op_attr).
-fn write_after(writer: &mut Writer, attributes: &Attributes) -> Result<(), AllocError>
-    ensures { OnOk result (Writes post_op_attributes (Some (fattr_of attributes.now)) writer.old writer.new) }
+fn write_after(
+    writer: &mut Writer,
+    version: FormatVersion,
+    attributes: &Attributes,
+) -> Result<(), AllocError>
+    ensures { OnOk result (Writes post_op_attributes (Some (fattr_of version attributes.now)) writer.old writer.new) }
 {
     writer.boolean(true)?;
-    write_attributes(writer, attributes)
+    write_attributes(writer, version, attributes)
 }
 
 // Writes what stood before a change (RFC 1813, section 2.5, wcc_attr).
@@ -113,12 +127,16 @@ fn write_before(writer: &mut Writer, attributes: &Attributes) -> Result<(), Allo
 
 // Writes what was changed (RFC 1813, section 2.5, wcc_data).
 #[tactic(auto, unfolding(crate::specs::Results::change))]
-fn write_change(writer: &mut Writer, changed: &Changed) -> Result<(), AllocError>
-    ensures { OnOk result (Writes change (change_of changed.now) writer.old writer.new) }
+fn write_change(
+    writer: &mut Writer,
+    version: FormatVersion,
+    changed: &Changed,
+) -> Result<(), AllocError>
+    ensures { OnOk result (Writes change (change_of version changed.now) writer.old writer.new) }
 {
     writer.boolean(true)?;
     write_before(writer, &changed.before)?;
-    write_after(writer, &changed.after)
+    write_after(writer, version, &changed.after)
 }
 
 // Writes a handle (RFC 1813, section 2.4, nfs_fh3).
@@ -132,11 +150,16 @@ fn write_handle(writer: &mut Writer, number: u32, generation: u32) -> Result<(),
 }
 
 // Writes that nothing was changed.
-fn write_no_change(writer: &mut Writer, attributes: &Attributes) -> Result<(), AllocError>
-    ensures { OnOk result (Writes change (unchanged_of attributes.now) writer.old writer.new) }
+fn write_no_change(
+    writer: &mut Writer,
+    version: FormatVersion,
+    attributes: &Attributes,
+) -> Result<(), AllocError>
+    ensures { OnOk result (Writes change (unchanged_of version attributes.now) writer.old writer.new) }
 {
     write_change(
         writer,
+        version,
         &Changed {
             before: *attributes,
             after: *attributes,
@@ -170,62 +193,66 @@ fn write_status<T>(
 // GETATTR (RFC 1813, section 3.3.1).
 pub(crate) fn write_get_attributes(
     writer: &mut Writer,
+    version: FormatVersion,
     answer: &Result<Attributes, NfsError>,
 ) -> Result<(), AllocError>
-    ensures { OnOk result (Writes (outcome fattr nothing) (outcome_of fattr_of tt answer.now) writer.old writer.new) }
+    ensures { OnOk result (Writes (outcome fattr nothing) (outcome_of (fattr_of version) tt answer.now) writer.old writer.new) }
 {
     write_status(writer, answer, Untold::Nothing)?;
     let Ok(file) = answer else {
         return Ok(());
     };
-    write_attributes(writer, file)
+    write_attributes(writer, version, file)
 }
 
 // SETATTR (RFC 1813, section 3.3.2).
 pub(crate) fn write_set_attributes(
     writer: &mut Writer,
+    version: FormatVersion,
     answer: &Result<Changed, NfsError>,
 ) -> Result<(), AllocError>
-    ensures { OnOk result (Writes (outcome change change) (outcome_of change_of no_change answer.now) writer.old writer.new) }
+    ensures { OnOk result (Writes (outcome change change) (outcome_of (change_of version) no_change answer.now) writer.old writer.new) }
 {
     write_status(writer, answer, Untold::Change)?;
     let Ok(changed) = answer else {
         return Ok(());
     };
-    write_change(writer, changed)
+    write_change(writer, version, changed)
 }
 
 // LOOKUP (RFC 1813, section 3.3.3).
 #[tactic(auto, unfolding(crate::specs::Results::lookup_results))]
 pub(crate) fn write_lookup(
     writer: &mut Writer,
+    version: FormatVersion,
     answer: &Result<Found, NfsError>,
 ) -> Result<(), AllocError>
-    ensures { OnOk result (Writes (outcome lookup_results post_op_attributes) (outcome_of lookup_of None answer.now) writer.old writer.new) }
+    ensures { OnOk result (Writes (outcome lookup_results post_op_attributes) (outcome_of (lookup_of version) None answer.now) writer.old writer.new) }
 {
     write_status(writer, answer, Untold::Attributes)?;
     let Ok(found) = answer else {
         return Ok(());
     };
     write_handle(writer, found.file.number, found.generation)?;
-    write_after(writer, &found.file)?;
-    write_after(writer, &found.root)
+    write_after(writer, version, &found.file)?;
+    write_after(writer, version, &found.root)
 }
 
 // READ (RFC 1813, section 3.3.6).
 #[tactic(auto, unfolding(crate::specs::Results::read_results))]
 pub(crate) fn write_read(
     writer: &mut Writer,
+    version: FormatVersion,
     answer: &Result<Portion, NfsError>,
 ) -> Result<(), AllocError>
-    ensures { OnOk result (Writes (outcome read_results post_op_attributes) (outcome_of read_results_of None answer.now) writer.old writer.new) }
+    ensures { OnOk result (Writes (outcome read_results post_op_attributes) (outcome_of (read_results_of version) None answer.now) writer.old writer.new) }
 {
     write_status(writer, answer, Untold::Attributes)?;
     let Ok(portion) = answer else {
         return Ok(());
     };
     let bytes = portion.bytes();
-    write_after(writer, &portion.file())?;
+    write_after(writer, version, &portion.file())?;
     writer.word(bytes.len() as u32)?;
     writer.boolean(portion.is_end())?;
     writer.opaque(bytes)
@@ -235,18 +262,19 @@ pub(crate) fn write_read(
 #[tactic(auto, unfolding(crate::specs::Results::write_results))]
 pub(crate) fn write_write(
     writer: &mut Writer,
+    version: FormatVersion,
     answer: &Result<Changed, NfsError>,
     count: u32,
     how: StableHow,
     verifier: Verifier,
 ) -> Result<(), AllocError>
-    ensures { OnOk result (Writes (outcome write_results change) (outcome_of (write_of count how verifier.0) no_change answer.now) writer.old writer.new) }
+    ensures { OnOk result (Writes (outcome write_results change) (outcome_of (write_of version count how verifier.0) no_change answer.now) writer.old writer.new) }
 {
     write_status(writer, answer, Untold::Change)?;
     let Ok(changed) = answer else {
         return Ok(());
     };
-    write_change(writer, changed)?;
+    write_change(writer, version, changed)?;
     writer.word(count)?;
     writer.enumeration(how.committed())?;
     writer.fixed(&verifier.0)
@@ -256,9 +284,10 @@ pub(crate) fn write_write(
 #[tactic(auto, unfolding(crate::specs::Results::create_results))]
 pub(crate) fn write_create(
     writer: &mut Writer,
+    version: FormatVersion,
     answer: &Result<Found, NfsError>,
 ) -> Result<(), AllocError>
-    ensures { OnOk result (Writes (outcome create_results change) (outcome_of create_of no_change answer.now) writer.old writer.new) }
+    ensures { OnOk result (Writes (outcome create_results change) (outcome_of (create_of version) no_change answer.now) writer.old writer.new) }
 {
     write_status(writer, answer, Untold::Change)?;
     let Ok(found) = answer else {
@@ -266,37 +295,39 @@ pub(crate) fn write_create(
     };
     writer.boolean(true)?;
     write_handle(writer, found.file.number, found.generation)?;
-    write_after(writer, &found.file)?;
-    write_no_change(writer, &found.root)
+    write_after(writer, version, &found.file)?;
+    write_no_change(writer, version, &found.root)
 }
 
 // REMOVE (RFC 1813, section 3.3.12).
 pub(crate) fn write_remove(
     writer: &mut Writer,
+    version: FormatVersion,
     answer: &Result<Attributes, NfsError>,
 ) -> Result<(), AllocError>
-    ensures { OnOk result (Writes (outcome change change) (outcome_of unchanged_of no_change answer.now) writer.old writer.new) }
+    ensures { OnOk result (Writes (outcome change change) (outcome_of (unchanged_of version) no_change answer.now) writer.old writer.new) }
 {
     write_status(writer, answer, Untold::Change)?;
     let Ok(root) = answer else {
         return Ok(());
     };
-    write_no_change(writer, root)
+    write_no_change(writer, version, root)
 }
 
 // COMMIT (RFC 1813, section 3.3.21).
 #[tactic(auto, unfolding(crate::specs::Results::commit_results))]
 pub(crate) fn write_commit(
     writer: &mut Writer,
+    version: FormatVersion,
     answer: &Result<Attributes, NfsError>,
     verifier: Verifier,
 ) -> Result<(), AllocError>
-    ensures { OnOk result (Writes (outcome commit_results change) (outcome_of (commit_of verifier.0) no_change answer.now) writer.old writer.new) }
+    ensures { OnOk result (Writes (outcome commit_results change) (outcome_of (commit_of version verifier.0) no_change answer.now) writer.old writer.new) }
 {
     write_status(writer, answer, Untold::Change)?;
     let Ok(file) = answer else {
         return Ok(());
     };
-    write_no_change(writer, file)?;
+    write_no_change(writer, version, file)?;
     writer.fixed(&verifier.0)
 }

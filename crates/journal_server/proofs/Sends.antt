@@ -8,6 +8,7 @@ use Rattle.std.specs.Io.KnownBytes.{Appends}
 use Rattle.std.proofs.KnownBytes.{Appends-nil, Appends-trans}
 use Rattle.journal_world.specs.Histories.{Entry, floor}
 use Rattle.journal_history.specs.Tokens.{SessionState, OnlyExtends, CommitPlace}
+use Rattle.journal_inode.specs.declared.version.FormatVersion.{FormatVersion}
 use Rattle.journal_inode.specs.declared.node.Time.{Time}
 use Rattle.journal_rpc.specs.Stream.{Stream}
 use Rattle.journal_rpc.specs.Calls.{Message, message}
@@ -27,30 +28,30 @@ use Rattle.journal_server.proofs.Settling.{one_behind, replies_told, replies_lat
 
 -- ---- a turn, once its replies are told
 
-module _ (tells : Time → Type 0) (verifier : List ℕ) (history : List Entry) (old new : Stream) (before middle now : SessionState) (hs : List HeldReply) (bytes text : List ℕ) (count counted : ℕ)
+module _ (version : FormatVersion) (tells : Time → Type 0) (verifier : List ℕ) (history : List Entry) (old new : Stream) (before middle now : SessionState) (hs : List HeldReply) (bytes text : List ℕ) (count counted : ℕ)
     (settles : Settles history hs bytes text) (more : OnlyExtends middle now) (quiet : hs ≡ [] → now ≡ middle) where
-  told : (rs : List (List ℕ)) (held : List ℕ) → bytes ≡ held → AllReplies (IsHeld tells verifier) rs (doing before hs) (doing middle []) held → AllReplies (IsReply tells verifier history) rs before now text
+  told : (rs : List (List ℕ)) (held : List ℕ) → bytes ≡ held → AllReplies (IsHeld version tells verifier) rs (doing before hs) (doing middle []) held → AllReplies (IsReply version tells verifier history) rs before now text
   told rs held same h =
-      replies_later tells verifier history rs before middle now text more (λ none. quiet (empty rs h none))
-      (replies_told tells verifier history rs (doing before hs) (doing middle []) held text h refl (subst (λ (b : List ℕ). Settles history hs b text) same settles))
+      replies_later version tells verifier history rs before middle now text more (λ none. quiet (empty rs h none))
+      (replies_told version tells verifier history rs (doing before hs) (doing middle []) held text h refl (subst (λ (b : List ℕ). Settles history hs b text) same settles))
     where
-      empty : (qs : List (List ℕ)) → AllReplies (IsHeld tells verifier) qs (doing before hs) (doing middle []) held → qs ≡ [] → hs ≡ []
+      empty : (qs : List (List ℕ)) → AllReplies (IsHeld version tells verifier) qs (doing before hs) (doing middle []) held → qs ≡ [] → hs ≡ []
       empty [] k e = sym (ap (λ (d : Doing). d.behind) k.0)
       empty (q ∷ qs) k e = absurd cc
 
-  pub turn_told : (turn : Turn) → EndsTurn (IsHeld tells verifier) turn old new (doing before hs) (doing middle []) [] bytes count counted → EndsTurn (IsReply tells verifier history) turn old new before now [] text count counted
+  pub turn_told : (turn : Turn) → EndsTurn (IsHeld version tells verifier) turn old new (doing before hs) (doing middle []) [] bytes count counted → EndsTurn (IsReply version tells verifier history) turn old new before now [] text count counted
   turn_told turns.Emptied e = record { text = text; replied = told old.records e.text e.is e.replied; is = refl; rest = e.rest; counts = e.counts }
   turn_told turns.Filled e = record { text = text; answered = e.answered; replied = told e.answered e.text e.is e.replied; is = refl; some = e.some; rest = e.rest; counts = e.counts }
   turn_told turns.Stopped e =
       record { text = text; answered = e.answered; bad = e.bad; behind = e.behind; records = e.records; no_call = e.no_call; replied = told e.answered e.text e.is e.replied; is = refl; counts = e.counts }
 
 -- what was sent before stays so
-pub sent_stays : (tells : Time → Type 0) (verifier : List ℕ) (history longer : List Entry) (old new : Stream) (before now : SessionState) (held holds : Option (List ℕ)) (count counted : ℕ) → floor history ≤ floor longer
-    → SentSome (IsReply tells verifier history) old new before now held holds count counted → SentSome (IsReply tells verifier longer) old new before now held holds count counted
-sent_stays tells verifier history longer old new before now held holds count counted grows h = record {
+pub sent_stays : (version : FormatVersion) (tells : Time → Type 0) (verifier : List ℕ) (history longer : List Entry) (old new : Stream) (before now : SessionState) (held holds : Option (List ℕ)) (count counted : ℕ) → floor history ≤ floor longer
+    → SentSome (IsReply version tells verifier history) old new before now held holds count counted → SentSome (IsReply version tells verifier longer) old new before now held holds count counted
+sent_stays version tells verifier history longer old new before now held holds count counted grows h = record {
   text = h.text;
   answered = h.answered;
-  replied = replies_stay tells verifier history longer h.answered before now h.text grows h.replied;
+  replied = replies_stay version tells verifier history longer h.answered before now h.text grows h.replied;
   sent = h.sent;
   rest = h.rest;
   counts = h.counts;
@@ -284,22 +285,22 @@ sends_part_behind history h text back b c settles is two =
 
 -- ---- calls that are done, and held
 
-module _ (tells : Time → Type 0) (verifier : List ℕ) (rs : List (List ℕ)) (start middle : SessionState) (hs : List HeldReply) (text : List ℕ) (h : AllReplies (IsHeld tells verifier) rs (doing start hs) (doing middle []) text) where
+module _ (version : FormatVersion) (tells : Time → Type 0) (verifier : List ℕ) (rs : List (List ℕ)) (start middle : SessionState) (hs : List HeldReply) (text : List ℕ) (h : AllReplies (IsHeld version tells verifier) rs (doing start hs) (doing middle []) text) where
   -- one more
-  pub holds_one : (r : List ℕ) (call : Message) (now : SessionState) (soon : SoonReply CommitPlace) (all : List HeldReply) → message r ≡ Some call → IsSoon tells verifier call middle now soon → all ≡ hs ++ held_of call.xid soon ∷ []
-      → AllReplies (IsHeld tells verifier) (rs ++ r ∷ []) (doing start all) (doing now []) (text ++ soon.reply.items)
+  pub holds_one : (r : List ℕ) (call : Message) (now : SessionState) (soon : SoonReply CommitPlace) (all : List HeldReply) → message r ≡ Some call → IsSoon version tells verifier call middle now soon → all ≡ hs ++ held_of call.xid soon ∷ []
+      → AllReplies (IsHeld version tells verifier) (rs ++ r ∷ []) (doing start all) (doing now []) (text ++ soon.reply.items)
   holds_one r call now soon all is done e =
       let known = held_of call.xid soon in
-      let held : IsHeld tells verifier call (doing middle (known ∷ [])) (doing now []) soon.reply.items = record { soon = soon; done = done; known = refl; is = refl } in
-      subst (λ (b : List HeldReply). AllReplies (IsHeld tells verifier) (rs ++ r ∷ []) (doing start b) (doing now []) (text ++ soon.reply.items)) (sym e)
-      (one_more (IsHeld tells verifier) rs r call (doing start (hs ++ known ∷ [])) (doing middle (known ∷ [])) (doing now []) text soon.reply.items
-      (one_behind tells verifier known rs (doing start hs) (doing middle []) text h) is held)
+      let held : IsHeld version tells verifier call (doing middle (known ∷ [])) (doing now []) soon.reply.items = record { soon = soon; done = done; known = refl; is = refl } in
+      subst (λ (b : List HeldReply). AllReplies (IsHeld version tells verifier) (rs ++ r ∷ []) (doing start b) (doing now []) (text ++ soon.reply.items)) (sym e)
+      (one_more (IsHeld version tells verifier) rs r call (doing start (hs ++ known ∷ [])) (doing middle (known ∷ [])) (doing now []) text soon.reply.items
+      (one_behind version tells verifier known rs (doing start hs) (doing middle []) text h) is held)
 
   -- nobody waited for them
-  pub told_somehow : total hs ≡ length text → (history : List Entry) → (all : List ℕ) × AllReplies (IsReply tells verifier history) rs start middle all
+  pub told_somehow : total hs ≡ length text → (history : List Entry) → (all : List ℕ) × AllReplies (IsReply version tells verifier history) rs start middle all
   told_somehow fits history =
       let s = settles_somehow history hs text fits in
-      (s.0, replies_told tells verifier history rs (doing start hs) (doing middle []) text s.0 h refl s.1)
+      (s.0, replies_told version tells verifier history rs (doing start hs) (doing middle []) text s.0 h refl s.1)
 
 -- so many bytes more
 pub fits_one : (hs others : List HeldReply) (text : List ℕ) (xid : ℕ) (soon : SoonReply CommitPlace) → total hs ≡ length text → others ≡ hs ++ held_of xid soon ∷ [] → total others ≡ length (text ++ soon.reply.items)
@@ -309,25 +310,25 @@ fits_one hs others text xid soon fits e =
 
 -- ---- marks along the way
 
-pub all_grow : (tells : Time → Type 0) (verifier : List ℕ) (history : List Entry) (rs : List (List ℕ)) (old new : SessionState) (text : List ℕ) → AllReplies (IsReply tells verifier history) rs old new text → floor old.seen ≤ floor new.seen
-all_grow tells verifier history rs old new text h = (replies_grow tells verifier rs old new text history (all_are_replies (IsReply tells verifier history) rs old new text h)).1
+pub all_grow : (version : FormatVersion) (tells : Time → Type 0) (verifier : List ℕ) (history : List Entry) (rs : List (List ℕ)) (old new : SessionState) (text : List ℕ) → AllReplies (IsReply version tells verifier history) rs old new text → floor old.seen ≤ floor new.seen
+all_grow version tells verifier history rs old new text h = (replies_grow version tells verifier rs old new text history (all_are_replies (IsReply version tells verifier history) rs old new text h)).1
 
-pub turn_grows : (tells : Time → Type 0) (verifier : List ℕ) (history : List Entry) (turn : Turn) (old new : Stream) (before now : SessionState) (held holds : List ℕ) (count counted : ℕ)
-    → EndsTurn (IsReply tells verifier history) turn old new before now held holds count counted → floor before.seen ≤ floor now.seen
-turn_grows tells verifier history turns.Emptied old new before now held holds count counted e = all_grow tells verifier history old.records before now e.text e.replied
-turn_grows tells verifier history turns.Filled old new before now held holds count counted e = all_grow tells verifier history e.answered before now e.text e.replied
-turn_grows tells verifier history turns.Stopped old new before now held holds count counted e = all_grow tells verifier history e.answered before now e.text e.replied
+pub turn_grows : (version : FormatVersion) (tells : Time → Type 0) (verifier : List ℕ) (history : List Entry) (turn : Turn) (old new : Stream) (before now : SessionState) (held holds : List ℕ) (count counted : ℕ)
+    → EndsTurn (IsReply version tells verifier history) turn old new before now held holds count counted → floor before.seen ≤ floor now.seen
+turn_grows version tells verifier history turns.Emptied old new before now held holds count counted e = all_grow version tells verifier history old.records before now e.text e.replied
+turn_grows version tells verifier history turns.Filled old new before now held holds count counted e = all_grow version tells verifier history e.answered before now e.text e.replied
+turn_grows version tells verifier history turns.Stopped old new before now held holds count counted e = all_grow version tells verifier history e.answered before now e.text e.replied
 
 -- a connection so far stays so
-pub so_far_stays : (tells : Time → Type 0) (verifier : List ℕ) (history longer : List Entry) (from left held holds : Option (List ℕ)) (waiting : Stream) (start now : SessionState) (count : ℕ) → floor history ≤ floor longer
-    → SoFar (IsReply tells verifier history) from left held holds waiting start now count → SoFar (IsReply tells verifier longer) from left held holds waiting start now count
-so_far_stays tells verifier history longer from left held holds waiting start now count grows h = record {
+pub so_far_stays : (version : FormatVersion) (tells : Time → Type 0) (verifier : List ℕ) (history longer : List Entry) (from left held holds : Option (List ℕ)) (waiting : Stream) (start now : SessionState) (count : ℕ) → floor history ≤ floor longer
+    → SoFar (IsReply version tells verifier history) from left held holds waiting start now count → SoFar (IsReply version tells verifier longer) from left held holds waiting start now count
+so_far_stays version tells verifier history longer from left held holds waiting start now count grows h = record {
   input = h.input;
   text = h.text;
   read = h.read;
   wrote = h.wrote;
   answered = h.answered;
-  replied = replies_stay tells verifier history longer h.answered start now h.text grows h.replied;
+  replied = replies_stay version tells verifier history longer h.answered start now h.text grows h.replied;
   is = h.is;
   none = h.none;
   counts = h.counts;
@@ -335,45 +336,45 @@ so_far_stays tells verifier history longer from left held holds waiting start no
 }
 
 -- the same where more was answered since
-pub so_far_grown : (tells : Time → Type 0) (verifier : List ℕ) (from left held holds : Option (List ℕ)) (waiting : Stream) (start middle now : SessionState) (count : ℕ) (rs : List (List ℕ)) (text : List ℕ)
-    → AllReplies (IsReply tells verifier now.seen) rs middle now text → SoFar (IsReply tells verifier middle.seen) from left held holds waiting start middle count
-    → SoFar (IsReply tells verifier now.seen) from left held holds waiting start middle count
-so_far_grown tells verifier from left held holds waiting start middle now count rs text replied h =
-    so_far_stays tells verifier middle.seen now.seen from left held holds waiting start middle count (all_grow tells verifier now.seen rs middle now text replied) h
+pub so_far_grown : (version : FormatVersion) (tells : Time → Type 0) (verifier : List ℕ) (from left held holds : Option (List ℕ)) (waiting : Stream) (start middle now : SessionState) (count : ℕ) (rs : List (List ℕ)) (text : List ℕ)
+    → AllReplies (IsReply version tells verifier now.seen) rs middle now text → SoFar (IsReply version tells verifier middle.seen) from left held holds waiting start middle count
+    → SoFar (IsReply version tells verifier now.seen) from left held holds waiting start middle count
+so_far_grown version tells verifier from left held holds waiting start middle now count rs text replied h =
+    so_far_stays version tells verifier middle.seen now.seen from left held holds waiting start middle count (all_grow version tells verifier now.seen rs middle now text replied) h
 
 -- memory was refused in a turn
-pub loses_turn : (tells : Time → Type 0) (verifier : List ℕ) (old mid : Stream) (before between now : SessionState) (held half : Option (List ℕ)) (count sofar : ℕ)
-    → SentSome (IsReply tells verifier between.seen) old mid before between held half count sofar → Lost (IsReply tells verifier now.seen) mid between now → SentInPart (IsReply tells verifier now.seen) old before now held half
-loses_turn tells verifier old mid before between now held half count sofar h e =
-    loses (IsReply tells verifier now.seen) old mid before between now held half count sofar
-    (sent_stays tells verifier between.seen now.seen old mid before between held half count sofar (all_grow tells verifier now.seen e.answered between now e.text e.replied) h) e
+pub loses_turn : (version : FormatVersion) (tells : Time → Type 0) (verifier : List ℕ) (old mid : Stream) (before between now : SessionState) (held half : Option (List ℕ)) (count sofar : ℕ)
+    → SentSome (IsReply version tells verifier between.seen) old mid before between held half count sofar → Lost (IsReply version tells verifier now.seen) mid between now → SentInPart (IsReply version tells verifier now.seen) old before now held half
+loses_turn version tells verifier old mid before between now held half count sofar h e =
+    loses (IsReply version tells verifier now.seen) old mid before between now held half count sofar
+    (sent_stays version tells verifier between.seen now.seen old mid before between held half count sofar (all_grow version tells verifier now.seen e.answered between now e.text e.replied) h) e
 
 -- A turn behind others, whose replies are held and then sent
-module _ (tells : Time → Type 0) (verifier : List ℕ) (turn : Turn) (old mid new : Stream) (before between done now : SessionState) (held half : Option (List ℕ)) (h : Holding CommitPlace) (count sofar counted : ℕ)
-    (so_far : SentSome (IsReply tells verifier between.seen) old mid before between held half count sofar)
-    (come : EndsTurn (IsHeld tells verifier) turn mid new (doing between h.replies.items) (doing done []) [] h.bytes.items sofar counted)
+module _ (version : FormatVersion) (tells : Time → Type 0) (verifier : List ℕ) (turn : Turn) (old mid new : Stream) (before between done now : SessionState) (held half : Option (List ℕ)) (h : Holding CommitPlace) (count sofar counted : ℕ)
+    (so_far : SentSome (IsReply version tells verifier between.seen) old mid before between held half count sofar)
+    (come : EndsTurn (IsHeld version tells verifier) turn mid new (doing between h.replies.items) (doing done []) [] h.bytes.items sofar counted)
     (more : OnlyExtends done now) (quiet : h.replies.items ≡ [] → now ≡ done) where
   module _ (text : List ℕ) (settles : Settles now.seen h.replies.items h.bytes.items text) where
-    told_so : EndsTurn (IsReply tells verifier now.seen) turn mid new between now [] text sofar counted
-    told_so = turn_told tells verifier now.seen mid new between done now h.replies.items h.bytes.items text sofar counted settles more quiet turn come
+    told_so : EndsTurn (IsReply version tells verifier now.seen) turn mid new between now [] text sofar counted
+    told_so = turn_told version tells verifier now.seen mid new between done now h.replies.items h.bytes.items text sofar counted settles more quiet turn come
 
-    kept_so : SentSome (IsReply tells verifier now.seen) old mid before between held half count sofar
-    kept_so = sent_stays tells verifier between.seen now.seen old mid before between held half count sofar (turn_grows tells verifier now.seen turn mid new between now [] text sofar counted told_so) so_far
+    kept_so : SentSome (IsReply version tells verifier now.seen) old mid before between held half count sofar
+    kept_so = sent_stays version tells verifier between.seen now.seen old mid before between held half count sofar (turn_grows version tells verifier now.seen turn mid new between now [] text sofar counted told_so) so_far
 
-  pub more_of_turn : (holds : Option (List ℕ)) → turn ≡ turns.Filled → SendsSettled now.seen h half holds → SentSome (IsReply tells verifier now.seen) old new before now held holds count counted
-  more_of_turn holds is s = sends_more (IsReply tells verifier now.seen) turn old mid new before between now held half [] s.text s.text count sofar counted (kept_so s.text s.settles) refl refl (told_so s.text s.settles) holds is s.sent
+  pub more_of_turn : (holds : Option (List ℕ)) → turn ≡ turns.Filled → SendsSettled now.seen h half holds → SentSome (IsReply version tells verifier now.seen) old new before now held holds count counted
+  more_of_turn holds is s = sends_more (IsReply version tells verifier now.seen) turn old mid new before between now held half [] s.text s.text count sofar counted (kept_so s.text s.settles) refl refl (told_so s.text s.settles) holds is s.sent
 
-  pub all_of_turn : (holds : Option (List ℕ)) → turn ≡ turns.Emptied → SendsSettled now.seen h half holds → Sent (IsReply tells verifier now.seen) old new before now held holds count counted
-  all_of_turn holds is s = sends_all (IsReply tells verifier now.seen) turn old mid new before between now held half [] s.text s.text count sofar counted (kept_so s.text s.settles) refl refl (told_so s.text s.settles) holds is s.sent
+  pub all_of_turn : (holds : Option (List ℕ)) → turn ≡ turns.Emptied → SendsSettled now.seen h half holds → Sent (IsReply version tells verifier now.seen) old new before now held holds count counted
+  all_of_turn holds is s = sends_all (IsReply version tells verifier now.seen) turn old mid new before between now held half [] s.text s.text count sofar counted (kept_so s.text s.settles) refl refl (told_so s.text s.settles) holds is s.sent
 
-  pub stopped_turn : (holds : Option (List ℕ)) → turn ≡ turns.Stopped → SendsSettled now.seen h half holds → SentUpToBad (IsReply tells verifier now.seen) old before now held holds count counted
-  stopped_turn holds is s = sends_up_to_bad (IsReply tells verifier now.seen) turn old mid new before between now held half [] s.text s.text count sofar counted (kept_so s.text s.settles) refl refl (told_so s.text s.settles) holds is s.sent
+  pub stopped_turn : (holds : Option (List ℕ)) → turn ≡ turns.Stopped → SendsSettled now.seen h half holds → SentUpToBad (IsReply version tells verifier now.seen) old before now held holds count counted
+  stopped_turn holds is s = sends_up_to_bad (IsReply version tells verifier now.seen) turn old mid new before between now held half [] s.text s.text count sofar counted (kept_so s.text s.settles) refl refl (told_so s.text s.settles) holds is s.sent
 
-  pub part_of_turn : (holds : Option (List ℕ)) → SendsInPart now.seen h half holds → SentInPart (IsReply tells verifier now.seen) old before now held holds
-  part_of_turn holds s = breaks_off (IsReply tells verifier now.seen) turn old mid new before between now held half [] s.text s.text count sofar counted (kept_so s.text s.settles) refl refl (told_so s.text s.settles) holds s.sent
+  pub part_of_turn : (holds : Option (List ℕ)) → SendsInPart now.seen h half holds → SentInPart (IsReply version tells verifier now.seen) old before now held holds
+  part_of_turn holds s = breaks_off (IsReply version tells verifier now.seen) turn old mid new before between now held half [] s.text s.text count sofar counted (kept_so s.text s.settles) refl refl (told_so s.text s.settles) holds s.sent
 
   pub fewer_of_turn : turn ≡ turns.Filled → length new.records < length mid.records
   fewer_of_turn is =
-      let e : Filled (IsHeld tells verifier) mid new (doing between h.replies.items) (doing done []) [] h.bytes.items sofar counted =
-      subst (λ (t : Turn). EndsTurn (IsHeld tells verifier) t mid new (doing between h.replies.items) (doing done []) [] h.bytes.items sofar counted) is come in
+      let e : Filled (IsHeld version tells verifier) mid new (doing between h.replies.items) (doing done []) [] h.bytes.items sofar counted =
+      subst (λ (t : Turn). EndsTurn (IsHeld version tells verifier) t mid new (doing between h.replies.items) (doing done []) [] h.bytes.items sofar counted) is come in
       fewer_wait mid new e.answered e.rest e.some

@@ -9,6 +9,7 @@ use Rattle.journal_world.specs.Histories.{Entry, floor}
 use Rattle.journal_world.proofs.Marks.{floor-append-le}
 use Rattle.journal_history.specs.Tokens.{SessionState, OnlyExtends, CommitPlace}
 use Rattle.journal_core.specs.Causes.{Told}
+use Rattle.journal_inode.specs.declared.version.FormatVersion.{FormatVersion}
 use Rattle.journal_inode.specs.declared.node.Time.{Time}
 use Rattle.journal_filestore.specs.declared.owed.Owed.{Owed}
 use Rattle.journal_filestore.specs.declared.owed.Owed.TheVariants.{Nothing, Wait}
@@ -49,19 +50,19 @@ all_so one other so (r ∷ rs) old new text h =
     let k = h.2 in
     (h.0, h.1, (k.0, k.1, k.2, so h.0 old k.0 k.1 k.3, all_so one other so rs k.0 new k.2 k.4, k.5))
 
-module _ (tells : Time → Type 0) (verifier : List ℕ) where
+module _ (version : FormatVersion) (tells : Time → Type 0) (verifier : List ℕ) where
   -- marks only grow
-  pub reply_stays : (history longer : List Entry) → floor history ≤ floor longer → (call : Message) (old new : SessionState) (text : List ℕ) → IsReply tells verifier history call old new text → IsReply tells verifier longer call old new text
+  pub reply_stays : (history longer : List Entry) → floor history ≤ floor longer → (call : Message) (old new : SessionState) (text : List ℕ) → IsReply version tells verifier history call old new text → IsReply version tells verifier longer call old new text
   reply_stays history longer grows call old new text h =
-      record { moment = h.moment; told = h.told; done = h.done; answers = answers_stay verifier h.moment call.xid (asks call.asked) old h.done history longer text h.answers grows; later = h.later }
+      record { moment = h.moment; told = h.told; done = h.done; answers = answers_stay version verifier h.moment call.xid (asks call.asked) old h.done history longer text h.answers grows; later = h.later }
 
   pub replies_stay : (history longer : List Entry) (rs : List (List ℕ)) (old new : SessionState) (text : List ℕ) → floor history ≤ floor longer
-      → AllReplies (IsReply tells verifier history) rs old new text → AllReplies (IsReply tells verifier longer) rs old new text
+      → AllReplies (IsReply version tells verifier history) rs old new text → AllReplies (IsReply version tells verifier longer) rs old new text
   replies_stay history longer rs old new text grows h = all_so _ _ (reply_stays history longer grows) rs old new text h
 
   -- the session has seen more behind the last
   pub replies_later : (history : List Entry) (rs : List (List ℕ)) (old middle new : SessionState) (text : List ℕ) → OnlyExtends middle new → (rs ≡ [] → new ≡ middle)
-      → AllReplies (IsReply tells verifier history) rs old middle text → AllReplies (IsReply tells verifier history) rs old new text
+      → AllReplies (IsReply version tells verifier history) rs old middle text → AllReplies (IsReply version tells verifier history) rs old new text
   replies_later history [] old middle new text more none h = (none refl ∙ h.0, h.1)
   replies_later history (r ∷ []) old middle new text more none h =
       let k = h.2 in
@@ -78,44 +79,44 @@ module _ (tells : Time → Type 0) (verifier : List ℕ) where
   with_behind d e = doing d.session (d.behind ++ e ∷ [])
 
   -- what is known of one more stands behind
-  pub one_behind : (e : HeldReply) (rs : List (List ℕ)) (old new : Doing) (bytes : List ℕ) → AllReplies (IsHeld tells verifier) rs old new bytes → AllReplies (IsHeld tells verifier) rs (with_behind old e) (with_behind new e) bytes
+  pub one_behind : (e : HeldReply) (rs : List (List ℕ)) (old new : Doing) (bytes : List ℕ) → AllReplies (IsHeld version tells verifier) rs old new bytes → AllReplies (IsHeld version tells verifier) rs (with_behind old e) (with_behind new e) bytes
   one_behind e [] old new bytes h = (ap (λ (d : Doing). with_behind d e) h.0, h.1)
   one_behind e (r ∷ rs) old new bytes h =
       let k = h.2 in
-      let held : IsHeld tells verifier h.0 (with_behind old e) (with_behind k.0 e) k.1 = record { soon = k.3.soon; done = k.3.done; known = ap (λ (b : List HeldReply). b ++ e ∷ []) k.3.known; is = k.3.is } in
+      let held : IsHeld version tells verifier h.0 (with_behind old e) (with_behind k.0 e) k.1 = record { soon = k.3.soon; done = k.3.done; known = ap (λ (b : List HeldReply). b ++ e ∷ []) k.3.known; is = k.3.is } in
       (h.0, h.1, (with_behind k.0 e, k.1, k.2, held, one_behind e rs k.0 new k.2 k.4, k.5))
 
   -- a reply that is told
-  reply_told : (history : List Entry) (call : Message) (old new : SessionState) (soon : SoonReply CommitPlace) (text : List ℕ) → IsSoon tells verifier call old new soon
-      → SettlesOne history (owed_of call.xid soon.owed) soon.reply.items text → IsReply tells verifier history call old new text
+  reply_told : (history : List Entry) (call : Message) (old new : SessionState) (soon : SoonReply CommitPlace) (text : List ℕ) → IsSoon version tells verifier call old new soon
+      → SettlesOne history (owed_of call.xid soon.owed) soon.reply.items text → IsReply version tells verifier history call old new text
   reply_told history call old new soon text h settles =
       record { moment = h.moment; told = h.told; done = new; answers = of soon.owed refl settles; later = record { number = refl; mine = refl; seen = ([], append-nil new.seen) } }
     where
       stable : SessionState
       stable = record { number = 0; mine = history; seen = history }
 
-      owing_so : (o : Option (Awaited CommitPlace)) → soon.owed ≡ o → AnswersAs (owing (owed_for o)) verifier h.moment call.xid (asks call.asked) old new soon.reply.items
-      owing_so o e = subst (λ (a : Option (Awaited CommitPlace)). AnswersAs (owing (owed_for a)) verifier h.moment call.xid (asks call.asked) old new soon.reply.items) e h.answers.answers
+      owing_so : (o : Option (Awaited CommitPlace)) → soon.owed ≡ o → AnswersAs version (owing (owed_for o)) verifier h.moment call.xid (asks call.asked) old new soon.reply.items
+      owing_so o e = subst (λ (a : Option (Awaited CommitPlace)). AnswersAs version (owing (owed_for a)) verifier h.moment call.xid (asks call.asked) old new soon.reply.items) e h.answers.answers
 
-      same : (owed : Owed CommitPlace) → AnswersAs (owing owed) verifier h.moment call.xid (asks call.asked) old new soon.reply.items → text ≡ soon.reply.items → (IsPaid owed stable)
-          → AnswersAs (marked history) verifier h.moment call.xid (asks call.asked) old new text
+      same : (owed : Owed CommitPlace) → AnswersAs version (owing owed) verifier h.moment call.xid (asks call.asked) old new soon.reply.items → text ≡ soon.reply.items → (IsPaid owed stable)
+          → AnswersAs version (marked history) verifier h.moment call.xid (asks call.asked) old new text
       same owed a is paid =
-          subst (AnswersAs (marked history) verifier h.moment call.xid (asks call.asked) old new) (sym is) (answers_paid verifier h.moment call.xid (asks call.asked) old new stable owed soon.reply.items a paid)
+          subst (AnswersAs version (marked history) verifier h.moment call.xid (asks call.asked) old new) (sym is) (answers_paid version verifier h.moment call.xid (asks call.asked) old new stable owed soon.reply.items a paid)
 
       waited : (a : Awaited CommitPlace) → soon.owed ≡ Some a → ((a.receipt.count ≤ floor history) × (text ≡ soon.reply.items)) ⊎ TakesPlace call.xid a.procedure text
-          → AnswersAs (marked history) verifier h.moment call.xid (asks call.asked) old new text
+          → AnswersAs version (marked history) verifier h.moment call.xid (asks call.asked) old new text
       waited a e (inl s) = same (Wait a.receipt) (owing_so (Some a) e) s.1 s.0
       waited a e (inr place) =
-          place verifier h.moment (asks call.asked) old new a.receipt soon.reply.items history
+          place version verifier h.moment (asks call.asked) old new a.receipt soon.reply.items history
           (subst (λ (o : Option (Awaited CommitPlace)). IfSome o (λ (b : Awaited CommitPlace). IsCallOf b.procedure (asks call.asked))) e h.answers.procedure) (owing_so (Some a) e)
 
-      of : (o : Option (Awaited CommitPlace)) → soon.owed ≡ o → SettlesOne history (owed_of call.xid o) soon.reply.items text → AnswersAs (marked history) verifier h.moment call.xid (asks call.asked) old new text
+      of : (o : Option (Awaited CommitPlace)) → soon.owed ≡ o → SettlesOne history (owed_of call.xid o) soon.reply.items text → AnswersAs version (marked history) verifier h.moment call.xid (asks call.asked) old new text
       of None e s = same Nothing (owing_so None e) s tt
       of (Some a) e s = waited a e s
 
   -- the replies that are told
-  pub replies_told : (history : List Entry) (rs : List (List ℕ)) (old new : Doing) (bytes text : List ℕ) → AllReplies (IsHeld tells verifier) rs old new bytes → new.behind ≡ []
-      → Settles history old.behind bytes text → AllReplies (IsReply tells verifier history) rs old.session new.session text
+  pub replies_told : (history : List Entry) (rs : List (List ℕ)) (old new : Doing) (bytes text : List ℕ) → AllReplies (IsHeld version tells verifier) rs old new bytes → new.behind ≡ []
+      → Settles history old.behind bytes text → AllReplies (IsReply version tells verifier history) rs old.session new.session text
   replies_told history [] old new bytes text h none settles =
       let empty : old.behind ≡ [] = ap (λ (d : Doing). d.behind) (sym h.0) ∙ none in
       let nothing : Settles history [] bytes text = subst (λ (hs : List HeldReply). Settles history hs bytes text) empty settles in

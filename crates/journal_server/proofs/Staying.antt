@@ -9,6 +9,7 @@ use Rattle.journal_world.specs.Histories.Entry.{commit}
 use Rattle.journal_world.proofs.Marks.{floor-append-le}
 use Rattle.journal_history.specs.Tokens.{SessionState, OnlyExtends}
 use Rattle.journal_core.specs.Causes.{Told}
+use Rattle.journal_inode.specs.declared.version.FormatVersion.{FormatVersion}
 use Rattle.journal_inode.specs.declared.node.Time.{Time}
 use Rattle.journal_filestore.specs.declared.fault.Fault.{Fault}
 use Rattle.journal_filestore.specs.declared.fault.Fault.TheVariants.{Refused, Unsure}
@@ -35,61 +36,61 @@ grows-same old new e = ([], append-nil old.seen ∙ ap (λ (s : SessionState). s
 grows-trans : (old mid new : SessionState) → Grows old mid → Grows mid new → Grows old new
 grows-trans old mid new p q = (p.0 ++ q.0, sym (append_assoc old.seen p.0 q.0) ∙ ap (λ (h : List Entry). h ++ q.0) p.1 ∙ q.1)
 
-answer_grows : {A : Type 0} (standing : Standing) (w : Bool) (case : Files → Result A Status → Files → Type 0) (old new : SessionState) (answer : Result (Result A Status) (Fault Told)) → IsAnsweredAs standing w case old new answer → Grows old new
-answer_grows standing w case old new (Ok v) d = d.made.extends
-answer_grows standing w case old new (Err (Refused why)) d = d.0.seen
-answer_grows (marked history) w case old new (Err (Unsure why)) d = d.1.2.extends
-answer_grows (owing owed) w case old new (Err (Unsure why)) d = absurd d
+answer_grows : {A : Type 0} (version : FormatVersion) (standing : Standing) (w : Bool) (case : Files → Result A Status → Files → Type 0) (old new : SessionState) (answer : Result (Result A Status) (Fault Told)) → IsAnsweredAs version standing w case old new answer → Grows old new
+answer_grows version standing w case old new (Ok v) d = d.made.extends
+answer_grows version standing w case old new (Err (Refused why)) d = d.0.seen
+answer_grows version (marked history) w case old new (Err (Unsure why)) d = d.1.2.extends
+answer_grows version (owing owed) w case old new (Err (Unsure why)) d = absurd d
 
-tells_grows : {A : Type 0} (standing : Standing) (handle : Option FileHandle) (w : Bool) (case : FileHandle → Files → Result A Status → Files → Type 0) (old new : SessionState) (outcome : _) → TellsOutcome standing handle w case old new outcome → Grows old new
-tells_grows standing None w case old new outcome h = grows-same old new h.1
-tells_grows standing (Some handle) w case old new outcome h = answer_grows standing w (case handle) old new h.0 h.1
+tells_grows : {A : Type 0} (version : FormatVersion) (standing : Standing) (handle : Option FileHandle) (w : Bool) (case : FileHandle → Files → Result A Status → Files → Type 0) (old new : SessionState) (outcome : _) → TellsOutcome version standing handle w case old new outcome → Grows old new
+tells_grows version standing None w case old new outcome h = grows-same old new h.1
+tells_grows version standing (Some handle) w case old new outcome h = answer_grows version standing w (case handle) old new h.0 h.1
 
-performs_grows : {A : Type 0} (standing : Standing) (handle : Option FileHandle) (w : Bool) (case : FileHandle → Files → Result A Status → Files → Type 0) (as_results : _) (old new : SessionState) (r : Results) → Performs standing handle w case as_results old r new → Grows old new
-performs_grows standing handle w case as_results old new r h = tells_grows standing handle w case old new h.0 h.1
+performs_grows : {A : Type 0} (version : FormatVersion) (standing : Standing) (handle : Option FileHandle) (w : Bool) (case : FileHandle → Files → Result A Status → Files → Type 0) (as_results : _) (old new : SessionState) (r : Results) → Performs version standing handle w case as_results old r new → Grows old new
+performs_grows version standing handle w case as_results old new r h = tells_grows version standing handle w case old new h.0 h.1
 
-serves_grows : (standing : Standing) (verifier : List ℕ) (now : Time) (operation : Operation) (old new : SessionState) (r : Results) → ServesAs standing verifier now operation old r new → Grows old new
-serves_grows standing verifier now Null old new r h = grows-same old new h.1
-serves_grows standing verifier now (GetAttributes k) old new r h = performs_grows standing _ _ _ _ old new r h
-serves_grows standing verifier now (SetAttributes k a guard) old new r h = performs_grows standing _ _ _ _ old new r h
-serves_grows standing verifier now (Lookup e) old new r h = performs_grows standing _ _ _ _ old new r h
-serves_grows standing verifier now (Read k offset n) old new r h = performs_grows standing _ _ _ _ old new r h
-serves_grows standing verifier now (Write k offset n how bytes) old new r h = performs_grows standing _ _ _ _ old new r h
-serves_grows standing verifier now (Create e how) old new r h = performs_grows standing _ _ _ _ old new r h
-serves_grows standing verifier now (Remove e) old new r h = performs_grows standing _ _ _ _ old new r h
-serves_grows standing verifier now (Commit k offset n) old new r h = performs_grows standing _ _ _ _ old new r h
+serves_grows : (version : FormatVersion) (standing : Standing) (verifier : List ℕ) (now : Time) (operation : Operation) (old new : SessionState) (r : Results) → ServesAs version standing verifier now operation old r new → Grows old new
+serves_grows version standing verifier now Null old new r h = grows-same old new h.1
+serves_grows version standing verifier now (GetAttributes k) old new r h = performs_grows version standing _ _ _ _ old new r h
+serves_grows version standing verifier now (SetAttributes k a guard) old new r h = performs_grows version standing _ _ _ _ old new r h
+serves_grows version standing verifier now (Lookup e) old new r h = performs_grows version standing _ _ _ _ old new r h
+serves_grows version standing verifier now (Read k offset n) old new r h = performs_grows version standing _ _ _ _ old new r h
+serves_grows version standing verifier now (Write k offset n how bytes) old new r h = performs_grows version standing _ _ _ _ old new r h
+serves_grows version standing verifier now (Create e how) old new r h = performs_grows version standing _ _ _ _ old new r h
+serves_grows version standing verifier now (Remove e) old new r h = performs_grows version standing _ _ _ _ old new r h
+serves_grows version standing verifier now (Commit k offset n) old new r h = performs_grows version standing _ _ _ _ old new r h
 
-call_grows : (standing : Standing) (verifier : List ℕ) (now : Time) (asked : Result Operation CallRefused) (old new : SessionState) (outcome : Result Results CallRefused) → ServesCall standing verifier now asked old outcome new → Grows old new
-call_grows standing verifier now (Err why) old new outcome h = grows-same old new h.1
-call_grows standing verifier now (Ok operation) old new outcome h = serves_grows standing verifier now operation old new h.0 h.2
+call_grows : (version : FormatVersion) (standing : Standing) (verifier : List ℕ) (now : Time) (asked : Result Operation CallRefused) (old new : SessionState) (outcome : Result Results CallRefused) → ServesCall version standing verifier now asked old outcome new → Grows old new
+call_grows version standing verifier now (Err why) old new outcome h = grows-same old new h.1
+call_grows version standing verifier now (Ok operation) old new outcome h = serves_grows version standing verifier now operation old new h.0 h.2
 
-module _ (tells : Time → Type 0) (verifier : List ℕ) (history : List Entry) where
-  reply_grows : (call : Message) (old new : SessionState) (text : List ℕ) → IsReply tells verifier history call old new text → Grows old new
-  reply_grows call old new text h = grows-trans old h.done new (call_grows (marked history) verifier h.moment (asks call.asked) old h.done h.answers.outcome h.answers.comes) h.later.seen
+module _ (version : FormatVersion) (tells : Time → Type 0) (verifier : List ℕ) (history : List Entry) where
+  reply_grows : (call : Message) (old new : SessionState) (text : List ℕ) → IsReply version tells verifier history call old new text → Grows old new
+  reply_grows call old new text h = grows-trans old h.done new (call_grows version (marked history) verifier h.moment (asks call.asked) old h.done h.answers.outcome h.answers.comes) h.later.seen
 
-  all_grow : (records : List (List ℕ)) (old new : SessionState) (text : List ℕ) → RepliesUpToBad (IsReply tells verifier history) records old new text → Grows old new
+  all_grow : (records : List (List ℕ)) (old new : SessionState) (text : List ℕ) → RepliesUpToBad (IsReply version tells verifier history) records old new text → Grows old new
   all_grow [] old new text h = grows-same old new h.0
   all_grow (r ∷ rs) old new text h = of (λ mid more k. all_grow rs mid new more k) (message r) h
     where
-      of : ((mid : SessionState) (more : List ℕ) → RepliesUpToBad (IsReply tells verifier history) rs mid new more → Grows mid new)
-          → (m : Option Message) → IsRepliedUnlessBad (IsReply tells verifier history) m old new text (λ mid more. RepliesUpToBad (IsReply tells verifier history) rs mid new more) → Grows old new
+      of : ((mid : SessionState) (more : List ℕ) → RepliesUpToBad (IsReply version tells verifier history) rs mid new more → Grows mid new)
+          → (m : Option Message) → IsRepliedUnlessBad (IsReply version tells verifier history) m old new text (λ mid more. RepliesUpToBad (IsReply version tells verifier history) rs mid new more) → Grows old new
       of rest None k = grows-same old new k.0
       of rest (Some call) k = grows-trans old k.0 new (reply_grows call old k.0 k.1 k.3) (rest k.0 k.2 k.4)
 
 floor_grows : (old new : SessionState) → Grows old new → floor old.seen ≤ floor new.seen
 floor_grows old new p = subst (λ (h : List Entry). floor old.seen ≤ floor h) p.1 (floor-append-le old.seen p.0)
 
-pub replies_grow : (tells : Time → Type 0) (verifier : List ℕ) (records : List (List ℕ)) (old new : SessionState) (text : List ℕ) (history : List Entry) → RepliesUpToBad (IsReply tells verifier history) records old new text → IsPrefix old.seen new.seen × (floor old.seen ≤ floor new.seen)
-replies_grow tells verifier records old new text history h =
-    let p = all_grow tells verifier history records old new text h in
+pub replies_grow : (version : FormatVersion) (tells : Time → Type 0) (verifier : List ℕ) (records : List (List ℕ)) (old new : SessionState) (text : List ℕ) (history : List Entry) → RepliesUpToBad (IsReply version tells verifier history) records old new text → IsPrefix old.seen new.seen × (floor old.seen ≤ floor new.seen)
+replies_grow version tells verifier records old new text history h =
+    let p = all_grow version tells verifier history records old new text h in
     (p, floor_grows old new p)
 
-call_marked : (history : List Entry) (verifier : List ℕ) (now : Time) (asked : Result Operation CallRefused) (operation : Operation) (r : Results) (old new : SessionState) (outcome : Result Results CallRefused) → asked ≡ Ok operation → outcome ≡ Ok r → IsTrue (has_to_wait operation) → IsTrue (is_accepted r) → ServesCall (marked history) verifier now asked old outcome new → HasMarked history old new
-call_marked history verifier now (Err why) operation r old new outcome e f wt ok h = absurd cc
-call_marked history verifier now (Ok o) operation r old new outcome e f wt ok h =
+call_marked : (version : FormatVersion) (history : List Entry) (verifier : List ℕ) (now : Time) (asked : Result Operation CallRefused) (operation : Operation) (r : Results) (old new : SessionState) (outcome : Result Results CallRefused) → asked ≡ Ok operation → outcome ≡ Ok r → IsTrue (has_to_wait operation) → IsTrue (is_accepted r) → ServesCall version (marked history) verifier now asked old outcome new → HasMarked history old new
+call_marked version history verifier now (Err why) operation r old new outcome e f wt ok h = absurd cc
+call_marked version history verifier now (Ok o) operation r old new outcome e f wt ok h =
     let same : o ≡ operation = cc in
     let results : h.0 ≡ r = cc in
-    serves_marked_in history verifier now o old new h.0 (subst (λ (p : Operation). IsTrue (has_to_wait p)) (sym same) wt) (subst (λ (q : Results). IsTrue (is_accepted q)) (sym results) ok) h.2
+    serves_marked_in version history verifier now o old new h.0 (subst (λ (p : Operation). IsTrue (has_to_wait p)) (sym same) wt) (subst (λ (q : Results). IsTrue (is_accepted q)) (sym results) ok) h.2
 
 -- what stands in a front stands in the whole
 stands_in : {A : Type 0} (front more : List A) (place : ℕ) (e : A) → slice_get front place ≡ Some e → slice_get (front ++ more) place ≡ Some e
@@ -112,12 +113,12 @@ marked_whole front whole place e p there low =
     let same : take (place + 1) whole ≡ take (place + 1) front = ap (take (place + 1)) (sym p.1) ∙ take-append-le (place + 1) front p.0 (omega (arith, slice_get_within front place e there)) in
     subst (λ (h : List Entry). count h ≤ floor whole) (sym same) low
 
-pub stays_stable : (tells : Time → Type 0) (verifier : List ℕ) (call : Message) (operation : Operation) (r : Results) (old mid new : SessionState) (reply : List ℕ) (behind : List (List ℕ)) (more : List ℕ)
-    → (replied : IsReply tells verifier new.seen call old mid reply) → asks call.asked ≡ Ok operation → replied.answers.outcome ≡ Ok r → IsTrue (has_to_wait operation) → IsTrue (is_accepted r)
-    → RepliesUpToBad (IsReply tells verifier new.seen) behind mid new more → (place : ℕ) × CommitsOnceAt old mid place × IsMarked new.seen place
-stays_stable tells verifier call operation r old mid new reply behind more replied e f wt ok h =
-    let now = call_marked new.seen verifier replied.moment (asks call.asked) operation r old replied.done replied.answers.outcome e f wt ok replied.answers.comes in
-    let grown = replies_grow tells verifier behind mid new more new.seen h in
+pub stays_stable : (version : FormatVersion) (tells : Time → Type 0) (verifier : List ℕ) (call : Message) (operation : Operation) (r : Results) (old mid new : SessionState) (reply : List ℕ) (behind : List (List ℕ)) (more : List ℕ)
+    → (replied : IsReply version tells verifier new.seen call old mid reply) → asks call.asked ≡ Ok operation → replied.answers.outcome ≡ Ok r → IsTrue (has_to_wait operation) → IsTrue (is_accepted r)
+    → RepliesUpToBad (IsReply version tells verifier new.seen) behind mid new more → (place : ℕ) × CommitsOnceAt old mid place × IsMarked new.seen place
+stays_stable version tells verifier call operation r old mid new reply behind more replied e f wt ok h =
+    let now = call_marked version new.seen verifier replied.moment (asks call.asked) operation r old replied.done replied.answers.outcome e f wt ok replied.answers.comes in
+    let grown = replies_grow version tells verifier behind mid new more new.seen h in
     let reach : IsPrefix replied.done.seen new.seen = grows-trans replied.done mid new replied.later.seen grown.0 in
     (now.0, commits_later old replied.done mid now.0 replied.later now.1, marked_whole replied.done.seen new.seen now.0 _ reach now.1.stands now.2)
 

@@ -3,6 +3,7 @@ use Rattle.std.specs.Prelude.{◌≡◌, ◌≢◌, ◌≤◌, ℕ, ◌+◌, Lis
 use Rattle.std.specs.Io.KnownBytes.{Appends}
 use Rattle.journal_world.specs.Histories.{Entry, floor}
 use Rattle.journal_history.specs.Tokens.{SessionState, CommitPlace}
+use Rattle.journal_inode.specs.declared.version.FormatVersion.{FormatVersion}
 use Rattle.journal_inode.specs.declared.node.Time.{Time}
 use Rattle.journal_rpc.specs.Calls.{Message}
 use Rattle.journal_nfs3.specs.declared.soon.Awaited.{Awaited}
@@ -26,10 +27,10 @@ abbrev pub held_of : ℕ → SoonReply CommitPlace → HeldReply
 held_of xid soon = record { length = length soon.reply.items; owed = owed_of xid soon.owed }
 
 -- the call was done at a moment that the clock may tell, up to its commit
-pub record IsSoon (tells : Time → Type 0) (verifier : List ℕ) (call : Message) (old new : SessionState) (soon : SoonReply CommitPlace) : Type 0 where
+pub record IsSoon (version : FormatVersion) (tells : Time → Type 0) (verifier : List ℕ) (call : Message) (old new : SessionState) (soon : SoonReply CommitPlace) : Type 0 where
   pub moment : Time
   pub told : tells moment
-  pub answers : AnswersSoon verifier moment call.xid (asks call.asked) old new soon
+  pub answers : AnswersSoon version verifier moment call.xid (asks call.asked) old new soon
 
 -- what a session has seen, and what is known of the replies behind that are held
 pub record Doing : Type 0 where
@@ -40,9 +41,9 @@ abbrev pub doing : SessionState → List HeldReply → Doing
 doing session behind = record { session = session; behind = behind }
 
 -- The text is the reply to the call as it is held, and what is known of it is the first that is left
-pub record IsHeld (tells : Time → Type 0) (verifier : List ℕ) (call : Message) (old new : Doing) (text : List ℕ) : Type 0 where
+pub record IsHeld (version : FormatVersion) (tells : Time → Type 0) (verifier : List ℕ) (call : Message) (old new : Doing) (text : List ℕ) : Type 0 where
   pub soon : SoonReply CommitPlace
-  pub done : IsSoon tells verifier call old.session new.session soon
+  pub done : IsSoon version tells verifier call old.session new.session soon
   pub known : old.behind ≡ held_of call.xid soon ∷ new.behind
   pub is : text ≡ soon.reply.items
 

@@ -4,17 +4,18 @@ use Rattle.journal_rpc.specs.Calls.{Message, message}
 use Rattle.journal_rpc.specs.Stream.{fresh, after}
 use Rattle.journal_world.specs.Histories.{Entry}
 use Rattle.journal_history.specs.Tokens.{SessionState, OnlyExtends}
+use Rattle.journal_inode.specs.declared.version.FormatVersion.{FormatVersion}
 use Rattle.journal_inode.specs.declared.node.Time.{Time}
 use Rattle.journal_nfs3.specs.Calls.{asks}
 use Rattle.journal_nfs3.specs.Served.{marked}
 use Rattle.journal_nfs3.specs.Answers.{AnswersAs}
 
 -- The text is the reply to the call at some moment that the clock may tell. What of it is to be stable is marked in the history. The session has then seen what the call came to, or more
-pub record IsReply (tells : Time → Type 0) (verifier : List ℕ) (history : List Entry) (call : Message) (old new : SessionState) (text : List ℕ) : Type 0 where
+pub record IsReply (version : FormatVersion) (tells : Time → Type 0) (verifier : List ℕ) (history : List Entry) (call : Message) (old new : SessionState) (text : List ℕ) : Type 0 where
   pub moment : Time
   pub told : tells moment
   pub done : SessionState
-  pub answers : AnswersAs (marked history) verifier moment call.xid (asks call.asked) old done text
+  pub answers : AnswersAs version (marked history) verifier moment call.xid (asks call.asked) old done text
   pub later : OnlyExtends done new
 
 -- the complete records of some bytes, however they were cut into pieces

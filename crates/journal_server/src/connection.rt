@@ -12,7 +12,7 @@ use journal_daemon::Gate;
 use journal_disk::BlockDisk;
 use journal_filestore::FileStore;
 use journal_history::{Naming, Session};
-use journal_inode::SoundFiles;
+use journal_inode::{SoundFiles, Version};
 use journal_nfs3::Verifier;
 use journal_rpc::Records;
 use std::alloc::Global;
@@ -64,13 +64,23 @@ pub enum ConnFault {
 ///
 /// Where it gives up, some of the records that it read were answered, from the first on, and their replies were
 /// written up to some byte: a call whose reply could not be written was done.
-pub fn serve<'b, R: Read, W: Write, D: BlockDisk, J: Naming, C: Clock, G: Gate, H: Wait>(
+pub fn serve<
+    'b,
+    R: Read,
+    W: Write,
+    D: BlockDisk,
+    J: Naming,
+    V: Version,
+    C: Clock,
+    G: Gate,
+    H: Wait,
+>(
     rt: &H,
     alloc: Global,
     reader: &mut R,
     writer: &mut W,
-    files: &FileStore<'b, D, J>,
-    session: &mut Session<'b, J, SoundFiles>,
+    files: &FileStore<'b, D, J, V>,
+    session: &mut Session<'b, J, SoundFiles<V>>,
     clock: &C,
     verifier: Verifier,
     gate: &G,
@@ -80,7 +90,7 @@ pub fn serve<'b, R: Read, W: Write, D: BlockDisk, J: Naming, C: Clock, G: Gate, 
     // is what its call comes to at a moment of the clock, and it leads from what the session had seen after the one
     // before it to what it saw then. What of a reply is to be stable is marked in what the session has seen at the end.
     ensures replies { IfOk result (λ served. Exchanges (R.remaining reader.old) (R.remaining reader.new) (W.contents writer.old) (W.contents writer.new)
-        (λ input text. RepliesUpToBad (IsReply (C.tells clock.now) verifier.0 session.new.seen) (records_of input) session.old session.new text)) }
+        (λ input text. RepliesUpToBad (IsReply V.VERSION (C.tells clock.now) verifier.0 session.new.seen) (records_of input) session.old session.new text)) }
 
     // They are counted.
     ensures counted { IfOk result (λ served. Exchanges (R.remaining reader.old) (R.remaining reader.new) (W.contents writer.old) (W.contents writer.new)
@@ -93,7 +103,7 @@ pub fn serve<'b, R: Read, W: Write, D: BlockDisk, J: Naming, C: Clock, G: Gate, 
     // Where it gave up, what was written is a beginning of the replies to a front of the records of what was read, and
     // the session has seen what these come to, with the marks of what was written.
     ensures given_up { OnErr result (Exchanges (R.remaining reader.old) (R.remaining reader.new) (W.contents writer.old) (W.contents writer.new)
-        (λ input text. IsBeginning (IsReply (C.tells clock.now) verifier.0 session.new.seen) (records_of input) session.old session.new text)) }
+        (λ input text. IsBeginning (IsReply V.VERSION (C.tells clock.now) verifier.0 session.new.seen) (records_of input) session.old session.new text)) }
 {
     let service = Service {
         alloc,
@@ -110,18 +120,28 @@ pub fn serve<'b, R: Read, W: Write, D: BlockDisk, J: Naming, C: Clock, G: Gate, 
 }
 
 // Answers the calls, with a buffer that takes a piece.
-fn answer_all<'b, R: Read, W: Write, D: BlockDisk, J: Naming, C: Clock, G: Gate, H: Wait>(
+fn answer_all<
+    'b,
+    R: Read,
+    W: Write,
+    D: BlockDisk,
+    J: Naming,
+    V: Version,
+    C: Clock,
+    G: Gate,
+    H: Wait,
+>(
     rt: &H,
-    service: &Service<'_, 'b, D, J, C, G>,
-    session: &mut Session<'b, J, SoundFiles>,
+    service: &Service<'_, 'b, D, J, V, C, G>,
+    session: &mut Session<'b, J, SoundFiles<V>>,
     reader: &mut R,
     writer: &mut W,
     buffer: &mut [u8],
 ) -> Result<Served, ConnFault>
     requires { 0 < length buffer.old }
-    ensures finished { IfOk result (λ served. Finished (IsReply (C.tells service.now.clock.now) service.now.verifier.0 session.new.seen)
+    ensures finished { IfOk result (λ served. Finished (IsReply V.VERSION (C.tells service.now.clock.now) service.now.verifier.0 session.new.seen)
         (R.remaining reader.old) (R.remaining reader.new) (W.contents writer.old) (W.contents writer.new) session.old session.new served.answered served.end) }
-    ensures given_up { OnErr result (Failed (IsReply (C.tells service.now.clock.now) service.now.verifier.0 session.new.seen)
+    ensures given_up { OnErr result (Failed (IsReply V.VERSION (C.tells service.now.clock.now) service.now.verifier.0 session.new.seen)
         (R.remaining reader.old) (R.remaining reader.new) (W.contents writer.old) (W.contents writer.new) session.old session.new) }
 {
     let mut records = Records::new(service.alloc);

@@ -12,7 +12,7 @@ use crate::streams::write_whole;
 use journal_daemon::Gate;
 use journal_disk::BlockDisk;
 use journal_history::{Naming, Receipt, Session};
-use journal_inode::SoundFiles;
+use journal_inode::{SoundFiles, Version};
 use journal_nfs3::{Awaited, Procedure, SoonReply, refused_reply};
 use journal_world::Refusal;
 use std::alloc::{AllocError, Global};
@@ -53,9 +53,9 @@ pub(crate) struct Holding<P> {
     pub latest: Option<P>,
 }
 
-impl<'b, J: Naming> Holding<Receipt<'b, J, SoundFiles>> {
+impl<'b, J: Naming, V: Version> Holding<Receipt<'b, J, SoundFiles<V>>> {
     // Nothing is held, and there is room for what is known of the replies of a turn.
-    pub fn new(alloc: Global) -> Result<Holding<Receipt<'b, J, SoundFiles>>, AllocError> {
+    pub fn new(alloc: Global) -> Result<Holding<Receipt<'b, J, SoundFiles<V>>>, AllocError> {
         Ok(Holding {
             bytes: Vec::new(alloc),
             replies: Vec::with_capacity(alloc, REPLIES_AT_ONCE)?,
@@ -95,7 +95,7 @@ impl<'b, J: Naming> Holding<Receipt<'b, J, SoundFiles>> {
     pub fn hold(
         &mut self,
         xid: u32,
-        soon: SoonReply<Receipt<'b, J, SoundFiles>>,
+        soon: SoonReply<Receipt<'b, J, SoundFiles<V>>>,
     ) -> Result<(), AllocError>
         requires room { vec_len self.old.replies < vec_capacity self.old.replies }
         ensures bytes { OnOk result (self.new.bytes.items ≡ self.old.bytes.items ++ soon.entry.reply.items) }
@@ -128,10 +128,10 @@ impl<'b, J: Naming> Holding<Receipt<'b, J, SoundFiles>> {
 }
 
 // The later of the two receipts that are waited for. Each commit is counted after those before it, so it is the second one.
-fn later<'b, J: Naming>(
-    latest: Option<Receipt<'b, J, SoundFiles>>,
-    receipt: Receipt<'b, J, SoundFiles>,
-) -> Receipt<'b, J, SoundFiles>
+fn later<'b, J: Naming, V: Version>(
+    latest: Option<Receipt<'b, J, SoundFiles<V>>>,
+    receipt: Receipt<'b, J, SoundFiles<V>>,
+) -> Receipt<'b, J, SoundFiles<V>>
     ensures covers { receipt.entry.count ≤ result.count }
     ensures others { IfSome latest.entry (λ before. before.count ≤ result.count) }
 {
@@ -143,11 +143,20 @@ fn later<'b, J: Naming>(
 
 // Sends the replies that are held. Those in front of the first that waits go out first; then it waits once, until the last
 // commit that is waited for is stable. Where that is refused, each reply whose mark does not stand is told as refused.
-pub(crate) fn send_held<'b, D: BlockDisk, J: Naming, C: Clock, G: Gate, H: Wait, W: Write>(
+pub(crate) fn send_held<
+    'b,
+    D: BlockDisk,
+    J: Naming,
+    V: Version,
+    C: Clock,
+    G: Gate,
+    H: Wait,
+    W: Write,
+>(
     rt: &H,
-    service: &Service<'_, 'b, D, J, C, G>,
-    session: &mut Session<'b, J, SoundFiles>,
-    holding: &Holding<Receipt<'b, J, SoundFiles>>,
+    service: &Service<'_, 'b, D, J, V, C, G>,
+    session: &mut Session<'b, J, SoundFiles<V>>,
+    holding: &Holding<Receipt<'b, J, SoundFiles<V>>>,
     writer: &mut W,
 ) -> Result<(), ConnFault>
     requires { IsInOrder holding.now }
@@ -168,10 +177,10 @@ pub(crate) fn send_held<'b, D: BlockDisk, J: Naming, C: Clock, G: Gate, H: Wait,
 }
 
 // Sends what is told of the replies behind those that went out before the wait, which was refused.
-fn send_refused<'b, J: Naming, E, W: Write>(
+fn send_refused<'b, J: Naming, V: Version, E, W: Write>(
     alloc: Global,
-    session: &mut Session<'b, J, SoundFiles>,
-    holding: &Holding<Receipt<'b, J, SoundFiles>>,
+    session: &mut Session<'b, J, SoundFiles<V>>,
+    holding: &Holding<Receipt<'b, J, SoundFiles<V>>>,
     why: &Refusal<E>,
     writer: &mut W,
 ) -> Result<(), ConnFault>
@@ -200,10 +209,10 @@ fn send<W: Write>(writer: &mut W, bytes: &[u8]) -> Result<(), ConnFault>
 
 // What is told where the wait was refused: each reply as it is held where its mark stands or nothing is owed for it, and
 // else its refusal.
-fn settled<'b, J: Naming, E>(
+fn settled<'b, J: Naming, V: Version, E>(
     alloc: Global,
-    session: &mut Session<'b, J, SoundFiles>,
-    holding: &Holding<Receipt<'b, J, SoundFiles>>,
+    session: &mut Session<'b, J, SoundFiles<V>>,
+    holding: &Holding<Receipt<'b, J, SoundFiles<V>>>,
     why: &Refusal<E>,
 ) -> Result<Vec<u8>, AllocError>
     requires { total holding.now.replies.items ≡ length holding.now.bytes.items }
@@ -223,9 +232,9 @@ fn settled<'b, J: Naming, E>(
 }
 
 // Adds what is told of a reply to what is told before it.
-fn tell<'b, J: Naming, E>(
+fn tell<'b, J: Naming, V: Version, E>(
     alloc: Global,
-    session: &mut Session<'b, J, SoundFiles>,
+    session: &mut Session<'b, J, SoundFiles<V>>,
     owed: &Option<OwedReply>,
     reply: &[u8],
     why: &Refusal<E>,

@@ -3,6 +3,7 @@ ghost use Rattle.std.specs.Prelude.{◌≡◌, ◌≤◌, ℕ, List, IsTrue, Ok}
 ghost use mathlib.Core.List.{IsPrefix};
 ghost use Rattle.journal_world.specs.Histories.{Entry, floor};
 ghost use Rattle.journal_history.specs.Tokens.{SessionState};
+ghost use Rattle.journal_inode.specs.declared.version.FormatVersion.{FormatVersion};
 ghost use Rattle.journal_rpc.specs.Calls.{Message};
 ghost use Rattle.journal_nfs3.specs.Arguments.{Operation};
 ghost use Rattle.journal_nfs3.specs.Results.{Results};
@@ -19,17 +20,17 @@ use crate::service::Clock;
 ///
 /// COMMIT, SETATTR, CREATE, REMOVE, and WRITE with DATA_SYNC or FILE_SYNC wait so (RFC 1813, sections 3.3.7 and 3.3.21).
 pub fn what_was_stable_stays_stable<C: Clock>(clock: &C)
-    ensures grows { (verifier : List ℕ) (records : List (List ℕ)) (old new : SessionState) (text : List ℕ)
-        (history : List Entry) → RepliesUpToBad (IsReply (C.tells clock.now) verifier history) records old new text
+    ensures grows { (version : FormatVersion) (verifier : List ℕ) (records : List (List ℕ)) (old new : SessionState) (text : List ℕ)
+        (history : List Entry) → RepliesUpToBad (IsReply version (C.tells clock.now) verifier history) records old new text
         → IsPrefix old.seen new.seen × (floor old.seen ≤ floor new.seen) }
-    ensures stable { (verifier : List ℕ) (call : Message) (operation : Operation) (r : Results)
+    ensures stable { (version : FormatVersion) (verifier : List ℕ) (call : Message) (operation : Operation) (r : Results)
         (old mid new : SessionState) (reply : List ℕ) (behind : List (List ℕ)) (more : List ℕ)
-        → (replied : IsReply (C.tells clock.now) verifier new.seen call old mid reply) → asks call.asked ≡ Ok operation → replied.answers.outcome ≡ Ok r
+        → (replied : IsReply version (C.tells clock.now) verifier new.seen call old mid reply) → asks call.asked ≡ Ok operation → replied.answers.outcome ≡ Ok r
         → IsTrue (has_to_wait operation) → IsTrue (is_accepted r)
-        → RepliesUpToBad (IsReply (C.tells clock.now) verifier new.seen) behind mid new more
+        → RepliesUpToBad (IsReply version (C.tells clock.now) verifier new.seen) behind mid new more
         → (place : ℕ) × CommitsOnceAt old mid place × IsMarked new.seen place }
-    ensures front { (verifier : List ℕ) (history : List Entry) (records : List (List ℕ)) (old new : SessionState) (text : List ℕ)
-        → AllReplies (IsReply (C.tells clock.now) verifier history) records old new text → RepliesUpToBad (IsReply (C.tells clock.now) verifier history) records old new text }
+    ensures front { (version : FormatVersion) (verifier : List ℕ) (history : List Entry) (records : List (List ℕ)) (old new : SessionState) (text : List ℕ)
+        → AllReplies (IsReply version (C.tells clock.now) verifier history) records old new text → RepliesUpToBad (IsReply version (C.tells clock.now) verifier history) records old new text }
 {
     let _ = clock;
 }

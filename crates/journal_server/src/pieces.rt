@@ -12,7 +12,7 @@ use crate::service::{Clock, Service};
 use journal_daemon::Gate;
 use journal_disk::BlockDisk;
 use journal_history::{Naming, Receipt, Session};
-use journal_inode::SoundFiles;
+use journal_inode::{SoundFiles, Version};
 use journal_rpc::{FeedRefused, Records};
 use std::alloc::AllocError;
 use std::io::Write;
@@ -32,12 +32,21 @@ pub(crate) enum Taken {
 //
 // A piece of records that are short has far more of them than one of calls, and each takes memory. So they are taken and
 // answered some at a time.
-pub(crate) fn answer_piece<'b, D: BlockDisk, J: Naming, C: Clock, G: Gate, H: Wait, W: Write>(
+pub(crate) fn answer_piece<
+    'b,
+    D: BlockDisk,
+    J: Naming,
+    V: Version,
+    C: Clock,
+    G: Gate,
+    H: Wait,
+    W: Write,
+>(
     rt: &H,
-    service: &Service<'_, 'b, D, J, C, G>,
-    session: &mut Session<'b, J, SoundFiles>,
+    service: &Service<'_, 'b, D, J, V, C, G>,
+    session: &mut Session<'b, J, SoundFiles<V>>,
     records: &mut Records,
-    holding: &mut Holding<Receipt<'b, J, SoundFiles>>,
+    holding: &mut Holding<Receipt<'b, J, SoundFiles<V>>>,
     answered: &mut u64,
     piece: &[u8],
     writer: &mut W,
@@ -45,11 +54,11 @@ pub(crate) fn answer_piece<'b, D: BlockDisk, J: Naming, C: Clock, G: Gate, H: Wa
     requires none { records.old.records ≡ [] }
     requires short { records.old.part ≢ TooLong }
     ensures sent { IfOk result (λ goes_on. MatchBool goes_on
-        (GoesOn (IsReply (C.tells service.now.clock.now) service.now.verifier.0 session.new.seen) (after records.old piece.now) records.new
+        (GoesOn (IsReply V.VERSION (C.tells service.now.clock.now) service.now.verifier.0 session.new.seen) (after records.old piece.now) records.new
         session.old session.new (W.contents writer.old) (W.contents writer.new) answered.old answered.new)
-        (EndsBad (IsReply (C.tells service.now.clock.now) service.now.verifier.0 session.new.seen) (after records.old piece.now) records.new
+        (EndsBad (IsReply V.VERSION (C.tells service.now.clock.now) service.now.verifier.0 session.new.seen) (after records.old piece.now) records.new
         session.old session.new (W.contents writer.old) (W.contents writer.new) answered.old answered.new)) }
-    ensures in_part { OnErr result (SentInPart (IsReply (C.tells service.now.clock.now) service.now.verifier.0 session.new.seen)
+    ensures in_part { OnErr result (SentInPart (IsReply V.VERSION (C.tells service.now.clock.now) service.now.verifier.0 session.new.seen)
         (after records.old piece.now) session.old session.new (W.contents writer.old) (W.contents writer.new)) }
 {
     let mut rest = piece;

@@ -11,7 +11,7 @@ use crate::service::{Clock, Service};
 use journal_daemon::Gate;
 use journal_disk::BlockDisk;
 use journal_history::{Naming, Receipt, Session};
-use journal_inode::SoundFiles;
+use journal_inode::{SoundFiles, Version};
 use journal_rpc::{Records, read_call};
 use std::alloc::AllocError;
 use std::io::Write;
@@ -30,18 +30,18 @@ pub(crate) enum Turn {
 
 // Answers the records that wait up to their commits, in order, holds the replies, and counts them, until there are enough
 // to be sent.
-pub(crate) fn answer_waiting<'b, D: BlockDisk, J: Naming, C: Clock, G: Gate, H: Wait>(
+pub(crate) fn answer_waiting<'b, D: BlockDisk, J: Naming, V: Version, C: Clock, G: Gate, H: Wait>(
     rt: &H,
-    service: &Service<'_, 'b, D, J, C, G>,
-    session: &mut Session<'b, J, SoundFiles>,
+    service: &Service<'_, 'b, D, J, V, C, G>,
+    session: &mut Session<'b, J, SoundFiles<V>>,
     records: &mut Records,
-    holding: &mut Holding<Receipt<'b, J, SoundFiles>>,
+    holding: &mut Holding<Receipt<'b, J, SoundFiles<V>>>,
     answered: &mut u64,
 ) -> Result<Turn, AllocError>
-    ensures answered { IfOk result (λ turn. EndsTurn (IsHeld (C.tells service.now.clock.now) service.now.verifier.0) turn
+    ensures answered { IfOk result (λ turn. EndsTurn (IsHeld V.VERSION (C.tells service.now.clock.now) service.now.verifier.0) turn
         records.old records.new (doing session.old holding.new.replies.items) (doing session.new []) [] holding.new.bytes.items answered.old answered.new) }
     ensures in_order { OnOk result (IsInOrder holding.new) }
-    ensures lost { OnErr result ((history : List Entry) → Lost (IsReply (C.tells service.now.clock.now) service.now.verifier.0 history)
+    ensures lost { OnErr result ((history : List Entry) → Lost (IsReply V.VERSION (C.tells service.now.clock.now) service.now.verifier.0 history)
         records.old session.old session.new) }
 {
     holding.clear();
@@ -63,21 +63,30 @@ pub(crate) fn answer_waiting<'b, D: BlockDisk, J: Naming, C: Clock, G: Gate, H: 
 
 // Answers the records that wait, and sends the replies: those of a turn after one wait. `holding` is room for them. `false`
 // says that one of the records is no call: the ones behind it are not answered.
-pub(crate) fn answer_and_send<'b, D: BlockDisk, J: Naming, C: Clock, G: Gate, H: Wait, W: Write>(
+pub(crate) fn answer_and_send<
+    'b,
+    D: BlockDisk,
+    J: Naming,
+    V: Version,
+    C: Clock,
+    G: Gate,
+    H: Wait,
+    W: Write,
+>(
     rt: &H,
-    service: &Service<'_, 'b, D, J, C, G>,
-    session: &mut Session<'b, J, SoundFiles>,
+    service: &Service<'_, 'b, D, J, V, C, G>,
+    session: &mut Session<'b, J, SoundFiles<V>>,
     records: &mut Records,
-    holding: &mut Holding<Receipt<'b, J, SoundFiles>>,
+    holding: &mut Holding<Receipt<'b, J, SoundFiles<V>>>,
     answered: &mut u64,
     writer: &mut W,
 ) -> Result<bool, ConnFault>
     ensures sent { IfOk result (λ good. MatchBool good
-        (Sent (IsReply (C.tells service.now.clock.now) service.now.verifier.0 session.new.seen) records.old records.new
+        (Sent (IsReply V.VERSION (C.tells service.now.clock.now) service.now.verifier.0 session.new.seen) records.old records.new
         session.old session.new (W.contents writer.old) (W.contents writer.new) answered.old answered.new)
-        (SentUpToBad (IsReply (C.tells service.now.clock.now) service.now.verifier.0 session.new.seen) records.old
+        (SentUpToBad (IsReply V.VERSION (C.tells service.now.clock.now) service.now.verifier.0 session.new.seen) records.old
         session.old session.new (W.contents writer.old) (W.contents writer.new) answered.old answered.new)) }
-    ensures in_part { OnErr result (SentInPart (IsReply (C.tells service.now.clock.now) service.now.verifier.0 session.new.seen) records.old
+    ensures in_part { OnErr result (SentInPart (IsReply V.VERSION (C.tells service.now.clock.now) service.now.verifier.0 session.new.seen) records.old
         session.old session.new (W.contents writer.old) (W.contents writer.new)) }
 {
     loop {

@@ -10,7 +10,7 @@ use journal_daemon::Gate;
 use journal_disk::BlockDisk;
 use journal_filestore::FileStore;
 use journal_history::{Naming, Receipt, Session};
-use journal_inode::SoundFiles;
+use journal_inode::{SoundFiles, Version};
 use journal_nfs3::{SoonReply, Verifier, answer_soon};
 use journal_rpc::Call;
 use journal_world::Moment;
@@ -32,16 +32,17 @@ pub trait Clock {
 
 // What answers the calls of one connection: the files, the moments, the verifier of what is written, and the gate that
 // each call passes first, under the connection's number.
-pub(crate) struct Service<'s, 'b, D: BlockDisk, J: Naming, C: Clock, G: Gate> {
+pub(crate) struct Service<'s, 'b, D: BlockDisk, J: Naming, V: Version, C: Clock, G: Gate> {
     pub alloc: Global,
-    pub files: &'s FileStore<'b, D, J>,
+    pub files: &'s FileStore<'b, D, J, V>,
     pub clock: &'s C,
     pub verifier: Verifier,
     pub gate: &'s G,
     pub number: u64,
 }
 
-impl<'s, 'b, D: BlockDisk, J: Naming, C: Clock, G: Gate> Drop for Service<'s, 'b, D, J, C, G> {
+impl<'s, 'b, D: BlockDisk, J: Naming, V: Version, C: Clock, G: Gate> Drop
+    for Service<'s, 'b, D, J, V, C, G> {
     fn drop(self) {
         let Service {
             alloc: _,
@@ -54,24 +55,32 @@ impl<'s, 'b, D: BlockDisk, J: Naming, C: Clock, G: Gate> Drop for Service<'s, 'b
     }
 }
 
-impl<'s, 'b, D: BlockDisk, J: Naming, C: Clock, G: Gate> Service<'s, 'b, D, J, C, G> {
+impl<'s, 'b, D: BlockDisk, J: Naming, V: Version, C: Clock, G: Gate> Service<
+    's,
+    'b,
+    D,
+    J,
+    V,
+    C,
+    G,
+> {
     // Answers the call number `n` of the connection up to its commit, at the moment at which it has passed the gate. Where
     // memory for the reply is refused the call is done all the same, and its reply is lost.
     pub fn answer_soon<H: Wait>(
         &self,
         rt: &H,
-        session: &mut Session<'b, J, SoundFiles>,
+        session: &mut Session<'b, J, SoundFiles<V>>,
         call: &Call<'_>,
         n: u64,
-    ) -> Result<SoonReply<Receipt<'b, J, SoundFiles>>, AllocError>
-        ensures reply { IfOk result (IsSoon (C.tells self.now.clock.now) self.now.verifier.0 (message_of call.now) session.old session.new) }
-        ensures lost { OnErr result ((history : List Entry) → (reply : List ℕ) × IsReply (C.tells self.now.clock.now)
+    ) -> Result<SoonReply<Receipt<'b, J, SoundFiles<V>>>, AllocError>
+        ensures reply { IfOk result (IsSoon V.VERSION (C.tells self.now.clock.now) self.now.verifier.0 (message_of call.now) session.old session.new) }
+        ensures lost { OnErr result ((history : List Entry) → (reply : List ℕ) × IsReply V.VERSION (C.tells self.now.clock.now)
             self.now.verifier.0 history (message_of call.now) session.old session.new reply) }
     {
         let (files, clock) = (self.files, self.clock);
         self.gate.pass(rt, self.number, n);
         let moment = clock.now();
-        match answer_soon::<D, J, H, ()>(
+        match answer_soon::<D, J, V, H, ()>(
             rt,
             self.alloc,
             session,

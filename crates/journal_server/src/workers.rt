@@ -20,7 +20,7 @@ use journal_daemon::Gate;
 use journal_disk::BlockDisk;
 use journal_filestore::FileStore;
 use journal_history::Naming;
-use journal_inode::SoundFiles;
+use journal_inode::{SoundFiles, Version};
 use journal_nfs3::Verifier;
 use journal_world::Refusal;
 use std::alloc::{AllocError, Global};
@@ -82,22 +82,23 @@ trait Serve<S> {
 
 // Why a session was refused, where one was.
 #[derive(Drop)]
-struct Refused<'b, J: Naming> {
-    cause: Option<Cause<'b, J, SoundFiles>>,
+struct Refused<'b, J: Naming, V: Version> {
+    cause: Option<Cause<'b, J, SoundFiles<V>>>,
     ghost unexplained: { ForSome cause (IsUnexplained J11) },
 }
 
 // What the workers share.
-struct Workshop<'s, 'b, D: BlockDisk, J: Naming, C: Clock, G: Gate> {
+struct Workshop<'s, 'b, D: BlockDisk, J: Naming, V: Version, C: Clock, G: Gate> {
     alloc: Global,
-    files: &'s FileStore<'b, D, J>,
+    files: &'s FileStore<'b, D, J, V>,
     clock: &'s C,
     verifier: Verifier,
     gate: &'s G,
-    refused: Mutex<Refused<'b, J>>,
+    refused: Mutex<Refused<'b, J, V>>,
 }
 
-impl<'s, 'b, D: BlockDisk, J: Naming, C: Clock, G: Gate> Drop for Workshop<'s, 'b, D, J, C, G> {
+impl<'s, 'b, D: BlockDisk, J: Naming, V: Version, C: Clock, G: Gate> Drop
+    for Workshop<'s, 'b, D, J, V, C, G> {
     fn drop(self) {
         let Workshop {
             alloc: _,
@@ -110,10 +111,18 @@ impl<'s, 'b, D: BlockDisk, J: Naming, C: Clock, G: Gate> Drop for Workshop<'s, '
     }
 }
 
-impl<'s, 'b, D: BlockDisk, J: Naming, C: Clock, G: Gate> Workshop<'s, 'b, D, J, C, G> {
+impl<'s, 'b, D: BlockDisk, J: Naming, V: Version, C: Clock, G: Gate> Workshop<
+    's,
+    'b,
+    D,
+    J,
+    V,
+    C,
+    G,
+> {
     fn new(
         alloc: Global,
-        files: &'s FileStore<'b, D, J>,
+        files: &'s FileStore<'b, D, J, V>,
         clock: &'s C,
         verifier: Verifier,
         gate: &'s G,
@@ -133,7 +142,7 @@ impl<'s, 'b, D: BlockDisk, J: Naming, C: Clock, G: Gate> Workshop<'s, 'b, D, J, 
         self,
         rt: &H,
         notes: Result<Vec<N>, AllocError>,
-    ) -> Result<Vec<N>, Refusal<Cause<'b, J, SoundFiles>>>
+    ) -> Result<Vec<N>, Refusal<Cause<'b, J, SoundFiles<V>>>>
         ensures ok { IfOk result (λ all. notes ≡ Ok all) }
         ensures refusal { IfErr result IsWorkersRefusal }
     {
@@ -147,8 +156,8 @@ impl<'s, 'b, D: BlockDisk, J: Naming, C: Clock, G: Gate> Workshop<'s, 'b, D, J, 
     }
 }
 
-impl<'s, 'b, D: BlockDisk, J: Naming, C: Clock, G: Gate, S: Connection + Drop> Serve<S>
-    for Workshop<'s, 'b, D, J, C, G> {
+impl<'s, 'b, D: BlockDisk, J: Naming, V: Version, C: Clock, G: Gate, S: Connection + Drop> Serve<S>
+    for Workshop<'s, 'b, D, J, V, C, G> {
     fn serve<H: Wait>(&self, rt: &H, number: u64, connection: S) -> Option<Outcome> {
         connection.begin();
         let (files, clock, gate) = (self.files, self.clock, self.gate);
@@ -359,6 +368,7 @@ pub fn run_workers<
     I: Source + Drop,
     D: BlockDisk + Send,
     J: Naming + Send + Sync,
+    V: Version + Send + Sync,
     C: Clock + Sync,
     G: Gate + Sync,
     H: Threads + Wait + Sync,
@@ -366,12 +376,12 @@ pub fn run_workers<
     rt: &H,
     alloc: Global,
     source: I,
-    files: &'s FileStore<'b, D, J>,
+    files: &'s FileStore<'b, D, J, V>,
     clock: &'s C,
     verifier: Verifier,
     gate: &'s G,
 ) -> (
-    Result<Vec<(u64, Outcome)>, Refusal<Cause<'b, J, SoundFiles>>>,
+    Result<Vec<(u64, Outcome)>, Refusal<Cause<'b, J, SoundFiles<V>>>>,
     I,
 )
 where
@@ -384,7 +394,7 @@ where
         notes,
         source,
         shop,
-    } = run_crew::<I, Workshop<'s, 'b, D, J, C, G>, (u64, Outcome), H>(rt, alloc, source, shop);
+    } = run_crew::<I, Workshop<'s, 'b, D, J, V, C, G>, (u64, Outcome), H>(rt, alloc, source, shop);
     (shop.end(rt, notes), source)
 }
 
@@ -398,6 +408,7 @@ pub fn serve_all<
     I: Source + Drop,
     D: BlockDisk + Send,
     J: Naming + Send + Sync,
+    V: Version + Send + Sync,
     C: Clock + Sync,
     G: Gate + Sync,
     H: Threads + Wait + Sync,
@@ -405,11 +416,11 @@ pub fn serve_all<
     rt: &H,
     alloc: Global,
     source: I,
-    files: &'s FileStore<'b, D, J>,
+    files: &'s FileStore<'b, D, J, V>,
     clock: &'s C,
     verifier: Verifier,
     gate: &'s G,
-) -> (Result<u64, Refusal<Cause<'b, J, SoundFiles>>>, I)
+) -> (Result<u64, Refusal<Cause<'b, J, SoundFiles<V>>>>, I)
 where
     I::Connection: Drop + Send,
     // Each connection that the source gave was served, and no more.
@@ -421,7 +432,7 @@ where
         notes,
         source,
         shop,
-    } = run_crew::<I, Workshop<'s, 'b, D, J, C, G>, Tick, H>(rt, alloc, source, shop);
+    } = run_crew::<I, Workshop<'s, 'b, D, J, V, C, G>, Tick, H>(rt, alloc, source, shop);
     match shop.end(rt, notes) {
         Ok(ticks) => (Ok(ticks.len() as u64), source),
         Err(why) => (Err(why), source),

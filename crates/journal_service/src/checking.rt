@@ -3,12 +3,12 @@ ghost use Rattle.std.specs.Prelude.{◌≡◌};
 
 use crate::fault::ServiceFault;
 use crate::file;
+use crate::mounting::{Tried, mount};
 use crate::serving::{close, print_line};
 use journal_disk::FileDisk;
 use journal_filestore::{Fault, FileStore, Handle};
 use journal_history::{Book, Naming, Session};
-use journal_inode::{INODES, SoundFiles};
-use journal_world::Refused;
+use journal_inode::{INODES, SoundFiles, Version, VersionOne, VersionTwo};
 use std::alloc::Global;
 use std::fs::{File, Files};
 use std::io::Write;
@@ -21,7 +21,7 @@ const ROOT: u32 = 1;
 /// Mounts the disk in the file, and prints that it is sound, its version and how many files it has. The files are not
 /// changed, and nothing is written to the disk.
 ///
-/// Refused as a mount is: J7 `BadLog` where its log is not well formed, J8 `BadSuper` where its files are not sound.
+/// Refused as a mount is: J7 `BadLog` where its log is not well formed, J8 `BadSuper` where its files are sound in no version.
 pub fn check<R: Files<File = File> + Wait, O: Write>(
     rt: &R,
     alloc: Global,
@@ -29,34 +29,48 @@ pub fn check<R: Files<File = File> + Wait, O: Write>(
     output: &mut O,
 ) -> Result<(), ServiceFault> {
     let disk = file::open(rt, path)?;
-    let book: Book<SoundFiles> = Book::open::<()>().unwrap();
-    let files = files_of::<Brand, R>(rt, alloc, &book, disk)?;
-    print_line(output, "sound version 1 files", files)
+    match count_in::<VersionOne, R>(rt, alloc, disk)? {
+        Tried::Sound(files) => print_line(output, "sound version 1 files", files),
+        Tried::Other(disk) => {
+            let files = count_in::<VersionTwo, R>(rt, alloc, disk)?.sound()?;
+            print_line(output, "sound version 2 files", files)
+        }
+    }
+}
+
+// How many files the disk has, where they are sound in a version.
+fn count_in<V: Version, W: Wait>(
+    rt: &W,
+    alloc: Global,
+    disk: FileDisk,
+) -> Result<Tried<u64>, ServiceFault> {
+    let book: Book<SoundFiles<V>> = Book::open::<()>().unwrap();
+    files_of::<Brand, V, W>(rt, alloc, &book, disk)
 }
 
 // Mounts the disk, and answers how many files it has.
-fn files_of<J: Naming, W: Wait>(
+fn files_of<J: Naming, V: Version, W: Wait>(
     rt: &W,
     alloc: Global,
-    book: &Book<SoundFiles>,
+    book: &Book<SoundFiles<V>>,
     disk: FileDisk,
-) -> Result<u64, ServiceFault>
+) -> Result<Tried<u64>, ServiceFault>
     requires book { book.now ≡ J.book }
     requires blocks { disk.size ≡ J.blocks }
 {
-    let files: FileStore<FileDisk, J> = match FileStore::mount(alloc, book, disk) {
-        Ok(files) => files,
-        Err(Refused { refusal, .. }) => return Err(ServiceFault::refused(refusal)),
+    let files: FileStore<FileDisk, J, V> = match mount(alloc, book, disk)? {
+        Tried::Sound(files) => files,
+        Tried::Other(disk) => return Ok(Tried::Other(disk)),
     };
     let counted = count(rt, &files);
     close(rt, files)?;
-    counted
+    Ok(Tried::Sound(counted?))
 }
 
 // How many names are files.
-fn count<'b, J: Naming, W: Wait>(
+fn count<'b, J: Naming, V: Version, W: Wait>(
     rt: &W,
-    files: &FileStore<'b, FileDisk, J>,
+    files: &FileStore<'b, FileDisk, J, V>,
 ) -> Result<u64, ServiceFault> {
     let mut session = match files.journal().session(rt) {
         Ok(session) => session,
@@ -72,10 +86,10 @@ fn count<'b, J: Naming, W: Wait>(
 }
 
 // Whether there is a file of the name of this number.
-fn is_file<'b, J: Naming, W: Wait>(
+fn is_file<'b, J: Naming, V: Version, W: Wait>(
     rt: &W,
-    files: &FileStore<'b, FileDisk, J>,
-    session: &mut Session<'b, J, SoundFiles>,
+    files: &FileStore<'b, FileDisk, J, V>,
+    session: &mut Session<'b, J, SoundFiles<V>>,
     number: u32,
 ) -> Result<bool, ServiceFault> {
     let Some(root) = Handle::new(ROOT, ROOT) else {

@@ -4,6 +4,7 @@ use journal_daemon::{Gate, start};
 use journal_disk::FileDisk;
 use journal_filestore::FileStore;
 use journal_history::Naming;
+use journal_inode::Version;
 use std::sync::{Condvar, Mutex, Wait};
 use std::thread::Threads;
 
@@ -44,10 +45,10 @@ impl Daemon {
     }
 
     /// Runs the daemon until the journal is stopped.
-    pub fn run<'b, J: Naming + Send + Sync, R: Threads + Wait + Sync>(
+    pub fn run<'b, J: Naming + Send + Sync, V: Version + Send + Sync, R: Threads + Wait + Sync>(
         &self,
         rt: &R,
-        files: &FileStore<'b, FileDisk, J>,
+        files: &FileStore<'b, FileDisk, J, V>,
     ) {
         // That a thread was refused shows in how many came to a step.
         let _ = start(rt, files.journal(), self);

@@ -17,7 +17,8 @@ use std::time::Clock;
 // The number of standard error, the last of the three standard streams.
 const LAST_STREAM: RawFd = 2;
 
-/// Makes a disk without files, of so many blocks, in the file at the path. The file is made, or what it held is gone.
+/// Makes a disk of version 2 without files, of so many blocks, in the file at the path. The file is made, or what it held
+/// is gone.
 ///
 /// Refused where a program uses the disk in it, before anything of it is gone.
 pub fn format<R: Files<File = File> + Clock>(
@@ -32,7 +33,7 @@ pub fn format<R: Files<File = File> + Clock>(
         Ok(disk) if disk.size() == blocks => disk,
         _ => return Err(ServiceFault::BadFile),
     };
-    match journal_inode::format(alloc, disk, clock::now(rt), FormatVersion::One) {
+    match journal_inode::format(alloc, disk, clock::now(rt), FormatVersion::Two) {
         Ok(_) => Ok(()),
         Err(Refused { refusal, .. }) => Err(ServiceFault::refused(refusal)),
     }

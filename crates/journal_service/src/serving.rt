@@ -4,12 +4,13 @@ ghost use Rattle.std.specs.Prelude.{◌≡◌};
 use crate::clock::{WallClock, verifier_of};
 use crate::daemon::Daemon;
 use crate::fault::ServiceFault;
+use crate::mounting::{Tried, mount};
 use crate::{clock, file};
 use journal_daemon::OpenGate;
 use journal_disk::FileDisk;
 use journal_filestore::FileStore;
 use journal_history::{Book, Naming};
-use journal_inode::SoundFiles;
+use journal_inode::{SoundFiles, Version, VersionOne, VersionTwo};
 use journal_nfs3::Verifier;
 use journal_server::{Crowd, Listening, serve_all};
 use journal_world::{Refusal, Refused};
@@ -34,8 +35,10 @@ pub struct Service<'w> {
     pub connections: u64,
 }
 
-/// Serves the files of the disk in the file, and prints the port before the first connection is taken, and how many were
-/// taken once all is stable and the disk is given up.
+/// Serves the files of the disk in the file, of either version, and prints the port before the first connection is taken,
+/// and how many were taken once all is stable and the disk is given up.
+///
+/// Refused as a mount is: J7 `BadLog` where its log is not well formed, J8 `BadSuper` where its files are sound in no version.
 pub fn serve<
     R: Files<File = File>
         + Net<Listener = TcpListener, Stream = TcpStream>
@@ -46,51 +49,73 @@ pub fn serve<
     O: Write,
 >(rt: &R, alloc: Global, service: Service<'_>, output: &mut O) -> Result<(), ServiceFault> {
     let disk = file::open(rt, service.path)?;
-    let book: Book<SoundFiles> = Book::open::<()>().unwrap();
-    let mut disk = mount::<Brand, R, O>(rt, alloc, &book, disk, service, output)?;
+    let mut disk = match serve_in::<VersionOne, R, O>(rt, alloc, disk, service, output)? {
+        Tried::Sound(disk) => disk,
+        Tried::Other(disk) => {
+            serve_in::<VersionTwo, R, O>(rt, alloc, disk, service, output)?.sound()?
+        }
+    };
     file::sync(&mut disk)?;
     // Whoever reads the line may use the file at once.
     drop(disk);
     print_line(output, "served", service.connections)
 }
 
-// Mounts the disk, serves its files, and gives it up, with all commits stable. Of two faults the first is told.
-fn mount<
-    J: Naming + Send + Sync,
+// Serves the files of the disk, where they are sound in a version, and gives it up.
+fn serve_in<
+    V: Version + Send + Sync,
     R: Net<Listener = TcpListener, Stream = TcpStream> + Clock + Threads + Wait + Sync,
     O: Write,
 >(
     rt: &R,
     alloc: Global,
-    book: &Book<SoundFiles>,
     disk: FileDisk,
     service: Service<'_>,
     output: &mut O,
-) -> Result<FileDisk, ServiceFault>
+) -> Result<Tried<FileDisk>, ServiceFault> {
+    let book: Book<SoundFiles<V>> = Book::open::<()>().unwrap();
+    serve_mounted::<Brand, V, R, O>(rt, alloc, &book, disk, service, output)
+}
+
+// Mounts the disk, serves its files, and gives it up, with all commits stable. Of two faults the first is told.
+fn serve_mounted<
+    J: Naming + Send + Sync,
+    V: Version + Send + Sync,
+    R: Net<Listener = TcpListener, Stream = TcpStream> + Clock + Threads + Wait + Sync,
+    O: Write,
+>(
+    rt: &R,
+    alloc: Global,
+    book: &Book<SoundFiles<V>>,
+    disk: FileDisk,
+    service: Service<'_>,
+    output: &mut O,
+) -> Result<Tried<FileDisk>, ServiceFault>
     requires book { book.now ≡ J.book }
     requires blocks { disk.size ≡ J.blocks }
 {
     let moment = clock::now(rt);
-    let files: FileStore<FileDisk, J> = match FileStore::mount(alloc, book, disk) {
-        Ok(files) => files,
-        Err(Refused { refusal, .. }) => return Err(ServiceFault::refused(refusal)),
+    let files: FileStore<FileDisk, J, V> = match mount(alloc, book, disk)? {
+        Tried::Sound(files) => files,
+        Tried::Other(disk) => return Ok(Tried::Other(disk)),
     };
     let served = serve_beside_daemon(rt, alloc, &files, service, verifier_of(moment), output);
     let closed = close(rt, files);
     served?;
-    closed
+    Ok(Tried::Sound(closed?))
 }
 
 // Serves while the daemon runs, and ends it. All commits are stable then.
 fn serve_beside_daemon<
     'b,
     J: Naming + Send + Sync,
+    V: Version + Send + Sync,
     R: Net<Listener = TcpListener, Stream = TcpStream> + Clock + Threads + Wait + Sync,
     O: Write,
 >(
     rt: &R,
     alloc: Global,
-    files: &FileStore<'b, FileDisk, J>,
+    files: &FileStore<'b, FileDisk, J, V>,
     service: Service<'_>,
     verifier: Verifier,
     output: &mut O,
@@ -118,12 +143,13 @@ fn serve_beside_daemon<
 fn listen<
     'b,
     J: Naming + Send + Sync,
+    V: Version + Send + Sync,
     R: Net<Listener = TcpListener, Stream = TcpStream> + Clock + Threads + Wait + Sync,
     O: Write,
 >(
     rt: &R,
     alloc: Global,
-    files: &FileStore<'b, FileDisk, J>,
+    files: &FileStore<'b, FileDisk, J, V>,
     service: Service<'_>,
     verifier: Verifier,
     output: &mut O,
@@ -149,9 +175,9 @@ fn listen<
 }
 
 // Waits until all commits are stable.
-fn flush<'b, J: Naming, W: Wait>(
+fn flush<'b, J: Naming, V: Version, W: Wait>(
     rt: &W,
-    files: &FileStore<'b, FileDisk, J>,
+    files: &FileStore<'b, FileDisk, J, V>,
 ) -> Result<(), ServiceFault> {
     let mut session = match files.journal().session(rt) {
         Ok(session) => session,
@@ -164,9 +190,9 @@ fn flush<'b, J: Naming, W: Wait>(
 }
 
 /// Gives the disk up.
-pub(crate) fn close<'b, J: Naming, W: Wait>(
+pub(crate) fn close<'b, J: Naming, V: Version, W: Wait>(
     rt: &W,
-    files: FileStore<'b, FileDisk, J>,
+    files: FileStore<'b, FileDisk, J, V>,
 ) -> Result<FileDisk, ServiceFault> {
     let mut session = match files.journal().session(rt) {
         Ok(session) => session,

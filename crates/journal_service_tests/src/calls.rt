@@ -3,6 +3,7 @@ use crate::stores::{Client, Told, Wrong};
 use journal_disk::BlockDisk;
 use journal_filestore::FileStore;
 use journal_history::Naming;
+use journal_inode::Version;
 use journal_nfs3::{Verifier, answer};
 use journal_rpc::read_call;
 use journal_world::Moment;
@@ -15,7 +16,7 @@ use std::sync::Wait;
 // nor a verifier. A reply begins with the same number; DONE is SUCCESS, GARBAGE is GARBAGE_ARGS, UNAVAILABLE is PROC_UNAVAIL.
 //
 // A handle is twelve bytes. FILE is file 2 in its first life, AGAIN in its second, and LOST in one that it has not had;
-// STRANGE names no inode.
+// OTHER is file 3 in its first life, and STRANGE names no inode.
 //
 // Attributes are type, mode, links, owner and group; size, bytes used, device, file system and number, in two words each; and
 // three times. Before a change stand a size and two times. LOOKS and USED are what stands before and behind the size of file
@@ -37,6 +38,7 @@ ROOT: 12 0x4a4e4c31 1 1
 FILE: 12 0x4a4e4c31 2 1
 AGAIN: 12 0x4a4e4c31 2 2
 LOST: 12 0x4a4e4c31 2 9
+OTHER: 12 0x4a4e4c31 3 1
 STRANGE: 12 0x4a4e4c31 512 1
 f001: 4 0x66303031
 f002: 4 0x66303032
@@ -145,18 +147,18 @@ pub(crate) fn numbered(alloc: Global, texts: &[&str]) -> Result<Vec<u8>, Wrong> 
 }
 
 // The reply to a record, or nothing where it is no call.
-pub(crate) fn reply<'b, D: BlockDisk, J: Naming, W: Wait>(
+pub(crate) fn reply<'b, D: BlockDisk, J: Naming, V: Version, W: Wait>(
     rt: &W,
     alloc: Global,
-    files: &FileStore<'b, D, J>,
-    session: &mut Client<'b, J>,
+    files: &FileStore<'b, D, J, V>,
+    session: &mut Client<'b, J, V>,
     at: Moment,
     record: &[u8],
 ) -> Result<Vec<u8>, AllocError> {
     let Some(call) = read_call(record) else {
         return Ok(Vec::new(alloc));
     };
-    match answer::<_, _, _, ()>(rt, alloc, session, &call, files, at, VERIFIER) {
+    match answer::<_, _, _, _, ()>(rt, alloc, session, &call, files, at, VERIFIER) {
         Ok(reply) => Ok(reply),
         Err(_) => Err(AllocError),
     }
@@ -176,11 +178,11 @@ fn is_record_of(reply: &[u8], message: &[u8]) -> bool {
 }
 
 // Whether a record is answered so.
-fn is_answered<'b, D: BlockDisk, J: Naming, W: Wait>(
+fn is_answered<'b, D: BlockDisk, J: Naming, V: Version, W: Wait>(
     rt: &W,
     alloc: Global,
-    files: &FileStore<'b, D, J>,
-    session: &mut Client<'b, J>,
+    files: &FileStore<'b, D, J, V>,
+    session: &mut Client<'b, J, V>,
     at: Moment,
     record: &[u8],
     wanted: &str,
@@ -193,10 +195,10 @@ fn is_answered<'b, D: BlockDisk, J: Naming, W: Wait>(
 // Makes the calls of a table one after another, in a session of its own, while nobody else commits. A line is a call,
 // ` = ` and its reply, both without the headers of their records. A line `at 6 7` says that it is that moment from then
 // on; it is (0, 0) before.
-pub(crate) fn ask<'b, D: BlockDisk, J: Naming, W: Wait>(
+pub(crate) fn ask<'b, D: BlockDisk, J: Naming, V: Version, W: Wait>(
     rt: &W,
     alloc: Global,
-    files: &FileStore<'b, D, J>,
+    files: &FileStore<'b, D, J, V>,
     table: &str,
 ) -> Told {
     match files.journal().session(rt) {
@@ -210,7 +212,11 @@ pub(crate) fn ask<'b, D: BlockDisk, J: Naming, W: Wait>(
 }
 
 // All commits since then are the session's.
-pub(crate) fn made_all<J: Naming>(before: u64, session: &Client<'_, J>, after: u64) -> Told {
+pub(crate) fn made_all<J: Naming, V: Version>(
+    before: u64,
+    session: &Client<'_, J, V>,
+    after: u64,
+) -> Told {
     if after.checked_sub(before) == Some(session.made()) {
         Ok(())
     } else {
@@ -218,11 +224,11 @@ pub(crate) fn made_all<J: Naming>(before: u64, session: &Client<'_, J>, after: u
     }
 }
 
-fn walk<'b, D: BlockDisk, J: Naming, W: Wait>(
+fn walk<'b, D: BlockDisk, J: Naming, V: Version, W: Wait>(
     rt: &W,
     alloc: Global,
-    files: &FileStore<'b, D, J>,
-    session: &mut Client<'b, J>,
+    files: &FileStore<'b, D, J, V>,
+    session: &mut Client<'b, J, V>,
     table: &str,
 ) -> Told {
     let mut at = (0, 0);
@@ -250,10 +256,10 @@ fn moment_of(line: &str) -> Option<(u32, u32)> {
 
 // Makes the calls of a table with their arguments cut short, in each way, and with a byte behind them. None is answered but
 // by GARBAGE_ARGS.
-pub(crate) fn ask_cut<'b, D: BlockDisk, J: Naming, W: Wait>(
+pub(crate) fn ask_cut<'b, D: BlockDisk, J: Naming, V: Version, W: Wait>(
     rt: &W,
     alloc: Global,
-    files: &FileStore<'b, D, J>,
+    files: &FileStore<'b, D, J, V>,
     table: &str,
 ) -> Told {
     match files.journal().session(rt) {
@@ -262,11 +268,11 @@ pub(crate) fn ask_cut<'b, D: BlockDisk, J: Naming, W: Wait>(
     }
 }
 
-fn walk_cut<'b, D: BlockDisk, J: Naming, W: Wait>(
+fn walk_cut<'b, D: BlockDisk, J: Naming, V: Version, W: Wait>(
     rt: &W,
     alloc: Global,
-    files: &FileStore<'b, D, J>,
-    session: &mut Client<'b, J>,
+    files: &FileStore<'b, D, J, V>,
+    session: &mut Client<'b, J, V>,
     table: &str,
 ) -> Told {
     for (i, line) in table.lines().enumerate() {
@@ -288,11 +294,11 @@ fn longer(alloc: Global, call: &str) -> Result<Vec<u8>, Wrong> {
 }
 
 // Whether the arguments of a call, behind which a byte stands, are refused with it, and wherever they are cut.
-fn is_garbage_cut<'b, D: BlockDisk, J: Naming, W: Wait>(
+fn is_garbage_cut<'b, D: BlockDisk, J: Naming, V: Version, W: Wait>(
     rt: &W,
     alloc: Global,
-    files: &FileStore<'b, D, J>,
-    session: &mut Client<'b, J>,
+    files: &FileStore<'b, D, J, V>,
+    session: &mut Client<'b, J, V>,
     record: &[u8],
 ) -> Result<bool, Wrong> {
     let at = Moment { secs: 0, nanos: 0 };

@@ -7,7 +7,7 @@ use crate::stories::{Errand, Story, run, tell};
 use journal_disk::{BlockDisk, MemDisk};
 use journal_filestore::FileStore;
 use journal_history::{Book, Naming, Session};
-use journal_inode::{FormatVersion, SoundFiles, format};
+use journal_inode::{FormatVersion, SoundFiles, Version, VersionOne, format};
 use journal_world::{Moment, Refusal, Step};
 use std::alloc::{AllocError, Global};
 use std::marker::Brand;
@@ -18,7 +18,7 @@ use std::thread::{Threads, join, yield_now};
 
 pub(crate) type Files<'b, J> = FileStore<'b, MemDisk, J>;
 
-pub(crate) type Client<'b, J> = Session<'b, J, SoundFiles>;
+pub(crate) type Client<'b, J, V = VersionOne> = Session<'b, J, SoundFiles<V>>;
 
 // What a story went wrong by.
 #[derive(Clone, Copy, Debug, PartialEq, Eq)]
@@ -192,9 +192,9 @@ fn run_to_the_end<'b, J: Naming + Send + Sync, H: Threads + Wait + Sync>(
 }
 
 // Makes commits stable, and room in the log, until the story is done.
-pub(crate) fn keeps<'b, D: BlockDisk, J: Naming, W: Wait>(
+pub(crate) fn keeps<'b, D: BlockDisk, J: Naming, V: Version, W: Wait>(
     rt: &W,
-    files: &FileStore<'b, D, J>,
+    files: &FileStore<'b, D, J, V>,
     done: &AtomicBool,
 ) {
     for _ in 0..100_000_000 {

@@ -11,7 +11,7 @@ use std::io;
 use std::io::{ErrorKind, Write};
 
 const USAGE: &str =
-    "usage: jtool script N | jtool format FILE N | jtool serve FILE PORT K | jtool check FILE";
+    "usage: jtool script N | jtool format FILE N | jtool serve FILE PORT K | jtool check FILE | jtool migrate FILE";
 
 /// Why the program does not end well.
 #[derive(Drop)]

@@ -1,6 +1,7 @@
 //! The journal at the command line: `jtool script N` makes an empty disk of N blocks in memory, and answers the commands that
-//! it reads on standard input, a line for a line. `jtool format FILE N` makes a disk without files in a file, and `jtool
-//! serve FILE PORT K` serves its files to K connections. `jtool check FILE` tells whether it is sound.
+//! it reads on standard input, a line for a line. `jtool format FILE N` makes a disk of version 2 without files in a file, and
+//! `jtool serve FILE PORT K` serves the files of a disk of either version to K connections. `jtool check FILE` tells whether
+//! it is sound, and of which version, and `jtool migrate FILE` makes it one of version 2.
 #![tactic(auto)]
 
 ghost use Rattle.std.specs.Prelude.{◌≡◌, ◌≢◌, ◌≤◌, ◌==◌, ℕ, map, string_bytes, IfErr, IsErrAnd};
@@ -10,12 +11,14 @@ ghost use Rattle.journal_script.specs.Transcripts.{IsTranscript};
 ghost use Rattle.jtool.specs.Programs.{EndsScript, status_of};
 
 mod fault;
+mod migrating;
 #[cfg(test)]
 mod tests;
 
 use fault::Fault;
 use journal_command::Ask;
 use journal_service::Service;
+use migrating::migrate;
 use std::alloc::Global;
 use std::env;
 use std::env::Env;
@@ -89,6 +92,7 @@ fn obey<
         Ask::Script { blocks } => answer_script(rt, alloc, blocks, input, output),
         Ask::Format { path, blocks } => format(rt, alloc, path, blocks),
         Ask::Check { path } => check(rt, alloc, path, output),
+        Ask::Migrate { path } => migrate(rt, alloc, path, output),
         Ask::Serve {
             path,
             port,

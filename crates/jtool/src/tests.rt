@@ -20,7 +20,7 @@ use std::time::Clock;
 use streams::{BrokenReader, BrokenWriter};
 
 const USAGE: &str =
-    "usage: jtool script N | jtool format FILE N | jtool serve FILE PORT K | jtool check FILE\n";
+    "usage: jtool script N | jtool format FILE N | jtool serve FILE PORT K | jtool check FILE | jtool migrate FILE\n";
 
 /// What a run printed, and its status.
 #[derive(Drop)]
@@ -322,6 +322,8 @@ fn words_are_checked(rt: HostRuntime) -> Result<(), Fail> {
         (&["format", "disk"], USAGE, 2),
         (&["check"], USAGE, 2),
         (&["check", "disk", "600"], USAGE, 2),
+        (&["migrate"], USAGE, 2),
+        (&["migrate", "disk", "2"], USAGE, 2),
         (&["format", "disk", "0600"], USAGE, 2),
         (&["format", "disk", "600", "1"], USAGE, 2),
         (&["serve", "disk", "2049"], USAGE, 2),
@@ -342,6 +344,11 @@ fn words_are_checked(rt: HostRuntime) -> Result<(), Fail> {
         ),
         (
             &["serve", "no folder/disk", "65535", "1"],
+            "cannot use no folder/disk\n",
+            1,
+        ),
+        (
+            &["migrate", "no folder/disk"],
             "cannot use no folder/disk\n",
             1,
         ),

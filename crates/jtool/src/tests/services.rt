@@ -1,6 +1,6 @@
 // Disks in files, and the service of their files, with both ends of each connection in one process.
 
-use super::checks::is_told;
+use super::checks::{OLDER, is_told, make};
 use super::{Run, begins, run_with, words_of};
 use crate::run;
 use std::alloc::{AllocError, Global};
@@ -428,7 +428,7 @@ fn serves_twice<
 >(rt: &H, alloc: Global, path: &str) -> Result<(), Fail> {
     makes_disk(rt, alloc, path)?;
     is_answered(rt, alloc, path, ONE_PEER, CREATE_F002, (MADE, false))?;
-    is_told(rt, alloc, path, ("sound version 1 files 1\n", "", 0))?;
+    is_told(rt, alloc, path, ("sound version 2 files 1\n", "", 0))?;
     is_answered(rt, alloc, path, ONE_PEER, CREATE_F003, (NO_SPACE, true))
 }
 
@@ -437,6 +437,32 @@ fn what_was_served_is_there_again(rt: HostRuntime) -> Result<(), Fail> {
     let path = path_of(&rt, "palkhuveg-served-disk")?;
     let path = text_of(&path)?;
     serves_twice(&rt, rt.alloc(), path)?;
+    fs::remove_file(&rt, path)?;
+    Ok(())
+}
+
+/// The same of a disk that is made one of version 1. It stays one.
+fn serves_older<
+    H: Abort
+        + Files<File = File>
+        + Net<Listener = TcpListener, Stream = TcpStream>
+        + Clock
+        + Threads
+        + Wait
+        + Sync,
+>(rt: &H, alloc: Global, path: &str) -> Result<(), Fail> {
+    makes_disk(rt, alloc, path)?;
+    make(rt, path, &[OLDER])?;
+    is_answered(rt, alloc, path, ONE_PEER, CREATE_F002, (MADE, false))?;
+    is_told(rt, alloc, path, ("sound version 1 files 1\n", "", 0))?;
+    is_answered(rt, alloc, path, ONE_PEER, CREATE_F003, (NO_SPACE, true))
+}
+
+#[test]
+fn a_disk_of_version_1_is_served(rt: HostRuntime) -> Result<(), Fail> {
+    let path = path_of(&rt, "palkhuveg-older-disk")?;
+    let path = text_of(&path)?;
+    serves_older(&rt, rt.alloc(), path)?;
     fs::remove_file(&rt, path)?;
     Ok(())
 }

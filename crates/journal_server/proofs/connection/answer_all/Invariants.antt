@@ -5,5 +5,5 @@ use Rattle.journal_server.proofs.connection.answer_all.Given as goal
 
 abbrev pub invariant-loop : goal.invariant-loop
 invariant-loop g l =
-    SoFar (IsReply (g.C.Clock.tells l.service.clock.now) l.service.verifier.0 l.session.seen) (g.R.Read.remaining l.fn.reader) (g.R.Read.remaining l.reader) (g.W.Write.contents l.fn.writer) (g.W.Write.contents l.writer) l.records l.fn.session l.session l.answered
+    SoFar (IsReply g.V.Version.VERSION (g.C.Clock.tells l.service.clock.now) l.service.verifier.0 l.session.seen) (g.R.Read.remaining l.fn.reader) (g.R.Read.remaining l.reader) (g.W.Write.contents l.fn.writer) (g.W.Write.contents l.writer) l.records l.fn.session l.session l.answered
     × (length l.buffer ≡ length l.fn.buffer)

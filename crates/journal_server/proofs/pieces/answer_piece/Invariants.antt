@@ -8,7 +8,7 @@ use Rattle.journal_server.proofs.pieces.answer_piece.Given as goal
 abbrev pub invariant-loop-rest : goal.invariant-loop-rest
 invariant-loop-rest g l =
     (done : List ℕ) × (l.piece ≡ done ++ l.rest)
-    × Sent (IsReply (g.C.Clock.tells l.service.clock.now) l.service.verifier.0 l.session.seen) (after l.fn.records done) l.records l.fn.session l.session
+    × Sent (IsReply g.V.Version.VERSION (g.C.Clock.tells l.service.clock.now) l.service.verifier.0 l.session.seen) (after l.fn.records done) l.records l.fn.session l.session
     (g.W.Write.contents l.fn.writer) (g.W.Write.contents l.writer) l.fn.answered l.answered
     × (l.records.part ≢ TooLong)
     × (l.records.records ≡ [])

@@ -5,7 +5,7 @@ use Rattle.journal_server.proofs.replying.answer_and_send.Given as goal
 
 abbrev pub invariant-loop-turn : goal.invariant-loop-turn
 invariant-loop-turn g l =
-    SentSome (IsReply (g.C.Clock.tells l.service.clock.now) l.service.verifier.0 l.session.seen) l.fn.records l.records l.fn.session l.session
+    SentSome (IsReply g.V.Version.VERSION (g.C.Clock.tells l.service.clock.now) l.service.verifier.0 l.session.seen) l.fn.records l.records l.fn.session l.session
     (g.W.Write.contents l.fn.writer) (g.W.Write.contents l.writer) l.fn.answered l.answered
 
 abbrev pub decreases-loop-turn : goal.decreases-loop-turn

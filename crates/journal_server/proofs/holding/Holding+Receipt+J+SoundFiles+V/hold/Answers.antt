@@ -4,8 +4,8 @@ use Rattle.journal_server.specs.declared.holding.HeldReply.{HeldReply}
 use Rattle.journal_server.specs.declared.holding.Holding.{Holding}
 use Rattle.journal_server.specs.Holding.{IsCovered}
 use Rattle.journal_server.proofs.Sends.{order_free, order_waits, none_latest, some_latest, same_latest, latest_below}
-use Rattle.journal_server.proofs.holding.Holding+Receipt+J+SoundFiles.hold.Goals as goal
-use Rattle.journal_server.proofs.holding.Holding+Receipt+J+SoundFiles.hold.Goals.{in-None+then-is_none, in-None+else-is_none, in-Some}
+use Rattle.journal_server.proofs.holding.Holding+Receipt+J+SoundFiles+V.hold.Goals as goal
+use Rattle.journal_server.proofs.holding.Holding+Receipt+J+SoundFiles+V.hold.Goals.{in-None+then-is_none, in-None+else-is_none, in-Some}
 
 pub returns-clause-in_order : goal.returns-clause-in_order
 returns-clause-in_order g c = λ o.

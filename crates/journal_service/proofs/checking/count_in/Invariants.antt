@@ -1,4 +1,4 @@
-use Rattle.journal_service.proofs.checking.check.Given as goal
+use Rattle.journal_service.proofs.checking.count_in.Given as goal
 
 -- the book that was just opened, and the disk's blocks
 abbrev pub ghosts-files_of : goal.ghosts-files_of

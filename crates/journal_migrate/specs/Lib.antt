@@ -1,0 +1,5 @@
+pub mod Either
+pub mod Holding
+pub mod Superblocks
+pub mod Marking
+pub mod Migrations

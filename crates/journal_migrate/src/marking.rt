@@ -1,0 +1,52 @@
+// One commit becomes stable.
+ghost use Rattle.std.specs.Prelude.{◌≡◌, IsTrue, IfOk, IfErr, OnOk, OnErr, false};
+ghost use Rattle.journal_disk.specs.Disks.{Keeps};
+ghost use Rattle.journal_core.specs.Cores.{disk_of};
+ghost use Rattle.journal_migrate.specs.Marking.{AwaitsMark, IsMarked, ComesNearer, IsRunningRefusal};
+
+use journal_core::{Cause, Core, LogStep};
+use journal_disk::BlockDisk;
+use journal_history::Naming;
+use journal_world::{MapRule, Refusal};
+
+/// Makes steps of the logger until the one commit is marked that is not, and a step of the installer where there is none,
+/// since the log is full.
+///
+/// Answers J1 `NoMemory` where memory is refused, J6 `DeviceFailed` where the device failed meanwhile, and J9 `Stale` where the
+/// history is longer than the core's. The commit is not marked then.
+pub(crate) fn make_stable<'b, D: BlockDisk, R: MapRule, J: Naming>(
+    core: &mut Core<'b, D, R, J>,
+) -> Result<(), Refusal<Cause<'b, J, R>>>
+    requires awaits { AwaitsMark core.old }
+    ensures marked { OnOk result (IsMarked core.old core.new) }
+    ensures refusal { IfErr result (IsRunningRefusal core.old core.new) }
+    ensures same { OnErr result (core.new.history ≡ core.old.history) }
+    ensures keeps { Keeps (disk_of core.old) (disk_of core.new) }
+{
+    loop {
+        if step(core)? {
+            return Ok(());
+        }
+    }
+}
+
+// The next step. Whether the commit is marked then.
+fn step<'b, D: BlockDisk, R: MapRule, J: Naming>(
+    core: &mut Core<'b, D, R, J>,
+) -> Result<bool, Refusal<Cause<'b, J, R>>>
+    requires awaits { AwaitsMark core.old }
+    ensures marked { IfOk result (λ marked. IsTrue marked → IsMarked core.old core.new) }
+    ensures goes_on { IfOk result (λ marked. marked ≡ false → ComesNearer core.old core.new) }
+    ensures refusal { IfErr result (IsRunningRefusal core.old core.new) }
+    ensures same { OnErr result (core.new.history ≡ core.old.history) }
+    ensures keeps { Keeps (disk_of core.old) (disk_of core.new) }
+{
+    match core.log_step()? {
+        LogStep::Marked(_) => Ok(true),
+        LogStep::Idle => {
+            core.install_step()?;
+            Ok(false)
+        }
+        LogStep::Cut | LogStep::Put | LogStep::Logged => Ok(false),
+    }
+}

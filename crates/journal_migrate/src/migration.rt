@@ -1,0 +1,136 @@
+// A disk becomes one of version 2.
+ghost use Rattle.std.specs.Prelude.{ℕ, ◌≡◌, ◌⊎◌, IsTrue, false, IfOk, IfErr, OnOk, OnErr};
+ghost use Rattle.journal_world.specs.Histories.{opened, is_trusted, latest};
+ghost use Rattle.journal_world.specs.Maps.{is_object};
+ghost use Rattle.journal_disk.specs.Disks.{DiskState, Keeps, IsSettled};
+ghost use Rattle.journal_inode.specs.Places.{addr_of, object};
+ghost use Rattle.journal_inode.specs.Places.Object.{superblock};
+ghost use Rattle.journal_inode.specs.declared.version.FormatVersion.TheVariants.{One, Two};
+ghost use Rattle.journal_inode.specs.Sound.{HasSoundFiles};
+ghost use Rattle.journal_core.specs.Cores.{IsRunning, OnlyReads, disk_of, next_of};
+ghost use Rattle.journal_core.specs.Openings.{Begins};
+ghost use Rattle.journal_core.specs.Transactions.{begun};
+ghost use Rattle.journal_filestore.specs.Files.{Files};
+ghost use Rattle.journal_migrate.specs.Either.{HasEitherFiles};
+ghost use Rattle.journal_migrate.specs.Holding.{HasFiles, HasFilesOfEither, LeavesMaps};
+ghost use Rattle.journal_migrate.specs.Superblocks.{version_byte, DraftsUpgrade};
+ghost use Rattle.journal_migrate.specs.Marking.{IsRunningRefusal};
+ghost use Rattle.journal_migrate.specs.Migrations.{IsMigrated, KeepsFiles, KeepsVersionTwo, IsUpgradeRefusal, IsMigrateRefusal};
+
+use crate::either::EitherVersion;
+use crate::marking::make_stable;
+use crate::superblock::{SUPERBLOCK_ADDR, is_of_version_one, upgraded};
+use journal_core::{Cause, Core, Found, Transaction};
+use journal_disk::BlockDisk;
+use journal_history::{Book, Naming};
+use journal_world::{BLOCK_BYTES, Refusal, Refused, Value};
+use std::alloc::{AllocError, Global};
+
+// Why it is refused.
+type Why<'b, J> = Refusal<Cause<'b, J, EitherVersion>>;
+
+/// Makes a disk of version 2 of one on which nothing is pending: opens it under the rule "sound in version 1 or in version 2",
+/// overwrites its superblock in one transaction, makes that stable, and gives the disk up. To a disk of version 2 nothing is
+/// done. Then, whatever a crash leaves, it is a disk of version 2 with the same files.
+///
+/// It is refused as `Core::open_step` is, with nothing written: J8 `BadSuper` where the number of blocks is out of range, J7
+/// `BadLog` where the disk's log is not well formed, J8 where the files are sound in neither version, J9 `Stale` where the book
+/// has a history already, J1 `NoMemory` where memory is refused, and J6 `DeviceFailed` where the device fails. Once it is
+/// opened, it is refused by J11 `Worn` where the log's positions are used up, by J1, J6 and J9. Whatever a crash leaves is then
+/// the disk with the same files, in version 1 or in version 2.
+pub fn migrate<'b, D: BlockDisk, J: Naming>(
+    alloc: Global,
+    book: &'b Book<EitherVersion>,
+    disk: D,
+) -> Result<D, Refused<D, Cause<'b, J, EitherVersion>>>
+    requires book { book.now ≡ J.book }
+    requires blocks { (D.state disk).past.size ≡ J.blocks }
+    requires settled { IsTrue (D.state disk).honest → IsSettled (D.state disk).past }
+    ensures migrated { IsTrue (D.state disk).honest → IfOk result (λ migrated. IsMigrated (D.state disk) (D.state migrated)) }
+    ensures unchanged { IsTrue (D.state disk).honest → IfOk result (λ migrated. KeepsVersionTwo (D.state disk) (D.state migrated)) }
+    ensures keeps { IfOk result (λ migrated. Keeps (D.state disk) (D.state migrated)) }
+    ensures refusal { IfErr result (λ refused. IsMigrateRefusal (D.state disk) (D.state refused.disk) refused.refusal) }
+    ensures left { IsTrue (D.state disk).honest → IfErr result (λ refused. KeepsFiles (D.state disk) (D.state refused.disk)) }
+    ensures left_unchanged { IsTrue (D.state disk).honest → IfErr result (λ refused. KeepsVersionTwo (D.state disk) (D.state refused.disk)) }
+    ensures handed_back { IfErr result (λ refused. Keeps (D.state disk) (D.state refused.disk)) }
+{
+    let rule = EitherVersion::new(alloc);
+    let mut core = Core::open_step(alloc, book, disk, &rule)?;
+    match upgrade(alloc, &mut core) {
+        Ok(()) => Ok(core.into_disk()),
+        Err(refusal) => Err(Refused {
+            refusal,
+            disk: core.into_disk(),
+        }),
+    }
+}
+
+// Brings the map of a mount that begins to version 2, and makes that stable.
+fn upgrade<'b, D: BlockDisk, J: Naming>(
+    alloc: Global,
+    core: &mut Core<'b, D, EitherVersion, J>,
+) -> Result<(), Why<'b, J>>
+    requires begins { (disk : DiskState) × Begins HasEitherFiles disk core.old }
+    ensures upgraded { IsTrue (is_trusted core.old.history) → OnOk result ((files : Files)
+        → HasFilesOfEither files (opened core.old.history) → LeavesMaps (HasFiles Two files) core.new.history) }
+    ensures left { IsTrue (is_trusted core.old.history) → OnErr result ((files : Files)
+        → HasFilesOfEither files (opened core.old.history) → LeavesMaps (HasFilesOfEither files) core.new.history) }
+    ensures unchanged { IsTrue (is_trusted core.old.history) → HasSoundFiles Two (opened core.old.history)
+        → (disk_of core.new).past ≡ (disk_of core.old).past }
+    ensures refusal { IfErr result (IsUpgradeRefusal (next_of core.old.objects) (disk_of core.old) (disk_of core.new)) }
+    ensures keeps { Keeps (disk_of core.old) (disk_of core.new) }
+{
+    let mut session = core.session_step()?;
+    let mut transaction = Transaction::begin(alloc, &session);
+    if !draft(alloc, core, &mut transaction)? {
+        return Ok(());
+    }
+    let mut spares = transaction.spares(alloc);
+    core.commit_step(&mut session, &transaction, &mut spares)?;
+    make_stable(core)
+}
+
+// Reads the superblock, and where it is of version 1 overwrites it by that of version 2. Whether it is.
+fn draft<'b, D: BlockDisk, J: Naming>(
+    alloc: Global,
+    core: &mut Core<'b, D, EitherVersion, J>,
+    transaction: &mut Transaction<'b, J, EitherVersion>,
+) -> Result<bool, Why<'b, J>>
+    requires begun { transaction.old ≡ begun core.old.history }
+    requires running { IsRunning core.old }
+    ensures drafted { IfOk result (λ of_one. IsTrue of_one → DraftsUpgrade core.old.history transaction.new) }
+    ensures other { IfOk result (λ of_one. of_one ≡ false → IsTrue (is_trusted core.old.history)
+        → HasSoundFiles One (latest core.old.history) → ⊥) }
+    ensures refusal { IfErr result (IsRunningRefusal core.old core.new) }
+    ensures running { OnOk result (IsRunning core.new) }
+    ensures reads { OnlyReads core.old.objects core.new.objects }
+    ensures others { core.new ≡ record core.old { objects = core.new.objects } }
+{
+    let mut bytes = vec![in alloc; 0u8; BLOCK_BYTES]?;
+    let found = core.read_step(transaction, SUPERBLOCK_ADDR, &mut bytes)?;
+    if !is_of_version_one(&bytes) {
+        return Ok(false);
+    }
+    overwrite(alloc, transaction, found, bytes)?;
+    Ok(true)
+}
+
+// Remembers what was read of the superblock, which is of version 1, and overwrites it by that of version 2.
+fn overwrite<'b, J: Naming>(
+    alloc: Global,
+    transaction: &mut Transaction<'b, J, EitherVersion>,
+    found: Found<'b, J, EitherVersion>,
+    bytes: Vec<u8>,
+) -> Result<(), AllocError>
+    requires begun { transaction.old ≡ begun found.seen }
+    requires addr { found.addr ≡ addr_of superblock }
+    requires object { IsTrue (is_object J.blocks (addr_of superblock, bytes.items)) }
+    requires value { IsTrue (is_trusted found.seen) → bytes.items ≡ object (latest found.seen) superblock }
+    requires of_version_one { version_byte bytes.items ≡ 1 }
+    ensures { OnOk result (DraftsUpgrade found.entry.seen transaction.new) }
+{
+    let new = Value::new(upgraded(alloc, &bytes)?);
+    let old = Value::new(bytes);
+    transaction.remember(found, &old)?;
+    transaction.overwrite(SUPERBLOCK_ADDR, new)
+}

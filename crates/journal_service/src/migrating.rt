@@ -1,0 +1,50 @@
+// The disk in a file becomes one of version 2.
+ghost use Rattle.std.specs.Prelude.{◌≡◌};
+
+use crate::fault::ServiceFault;
+use crate::file;
+use crate::serving::print_line;
+use journal_disk::FileDisk;
+use journal_history::{Book, Naming};
+use journal_inode::FormatVersion;
+use journal_migrate::EitherVersion;
+use journal_world::Refused;
+use std::alloc::Global;
+use std::fs::{File, Files};
+use std::io::Write;
+use std::marker::Brand;
+
+/// Makes the disk in the file one of version 2, with the same files, and prints its version then. To a disk of version 2
+/// nothing is done.
+///
+/// Refused as `check` is, and by J11 `Worn` where the positions of its log are used up. Whatever the refusal, and whenever
+/// the system stops, the file has the same files, in version 1 or in version 2.
+pub fn migrate<R: Files<File = File>, O: Write>(
+    rt: &R,
+    alloc: Global,
+    path: &str,
+    output: &mut O,
+) -> Result<(), ServiceFault> {
+    let disk = file::open(rt, path)?;
+    let book: Book<EitherVersion> = Book::open::<()>().unwrap();
+    let mut disk = migrated::<Brand>(alloc, &book, disk)?;
+    file::sync(&mut disk)?;
+    // Whoever reads the line may use the file at once.
+    drop(disk);
+    print_line(output, "version", FormatVersion::Two.number())
+}
+
+// The disk, as one of version 2.
+fn migrated<J: Naming>(
+    alloc: Global,
+    book: &Book<EitherVersion>,
+    disk: FileDisk,
+) -> Result<FileDisk, ServiceFault>
+    requires book { book.now ≡ J.book }
+    requires blocks { disk.size ≡ J.blocks }
+{
+    match journal_migrate::migrate::<FileDisk, J>(alloc, book, disk) {
+        Ok(disk) => Ok(disk),
+        Err(Refused { refusal, .. }) => Err(ServiceFault::refused(refusal)),
+    }
+}

@@ -1,0 +1,50 @@
+// Mounting a disk of either version of the format.
+ghost use Rattle.std.specs.Prelude.{◌≡◌};
+
+use crate::fault::ServiceFault;
+use journal_disk::FileDisk;
+use journal_filestore::FileStore;
+use journal_history::{Book, Naming};
+use journal_inode::{SoundFiles, Version};
+use journal_world::{Refusal, Refused};
+use std::alloc::Global;
+
+/// What comes of a disk that is mounted under the rule of a version.
+#[derive(Drop)]
+pub(crate) enum Tried<T> {
+    /// Its files are sound in the version, and this came of them.
+    Sound(T),
+    /// They are not. The disk is as it was.
+    Other(FileDisk),
+}
+
+impl<T: Drop> Tried<T> {
+    /// What came of the files. It is J8 where they are not sound, and the disk is given up.
+    pub fn sound(self) -> Result<T, ServiceFault> {
+        match self {
+            Tried::Sound(value) => Ok(value),
+            Tried::Other(_) => Err(ServiceFault::Refused(Refusal::BadSuper)),
+        }
+    }
+}
+
+/// Mounts the disk under the rule of a version. Refused as a mount is, but for J8, which hands the disk back.
+pub(crate) fn mount<'b, J: Naming, V: Version>(
+    alloc: Global,
+    book: &'b Book<SoundFiles<V>>,
+    disk: FileDisk,
+) -> Result<Tried<FileStore<'b, FileDisk, J, V>>, ServiceFault>
+    requires book { book.now ≡ J.book }
+    requires blocks { disk.size ≡ J.blocks }
+{
+    match FileStore::mount(alloc, book, disk) {
+        Ok(files) => Ok(Tried::Sound(files)),
+        Err(
+            Refused {
+                refusal: Refusal::BadSuper,
+                disk,
+            },
+        ) => Ok(Tried::Other(disk)),
+        Err(Refused { refusal, .. }) => Err(ServiceFault::refused(refusal)),
+    }
+}
