@@ -21,6 +21,8 @@ pub enum Ask {
     Commits { load: Load, place: Place },
     /// Reads of what is in memory, over a new disk at the place, alone and beside commits.
     Reads { load: ReadLoad, place: Place },
+    /// So many reads of blocks that are at home, over a new disk at the place, with few copies of them and with enough.
+    HomeReads { reads: u32, place: Place },
     /// So many calls of the file service of each kind.
     Calls { calls: u32 },
 }
@@ -33,6 +35,11 @@ impl Ask {
             [what, calls] if what.as_str() == "calls" => {
                 let calls = number(calls, MOST_COMMITS)?;
                 Ok(Ask::Calls { calls })
+            }
+            [what, reads, place] if what.as_str() == "home-reads" => {
+                let reads = number(reads, MOST_COMMITS)?;
+                let place = read_place(place)?;
+                Ok(Ask::HomeReads { reads, place })
             }
             [what, readers, reads, place] if what.as_str() == "reads" => {
                 let load = ReadLoad {

@@ -11,6 +11,7 @@ mod clients;
 mod counting_disk;
 mod device;
 mod fault;
+mod home_reads;
 mod journals;
 mod load;
 mod memory;
@@ -40,6 +41,8 @@ const SHORT_READS: ReadLoad = ReadLoad {
     reads: 200,
 };
 
+const SHORT_HOME_READS: u32 = 100;
+
 const SHORT_CALLS: u32 = 20;
 
 /// Does what the program's words ask for, and prints what came of it.
@@ -57,6 +60,10 @@ pub fn run<R: Threads + Wait + Clock + Files<File = File> + Alloc<A = Global> + 
         Ask::Reads { load, place } => {
             let figures = reads::measure(rt, load, &place)?;
             report::print_reads(&figures, output)
+        }
+        Ask::HomeReads { reads, place } => {
+            let figures = home_reads::measure(rt, reads, &place)?;
+            report::print_home_reads(&figures, output)
         }
         Ask::Calls { calls } => {
             let figures = calls::measure(rt, rt.alloc(), calls)?;
@@ -84,6 +91,8 @@ fn run_short<R: Threads + Wait + Clock + Files<File = File> + Alloc<A = Global> 
     }
     reads::measure(rt, SHORT_READS, &Place::Memory)?;
     writeln!(output, "reads: all made")?;
+    home_reads::measure(rt, SHORT_HOME_READS, &Place::Memory)?;
+    writeln!(output, "reads of home blocks: all made")?;
     calls::measure(rt, rt.alloc(), SHORT_CALLS)?;
     writeln!(output, "calls: all answered")?;
     Ok(())

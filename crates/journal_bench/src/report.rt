@@ -1,5 +1,6 @@
 // What is printed of figures.
 use crate::calls::CallFigures;
+use crate::home_reads::HomeFigures;
 use crate::journals::Figures;
 use crate::reads::ReadFigures;
 use std::io::Write;
@@ -86,6 +87,17 @@ pub fn print_reads<O: Write>(figures: &ReadFigures, output: &mut O) -> anyhow::R
         Hundredths::ratio(rates.1, rates.0),
     )?;
     print(output, "commits a second", a_second(commits, beside))?;
+    output.flush()?;
+    Ok(())
+}
+
+/// Prints what reads of home blocks took, a figure a line.
+pub fn print_home_reads<O: Write>(figures: &HomeFigures, output: &mut O) -> anyhow::Result<()> {
+    let reads = u64::from(figures.reads);
+    let few = a_second(reads, figures.few);
+    let enough = a_second(reads, figures.enough);
+    print(output, "reads a second with 64 copies", few)?;
+    print(output, "reads a second with 4096 copies", enough)?;
     output.flush()?;
     Ok(())
 }

@@ -18,6 +18,7 @@ verb_at n =
     if n == 26469 then verbs.Get else
     if n == 25455 then verbs.Commit else
     if n == 24930 then verbs.Abort else
+    if n == 26213 then verbs.Fence else
     if n == 30561 then verbs.Wait else
     if n == 27759 then verbs.Log else
     if n == 26990 then verbs.Install else
@@ -35,6 +36,7 @@ known verbs.Put = refl
 known verbs.Get = refl
 known verbs.Commit = refl
 known verbs.Abort = refl
+known verbs.Fence = refl
 known verbs.Wait = refl
 known verbs.Log = refl
 known verbs.Install = refl
@@ -86,19 +88,20 @@ none_said (Some c) line none = tt
 -- ---- the table of verbs
 
 -- a word that is none of the table's is no verb
-pub no_verb : (word : List ℕ) → ((k : ℕ) → k < 15 → word ≢ verb_text (get_or VERBS k verbs.Put)) → (verb : Verb) → word ≢ verb_text verb
+pub no_verb : (word : List ℕ) → ((k : ℕ) → k < 16 → word ≢ verb_text (get_or VERBS k verbs.Put)) → (verb : Verb) → word ≢ verb_text verb
 no_verb word none verbs.Put = none 0 (omega arith)
 no_verb word none verbs.Get = none 1 (omega arith)
 no_verb word none verbs.Commit = none 2 (omega arith)
 no_verb word none verbs.Abort = none 3 (omega arith)
-no_verb word none verbs.Wait = none 4 (omega arith)
-no_verb word none verbs.Log = none 5 (omega arith)
-no_verb word none verbs.Install = none 6 (omega arith)
-no_verb word none verbs.Stat = none 7 (omega arith)
-no_verb word none verbs.Pend = none 8 (omega arith)
-no_verb word none verbs.Disk = none 9 (omega arith)
-no_verb word none verbs.Fail = none 10 (omega arith)
-no_verb word none verbs.Down = none 11 (omega arith)
-no_verb word none verbs.Open = none 12 (omega arith)
-no_verb word none verbs.Crash = none 13 (omega arith)
-no_verb word none verbs.Poke = none 14 (omega arith)
+no_verb word none verbs.Fence = none 4 (omega arith)
+no_verb word none verbs.Wait = none 5 (omega arith)
+no_verb word none verbs.Log = none 6 (omega arith)
+no_verb word none verbs.Install = none 7 (omega arith)
+no_verb word none verbs.Stat = none 8 (omega arith)
+no_verb word none verbs.Pend = none 9 (omega arith)
+no_verb word none verbs.Disk = none 10 (omega arith)
+no_verb word none verbs.Fail = none 11 (omega arith)
+no_verb word none verbs.Down = none 12 (omega arith)
+no_verb word none verbs.Open = none 13 (omega arith)
+no_verb word none verbs.Crash = none 14 (omega arith)
+no_verb word none verbs.Poke = none 15 (omega arith)

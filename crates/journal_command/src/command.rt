@@ -33,6 +33,8 @@ pub enum Command<'a> {
     Commit,
     /// Give the open transaction up.
     Abort,
+    /// Fence the session, so that none of its commits is added from then on.
+    Fence,
     /// Take steps until each commit is marked.
     Wait,
     /// Steps of the logger, at most so many where a number stands there.
@@ -121,6 +123,7 @@ fn read_behind<'a>(verb: Verb, words: &mut Words<'_>, room: &'a mut Room) -> Opt
         Verb::Get => read_get(words),
         Verb::Commit => alone(Command::Commit, words),
         Verb::Abort => alone(Command::Abort, words),
+        Verb::Fence => alone(Command::Fence, words),
         Verb::Wait => alone(Command::Wait, words),
         Verb::Log => Some(Command::Log {
             most: read_most(words)?,

@@ -4,7 +4,7 @@ use Rattle.std.proofs.lemmas.Bool.{false≢true}
 use Rattle.journal_world.specs.declared.refusal.Refusal.{Refusal}
 use Rattle.journal_world.specs.declared.refusal.Refusal.TheVariants.{NoMemory, BadAddress, BadSize, TooLarge, Busy, DeviceFailed, BadLog, BadSuper, Stale, Stranger, Worn, Full, Closed, Fenced}
 use Rattle.journal_world.specs.Maps.{Pair, Transaction}
-use Rattle.journal_world.specs.Histories.{Entry, commits_of}
+use Rattle.journal_world.specs.Histories.{Entry, commits_of, is_fenced}
 use Rattle.journal_memlog.specs.Logs.{tail_of}
 use Rattle.journal_memlog.specs.Laws.{tail_of-appended}
 use Rattle.journal_wal.specs.Tails.{TailState, cut_points}
@@ -123,7 +123,7 @@ module _ (c now : CoreState) (s mid : SessionState) (t : TransactionState) (exte
   refused_again Busy it = absurd it
   refused_again BadLog it = absurd it
   refused_again BadSuper it = absurd it
-  refused_again Fenced it = absurd it
+  refused_again Fenced it = absurd (false≢true (sym (ap (λ (n : ℕ). is_fenced n c.history) extends.number ∙ can.may.unfenced) ∙ it.1.fenced))
 
 -- the device failed as the blocks were fetched
 module _ (blocks : ℕ) (v : VolatileState) (d : DurableState) (pair : IsPair blocks v d) (running : IsRunning (core_of v d)) (e : DurableState)

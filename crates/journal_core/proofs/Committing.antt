@@ -84,7 +84,7 @@ ruled_then blocks rule history reads writes on_disk sound keeps agrees trusted =
 pub few_commits : (old new : Pairs) (history : List Entry) (session : ℕ) → SameTally old new → IsTallied old history → length history + 1 < 2 ^ 62
     → made_among new session < 2 ^ 62
 few_commits old new history session same tallied room =
-    omega (arith, same session, tallied session, length-commits_of-le session history, room)
+    omega (arith, same.made session, tallied session, length-commits_of-le session history, room)
 
 -- one more commit is counted
 pub tallied_commit : (old mid new : Pairs) (history later : List Entry) (t : Transaction) (session : ℕ) → later ≡ history ++ commit t ∷ []
@@ -92,7 +92,7 @@ pub tallied_commit : (old mid new : Pairs) (history later : List Entry) (t : Tra
 tallied_commit old mid new history later t session added is same counts tallied s = by (s == session) refl
   where
     was : made_among mid s ≡ length (commits_of s history)
-    was = same s ∙ tallied s
+    was = same.made s ∙ tallied s
 
     own : s ≡ t.session → length (commits_of s later) ≡ length (commits_of s history) + 1
     own equal = subst (λ (n : ℕ). length (commits_of n later) ≡ length (commits_of n history) + 1) (sym equal)
@@ -104,10 +104,10 @@ tallied_commit old mid new history later t session added is same counts tallied 
 
     by : (b : Bool) → (s == session) ≡ b → made_among new s ≡ length (commits_of s later)
     by true equal =
-        counts s ∙ ap (λ (b : Bool). cond b (made_among mid s + 1) (made_among mid s)) equal
+        counts.made s ∙ ap (λ (b : Bool). cond b (made_among mid s + 1) (made_among mid s)) equal
         ∙ ap (λ (n : ℕ). n + 1) was ∙ sym (own (eqb-true s session equal ∙ is))
     by false differs =
-        counts s ∙ ap (λ (b : Bool). cond b (made_among mid s + 1) (made_among mid s)) differs
+        counts.made s ∙ ap (λ (b : Bool). cond b (made_among mid s + 1) (made_among mid s)) differs
         ∙ was ∙ sym (other (λ equal. eqb-false s session differs (sym equal ∙ sym is)))
 
 -- a session that has seen more commits the same

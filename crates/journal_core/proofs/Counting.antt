@@ -3,10 +3,11 @@ use Rattle.std.proofs.Common.{◌≡◌, ◌<◌, ◌==◌, max, ◌+◌, ◌^�
 use Rattle.std.specs.List.{filter}
 use Rattle.std.proofs.lemmas.List.Elements.{filter-append}
 use Rattle.journal_world.specs.Maps.{Transaction}
-use Rattle.journal_world.specs.Histories.{Entry, commits, commits_of, count, floor, writes_slot, touched}
+use Rattle.journal_world.specs.Histories.{Entry, commits, commits_of, count, floor, is_fenced, writes_slot, touched}
 use Rattle.journal_world.specs.Histories.Entry.{commit, stable}
 use Rattle.journal_world.proofs.LongerHistories.{commits-commit}
 use Rattle.journal_world.proofs.Marks.{commits-mark}
+use Rattle.journal_world.proofs.Fences.{is_fenced-commit, is_fenced-mark}
 use Rattle.journal_world.proofs.SessionCommits.{length-commits-le}
 use Rattle.journal_core.specs.Tallies.{Pairs, SameTally, CountsOne}
 use Rattle.journal_core.specs.declared.covered.Covered.{Covered}
@@ -61,22 +62,26 @@ counts_commit old new history t more counts = record {
 }
 
 -- what the memory part keeps at first
-pub memory_begun : (slots : Counts) (covered : Covered) (history : List Entry) → commits history ≡ [] → floor history ≡ 0 → CountsNothing slots
+pub memory_begun : (slots : Counts) (covered : Covered) (history : List Entry) → commits history ≡ [] → floor history ≡ 0
+    → ((s : ℕ) → is_fenced s history ≡ false) → CountsNothing slots
     → covered.marked ≡ length history → covered.cut ≡ length history
     → IsMemory [] slots covered (record { history = history; cut = 0; next = 0; closed = false })
-memory_begun slots covered history no_commits unmarked none marked cut = record {
+memory_begun slots covered history no_commits unmarked free none marked cut = record {
   counts = record {
     tallied = λ s. sym (ap length (no_session history no_commits s));
+    fenced = λ s. sym (free s);
     touched = counts_none slots history no_commits none;
   };
   fronts = covers_none history no_commits unmarked covered marked cut;
   fresh = λ s le. no_session history no_commits s;
+  unfenced = λ s le. free s;
 }
 
 keeps_mark : (tally : Pairs) (slots : Counts) (history : List Entry) (n : ℕ) → KeepsCounts tally slots history
     → KeepsCounts tally slots (history ++ stable n ∷ [])
 keeps_mark tally slots history n kept = record {
   tallied = tallied_mark tally history n kept.tallied;
+  fenced = λ s. kept.fenced s ∙ sym (is_fenced-mark s history n);
   touched = counts_mark slots history n kept.touched;
 }
 
@@ -85,6 +90,7 @@ keeps_commit : (old mid new : Pairs) (slots more : Counts) (history later : List
     → KeepsCounts new more later
 keeps_commit old mid new slots more history later t session added is same counts writes kept = record {
   tallied = tallied_commit old mid new history later t session added is same counts kept.tallied;
+  fenced = λ s. counts.fenced s ∙ same.fenced s ∙ kept.fenced s ∙ sym (ap (is_fenced s) added ∙ is_fenced-commit s history t);
   touched = subst (AreCounts more) (sym added) (counts_commit slots more history t writes kept.touched);
 }
 
@@ -94,6 +100,19 @@ pub few_counted : (tally : Pairs) (slots : Counts) (history : List Entry) → Ke
 few_counted tally slots history kept room = omega (arith, kept.touched.commits, length-commits-le history, room)
 
 module _ (tally : Pairs) (slots : Counts) (covered : Covered) (m : MemoryState) (kept : IsMemory tally slots covered m) where
+  -- a place was made for a session, and the history may be told otherwise
+  pub memory_reserved : (mid : Pairs) (history : List Entry) → SameTally tally mid → history ≡ m.history → IsMemory mid slots covered (record m { history = history })
+  memory_reserved mid history same is = subst (λ (h : List Entry). IsMemory mid slots covered (record m { history = h })) (sym is) (record {
+    counts = record {
+      tallied = λ s. same.made s ∙ kept.counts.tallied s;
+      fenced = λ s. same.fenced s ∙ kept.counts.fenced s;
+      touched = kept.counts.touched;
+    };
+    fronts = kept.fronts;
+    fresh = kept.fresh;
+    unfenced = kept.unfenced;
+  })
+
   -- a mark
   pub memory_marked : (n : ℕ) (now : Covered) → KeepsCovered now (m.history ++ stable n ∷ []) n
       → IsMemory tally slots now (record m { history = m.history ++ stable n ∷ []; cut = n })
@@ -101,6 +120,7 @@ module _ (tally : Pairs) (slots : Counts) (covered : Covered) (m : MemoryState) 
     counts = keeps_mark tally slots m.history n kept.counts;
     fronts = covers;
     fresh = λ s le. ap (λ (ts : List Transaction). filter (λ (t : Transaction). t.session == s) ts) (commits-mark m.history n) ∙ kept.fresh s le;
+    unfenced = λ s le. is_fenced-mark s m.history n ∙ kept.unfenced s le;
   }
 
   -- a cut
@@ -110,11 +130,17 @@ module _ (tally : Pairs) (slots : Counts) (covered : Covered) (m : MemoryState) 
     counts = kept.counts;
     fronts = covers_cut covered m.history m.cut kept.fronts now marked whole;
     fresh = kept.fresh;
+    unfenced = kept.unfenced;
   })
 
   -- a further session
   pub memory_joined : IsMemory tally slots covered (record m { next = m.next + 1 })
-  memory_joined = record { counts = kept.counts; fronts = kept.fronts; fresh = λ s le. kept.fresh s (omega (arith, le)) }
+  memory_joined = record {
+    counts = kept.counts;
+    fronts = kept.fronts;
+    fresh = λ s le. kept.fresh s (omega (arith, le));
+    unfenced = λ s le. kept.unfenced s (omega (arith, le));
+  }
 
   -- a commit
   pub memory_committed : (mid new : Pairs) (more : Counts) (history : List Entry) (next : ℕ) (t : Transaction) (session : ℕ)
@@ -128,4 +154,5 @@ module _ (tally : Pairs) (slots : Counts) (covered : Covered) (m : MemoryState) 
         ap (commits_of s) added
         ∙ commits_of-other m.history t s (λ equal. omega (arith, equal, is, raised, le))
         ∙ kept.fresh s (omega (arith, raised, le));
+    unfenced = λ s le. ap (is_fenced s) added ∙ is_fenced-commit s m.history t ∙ kept.unfenced s (omega (arith, raised, le));
   }

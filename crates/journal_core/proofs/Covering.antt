@@ -1,5 +1,6 @@
 -- Which fronts have only marked commits, as the history grows.
-use Rattle.std.proofs.Common.{◌≡◌, ◌<◌, ◌≤◌, ◌+◌, ◌==◌, ◌↔◌, ◌⊎◌, ⊎_elim, ℕ, IsTrue, nat_le, Bool, true, false, List, [], ◌∷◌, ◌++◌, length, length-append, take, drop, refl, sym, ap, subst, ◌∙◌, arith}
+use Rattle.std.proofs.Common.{◌≡◌, ◌<◌, ◌≤◌, ◌+◌, ◌==◌, ◌↔◌, ◌⊎◌, ⊎_elim, ℕ, IsTrue, nat_le, Bool, true, false, cond, List, [], ◌∷◌, ◌++◌, length, length-append, take, drop, refl, sym, ap, subst, ◌∙◌, arith}
+use Rattle.std.proofs.Math.Nat.{lt_of_not-le}
 use Rattle.std.proofs.lemmas.Bool.{eqb-true, eqb-false, leb-true, le-leb}
 use Rattle.std.proofs.lemmas.List.{take_all, take_at, take-append-le, take-append-drop}
 use Rattle.std.proofs.lemmas.List.Elements.{filter_map-append}
@@ -10,7 +11,7 @@ use Rattle.journal_world.specs.Histories.Entry.{commit, stable}
 use Rattle.journal_world.proofs.LongerHistories.{count-commit}
 use Rattle.journal_world.proofs.Marks.{floor-mark, floor-commit, count-mark}
 use Rattle.journal_core.specs.declared.covered.Covered.{Covered}
-use Rattle.journal_core.specs.Covers.{Covers, KeepsCovered}
+use Rattle.journal_core.specs.Covers.{Covers, KeepsCovered, with_quiet}
 
 -- a longer history has no fewer commits
 count_append : (history more : List Entry) → count history ≤ count (history ++ more)
@@ -64,6 +65,30 @@ covers_shorter history seen n entries len covers begins is =
       λ short. both.0 (omega (arith, is, leb-true len entries short)),
       λ few. le-leb len entries (omega (arith, is, both.1 few)),
     )
+
+-- one entry more that is no commit
+pub covers_quiet : (history : List Entry) (e : Entry) (n entries len : ℕ) → count (history ++ e ∷ []) ≡ count history → len ≡ length history
+    → Covers history n entries → Covers (history ++ e ∷ []) n (with_quiet len entries)
+covers_quiet history e n entries len quiet is covers = by (entries == len) refl
+  where
+    whole : length (history ++ e ∷ []) ≡ length history + 1
+    whole = length-append history (e ∷ [])
+
+    all : count (take (length history) history) ≡ count history
+    all = ap count (take_all (length history) history (omega arith))
+
+    by : (b : Bool) → (entries == len) ≡ b → Covers (history ++ e ∷ []) n (with_quiet len entries)
+    by true equal =
+        let few : count history ≤ n = omega (arith, all, (covers.fronts (length history) (omega arith)).0 (omega (arith, eqb-true entries len equal, is))) in
+        subst (Covers (history ++ e ∷ []) n) (omega (arith, whole, is) ∙ sym (ap (λ (b : Bool). cond b (len + 1) entries) equal))
+        (covers_all (history ++ e ∷ []) n (omega (arith, few, quiet)))
+    by false differs =
+        let short : entries < length history = omega (arith, covers.within, is, eqb-false entries len differs) in
+        subst (Covers (history ++ e ∷ []) n) (sym (ap (λ (b : Bool). cond b (len + 1) entries) differs))
+        (covers_more history e n entries (omega (arith, quiet, all, more short)) covers)
+      where
+        more : entries < length history → n < count (take (length history) history)
+        more short = lt_of_not-le (λ few. omega (arith, short, (covers.fronts (length history) (omega arith)).1 few))
 
 -- at first no commit is there
 pub keeps_none : (history : List Entry) → commits history ≡ [] → floor history ≡ 0 → (covered : Covered) → covered.marked ≡ length history → covered.cut ≡ length history

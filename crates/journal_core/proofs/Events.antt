@@ -1,5 +1,5 @@
 -- What a step answers and leaves, as one event.
-use Rattle.std.proofs.Common.{◌≡◌, ℕ, false, List, map, IsTrue, refl, sym, ap, subst, ◌∙◌, Result, Ok, Err, OnOk, OnErr, IfOk, IfErr, IsErrAnd}
+use Rattle.std.proofs.Common.{◌≡◌, ◌+◌, ℕ, false, List, [], map, IsTrue, refl, sym, ap, subst, ◌∙◌, Result, Ok, Err, OnOk, OnErr, IfOk, IfErr, IsErrAnd}
 use mathlib.Core.List.{IsPrefix}
 use Rattle.journal_world.specs.declared.refusal.Refusal.{Refusal}
 use Rattle.journal_world.specs.declared.refusal.Refusal.TheVariants.{NoMemory, BadAddress, BadSize, TooLarge, Busy, DeviceFailed, BadLog, BadSuper, Stale, Stranger, Worn, Full, Closed, Fenced}
@@ -8,7 +8,7 @@ use Rattle.journal_core.specs.declared.step.LogStep.{LogStep}
 use Rattle.journal_world.specs.declared.address.Addr.{Addr}
 use Rattle.journal_world.specs.Addresses.{Value}
 use Rattle.journal_world.specs.Maps.{Agrees, value_at, is_object}
-use Rattle.journal_world.specs.Histories.{Entry, is_trusted, latest}
+use Rattle.journal_world.specs.Histories.{Entry, is_trusted, is_fenced, commits_of, latest}
 use Rattle.journal_block.specs.declared.update.Update.{Update}
 use Rattle.journal_objlog.specs.ObjectLogs.{OnlyReads as OnlyReadsLog}
 use Rattle.journal_history.specs.Tokens.{SessionState, CommitPlace}
@@ -71,6 +71,19 @@ module _ (old new : CoreState) (crash : Crashes old new) where
     others = others;
     crash = crash;
   }
+
+-- a further session of memory, as a step of the core
+pub begins_session : {E : Type 0} (v w : VolatileState) (d : DurableState) (now : CoreState) (r : Result SessionState E) → core_of v d ≡ now
+    → IfOk r (λ s. s ≡ record { number = v.memory.next; mine = v.memory.history; seen = v.memory.history })
+    → commits_of v.memory.next v.memory.history ≡ [] → is_fenced v.memory.next v.memory.history ≡ false
+    → OnOk r (w ≡ record v { memory = record v.memory { next = v.memory.next + 1 } }) → IfOk r (λ s. BeginsSession now s (core_of w d))
+begins_session v w d now (Ok s) is made fresh free others = subst (λ (c : CoreState). BeginsSession c s (core_of w d)) is (record {
+  is = made;
+  fresh = fresh;
+  unfenced = free;
+  others = ap (λ (x : VolatileState). core_of x d) others;
+})
+begins_session v w d now (Err why) is made fresh free others = tt
 
 -- a fetch, of a pair that goes on
 module _ (blocks : ℕ) (v : VolatileState) (d : DurableState) (pair : IsPair blocks v d) (running : IsRunning (core_of v d)) (e : DurableState)

@@ -13,6 +13,7 @@ use Rattle.journal_memlog.specs.Laws.{updates_block-append}
 use Rattle.journal_object.proofs.MapOfBlocks.{valid_block}
 use Rattle.journal_objlog.specs.declared.tail_prepare.Preparation.{Preparation}
 use Rattle.journal_objlog.specs.declared.tail_prepare.Preparation.TheVariants.{Ready, Missing}
+use Rattle.journal_wal.specs.Tails.{known_blocks}
 use Rattle.journal_objlog.specs.ObjectTails.{blocks_of, known_at, known_updates, is_missing, is_one_object, missing_blocks, IfMissing}
 use Rattle.journal_objlog.specs.Writes.{writes_block}
 use Rattle.journal_objlog.proofs.Fetched.{or_right}
@@ -120,7 +121,7 @@ fetched_known v f a fresh named none =
     here = All-head (λ b. updates_block f.updates b ≡ true) a.block [] (subst (All (λ b. updates_block f.updates b ≡ true)) named (named_all f.updates))
 
     there : updates_block (known_updates f.updates v.tail) a.block ≡ true
-    there = updates_block-append f.updates v.tail.log.updates a.block ∙ ap (λ (t : Bool). t || updates_block v.tail.log.updates a.block) here
+    there = updates_block-append f.updates (known_blocks v.tail) a.block ∙ ap (λ (t : Bool). t || updates_block (known_blocks v.tail) a.block) here
 
     some_not : {x : Value} → Some x ≡ None → ⊥
     some_not {x} is = none-some x (sym is)

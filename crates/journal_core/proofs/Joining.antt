@@ -77,6 +77,7 @@ volatile_failed blocks v kept = record {
   small = kept.small;
   cuts = λ k c lt. let was = kept.cuts k c lt in record { above = was.above; below = was.below; earlier = was.earlier };
   updates = λ trusted. let has = kept.updates trusted in record { since = has.since; since_last = has.since_last };
+  known = kept.known;
 }
 
 tied_failed : (v : VolatileState) (d : DurableState) → Tied v d → Tied (failed v) d
@@ -538,6 +539,7 @@ module _ (blocks : ℕ) (v : VolatileState) (d : DurableState) (pair : IsPair bl
       small = pair.volatile.small;
       cuts = λ k c lt. let was = pair.volatile.cuts k c lt in record { above = was.above; below = was.below; earlier = was.earlier };
       updates = λ trusted. let has = pair.volatile.updates trusted in record { since = has.since; since_last = has.since_last };
+      known = pair.volatile.known;
     };
     durable = pair.durable;
     tied = record {

@@ -1,5 +1,5 @@
 -- What updates have of the objects that commits wrote, as the history grows.
-use Rattle.std.proofs.Common.{◌≡◌, ◌≢◌, ◌⊎◌, inl, inr, ⊎_elim, ◌<◌, ◌≤◌, ◌==◌, ◌&&◌, ◌||◌, ℕ, Bool, true, false, cond, List, [], ◌∷◌, ◌++◌, IsTrue, Option, Some, None, All, refl, sym, ap, subst, ◌∙◌, arith}
+use Rattle.std.proofs.Common.{◌≡◌, ◌≢◌, ◌⊎◌, inl, inr, ⊎_elim, ◌<◌, ◌≤◌, ◌==◌, ◌&&◌, ◌||◌, ℕ, Bool, true, false, cond, List, [], ◌∷◌, ◌++◌, IsTrue, Option, Some, None, All, refl, sym, ap, subst, append_assoc, ◌∙◌, arith}
 use Rattle.std.proofs.lemmas.Bool.{false≢true, eqb-true, cases_lt}
 use Rattle.std.proofs.lemmas.Cmp.{nat_eq_equiv}
 use Rattle.std.proofs.lemmas.List.Elements.{All-head, All-tail}
@@ -8,20 +8,24 @@ use Rattle.journal_world.specs.declared.address.Addr.{Addr}
 use Rattle.journal_world.specs.Addresses.{Value, is_valid, is_same}
 use Rattle.journal_world.specs.Maps.{Pair, Map, Transaction, value_at, overwritten}
 use Rattle.journal_world.specs.Histories.{Entry, count, after, at, latest}
-use Rattle.journal_world.specs.Histories.Entry.{commit, stable}
+use Rattle.journal_world.specs.Histories.Entry.{commit, stable, fence}
 use Rattle.journal_world.proofs.SameMaps.{value_at-overwritten}
 use Rattle.journal_world.proofs.LongerHistories.{at-count, count-commit, latest-commit, opened-append}
 use Rattle.journal_world.proofs.Marks.{commits-mark, count-mark}
+use Rattle.journal_world.proofs.Fences.{commits-fence, count-fence}
 use Rattle.journal_block.specs.declared.update.Update.{Update}
 use Rattle.journal_block.specs.Block.{Bytes}
 use Rattle.journal_block.specs.Updates.{updated, updates_block}
 use Rattle.journal_block.specs.UpdateLaws.{updated-append, updated-named, updated-unnamed}
 use Rattle.journal_memlog.specs.Laws.{updates_block-append}
-use Rattle.journal_wal.specs.Tails.{MakeTheSame}
+use Rattle.journal_memlog.specs.Logs.{LogState, appended}
+use Rattle.journal_wal.specs.Tails.{MakeTheSame, MakesNoOther}
+use Rattle.journal_wal.proofs.Kept.{no_other_behind}
 use Rattle.journal_objlog.specs.Maps.{object_or_zeros}
 use Rattle.journal_objlog.specs.ObjectTails.{known_object, after_writes, OverwritesKnown}
 use Rattle.journal_objlog.specs.Writes.{writes_block}
 use Rattle.journal_objlog.proofs.Fetched.{or_right, or_left}
+use Rattle.journal_objlog.proofs.KnownObjects.{known_appended}
 use Rattle.journal_core.specs.Updates.{IsSince, IsLastSince, HaveAllSince, IsOrNone, AreObjectsOf}
 use Rattle.journal_core.specs.Durables.{IsBlockAfter}
 use Rattle.journal_core.proofs.Fronts.{at-longer, count-longer}
@@ -65,6 +69,9 @@ since_alike n history c us vs same all = record {
 }
 
 -- a mark changes no map
+pub latest_mark : (history : List Entry) (k : ℕ) → history ≢ [] → latest (history ++ stable k ∷ []) ≡ latest history
+latest_mark history k some = λ i. after (opened-append history (stable k ∷ []) some i) (commits-mark history k i)
+
 pub since_mark : (n : ℕ) (history : List Entry) (k c : ℕ) (us : List Update) → history ≢ [] → HaveAllSince n history c us
     → HaveAllSince n (history ++ stable k ∷ []) c us
 since_mark n history k c us some all = record {
@@ -76,7 +83,24 @@ since_mark n history k c us some all = record {
     longer = history ++ stable k ∷ []
 
     marked : latest (history ++ stable k ∷ []) ≡ latest history
-    marked = λ i. after (opened-append history (stable k ∷ []) some i) (commits-mark history k i)
+    marked = latest_mark history k some
+
+-- nor does a fence
+pub latest_fence : (history : List Entry) (s : ℕ) → history ≢ [] → latest (history ++ fence s ∷ []) ≡ latest history
+latest_fence history s some = λ i. after (opened-append history (fence s ∷ []) some i) (commits-fence history s i)
+
+pub since_fence : (n : ℕ) (history : List Entry) (s c : ℕ) (us : List Update) → history ≢ [] → HaveAllSince n history c us
+    → HaveAllSince n (history ++ fence s ∷ []) c us
+since_fence n history s c us some all = record {
+  last = λ a valid. last_same history longer c a (known_object n us a) (λ m from to. inr (omega (arith, to, count-fence history s)))
+      (λ m le. at-longer history longer some (fence s ∷ [], refl) m le) (ap (λ (m : Map). value_at m a) fenced) (all.last a valid);
+}
+  where
+    longer : List Entry
+    longer = history ++ fence s ∷ []
+
+    fenced : latest (history ++ fence s ∷ []) ≡ latest history
+    fenced = latest_fence history s some
 
 -- ---- a commit
 
@@ -221,10 +245,52 @@ module _ (n : ℕ) (history : List Entry) (trimmed : ℕ) (us : List Update) (al
   pub latest_fetched : AreObjectsOf n (latest history) (fetched ++ us)
   latest_fetched = record { values = fetched_latest }
 
--- memory alone
-pub latest_alone : (n : ℕ) (history : List Entry) (c : ℕ) (us : List Update) → HaveAllSince n history c us → AreObjectsOf n (latest history) us
-latest_alone n history c us all = record { values = λ a valid. by a (known_object n us a) (all.last a valid) }
+-- ---- what memory knows with the copies of home blocks
+
+-- what makes no other has the same objects
+pub objects_no_other : (n : ℕ) (m : Map) (earlier later : List Update) → MakesNoOther earlier later → AreObjectsOf n m earlier → AreObjectsOf n m later
+objects_no_other n m earlier later fewer are = record { values = λ a valid. by a (updates_block later a.block) refl (are.values a valid) }
   where
-    by : (a : Addr) (o : Option Value) → IsLastSince history c a o → IsOrNone (value_at (latest history) a) o
-    by a (Some v) last = last
-    by a None last = tt
+    by : (a : Addr) (b : Bool) → updates_block later a.block ≡ b → IsOrNone (value_at m a) (known_object n earlier a) → IsOrNone (value_at m a) (known_object n later a)
+    by a true is was = subst (IsOrNone (value_at m a))
+        (known_named n earlier a (fewer.blocks a.block is) ∙ ap (λ (bytes : Bytes). Some (object_or_zeros n bytes a)) (sym (fewer.content a.block [] is)) ∙ sym (known_named n later a is)) was
+    by a false is was = subst (IsOrNone (value_at m a)) (sym (ap (λ (t : Bool). cond t (Some (object_or_zeros n (updated later a.block []) a)) None) is)) tt
+
+module _ (n : ℕ) (m : Map) (first second us : List Update) (one : AreObjectsOf n m (first ++ us)) (other : AreObjectsOf n m (second ++ us)) where
+  both_objects : (a : Addr) → IsTrue (is_valid n a) → IsOrNone (value_at m a) (known_object n (first ++ (second ++ us)) a)
+  both_objects a valid = by (updates_block (second ++ us) a.block) refl
+    where
+      by : (b : Bool) → updates_block (second ++ us) a.block ≡ b → IsOrNone (value_at m a) (known_object n (first ++ (second ++ us)) a)
+      by true is = subst (IsOrNone (value_at m a)) (sym (known_later n first (second ++ us) a is)) (other.values a valid)
+      by false is =
+          let none = or_parts (updates_block second a.block) (updates_block us a.block) (sym (updates_block-append second us a.block) ∙ is) in
+          subst (IsOrNone (value_at m a)) (known_before n first us a none.1 ∙ sym (known_before n first (second ++ us) a is)) (one.values a valid)
+
+  -- some updates before each of two have the objects of both
+  pub objects_both : AreObjectsOf n m (first ++ (second ++ us))
+  objects_both = record { values = both_objects }
+
+-- what is kept of copies and of fetched blocks has the objects of both
+pub objects_kept : (n : ℕ) (m : Map) (home fetched later us : List Update) → AreObjectsOf n m (home ++ us) → AreObjectsOf n m (fetched ++ us)
+    → MakesNoOther (home ++ fetched) later → AreObjectsOf n m (later ++ us)
+objects_kept n m home fetched later us at_home are fewer =
+    objects_no_other n m ((home ++ fetched) ++ us) (later ++ us) (no_other_behind (home ++ fetched) later us fewer)
+    (subst (AreObjectsOf n m) (sym (append_assoc home fetched us)) (objects_both n m home fetched us at_home are))
+
+-- with the updates of a commit behind
+pub objects_commit : (n : ℕ) (m : Map) (writes : List Pair) (us prepared : List Update) → ((b : ℕ) → updates_block prepared b ≡ writes_block writes b)
+    → AreObjectsOf n (overwritten m writes) prepared → AreObjectsOf n m us → AreObjectsOf n (overwritten m writes) (us ++ prepared)
+objects_commit n m writes us prepared named written are = record { values = λ a valid. by a valid (updates_block prepared a.block) refl }
+  where
+    by : (a : Addr) → IsTrue (is_valid n a) → (b : Bool) → updates_block prepared a.block ≡ b → IsOrNone (value_at (overwritten m writes) a) (known_object n (us ++ prepared) a)
+    by a valid true is = subst (IsOrNone (value_at (overwritten m writes) a)) (sym (known_later n us prepared a is)) (written.values a valid)
+    by a valid false is =
+        subst (λ (v : Value). IsOrNone v (known_object n (us ++ prepared) a)) (sym (value_unwritten m writes a (sym (named a.block) ∙ is)))
+        (subst (IsOrNone (value_at m a)) (sym (known_before n us prepared a is)) (are.values a valid))
+
+-- the same updates in a log
+pub objects_appended : (n : ℕ) (m : Map) (home : List Update) (log : LogState) (prepared : List Update) → AreObjectsOf n m ((home ++ log.updates) ++ prepared)
+    → AreObjectsOf n m (home ++ (appended log prepared).updates)
+objects_appended n m home log prepared are = record {
+  values = λ a valid. subst (IsOrNone (value_at m a)) (sym (known_appended n home log prepared a)) (are.values a valid);
+}

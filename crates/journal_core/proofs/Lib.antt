@@ -19,4 +19,5 @@ pub mod Pairing
 pub mod Joining
 pub mod Fetching
 pub mod Admitting
+pub mod Fencing
 mod Examples

@@ -14,7 +14,7 @@ use Rattle.journal_core.specs.declared.step.LogStep.TheVariants.{Marked}
 use Rattle.journal_world.specs.Addresses.{slot_of}
 use Rattle.journal_world.specs.Maps.{Map, Pair, Transaction, SameMap, value_at}
 use Rattle.journal_world.specs.Histories.{Entry, opened, is_trusted, latest, commits_of, at, Follows, IsTrueTo, IsLegal}
-use Rattle.journal_world.specs.Histories.Entry.{opening, commit, stable}
+use Rattle.journal_world.specs.Histories.Entry.{opening, commit, stable, fence}
 use Rattle.journal_world.proofs.Prefixes.{IsPrefix-length, IsPrefix-trans}
 use Rattle.journal_world.proofs.SameMaps.{SameMap-refl}
 use Rattle.journal_world.proofs.LongerHistories.{opened-append, Each-nil, Each-snoc, commits_of-commit}
@@ -30,13 +30,14 @@ use Rattle.journal_core.specs.Durables.{FetchedState, IsFetched, IsBlockAfter}
 use Rattle.journal_core.specs.Cores.{CoreState, Leaves, Crashes}
 use Rattle.journal_core.specs.Transactions.{TransactionState, begun}
 use Rattle.journal_core.specs.Steps.{Marks, IsInstallRefusal}
+use Rattle.journal_core.specs.FenceSteps.{AddsFence, AnswersFence}
 use Rattle.journal_core.specs.Openings.{Begins}
-use Rattle.journal_core.specs.Interleavings.{Event, Answer, Tells, TellsAll, Mount, Machine, mounted, holds, with_core, with_transaction, with_slot, with_fetched, ended, keeping, blocks_of, FindsValue, ReadsValue, IsUnread, CommitsTransaction, RefusesCommit, LogsStep, AnswersLog, AnswersInstall, AnswersSession, AnswersFetch, HoldsImage, Ignores, BeginsTransaction, TakesSlot, ReadsUnderSlot, OverwritesUnderSlot, Finishes, MakesLogStep, HappensUp, HappensDown, Happens, Run, HasHistory, IsUndisturbed, StaysFetched}
-use Rattle.journal_core.specs.Interleavings.Event.{begins, takes, reads, overwrites, aborts, fetches, joins, stops, logs, installs, crashes, opens}
+use Rattle.journal_core.specs.Interleavings.{Event, Answer, Tells, TellsAll, Mount, Machine, mounted, holds, with_core, with_transaction, with_slot, with_fetched, ended, keeping, blocks_of, FindsValue, ReadsValue, IsUnread, CommitsTransaction, RefusesCommit, LogsStep, AnswersLog, AnswersInstall, AnswersSession, AnswersFetch, HoldsImage, Ignores, BeginsTransaction, TakesSlot, ReadsUnderSlot, OverwritesUnderSlot, Finishes, MakesLogStep, MakesFence, HappensUp, HappensDown, Happens, Run, HasHistory, IsUndisturbed, StaysFetched}
+use Rattle.journal_core.specs.Interleavings.Event.{begins, takes, reads, overwrites, aborts, fetches, joins, fences, stops, logs, installs, crashes, opens}
 use Rattle.journal_core.specs.Interleavings.Event.{commits as finishes}
-use Rattle.journal_core.specs.Interleavings.Answer.{nothing, value, committed, marked, crashed, reopened}
+use Rattle.journal_core.specs.Interleavings.Answer.{nothing, value, committed, marked, fenced, crashed, reopened}
 use Rattle.journal_core.specs.Interleavings.Machine.{up, down}
-use Rattle.journal_core.proofs.Holding.{IsSound, begun_sound, sound_held, keeps_taken, keeps_given, sound_marked, sound_committed, sound_read, sound_overwritten, is_holder}
+use Rattle.journal_core.proofs.Holding.{IsSound, begun_sound, sound_held, keeps_taken, keeps_given, sound_marked, sound_fenced, sound_committed, sound_read, sound_overwritten, is_holder}
 use Rattle.journal_core.specs.Cores.{disk_of}
 use Rattle.journal_core.proofs.Fronts.{at-longer, count-longer, trusted-longer}
 use Rattle.journal_core.proofs.Pairing.{begins_not}
@@ -142,6 +143,16 @@ module _ (rule : Map → Type 0) where
         (sound_marked m.core.history n m.holders actor t is.runs.some (is.sound actor t at));
     fetched = λ actor. subst (λ (h : List Entry). All (WasFetched h) (m.fetched actor)) (sym added)
         (fetched_longer m.core.history (stable n) (m.fetched actor) is.runs.some (is.fetched actor));
+  }
+
+  up_fenced : (m : Mount) (core : CoreState) (s : ℕ) → IsUp rule m → Crashes m.core core → core.history ≡ m.core.history ++ fence s ∷ []
+      → IsLegal rule (m.core.history ++ fence s ∷ []) → IsUp rule (with_core m core)
+  up_fenced m core s is crash added legal = record {
+    runs = core_adds m.core core (fence s) is.runs crash added legal;
+    sound = λ actor t at. subst (λ (h : List Entry). IsSound h m.holders actor t) (sym added)
+        (sound_fenced m.core.history s m.holders actor t is.runs.some (is.sound actor t at));
+    fetched = λ actor. subst (λ (h : List Entry). All (WasFetched h) (m.fetched actor)) (sym added)
+        (fetched_longer m.core.history (fence s) (m.fetched actor) is.runs.some (is.fetched actor));
   }
 
   -- an actor's transaction is another one
@@ -254,6 +265,7 @@ module _ (rule : Map → Type 0) where
       })
   goes-reads m actor a (Some t) true (committed u) new it is at holder = absurd it
   goes-reads m actor a (Some t) true (marked n) new it is at holder = absurd it
+  goes-reads m actor a (Some t) true (fenced s) new it is at holder = absurd it
   goes-reads m actor a (Some t) true crashed new it is at holder = absurd it
   goes-reads m actor a (Some t) true reopened new it is at holder = absurd it
 
@@ -292,7 +304,7 @@ module _ (rule : Map → Type 0) where
       let u : Transaction = next_transaction session d.reads d.writes in
       let sound = is.sound actor d at in
       let number = numbered session it.1.0 d.reads d.writes m.core.history core.history done.committed.committed in
-      let follows : Follows m.core.history (commit u) = (is.runs.some, sound.reads, sound.writes, number) in
+      let follows : Follows m.core.history (commit u) = (is.runs.some, sound.reads, sound.writes, number, done.can.may.unfenced) in
       let added : core.history ≡ m.core.history ++ commit u ∷ [] = done.committed.committed.added in
       let longer : IsLegal rule (m.core.history ++ commit u ∷ []) = legal_adds m.core.history (commit u) is.runs.legal follows (done.agrees is.runs.trusted) in
       subst (λ (s : Machine). Goes rule m.core.history (committed t) s) (sym it.1.1.3)
@@ -310,6 +322,7 @@ module _ (rule : Map → Type 0) where
       }))
   goes-finishes m actor (Some d) (value a v) new it is at = absurd it
   goes-finishes m actor (Some d) (marked n) new it is at = absurd it
+  goes-finishes m actor (Some d) (fenced s) new it is at = absurd it
   goes-finishes m actor (Some d) crashed new it is at = absurd it
   goes-finishes m actor (Some d) reopened new it is at = absurd it
 
@@ -324,6 +337,31 @@ module _ (rule : Map → Type 0) where
       silent m.core.history (with_fetched (with_core m core) actor f) answer new none after same
       (fetched_kept (with_core m core) actor f (up_on m core is it.crash same)
       (subst (λ (h : List Entry). WasFetched h f) (sym same) (record { begins = it.begins; objects = it.objects })))
+
+  fence_crash : (session : ℕ) (old : CoreState) (result : Result (Unit {0}) (Refusal Told)) (new : CoreState) → AnswersFence session old result new → Crashes old new
+  fence_crash session old (Ok done) new it = it.crash
+  fence_crash session old (Err why) new it = it.crash
+
+  goes-fences : (m : Mount) (session : ℕ) (answer : Answer) (new : Machine) → MakesFence m session answer new → IsUp rule m → Goes rule m.core.history answer new
+  goes-fences m session nothing new it is =
+      let core : CoreState = it.1.0 in
+      silent m.core.history (with_core m core) nothing new refl it.1.3 it.1.2 (up_on m core is (fence_crash session m.core it.0 core it.1.1) it.1.2)
+  goes-fences m session (fenced s) new it is =
+      let core : CoreState = it.1.0 in
+      let adds : AddsFence session m.core core = it.1.1 in
+      let added : core.history ≡ m.core.history ++ fence s ∷ [] =
+      ap (λ (c : CoreState). c.history) adds.fenced ∙ ap (λ (n : ℕ). m.core.history ++ fence n ∷ []) (sym it.0) in
+      let follows : Follows m.core.history (fence s) = is.runs.some in
+      subst (λ (w : Machine). Goes rule m.core.history (fenced s) w) (sym it.1.3) (record {
+        history = m.core.history ++ fence s ∷ [];
+        tells = (follows, tt, refl);
+        holds = (added, up_fenced m core s is it.1.2 added (legal_adds m.core.history (fence s) is.runs.legal follows tt));
+      })
+  goes-fences m session (value a v) new it is = absurd it
+  goes-fences m session (committed t) new it is = absurd it
+  goes-fences m session (marked n) new it is = absurd it
+  goes-fences m session crashed new it is = absurd it
+  goes-fences m session reopened new it is = absurd it
 
   log_crash : (old : CoreState) (result : Result LogStep (Refusal Told)) (new : CoreState) → AnswersLog old result new → Crashes old new
   log_crash old (Ok step) new it = it.crash
@@ -346,6 +384,7 @@ module _ (rule : Map → Type 0) where
       })
   goes-logs m (value a v) new it is = absurd it
   goes-logs m (committed t) new it is = absurd it
+  goes-logs m (fenced s) new it is = absurd it
   goes-logs m crashed new it is = absurd it
   goes-logs m reopened new it is = absurd it
 
@@ -434,6 +473,7 @@ module _ (rule : Map → Type 0) where
       let same = joins_same m.core it.1.0 it.1.1.0 it.1.1.1 in
       silent rule m.core.history (with_core m it.1.1.0) answer new it.0 it.1.1.2 same
       (up_on rule m it.1.1.0 is (joins_crash m.core it.1.0 it.1.1.0 it.1.1.1) same)
+  goes-up m (fences session) answer new it is = goes-fences rule m session answer new it is
   goes-up m stops answer new it is =
       let same = ap (λ (c : CoreState). c.history) it.1.1.closed in
       silent rule m.core.history (with_core m it.1.0) answer new it.0 it.1.2 same (up_on rule m it.1.0 is it.1.1.crash same)
@@ -476,6 +516,7 @@ module _ (rule : Map → Type 0) where
   goes-opens image m (value a v) new it holds = stays-down image m (value a v) new holds it.0 it.1
   goes-opens image m (committed t) new it holds = stays-down image m (committed t) new holds it.0 it.1
   goes-opens image m (marked n) new it holds = stays-down image m (marked n) new holds it.0 it.1
+  goes-opens image m (fenced s) new it holds = stays-down image m (fenced s) new holds it.0 it.1
   goes-opens image m crashed new it holds = stays-down image m crashed new holds it.0 it.1
 
   goes-down : (image : List Bytes) (m : Map) (event : Event) (answer : Answer) (new : Machine) → HappensDown rule image event answer new → OpensAs m image
@@ -489,6 +530,7 @@ module _ (rule : Map → Type 0) where
   goes-down image m (finishes actor) answer new it holds = stays-down image m answer new holds it.0 it.1
   goes-down image m (fetches actor numbers) answer new it holds = stays-down image m answer new holds it.0 it.1
   goes-down image m joins answer new it holds = stays-down image m answer new holds it.0 it.1
+  goes-down image m (fences session) answer new it holds = stays-down image m answer new holds it.0 it.1
   goes-down image m stops answer new it holds = stays-down image m answer new holds it.0 it.1
   goes-down image m logs answer new it holds = stays-down image m answer new holds it.0 it.1
   goes-down image m installs answer new it holds = stays-down image m answer new holds it.0 it.1

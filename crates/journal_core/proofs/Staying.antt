@@ -9,7 +9,7 @@ use Rattle.journal_world.specs.Addresses.{Value, is_valid}
 use Rattle.journal_world.specs.Maps.{Map, Transaction, value_at, overwritten}
 use Rattle.journal_world.specs.Histories.{Entry, opened, is_trusted, count, latest}
 use Rattle.journal_world.specs.Histories.Entry.{commit, stable}
-use Rattle.journal_world.proofs.LongerHistories.{opened-append, count-commit}
+use Rattle.journal_world.proofs.LongerHistories.{opened-append, count-commit, latest-commit}
 use Rattle.journal_world.proofs.MapsOfHistories.{is_trusted-append}
 use Rattle.journal_world.proofs.Marks.{count-mark}
 use Rattle.journal_block.specs.declared.update.Update.{Update}
@@ -17,7 +17,8 @@ use Rattle.journal_block.specs.Updates.{updates_block}
 use Rattle.journal_memlog.specs.Logs.{LogState, next_position, tail_of, appended}
 use Rattle.journal_memlog.specs.Laws.{next_of-appended, length-absorbed_ge}
 use Rattle.journal_wal.specs.declared.tail.CutPoint.{CutPoint}
-use Rattle.journal_wal.specs.Tails.{TailState, MakeTheSame, cut_points, updates_from, cut_after, DropsCuts}
+use Rattle.journal_wal.specs.Tails.{TailState, MakeTheSame, MakesNoOther, cut_points, known_blocks, updates_from, cut_after, DropsCuts}
+use Rattle.journal_wal.proofs.Kept.{no_other_behind}
 use Rattle.journal_objlog.specs.Writes.{writes_block}
 use Rattle.journal_core.specs.Updates.{HaveAllSince, IsOrNone, AreObjectsOf}
 use Rattle.journal_core.specs.Durables.{FetchedState, IsFetched}
@@ -25,7 +26,7 @@ use Rattle.journal_objlog.specs.ObjectTails.{blocks_of, known_updates, known_at,
 use Rattle.journal_core.specs.Memories.{MemoryState}
 use Rattle.journal_core.specs.Volatiles.{VolatileState, IsCutOf, HasUpdates, IsVolatile}
 use Rattle.journal_core.proofs.Fronts.{append-some, trusted-longer}
-use Rattle.journal_core.proofs.Latest.{since_later, since_all, since_alike, since_mark, since_commit, latest_fetched, latest_alone}
+use Rattle.journal_core.proofs.Latest.{latest_mark, since_later, since_all, since_alike, since_mark, since_commit, latest_fetched, objects_no_other, objects_both, objects_kept, objects_commit, objects_appended}
 
 -- what holds of each of some holds of each of the last of them
 pub all_behind : {X : Type 0} (P : X → Type 0) (earlier xs : List X) → All P (earlier ++ xs) → All P xs
@@ -56,6 +57,8 @@ module _ (blocks : ℕ) (v : VolatileState) (kept : IsVolatile blocks v) where
       since_last = since_later blocks (v.memory.history ++ stable n ∷ []) v.memory.cut n (tail_of v.tail.log) rises
           (since_mark blocks v.memory.history n v.memory.cut (tail_of v.tail.log) kept.begun has.since_last);
     };
+    known = λ trusted. subst (λ (m : Map). AreObjectsOf blocks m (known_blocks v.tail)) (sym (latest_mark v.memory.history n kept.begun))
+        (kept.known (subst IsTrue (is_trusted-append v.memory.history (stable n ∷ []) kept.begun) trusted));
   }
 
   pub kept_marked : {T E : Type 0} (n : ℕ) (new : MemoryState) (r : Result T E) → n ≤ count v.memory.history
@@ -86,6 +89,7 @@ module _ (blocks : ℕ) (v : VolatileState) (kept : IsVolatile blocks v) where
       since = All-push (λ c. HaveAllSince blocks v.memory.history c.commits (updates_from v.tail.log c.end)) (cut_points v.tail) p has.since none;
       since_last = none;
     };
+    known = kept.known;
   }
     where
       p : CutPoint
@@ -101,7 +105,8 @@ module _ (blocks : ℕ) (v : VolatileState) (kept : IsVolatile blocks v) where
 
   -- the updates of some first cuts were dropped
   module _ (upto : ℕ) (new : TailState) (drops : DropsCuts v.tail upto new) (left : All (λ c. upto < c.end) new.cuts)
-      (since : (from : ℕ) → new.log.start ≤ from → updates_from new.log from ≡ updates_from v.tail.log from) where
+      (since : (from : ℕ) → new.log.start ≤ from → updates_from new.log from ≡ updates_from v.tail.log from)
+      (fewer : MakesNoOther (known_blocks v.tail) (known_blocks new)) where
     were : All (IsCutOf v) (cut_points new)
     were = all_behind (IsCutOf v) drops.earlier (cut_points new) (subst (All (IsCutOf v)) drops.points kept.cuts)
 
@@ -151,7 +156,38 @@ module _ (blocks : ℕ) (v : VolatileState) (kept : IsVolatile blocks v) where
             (sym (since new.log.cut (omega (arith, start_to_cut, same_cut)) ∙ ap (λ (n : ℕ). drop (n - v.tail.log.start) v.tail.log.updates) same_cut))
             has.since_last;
       };
+      known = λ trusted. objects_no_other blocks (latest v.memory.history) (known_blocks v.tail) (known_blocks new) fewer (kept.known trusted);
     }
+
+  -- other copies of home blocks
+  module _ (home : List Update) where
+    pub kept_home : (IsTrue (is_trusted v.memory.history) → AreObjectsOf blocks (latest v.memory.history) (home ++ v.tail.log.updates))
+        → IsVolatile blocks (record v { tail = record v.tail { home = home } })
+    kept_home are = record {
+      size = kept.size;
+      begun = kept.begun;
+      on_disk = kept.on_disk;
+      made = kept.made;
+      cut_to_next = kept.cut_to_next;
+      small = kept.small;
+      cuts = λ k d lt. let was = kept.cuts k d lt in record { above = was.above; below = was.below; earlier = was.earlier };
+      updates = λ trusted. let has = kept.updates trusted in record { since = has.since; since_last = has.since_last };
+      known = are;
+    }
+
+    -- those that were, in another order
+    pub kept_touched : MakeTheSame home v.tail.home → IsVolatile blocks (record v { tail = record v.tail { home = home } })
+    kept_touched same = kept_home (λ trusted.
+        objects_no_other blocks (latest v.memory.history) (known_blocks v.tail) (home ++ v.tail.log.updates)
+        (no_other_behind v.tail.home home v.tail.log.updates
+        (record { blocks = λ b named. sym (same.blocks b) ∙ named; content = λ b x named. same.content b x }))
+        (kept.known trusted))
+
+    -- those that were and what was fetched
+    pub kept_copies : (fetched : List Update) → (IsTrue (is_trusted v.memory.history) → AreObjectsOf blocks (latest v.memory.history) (fetched ++ v.tail.log.updates))
+        → MakesNoOther (v.tail.home ++ fetched) home → IsVolatile blocks (record v { tail = record v.tail { home = home } })
+    kept_copies fetched are fewer = kept_home (λ trusted.
+        objects_kept blocks (latest v.memory.history) v.tail.home fetched home v.tail.log.updates (kept.known trusted) (are trusted) fewer)
 
 -- what is read by updates that have the latest is the map's value
 pub read_latest : (blocks : ℕ) (history : List Entry) (fetched : List Update) (t : TailState) (a : Addr) (value : Value) → blocks_of t ≡ blocks
@@ -160,17 +196,22 @@ read_latest blocks history fetched t a value size are valid known =
     subst (IsOrNone (value_at (latest history) a)) known
     ((subst (λ (n : ℕ). AreObjectsOf n (latest history) (known_updates fetched t)) (sym size) are).values a valid)
 
+-- of the fetched blocks what is usable, without the copies of home blocks
+pub fetched_alone : (blocks : ℕ) (v : VolatileState) (f : FetchedState) → IsVolatile blocks v → IsFetched blocks f → IsTrue (is_trusted v.memory.history)
+    → IsPrefix f.front v.memory.history → v.tail.trimmed ≤ f.commits → AreObjectsOf blocks (latest v.memory.history) (f.updates ++ v.tail.log.updates)
+fetched_alone blocks v f kept is trusted begins fresh =
+    latest_fetched blocks v.memory.history v.tail.trimmed v.tail.log.updates (all_in_memory blocks v (kept.updates trusted)) f.front f.commits is.begun begins is.made fresh
+    f.updates (is.objects (subst IsTrue (trusted-longer f.front v.memory.history is.begun begins) trusted))
+
 -- of the fetched blocks what is usable
 pub usable_latest : (blocks : ℕ) (v : VolatileState) (f : FetchedState) → IsVolatile blocks v → IsFetched blocks f → IsTrue (is_trusted v.memory.history)
     → IsPrefix f.front v.memory.history → v.tail.trimmed ≤ f.commits → AreObjectsOf blocks (latest v.memory.history) (known_updates f.updates v.tail)
 usable_latest blocks v f kept is trusted begins fresh =
-    latest_fetched blocks v.memory.history v.tail.trimmed v.tail.log.updates (all_in_memory blocks v (kept.updates trusted)) f.front f.commits is.begun begins is.made fresh
-    f.updates (is.objects (subst IsTrue (trusted-longer f.front v.memory.history is.begun begins) trusted))
+    objects_both blocks (latest v.memory.history) f.updates v.tail.home v.tail.log.updates (fetched_alone blocks v f kept is trusted begins fresh) (kept.known trusted)
 
 -- memory alone
 pub unfetched_latest : (blocks : ℕ) (v : VolatileState) → IsVolatile blocks v → IsTrue (is_trusted v.memory.history) → AreObjectsOf blocks (latest v.memory.history) (known_updates [] v.tail)
-unfetched_latest blocks v kept trusted =
-    latest_alone blocks v.memory.history v.tail.trimmed v.tail.log.updates (all_in_memory blocks v (kept.updates trusted))
+unfetched_latest blocks v kept trusted = kept.known trusted
 
 -- a commit, whose updates come behind
 pub kept_added : (blocks : ℕ) (v : VolatileState) (t : Transaction) (prepared : List Update) (memory : MemoryState) (new : TailState) → IsVolatile blocks v
@@ -208,6 +249,14 @@ kept_added blocks v t prepared memory new kept added cut appends since takes nam
             (subst (λ (n : ℕ). HaveAllSince blocks memory.history v.memory.cut (drop (n - new.log.start) new.log.updates)) (sym (ap (λ (s : TailState). s.log.cut) appends))
             (after was v.memory.cut v.tail.log.cut start_to_cut (omega arith) has.since_last));
       };
+  known = λ trusted.
+      let was : IsTrue (is_trusted v.memory.history) = subst IsTrue (ap is_trusted added ∙ is_trusted-append v.memory.history (commit t ∷ []) kept.begun) trusted in
+      let m = overwritten (latest v.memory.history) t.writes in
+      subst (λ (s : TailState). AreObjectsOf blocks (latest memory.history) (known_blocks s)) (sym appends)
+      (subst (λ (k : Map). AreObjectsOf blocks k (v.tail.home ++ (appended v.tail.log prepared).updates))
+      (sym (ap latest added ∙ latest-commit v.memory.history t kept.begun))
+      (objects_appended blocks m v.tail.home v.tail.log prepared
+      (objects_commit blocks (latest v.memory.history) t.writes (known_blocks v.tail) prepared named (written was) (kept.known was))));
 }
   where
     points : cut_points new ≡ cut_points v.tail

@@ -134,4 +134,4 @@ shows_front history seen after (Stranger cause) why begins = tt
 shows_front history seen after (Worn cause) why begins = tt
 shows_front history seen after (Full cause) why begins = tt
 shows_front history seen after (Closed cause) why begins = tt
-shows_front history seen after Fenced why begins = tt
+shows_front history seen after Fenced why begins = absurd why

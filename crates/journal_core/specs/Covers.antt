@@ -1,5 +1,5 @@
 -- Which fronts of a history have only marked commits.
-use Rattle.std.specs.Prelude.{ℕ, ◌≤◌, ◌↔◌, List, length, take}
+use Rattle.std.specs.Prelude.{ℕ, ◌≤◌, ◌+◌, ◌==◌, ◌↔◌, if◌then◌else◌, List, length, take}
 use Rattle.journal_world.specs.Histories.{Entry, count, floor}
 use Rattle.journal_core.specs.declared.covered.Covered.{Covered}
 
@@ -7,6 +7,10 @@ use Rattle.journal_core.specs.declared.covered.Covered.{Covered}
 pub record Covers (history : List Entry) (n entries : ℕ) : Type 0 where
   pub within : entries ≤ length history
   pub fronts : (k : ℕ) → k ≤ length history → (k ≤ entries) ↔ (count (take k history) ≤ n)
+
+-- One entry more that is no commit: where the front was all of so many entries it is one longer
+abbrev pub with_quiet : ℕ → ℕ → ℕ
+with_quiet len entries = if entries == len then len + 1 else entries
 
 -- What is kept of the fronts beside the history: the longest whose commits are all marked, and the longest of the commits
 -- that there were at the last cut

@@ -7,7 +7,7 @@ use Rattle.journal_world.specs.declared.refusal.Refusal.{Refusal}
 use Rattle.journal_world.specs.Addresses.{Value, slot_of}
 use Rattle.journal_world.specs.Maps.{Map, Pair, Transaction, SameMap, Agrees, value_at, is_object}
 use Rattle.journal_world.specs.Histories.{Entry, opened, is_trusted, latest, at, count, floor, Follows, IsTrueTo}
-use Rattle.journal_world.specs.Histories.Entry.{opening, commit, stable}
+use Rattle.journal_world.specs.Histories.Entry.{opening, commit, stable, fence}
 use Rattle.journal_block.specs.declared.update.Update.{Update}
 use Rattle.journal_block.specs.Block.{Bytes}
 use Rattle.journal_disk.specs.Disks.{Past, DiskState, IsSettled}
@@ -26,11 +26,12 @@ use Rattle.journal_core.specs.Memories.{IsBehind, IsMoved}
 use Rattle.journal_core.specs.Durables.{FetchedState, IsFetched, IsBlockAfter}
 use Rattle.journal_core.specs.Volatiles.{IsFrontRefusal}
 use Rattle.journal_core.specs.Commits.{IsCommitted, CanCommit, IsCommitRefusal}
+use Rattle.journal_core.specs.FenceSteps.{AddsFence, AnswersFence}
 use Rattle.journal_core.specs.Openings.{Begins}
 
 -- An event. The first six are of one actor, and all of these but the first of the transaction that it has open. A slot that
 -- it takes is held until the transaction is ended. An actor fetches blocks of these numbers from the disk, and has them from then
--- on, whatever steps come between. Then a session is asked for, and the core is stopped. A step of the logger is the next of: cut a
+-- on, whatever steps come between. Then a session is asked for, a session is fenced by its number, and the core is stopped. A step of the logger is the next of: cut a
 -- group, put a log block, a barrier, put `end`, a barrier, a mark; one of the installer the next of: put a home block, a barrier,
 -- put `start`, a barrier. A device call of any of them may fail
 pub data Event : Type 0 where
@@ -42,6 +43,7 @@ pub data Event : Type 0 where
   commits : ℕ → Event
   fetches : ℕ → List ℕ → Event
   joins : Event
+  fences : ℕ → Event
   stops : Event
   logs : Event
   installs : Event
@@ -49,13 +51,14 @@ pub data Event : Type 0 where
   crashes : List Bytes → Event
   opens : Event
 
--- What is answered: a value, a commit, a mark, or nothing, where nothing is asked or it is refused; that the mount ended by a
+-- What is answered: a value, a commit, a mark, a fence, or nothing, where nothing is asked or it is refused; that the mount ended by a
 -- crash, and that the next one began
 pub data Answer : Type 0 where
   nothing : Answer
   value : Addr → Value → Answer
   committed : Transaction → Answer
   marked : ℕ → Answer
+  fenced : ℕ → Answer
   crashed : Answer
   reopened : Answer
 
@@ -63,13 +66,14 @@ pub data Answer : Type 0 where
 abbrev pub AddsEntry : (Map → Type 0) → List Entry → Entry → List Entry → Type 0
 AddsEntry rule old e new = Follows old e × IsTrueTo rule old e × (new ≡ old ++ e ∷ [])
 
--- What an answer tells of the history: a value is what its last map gives; a commit or a mark is one entry more; a crash
+-- What an answer tells of the history: a value is what its last map gives; a commit, a mark or a fence is one entry more; a crash
 -- leaves the map after so many commits, no fewer than the greatest mark, and the next history begins with it
 abbrev pub Tells : (Map → Type 0) → List Entry → Answer → List Entry → Type 0
 Tells rule old nothing new = new ≡ old
 Tells rule old (value a v) new = (v ≡ value_at (latest old) a) × (new ≡ old)
 Tells rule old (committed t) new = AddsEntry rule old (commit t) new
 Tells rule old (marked n) new = AddsEntry rule old (stable n) new
+Tells rule old (fenced s) new = AddsEntry rule old (fence s) new
 Tells rule old crashed new = (n : ℕ) × (floor old ≤ n) × (n ≤ count old) × ((m : Map) × SameMap m (at old n) × (new ≡ opening m true ∷ []))
 Tells rule old reopened new = (m : Map) × SameMap m (opened old) × (new ≡ opening m true ∷ [])
 
@@ -330,6 +334,15 @@ MakesLogStep old (marked n) new =
     (core : CoreState) × LogsStep old.core (Marked n) core × (new ≡ up (with_core old core))
 MakesLogStep old other new = ⊥
 
+-- a fence that is added is answered by it. One that stands already, and a refusal, leave the history
+abbrev pub MakesFence : Mount → ℕ → Answer → Machine → Type 0
+MakesFence old session nothing new =
+    (result : Result (Unit {0}) (Refusal Told)) × ((core : CoreState) × AnswersFence session old.core result core
+    × (core.history ≡ old.core.history) × (new ≡ up (with_core old core)))
+MakesFence old session (fenced s) new =
+    (s ≡ session) × ((core : CoreState) × AddsFence session old.core core × Crashes old.core core × (new ≡ up (with_core old core)))
+MakesFence old session other new = ⊥
+
 -- The event may be answered so, and then leaves new. One that is not enabled changes nothing
 abbrev pub HappensUp : Mount → Event → Answer → Machine → Type 0
 HappensUp old (begins actor) answer new = BeginsTransaction old actor (old.transactions actor) answer new
@@ -343,6 +356,7 @@ HappensUp old logs answer new = MakesLogStep old answer new
 HappensUp old joins answer new =
     (answer ≡ nothing) × ((result : Result SessionState (Refusal Told)) × ((core : CoreState) × AnswersSession old.core result core
     × (new ≡ up (with_core old core))))
+HappensUp old (fences session) answer new = MakesFence old session answer new
 HappensUp old stops answer new = (answer ≡ nothing) × ((core : CoreState) × Stops old.core core × (new ≡ up (with_core old core)))
 HappensUp old installs answer new =
     (answer ≡ nothing) × ((result : Result InstallStep (Refusal Told)) × ((core : CoreState) × AnswersInstall old.core result core

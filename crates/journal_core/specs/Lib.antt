@@ -5,6 +5,7 @@ pub mod SlotCounts
 pub mod Transactions
 pub mod Memories
 pub mod Outsets
+pub mod Fences
 pub mod Waits
 pub mod Updates
 pub mod Durables
@@ -13,6 +14,7 @@ pub mod VolatileCommits
 pub mod Pairs
 pub mod Cores
 pub mod Steps
+pub mod FenceSteps
 pub mod Commits
 pub mod Openings
 pub mod Interleavings

@@ -1,9 +1,9 @@
 -- What contracts see of the core's memory part, what its type keeps, and why it refuses. No device is asked for any of it.
-use Rattle.std.specs.Prelude.{ℕ, ◌≡◌, ◌⊎◌, ◌<◌, ◌≤◌, ◌+◌, ◌^◌, Bool, List, [], length}
+use Rattle.std.specs.Prelude.{ℕ, ◌≡◌, ◌⊎◌, ◌<◌, ◌≤◌, ◌+◌, ◌^◌, Bool, true, false, List, [], length}
 use mathlib.Core.List.{IsPrefix}
 use Rattle.journal_world.specs.declared.refusal.Refusal.{Refusal}
-use Rattle.journal_world.specs.declared.refusal.Refusal.TheVariants.{NoMemory, Stale, Stranger, Worn}
-use Rattle.journal_world.specs.Histories.{Entry, commits_of}
+use Rattle.journal_world.specs.declared.refusal.Refusal.TheVariants.{NoMemory, Stale, Stranger, Worn, Fenced}
+use Rattle.journal_world.specs.Histories.{Entry, commits_of, is_fenced}
 use Rattle.journal_history.specs.Soundness.{IsLonger}
 use Rattle.journal_history.specs.Tokens.{SessionState, made}
 use Rattle.journal_core.specs.declared.refusal_number.RefusalNumber.TheVariants.{J9, J10, J11}
@@ -24,12 +24,13 @@ pub record MemoryState : Type 0 where
   -- it was stopped
   pub closed : Bool
 
--- What it keeps: it counts the commits of each session and slot, knows which fronts have only marked commits, and no session
--- of a later number has committed
+-- What it keeps: it counts the commits of each session and slot, knows which sessions are fenced and which fronts have only
+-- marked commits, and no session of a later number has committed or is fenced
 pub record IsMemory (tally : Pairs) (slots : Counts) (covered : Covered) (m : MemoryState) : Type 0 where
   pub counts : KeepsCounts tally slots m.history
   pub fronts : KeepsCovered covered m.history m.cut
   pub fresh : (s : ℕ) → m.next ≤ s → commits_of s m.history ≡ []
+  pub unfenced : (s : ℕ) → m.next ≤ s → is_fenced s m.history ≡ false
 
 -- The history is longer than the core's, and was seen
 abbrev pub IsStale : List Entry → Told → Type 0
@@ -56,9 +57,17 @@ pub record HasSeen (history : List Entry) (s : SessionState) (t : TransactionSta
 abbrev pub IsUnknown : List Entry → SessionState → TransactionState → Told → Type 0
 IsUnknown history s t cause = (IsExplained J10 history cause × IsStrange history s) ⊎ IsMoved history t cause
 
--- J9 lasts: the session has then seen the longer history, by which each later commit of it is refused
+-- The session is fenced, and nothing that is looked at before refuses its commit
+pub record MeetsFence (history : List Entry) (s : SessionState) (t : TransactionState) : Type 0 where
+  pub seen : HasSeen history s t
+  pub own : length (commits_of s.number history) ≡ made s
+  pub unmoved : AreUnmoved history t
+  pub fenced : is_fenced s.number history ≡ true
+
+-- J9 and J14 last: the session has then seen the longer history, or its fence, by which each later commit of it is refused
 abbrev pub ShowsLonger : List Entry → SessionState → Refusal Told → Type 0
 ShowsLonger history after (Stale cause) = IsLonger history after.seen
+ShowsLonger history after Fenced = is_fenced after.number after.seen ≡ true
 ShowsLonger history after other = Unit {0}
 
 -- why a session is not shown the history
@@ -92,6 +101,7 @@ IsLookRefusal history t other = ⊥
 abbrev pub IsAdmissionRefusal : List Entry → SessionState → TransactionState → Refusal Told → Type 0
 IsAdmissionRefusal history s t (Stale cause) = IsStale history cause
 IsAdmissionRefusal history s t (Stranger cause) = HasSeen history s t × IsUnknown history s t cause
+IsAdmissionRefusal history s t Fenced = MeetsFence history s t
 IsAdmissionRefusal history s t other = ⊥
 
 -- why what is ready is not added

@@ -3,17 +3,17 @@ use Rattle.std.specs.Prelude.{ℕ, ◌≡◌, ◌⊎◌, ◌<◌, ◌≤◌, ◌
 use mathlib.Core.List.{IsPrefix}
 use Rattle.journal_world.specs.declared.address.Addr.{Addr}
 use Rattle.journal_world.specs.declared.refusal.Refusal.{Refusal}
-use Rattle.journal_world.specs.declared.refusal.Refusal.TheVariants.{NoMemory, BadAddress, TooLarge, DeviceFailed, Stale, Stranger, Worn, Full, Closed}
+use Rattle.journal_world.specs.declared.refusal.Refusal.TheVariants.{NoMemory, BadAddress, TooLarge, DeviceFailed, Stale, Stranger, Worn, Full, Closed, Fenced}
 use Rattle.journal_world.specs.Addresses.{is_valid}
 use Rattle.journal_world.specs.Maps.{Pair}
-use Rattle.journal_world.specs.Histories.{Entry, commits_of}
+use Rattle.journal_world.specs.Histories.{Entry, commits_of, is_fenced}
 use Rattle.journal_block.specs.declared.update.Update.{Update}
 use Rattle.journal_wal.specs.declared.append.TheConstants.{MAX_TAIL, MAX_UPDATES}
 use Rattle.journal_objlog.specs.Writes.{written_blocks, fresh_among}
 use Rattle.journal_history.specs.Tokens.{SessionState, made}
 use Rattle.journal_core.specs.declared.refusal_number.RefusalNumber.TheVariants.{J6, J11, J12, J13}
 use Rattle.journal_core.specs.Causes.{Told, IsUnexplained}
-use Rattle.journal_core.specs.Memories.{HasSeen, IsBehind, IsMoved, IsStale, IsUnknown}
+use Rattle.journal_core.specs.Memories.{HasSeen, IsBehind, IsMoved, IsStale, IsUnknown, MeetsFence}
 use Rattle.journal_core.specs.Transactions.{TransactionState, AreUnmoved}
 
 pub record Outset : Type 0 where
@@ -63,6 +63,7 @@ pub record MayCommit (o : Outset) (s : SessionState) (t : TransactionState) : Ty
   pub seen : HasSeen o.history s t
   pub own : length (commits_of s.number o.history) ≡ made s
   pub unmoved : AreUnmoved o.history t
+  pub unfenced : is_fenced s.number o.history ≡ false
 
 -- Nothing but memory and the device can refuse the writes
 pub record CanPrepare (o : Outset) (s : SessionState) (writes : List Pair) : Type 0 where
@@ -87,6 +88,7 @@ IsPreparingRefusal o s writes other = ⊥
 abbrev pub IsCommitRefusal : Outset → SessionState → TransactionState → Refusal Told → Type 0
 IsCommitRefusal o s t (Stale cause) = GoesOn o × IsStale o.history cause
 IsCommitRefusal o s t (Stranger cause) = GoesOn o × HasSeen o.history s t × IsUnknown o.history s t cause
+IsCommitRefusal o s t Fenced = GoesOn o × MeetsFence o.history s t
 IsCommitRefusal o s t TooLarge = MayCommit o s t × (MAX_UPDATES < written_blocks t.writes)
 IsCommitRefusal o s t (Worn cause) = MayCommit o s t × (written_blocks t.writes ≤ MAX_UPDATES) × IsWorn o s t.writes × IsUnexplained J11 cause
 IsCommitRefusal o s t (Full cause) = MayCommit o s t × (written_blocks t.writes ≤ MAX_UPDATES) × (IsWorn o s t.writes → ⊥)

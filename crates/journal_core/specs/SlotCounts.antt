@@ -6,7 +6,7 @@ use Rattle.journal_world.specs.Addresses.{slot_of}
 use Rattle.journal_world.specs.Maps.{Pair}
 use Rattle.journal_world.specs.Histories.{Entry, count, touched}
 use Rattle.journal_core.specs.declared.slot_counts.Slot.{Slot}
-use Rattle.journal_core.specs.Tallies.{Pairs, IsTallied}
+use Rattle.journal_core.specs.Tallies.{Pairs, IsTallied, AreFences}
 
 -- The numbers of commits that touched each slot, of so many in all
 pub record Counts : Type 0 where
@@ -19,9 +19,10 @@ pub record AreCounts (c : Counts) (history : List Entry) : Type 0 where
   pub commits : c.commits ≡ count history
   pub touched : (slot : ℕ) → slot < SLOTS → slice_index c.slots slot ≡ touched history slot
 
--- What is counted beside the history: each session's commits, and each slot's
+-- What is kept beside the history: each session's number of commits, whether it is fenced, and each slot's number of commits
 pub record KeepsCounts (tally : Pairs) (slots : Counts) (history : List Entry) : Type 0 where
   pub tallied : IsTallied tally history
+  pub fenced : AreFences tally history
   pub touched : AreCounts slots history
 
 -- No commit is counted

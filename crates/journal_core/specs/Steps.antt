@@ -5,7 +5,7 @@ use Rattle.journal_world.specs.declared.refusal.Refusal.{Refusal}
 use Rattle.journal_world.specs.declared.refusal.Refusal.TheVariants.{NoMemory, BadAddress, DeviceFailed, Stale, Stranger, Closed}
 use Rattle.journal_world.specs.Addresses.{is_valid}
 use Rattle.journal_disk.specs.Disks.{HasFailed}
-use Rattle.journal_world.specs.Histories.{count, floor, commits_of}
+use Rattle.journal_world.specs.Histories.{count, floor, commits_of, is_fenced}
 use Rattle.journal_world.specs.Histories.Entry.{stable}
 use Rattle.journal_wal.specs.Wal.{log_steps, install_steps, free_positions, with_room, TriesDueCall, TriesAhead, log_call, EndsGroup, LogsOn, InstallAnswers as WalInstalls}
 use Rattle.journal_wal.specs.Groups.{FitsGroup, TakesGroup}
@@ -154,10 +154,12 @@ IsReadRefusal blocks old t addr new (Stranger cause) =
     IsRunning old × IsTrue (is_valid blocks addr) × IsMoved old.history t cause × (new ≡ old)
 IsReadRefusal blocks old t addr new other = ⊥
 
--- A session of a number that no session had before, and that the history has no commit of. It has seen the whole history
+-- A session of a number that no session had before, and that the history has no commit and no fence of. It has seen the whole
+-- history
 pub record BeginsSession (old : CoreState) (session : SessionState) (new : CoreState) : Type 0 where
   pub is : session ≡ record { number = old.next; mine = old.history; seen = old.history }
   pub fresh : commits_of old.next old.history ≡ []
+  pub unfenced : is_fenced old.next old.history ≡ false
   pub others : new ≡ record old { next = old.next + 1 }
 
 -- why there is no further session

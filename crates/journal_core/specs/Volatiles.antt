@@ -4,11 +4,11 @@ use Rattle.std.specs.Prelude.{ℕ, ◌≡◌, ◌≢◌, ◌⊎◌, ◌<◌, ◌
 use Rattle.journal_world.specs.declared.address.Addr.{Addr}
 use Rattle.journal_world.specs.declared.refusal.Refusal.{Refusal}
 use Rattle.journal_world.specs.declared.refusal.Refusal.TheVariants.{Stale}
-use Rattle.journal_world.specs.Histories.{Entry, opened, is_trusted, count, floor}
+use Rattle.journal_world.specs.Histories.{Entry, opened, is_trusted, count, floor, latest}
 use Rattle.journal_block.specs.declared.update.Update.{Update}
 use Rattle.journal_memlog.specs.Logs.{next_position, tail_of}
 use Rattle.journal_circ.specs.declared.layout.TheConstants.{LOG_POSITIONS}
-use Rattle.journal_wal.specs.Tails.{TailState, cut_points, updates_from}
+use Rattle.journal_wal.specs.Tails.{TailState, cut_points, known_blocks, updates_from}
 use Rattle.journal_wal.specs.declared.tail.CutPoint.{CutPoint}
 use Rattle.journal_objlog.specs.ObjectTails.{blocks_of}
 use Rattle.journal_history.specs.Soundness.{IsLonger}
@@ -16,7 +16,7 @@ use Rattle.journal_core.specs.declared.refusal_number.RefusalNumber.TheVariants.
 use Rattle.journal_core.specs.Causes.{Told, IsExplained}
 use Rattle.journal_core.specs.Memories.{MemoryState}
 use Rattle.journal_core.specs.Transactions.{TransactionState}
-use Rattle.journal_core.specs.Updates.{HaveAllSince}
+use Rattle.journal_core.specs.Updates.{HaveAllSince, AreObjectsOf}
 use Rattle.journal_core.specs.Outsets.{Outset, MayRead, IsLookRefusal}
 use Rattle.journal_core.specs.Durables.{FetchedState}
 
@@ -50,7 +50,7 @@ pub record HasUpdates (blocks : ℕ) (v : VolatileState) : Type 0 where
   pub since_last : HaveAllSince blocks v.memory.history v.memory.cut (tail_of v.tail.log)
 
 -- What it keeps by itself, on a disk of so many blocks: each block that a commit after `trimmed` wrote is in memory as the
--- commits left it
+-- commits left it, and each block of which it has a copy
 pub record IsVolatile (blocks : ℕ) (v : VolatileState) : Type 0 where
   pub size : blocks_of v.tail ≡ blocks
   pub begun : v.memory.history ≢ []
@@ -60,6 +60,8 @@ pub record IsVolatile (blocks : ℕ) (v : VolatileState) : Type 0 where
   pub small : next_position v.tail.log < 2 ^ 62
   pub cuts : All (IsCutOf v) (cut_points v.tail)
   pub updates : IsTrue (is_trusted v.memory.history) → HasUpdates blocks v
+  -- what it knows of a block, by its updates or by its copy alone, is what the latest map has
+  pub known : IsTrue (is_trusted v.memory.history) → AreObjectsOf blocks (latest v.memory.history) (known_blocks v.tail)
 
 -- how many positions of the log have updates up to the last cut, where it starts at this one
 abbrev pub used_positions : VolatileState → ℕ → ℕ

@@ -22,14 +22,13 @@ impl<'b, D: BlockDisk, R: MapRule, J: Naming> Core<'b, D, R, J> {
     /// from the device come before the history grows; it takes what memory the spares have first.
     ///
     /// The first that applies of these refuses it: J13 `Closed` where the core was stopped, J6 `DeviceFailed` where
-    /// the device failed before, J9 `Stale`
-    /// where the session or the transaction has seen more of the history than the core, or the history is longer,
-    /// J10 `Stranger` where the history has a commit under the session's number that the session did not make, or
-    /// a commit touched a slot under which the transaction had read, J4 `TooLarge` where more than 128 distinct
-    /// blocks are written, J11 `Worn` where the history's length, the session's number or a position of the log
-    /// would reach 2^62, J12 `Full` where the log's tail cannot take the blocks that do not stand in it, then J1
-    /// `NoMemory` where memory is refused, or J6 where the device fails in this call. The history, the map and the
-    /// pending writes are then as they were.
+    /// the device failed before, J9 `Stale` where the session or the transaction has seen more of the history than the
+    /// core, or the history is longer, J10 `Stranger` where the history has a commit under the session's number that the
+    /// session did not make, or a commit touched a slot under which the transaction had read, J14 `Fenced` where the
+    /// session is fenced, J4 `TooLarge` where more than 128 distinct blocks are written, J11 `Worn` where the history's
+    /// length, the session's number or a position of the log would reach 2^62, J12 `Full` where the log's tail cannot
+    /// take the blocks that do not stand in it, then J1 `NoMemory` where memory is refused, or J6 where the device fails
+    /// in this call. The history, the map and the pending writes are then as they were.
     pub fn commit_step(
         &mut self,
         session: &mut Session<'b, J, R>,

@@ -1,4 +1,6 @@
 // Which fronts of the history have only marked commits.
+ghost use Rattle.std.specs.Prelude.{◌<◌, ◌^◌, ◌≡◌};
+ghost use Rattle.journal_core.specs.Covers.{with_quiet};
 
 /// The lengths of two fronts of the history: the longest whose commits are all marked, and the longest that has no more
 /// commits than there were at the last cut. A mark is of the commits at the cut or of all, so the next mark finds the
@@ -7,4 +9,23 @@
 pub(crate) struct Covered {
     pub(crate) marked: u64,
     pub(crate) cut: u64,
+}
+
+impl Covered {
+    /// One entry more behind so many, which is no commit: a front of all of them is longer by it.
+    pub(crate) fn add_quiet(&mut self, len: u64)
+        requires { len < 2 ^ 62 }
+        ensures { self.new ≡ record { marked = with_quiet len self.old.marked; cut = with_quiet len self.old.cut } }
+    {
+        self.marked = one_longer(self.marked, len);
+        self.cut = one_longer(self.cut, len);
+    }
+}
+
+// How long the front is with one entry more behind so many.
+fn one_longer(entries: u64, len: u64) -> u64
+    requires { len < 2 ^ 62 }
+    ensures { result ≡ with_quiet len entries }
+{
+    if entries == len { len + 1 } else { entries }
 }

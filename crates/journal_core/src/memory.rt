@@ -1,9 +1,9 @@
 // The core's memory part, and what it tells without a step.
-ghost use Rattle.std.specs.Prelude.{◌≡◌, ◌≢◌, ◌<◌, ◌↔◌, [], false, length, IsTrue, IfErr, OnOk, All};
+ghost use Rattle.std.specs.Prelude.{ℕ, ◌≡◌, ◌≢◌, ◌<◌, ◌↔◌, [], false, length, IsTrue, IfErr, OnOk, All};
 ghost use mathlib.Core.List.{IsPrefix};
 ghost use Rattle.journal_world.specs.declared.address.TheConstants.{SLOTS as SLOT_COUNT};
 ghost use Rattle.journal_world.specs.Maps.{Agrees};
-ghost use Rattle.journal_world.specs.Histories.{opened, is_trusted, commits, count, floor, latest, touched};
+ghost use Rattle.journal_world.specs.Histories.{opened, is_trusted, is_fenced, commits, count, floor, latest, touched};
 ghost use Rattle.journal_history.specs.Soundness.{IsSound};
 ghost use Rattle.journal_core.specs.Memories.{IsLookRefusal, IsMovedRefusal};
 ghost use Rattle.journal_core.specs.SlotCounts.{CountsNothing};
@@ -29,7 +29,7 @@ pub(crate) struct Memory<'b, R: MapRule, J: Naming> {
     // How many commits there were at the last cut.
     pub(crate) cut: u64,
     pub(crate) covered: Covered,
-    // How many commits each session has, and the number of the next one.
+    // How many commits each session has, whether it is fenced, and the number of the next one.
     pub(crate) tally: Tally,
     pub(crate) next: u64,
     // It was stopped.
@@ -49,7 +49,7 @@ impl<'b, R: MapRule, J: Naming> Model for Memory<'b, R, J> {
 }
 
 impl<'b, R: MapRule, J: Naming> Memory<'b, R, J> {
-    /// A history without commits, and no session. It takes no memory.
+    /// A history without commits and fences, and no session. It takes no memory.
     pub(crate) fn new(
         alloc: Global,
         writer: Writer<'b, J, R>,
@@ -57,6 +57,7 @@ impl<'b, R: MapRule, J: Naming> Memory<'b, R, J> {
     ) -> Memory<'b, R, J>
         requires none { commits writer ≡ [] }
         requires unmarked { floor writer ≡ 0 }
+        requires unfenced { (s : ℕ) → is_fenced s writer ≡ false }
         requires slots { CountsNothing slots }
         ensures { result ≡ record { history = writer.entry; cut = 0; next = 0; closed = false } }
     {

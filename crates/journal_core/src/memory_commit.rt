@@ -1,7 +1,7 @@
 // What the memory part adds to the history.
-ghost use Rattle.std.specs.Prelude.{◌≡◌, ◌≢◌, ◌<◌, ◌≤◌, ◌+◌, ◌^◌, ◌++◌, ◌∷◌, ◌⊎◌, [], max, IsTrue, length, IfOk, IfErr, OnOk, OnErr};
+ghost use Rattle.std.specs.Prelude.{◌≡◌, ◌≢◌, ◌<◌, ◌≤◌, ◌+◌, ◌^◌, ◌++◌, ◌∷◌, ◌⊎◌, [], max, false, IsTrue, length, IfOk, IfErr, OnOk, OnErr};
 ghost use Rattle.journal_world.specs.Maps.{Map, Agrees, are_objects, overwritten};
-ghost use Rattle.journal_world.specs.Histories.{is_trusted, commits_of, count, floor, latest};
+ghost use Rattle.journal_world.specs.Histories.{is_trusted, is_fenced, commits_of, count, floor, latest};
 ghost use Rattle.journal_world.specs.Histories.Entry.{stable};
 ghost use Rattle.journal_history.specs.Tokens.{made, next_transaction, OnlyExtends, Commits, IsReceiptFor};
 ghost use Rattle.journal_core.specs.Memories.{HasSeen, ShowsLonger, IsStaleRefusal, IsAdmissionRefusal, IsAddingRefusal, IsMarkRefusal};
@@ -16,7 +16,7 @@ use journal_history::{Naming, Receipt, Session};
 use journal_world::{MapRule, Refusal};
 
 impl<'b, R: MapRule, J: Naming> Memory<'b, R, J> {
-    /// Refuses a commit by what is known of the session and of what the transaction has read: J9 and J10. The
+    /// Refuses a commit by what is known of the session and of what the transaction has read: J9, J10 and J14. The
     /// session has then seen the history as it is, or the longer one.
     pub(crate) fn admit(
         &self,
@@ -26,6 +26,7 @@ impl<'b, R: MapRule, J: Naming> Memory<'b, R, J> {
         ensures own { OnOk result (length (commits_of session.old.number self.now.history) ≡ made session.old) }
         ensures seen { OnOk result (HasSeen self.now.history session.old transaction.now) }
         ensures unmoved { OnOk result (AreUnmoved self.now.history transaction.now) }
+        ensures unfenced { OnOk result (is_fenced session.old.number self.now.history ≡ false) }
         ensures agrees { OnOk result (IsTrue (is_trusted self.now.history) → Agrees (latest self.now.history) transaction.now.reads) }
         ensures session { OnlyExtends session.old session.new }
         ensures refusal { IfErr result (IsAdmissionRefusal self.now.history session.old transaction.now) }
@@ -35,6 +36,9 @@ impl<'b, R: MapRule, J: Naming> Memory<'b, R, J> {
         self.admit_reads(transaction)?;
         if self.tally.made(session.number()) != session.made() {
             return Err(Refusal::Stranger(Cause::of(RefusalNumber::J10, self.writer.front())));
+        }
+        if self.tally.is_fenced(session.number()) {
+            return Err(Refusal::Fenced);
         }
         Ok(())
     }
@@ -68,6 +72,7 @@ impl<'b, R: MapRule, J: Naming> Memory<'b, R, J> {
             → R.statement (overwritten m transaction.now.writes) }
         requires agrees { IsTrue (is_trusted self.old.history) → Agrees (latest self.old.history) transaction.now.reads }
         requires own { length (commits_of session.old.number self.old.history) ≡ made session.old }
+        requires unfenced { is_fenced session.old.number self.old.history ≡ false }
         requires room { length self.old.history + 1 < 2 ^ 62 }
         requires small { session.old.number < 2 ^ 62 }
         ensures committed { OnOk result (Commits (next_transaction session.old transaction.now.reads transaction.now.writes) session.old session.new self.old.history self.new.history) }

@@ -1,7 +1,7 @@
 // The memory part's steps for sessions, and its stop.
-ghost use Rattle.std.specs.Prelude.{◌≡◌, ◌+◌, [], true, length, IfOk, IfErr, OnOk, OnErr};
+ghost use Rattle.std.specs.Prelude.{◌≡◌, ◌+◌, [], true, false, length, IfOk, IfErr, OnOk, OnErr};
 ghost use mathlib.Core.List.{IsPrefix};
-ghost use Rattle.journal_world.specs.Histories.{commits_of};
+ghost use Rattle.journal_world.specs.Histories.{commits_of, is_fenced};
 ghost use Rattle.journal_history.specs.Tokens.{made, IsExact, OnlyExtends};
 ghost use Rattle.journal_core.specs.Memories.{ShowsLonger, IsNumberRefusal, IsStaleRefusal, IsStrayRefusal};
 
@@ -13,10 +13,11 @@ use journal_history::{Naming, Session};
 use journal_world::{MapRule, Refusal};
 
 impl<'b, R: MapRule, J: Naming> Memory<'b, R, J> {
-    /// A session of the next number, that no session had before. Refuses by J11. It takes no memory.
+    /// A session of the next number, that no session had before and that is not fenced. Refuses by J11. It takes no memory.
     pub(crate) fn session(&mut self) -> Result<Session<'b, J, R>, Refusal<Cause<'b, J, R>>>
         ensures is { IfOk result (λ session. session ≡ record { number = self.old.next; mine = self.old.history; seen = self.old.history }) }
         ensures fresh { commits_of self.old.next self.old.history ≡ [] }
+        ensures unfenced { is_fenced self.old.next self.old.history ≡ false }
         ensures others { OnOk result (self.new ≡ record self.old { next = self.old.next + 1 }) }
         ensures history { self.new.history ≡ self.old.history }
         ensures cut { self.new.cut ≡ self.old.cut }

@@ -1,5 +1,5 @@
 // The opening of a mount.
-ghost use Rattle.std.specs.Prelude.{◌≡◌, ◌↔◌, ◌∷◌, [], false, true, length, IsTrue, OnOk, IfOk, IfErr, IfSome};
+ghost use Rattle.std.specs.Prelude.{◌≡◌, ◌<◌, ◌↔◌, ◌∷◌, [], false, true, length, IsTrue, OnOk, IfOk, IfErr, IfSome};
 ghost use Rattle.journal_world.specs.Histories.Entry.{opening};
 ghost use Rattle.journal_wal.specs.Wal.{size_of, IsAtRest};
 ghost use Rattle.journal_wal.specs.Tails.{empty_tail};
@@ -40,7 +40,8 @@ impl<'a, D: BlockDisk> Opened for MapNow<'a, D> {
 
 impl<'b, D: BlockDisk, R: MapRule, J: Naming> Core<'b, D, R, J> {
     /// Opens a disk on which nothing is pending: begins the book's history with the map that the disk holds,
-    /// where the rule admits it. What lies in the disk's log is read into memory, and nothing is written.
+    /// where the rule admits it. What lies in the disk's log is read into memory, and nothing is written. Copies of no more
+    /// than so many blocks that are at home will be kept in memory.
     ///
     /// The first that applies of these refuses it: J8 `BadSuper` where the number of blocks is out of range, J7
     /// `BadLog` where the disk's log is not well formed, J8 where the rule does not hold of the map, J9 `Stale`
@@ -51,7 +52,9 @@ impl<'b, D: BlockDisk, R: MapRule, J: Naming> Core<'b, D, R, J> {
         book: &'b Book<R>,
         disk: D,
         rule: &R,
+        copies: usize,
     ) -> Result<Core<'b, D, R, J>, Refused<D, Cause<'b, J, R>>>
+        requires some { 0 < copies }
         requires book { book.now ≡ J.book }
         requires blocks { (D.state disk).past.size ≡ J.blocks }
         requires settled { IsTrue (D.state disk).honest → IsSettled (D.state disk).past }
@@ -82,7 +85,7 @@ impl<'b, D: BlockDisk, R: MapRule, J: Naming> Core<'b, D, R, J> {
                 });
             }
         };
-        let tail = match ObjectTail::new(alloc, layout, objects.log_range().1) {
+        let tail = match ObjectTail::new(alloc, layout, objects.log_range().1, copies) {
             Ok(tail) => tail,
             Err(refusal) => {
                 return Err(Refused {

@@ -14,8 +14,8 @@ use journal_history::{Naming, Session};
 use journal_world::{MapRule, Refusal};
 
 impl<'b, D: BlockDisk, R: MapRule, J: Naming> Core<'b, D, R, J> {
-    /// A session of a number that no session had before and that the history has no commit of. It has seen the
-    /// whole history. It takes no memory.
+    /// A session of a number that no session had before and that the history has no commit and no fence of. It has
+    /// seen the whole history. It takes no memory.
     ///
     /// Answers J11 `Worn` where the number would reach 2^62.
     pub fn session_step(&mut self) -> Result<Session<'b, J, R>, Refusal<Cause<'b, J, R>>>

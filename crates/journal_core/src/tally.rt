@@ -1,15 +1,23 @@
-// How many commits each session has.
+// What is kept of each session.
 ghost use Rattle.std.specs.Prelude.{◌≡◌, ◌<◌, ◌^◌, [], OnOk};
-ghost use Rattle.journal_core.specs.Tallies.{made_among, HasPlace, SameTally, CountsOne};
+ghost use Rattle.journal_core.specs.Tallies.{no_made, made_among, fenced_among, HasPlace, SameTally, CountsOne, NotesFence};
 
 use std::alloc::{AllocError, Global};
 use std::collections::BTreeMap;
 use std::marker::Model;
 
-/// The numbers of commits, by their sessions' numbers. It grows with the sessions, and not with the commits.
+/// The numbers of commits, by their sessions' numbers, and which sessions are fenced. It grows with the sessions, and
+/// not with the commits.
 #[derive(Drop)]
 pub(crate) struct Tally {
-    made: BTreeMap<u64, u64>,
+    made: BTreeMap<u64, Made>,
+}
+
+// How many commits a session has, and whether it is fenced.
+#[derive(Clone, Copy)]
+struct Made {
+    commits: u64,
+    fenced: bool,
 }
 
 impl Model for Tally {
@@ -30,20 +38,43 @@ impl Tally {
         }
     }
 
+    // What is kept of the session.
+    fn one(&self, session: u64) -> Made
+        ensures commits { result.commits ≡ made_among self.now session }
+        ensures fenced { result.fenced ≡ fenced_among self.now session }
+    {
+        let none = Made {
+            commits: 0,
+            fenced: false,
+        };
+        self.made.get(&session).copied().unwrap_or(none)
+    }
+
     /// How many commits the session has.
     pub(crate) fn made(&self, session: u64) -> u64
         ensures { result ≡ made_among self.now session }
     {
-        self.made.get(&session).copied().unwrap_or(0)
+        self.one(session).commits
     }
 
-    /// Makes a place for the session, so that `count_one` takes no memory.
+    /// Whether the session is fenced.
+    pub(crate) fn is_fenced(&self, session: u64) -> bool
+        ensures { result ≡ fenced_among self.now session }
+    {
+        self.one(session).fenced
+    }
+
+    /// Makes a place for the session, so that `count_one` and `note_fence` take no memory.
     pub(crate) fn reserve(&mut self, session: u64) -> Result<(), AllocError>
         ensures same { SameTally self.old self.new }
         ensures place { OnOk result (HasPlace self.new session) }
     {
         if self.made.get(&session).is_none() {
-            self.made.insert(session, 0)?;
+            let none = Made {
+                commits: 0,
+                fenced: false,
+            };
+            self.made.insert(session, none)?;
         }
         Ok(())
     }
@@ -54,8 +85,26 @@ impl Tally {
         requires small { made_among self.old session < 2 ^ 62 }
         ensures { CountsOne session self.old self.new }
     {
-        let made = self.made(session);
-        let counted: Result<_, _> = self.made.insert(session, made + 1);
+        let one = self.one(session);
+        let more = Made {
+            commits: one.commits + 1,
+            fenced: one.fenced,
+        };
+        let counted: Result<_, _> = self.made.insert(session, more);
         counted.unwrap();
+    }
+
+    /// Keeps that the session is fenced, where `reserve` made the place.
+    pub(crate) fn note_fence(&mut self, session: u64)
+        requires place { HasPlace self.old session }
+        ensures { NotesFence session self.old self.new }
+    {
+        let one = self.one(session);
+        let fenced = Made {
+            commits: one.commits,
+            fenced: true,
+        };
+        let kept: Result<_, _> = self.made.insert(session, fenced);
+        kept.unwrap();
     }
 }

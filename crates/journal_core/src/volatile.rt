@@ -1,7 +1,7 @@
 // The core's volatile part, and what it tells without a step.
 ghost use Rattle.std.specs.Prelude.{◌≡◌, ◌<◌, ◌+◌, ◌^◌, [], false, true, IfOk, IfErr, OnOk, OnErr};
 ghost use mathlib.Core.List.{IsPrefix};
-ghost use Rattle.journal_world.specs.Histories.{opened, commits_of, count};
+ghost use Rattle.journal_world.specs.Histories.{opened, commits_of, is_fenced, count};
 ghost use Rattle.journal_wal.specs.Tails.{empty_tail};
 ghost use Rattle.journal_core.specs.Memories.{IsNumberRefusal};
 ghost use Rattle.journal_core.specs.Outsets.{GoesOn, IsEndRefusal};
@@ -15,8 +15,8 @@ use journal_objlog::ObjectTail;
 use journal_world::{Layout, MapRule, Refusal};
 use std::marker::Model;
 
-/// What the core has in memory alone, for a lock of its own: the history, with what is counted beside it, and the objects
-/// that commits wrote and that are not at home yet.
+/// What the core has in memory alone, for a lock of its own: the history, with what is counted beside it, the objects
+/// that commits wrote and that are not at home yet, and copies of blocks that are at home.
 ///
 /// It holds no device, so that none of its functions waits for a device call. A read or a commit that needs a block which
 /// is not here says so. The caller fetches it from the durable part, and makes the call again with what was fetched.
@@ -39,7 +39,7 @@ impl<'b, R: MapRule, J: Naming> Model for Volatile<'b, R, J> {
 }
 
 impl<'b, R: MapRule, J: Naming> Volatile<'b, R, J> {
-    /// That of a mount that begins, over a disk whose log ends at a position: no commit was made.
+    /// That of a mount that begins, over a disk whose log ends at a position: no commit was made, and no block is known.
     pub(crate) fn new(memory: Memory<'b, R, J>, tail: ObjectTail) -> Volatile<'b, R, J>
         requires begun { memory.cut ≡ 0 }
         requires none { count memory.history ≡ 0 }
@@ -103,10 +103,11 @@ impl<'b, R: MapRule, J: Naming> Volatile<'b, R, J> {
         Ok(front)
     }
 
-    /// A session of the next number, that no session had before. Refuses by J11. It takes no memory.
+    /// A session of the next number, that no session had before and that is not fenced. Refuses by J11. It takes no memory.
     pub fn session(&mut self) -> Result<Session<'b, J, R>, Refusal<Cause<'b, J, R>>>
         ensures is { IfOk result (λ session. session ≡ record { number = self.old.memory.next; mine = self.old.memory.history; seen = self.old.memory.history }) }
         ensures fresh { commits_of self.old.memory.next self.old.memory.history ≡ [] }
+        ensures unfenced { is_fenced self.old.memory.next self.old.memory.history ≡ false }
         ensures others { OnOk result (self.new ≡ record self.old { memory = record self.old.memory { next = self.old.memory.next + 1 } }) }
         ensures refusal { IfErr result (IsNumberRefusal self.old.memory.next) }
         ensures same { OnErr result (self.new ≡ self.old) }

@@ -1,8 +1,8 @@
 // Commits in memory.
-ghost use Rattle.std.specs.Prelude.{◌≡◌, ◌≢◌, ◌<◌, ◌+◌, ◌^◌, ◌↔◌, ℕ, [], true, IsTrue, List, length, All, Err, IfOk, IfErr, OnOk, OnErr};
+ghost use Rattle.std.specs.Prelude.{◌≡◌, ◌≢◌, ◌<◌, ◌+◌, ◌^◌, ◌↔◌, ℕ, [], true, false, IsTrue, List, length, All, Err, IfOk, IfErr, OnOk, OnErr};
 ghost use Rattle.journal_world.specs.declared.refusal.Refusal.TheVariants.{TooLarge};
 ghost use Rattle.journal_world.specs.Maps.{Map, Agrees, are_objects, overwritten};
-ghost use Rattle.journal_world.specs.Histories.{is_trusted, commits_of, latest};
+ghost use Rattle.journal_world.specs.Histories.{is_trusted, is_fenced, commits_of, latest};
 ghost use Rattle.journal_block.specs.Updates.{updates_block};
 ghost use Rattle.journal_objlog.specs.ObjectTails.{blocks_of, known_updates, tail_base, missing_blocks, TakesPrepared, IfReady, IfMissing as IfUnready};
 ghost use Rattle.journal_objlog.specs.Writes.{writes_block, written_blocks, IsPrepared};
@@ -44,10 +44,10 @@ impl<'b, R: MapRule, J: Naming> Volatile<'b, R, J> {
     /// The first that applies of these refuses it: J13 `Closed` where it was stopped, J6 `DeviceFailed` where the device
     /// failed before, J9 `Stale` where the session, the transaction or the fetch has seen more of the history, or it is
     /// longer, J10 `Stranger` where the history has a commit under the session's number that the session did not make,
-    /// or a commit touched a slot under which the transaction had read, J4 `TooLarge` where more than 128 distinct blocks
-    /// are written, J11 `Worn` where the history's length, the session's number or a position of the log would reach 2^62,
-    /// J12 `Full` where the tail cannot take the blocks that do not stand in it, then J1 `NoMemory` where memory is
-    /// refused. The history and the objects are then as they were.
+    /// or a commit touched a slot under which the transaction had read, J14 `Fenced` where the session is fenced, J4
+    /// `TooLarge` where more than 128 distinct blocks are written, J11 `Worn` where the history's length, the session's
+    /// number or a position of the log would reach 2^62, J12 `Full` where the tail cannot take the blocks that do not
+    /// stand in it, then J1 `NoMemory` where memory is refused. The history and the objects are then as they were.
     pub fn commit(
         &mut self,
         session: &mut Session<'b, J, R>,
@@ -140,6 +140,7 @@ impl<'b, R: MapRule, J: Naming> Volatile<'b, R, J> {
             → R.statement (overwritten m transaction.now.writes) }
         requires agrees { IsTrue (is_trusted self.old.memory.history) → Agrees (latest self.old.memory.history) transaction.now.reads }
         requires own { length (commits_of session.old.number self.old.memory.history) ≡ made session.old }
+        requires unfenced { is_fenced session.old.number self.old.memory.history ≡ false }
         requires room { length self.old.memory.history + 1 < 2 ^ 62 }
         requires small { session.old.number < 2 ^ 62 }
         requires ready { TakesPrepared self.old.tail prepared }

@@ -1,15 +1,16 @@
-// What is cut from memory, marked, and dropped from it.
+// What is cut from memory, marked, dropped from it, and kept in it.
 ghost use Rattle.std.specs.Prelude.{◌≡◌, ◌≤◌, ◌⊎◌, ◌++◌, ◌∷◌, [], length, IsTrue, IsOkUnless, IfOk, IfErr, OnOk, OnErr};
-ghost use Rattle.journal_world.specs.Histories.{is_trusted, count, floor};
+ghost use Rattle.journal_world.specs.Histories.{is_trusted, count, floor, latest};
 ghost use Rattle.journal_world.specs.Histories.Entry.{stable};
 ghost use Rattle.journal_memlog.specs.Logs.{HasDistinctBlocks, tail_of};
 ghost use Rattle.journal_wal.specs.Wal.{AreHomes};
 ghost use Rattle.journal_wal.specs.Tails.{DropsCuts, cut_after};
 ghost use Rattle.journal_wal.specs.declared.append.TheConstants.{MAX_TAIL};
 ghost use Rattle.journal_core.specs.Memories.{IsMarkRefusal};
-ghost use Rattle.journal_core.specs.Updates.{HaveAllSince};
+ghost use Rattle.journal_core.specs.Updates.{HaveAllSince, AreObjectsOf};
 
 use crate::cause::{Cause, raise};
+use crate::fetched::Fetched;
 use crate::volatile::Volatile;
 use journal_block::Update;
 use journal_history::Naming;
@@ -37,7 +38,38 @@ impl<'b, R: MapRule, J: Naming> Volatile<'b, R, J> {
         Ok(group)
     }
 
-    /// Drops the updates of each cut that ends at the position or before it: they are at home.
+    /// Makes the copy of the home block the one that was used last, where there is one.
+    pub fn touch(&mut self, block: u64)
+        ensures { self.new ≡ record self.old { tail = record self.old.tail { home = self.new.tail.home } } }
+    {
+        self.tail.touch(block);
+    }
+
+    /// Keeps copies of the fetched blocks for later reads and commits, unless what commits wrote after them is not in memory
+    /// any more. Where there are too many copies, those go that were used least recently. One for which memory is refused is
+    /// not kept.
+    pub fn keep(&mut self, fetched: Fetched<'b, J, R>)
+        ensures { self.new ≡ record self.old { tail = record self.old.tail { home = self.new.tail.home } } }
+    {
+        if self.can_keep(&fetched) {
+            let Fetched { updates, .. } = fetched;
+            self.tail.keep(updates);
+        }
+    }
+
+    // Whether what commits wrote after the fetch is in memory.
+    fn can_keep(&self, fetched: &Fetched<'b, J, R>) -> bool
+        ensures { IsTrue result → IsTrue (is_trusted self.now.memory.history)
+            → AreObjectsOf J.blocks (latest self.now.memory.history) (fetched.now.updates ++ self.now.tail.log.updates) }
+    {
+        let Ok(_front) = self.front_over(&fetched.front) else {
+            return false;
+        };
+        self.tail.trimmed() <= fetched.commits
+    }
+
+    /// Drops the updates of each cut that ends at the position or before it: they are at home. Copies of their blocks are
+    /// overwritten by them.
     pub(crate) fn trim(&mut self, upto: u64)
         ensures drops { DropsCuts self.old.tail upto self.new.tail }
         ensures others { self.new ≡ record self.old { tail = self.new.tail } }

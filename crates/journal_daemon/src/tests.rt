@@ -1,7 +1,9 @@
 // Runs of a journal, in one thread and in several, and beside a logger and an installer.
 mod barriers;
 mod beside_daemon;
+mod copies;
 mod crashes;
+mod fences;
 mod gated_disk;
 mod one_thread;
 mod openings;
@@ -64,6 +66,8 @@ enum Trial {
     IsBusy,
     CommitSideBySide,
     GoOn,
+    EndASession,
+    EndTheWaitForRoom,
     WaitForRoom,
     BreakTheWaitForRoom,
     AnswerWaits,
@@ -111,6 +115,8 @@ fn try_on<J: Naming + Send + Sync, H: Abort + Threads + Wait + Sync>(
         Trial::IsBusy => one_thread::is_busy(rt, alloc, journal),
         Trial::CommitSideBySide => threads::commit_side_by_side(rt, alloc, journal),
         Trial::GoOn => threads::go_on(rt, alloc, journal),
+        Trial::EndASession => fences::end_a_session(rt, alloc, journal),
+        Trial::EndTheWaitForRoom => fences::end_the_wait_for_room(rt, alloc, journal),
         Trial::WaitForRoom => threads::wait_for_room(rt, alloc, journal, false, 0),
         Trial::BreakTheWaitForRoom => threads::wait_for_room(rt, alloc, journal, true, 6),
         Trial::AnswerWaits => waits::answer_waits(rt, alloc, journal),
@@ -208,7 +214,7 @@ fn count_of<'b, J: Naming>(answer: Result<Receipt<'b, J, AnyMap>, Reason<'b, J>>
     }
 }
 
-/// The number of a refusal, or 14 where it is none of these.
+/// The number of a refusal, or 15 where it is none of these.
 fn number_of<T: Drop, C: Drop>(answer: Result<T, Refusal<C>>) -> u64 {
     match answer {
         Ok(_) => 0,
@@ -218,7 +224,8 @@ fn number_of<T: Drop, C: Drop>(answer: Result<T, Refusal<C>>) -> u64 {
         Err(Refusal::DeviceFailed(_)) => 6,
         Err(Refusal::Full(_)) => 12,
         Err(Refusal::Closed(_)) => 13,
-        Err(_) => 14,
+        Err(Refusal::Fenced) => 14,
+        Err(_) => 15,
     }
 }
 

@@ -1,7 +1,7 @@
 -- Why an operation has no answer: the refusals that it may have.
 use Rattle.journal_world.specs.declared.address.Addr.{Addr}
 use Rattle.journal_world.specs.declared.refusal.Refusal.{Refusal}
-use Rattle.journal_world.specs.declared.refusal.Refusal.TheVariants.{NoMemory, BadAddress, Busy, DeviceFailed, Stale, Stranger, Worn, Closed}
+use Rattle.journal_world.specs.declared.refusal.Refusal.TheVariants.{NoMemory, BadAddress, Busy, DeviceFailed, Stale, Stranger, Worn, Closed, Fenced}
 use Rattle.journal_history.specs.Tokens.{SessionState}
 use Rattle.journal_core.specs.declared.refusal_number.RefusalNumber.TheVariants.{J6, J9, J10, J11, J13}
 use Rattle.journal_core.specs.Causes.{Told, IsUnexplained}
@@ -22,6 +22,7 @@ IsFilesRefusal (Stale cause) = IsShown J9 cause
 IsFilesRefusal (Stranger cause) = IsShown J10 cause
 IsFilesRefusal (Worn cause) = IsUnexplained J11 cause
 IsFilesRefusal (Closed cause) = IsUnexplained J13 cause
+IsFilesRefusal Fenced = Unit {0}
 IsFilesRefusal other = ⊥
 
 -- Why an operation has no answer: it is refused, or its wait until it is stable is, after which the session has seen this

@@ -10,6 +10,7 @@ ghost use Rattle.journal_core.specs.Openings.{HasWellFormedLog, IsOpenRefusal, O
 ghost use Rattle.journal_inode.specs.Sound.{HasSoundFiles};
 ghost use Rattle.journal_twophase.specs.Journals.{BeginsWith, IsCloseRefusal};
 ghost use Rattle.journal_twophase.specs.Waits.{IsWaitRefusal};
+ghost use Rattle.journal_twophase.specs.declared.journal.TheConstants.{MAX_CACHED_BLOCKS};
 ghost use Rattle.journal_wal.specs.declared.append.TheConstants.{MAX_UPDATES};
 ghost use Rattle.journal_objlog.specs.Writes.{written_blocks};
 ghost use Rattle.journal_filestore.specs.Done.{IsAnswered, IsAnsweredSoon, IsPaid, IsWait, Ends, owed_for};
@@ -23,7 +24,7 @@ use journal_core::Cause;
 use journal_disk::BlockDisk;
 use journal_history::{Book, Naming, Receipt, Session};
 use journal_inode::{FormatVersion, SoundFiles, Version, VersionOne};
-use journal_twophase::{Journal, Txn};
+use journal_twophase::{CACHED_BLOCKS, Journal, MAX_CACHED_BLOCKS, Txn};
 use journal_world::{Addr, FIRST_DATA, Refusal, Refused};
 use std::alloc::Global;
 use std::marker::Model;
@@ -80,8 +81,29 @@ impl<'b, D: BlockDisk, J: Naming, V: Version> FileStore<'b, D, J, V> {
         ensures refusal { IfErr result (λ refused. IsOpenRefusal (HasSoundFiles V.VERSION) (D.state disk) (D.state refused.disk) refused.refusal) }
         ensures left { IfErr result (λ refused. OnlyReadsDisk (D.state disk) (D.state refused.disk)) }
     {
+        FileStore::mount_with_cache(alloc, book, disk, CACHED_BLOCKS)
+    }
+
+    /// Mounts a disk as `mount` does, and is refused as it is. Copies of no more than so many blocks that are at home are
+    /// kept in memory, as `Journal::open_with_cache` keeps them, from 1 to 4096.
+    pub fn mount_with_cache(
+        alloc: Global,
+        book: &'b Book<SoundFiles<V>>,
+        disk: D,
+        cached: usize,
+    ) -> Result<FileStore<'b, D, J, V>, Refused<D, Cause<'b, J, SoundFiles<V>>>>
+        requires some { 1 ≤ cached }
+        requires most { cached ≤ MAX_CACHED_BLOCKS }
+        requires book { book.now ≡ J.book }
+        requires blocks { (D.state disk).past.size ≡ J.blocks }
+        requires settled { IsTrue (D.state disk).honest → IsSettled (D.state disk).past }
+        ensures begun { IfOk result (λ store. BeginsWith (HasSoundFiles V.VERSION) (D.state disk) store.start) }
+        ensures well_formed { IsTrue (D.state disk).honest → OnOk result (HasWellFormedLog (D.state disk)) }
+        ensures refusal { IfErr result (λ refused. IsOpenRefusal (HasSoundFiles V.VERSION) (D.state disk) (D.state refused.disk) refused.refusal) }
+        ensures left { IfErr result (λ refused. OnlyReadsDisk (D.state disk) (D.state refused.disk)) }
+    {
         let rule = SoundFiles::new(alloc);
-        let journal = Journal::open(alloc, book, disk, &rule)?;
+        let journal = Journal::open_with_cache(alloc, book, disk, &rule, cached)?;
         let out = match rule.into_owners() {
             Some(owners) => owners,
             None => Vec::new(alloc),

@@ -1,15 +1,15 @@
 // The one that adds to the history.
-ghost use Rattle.std.specs.Prelude.{◌≡◌, ◌≢◌, ◌<◌, ◌≤◌, ◌^◌, ◌++◌, ◌∷◌, [], length, IsTrue, IfOk, IfErr, OnOk, OnErr};
+ghost use Rattle.std.specs.Prelude.{false, ◌≡◌, ◌≢◌, ◌<◌, ◌≤◌, ◌^◌, ◌++◌, ◌∷◌, [], length, IsTrue, IfOk, IfErr, OnOk, OnErr};
 ghost use mathlib.Core.List.{IsPrefix};
 ghost use Rattle.journal_world.specs.Maps.{Agrees, are_objects, overwritten};
-ghost use Rattle.journal_world.specs.Histories.{floor, count, commits_of, opened, is_trusted, latest, IsLegal};
-ghost use Rattle.journal_world.specs.Histories.Entry.{opening, stable};
+ghost use Rattle.journal_world.specs.Histories.{floor, count, commits_of, opened, is_trusted, is_fenced, latest, IsLegal};
+ghost use Rattle.journal_world.specs.Histories.Entry.{opening, stable, fence};
 ghost use Rattle.journal_history.specs.Soundness.{IsSound, IsLonger};
 ghost use Rattle.journal_history.specs.Tokens.{made, IsExact, OnlyExtends, next_transaction, Commits, IsReceiptFor};
 
 use crate::book::{Book, Naming};
 use crate::front::Front;
-use crate::law::{AskMark, AskOpening, Opened, Recorded};
+use crate::law::{AskFence, AskMark, AskOpening, Opened, Recorded};
 use crate::receipt::Receipt;
 use crate::session::Session;
 use journal_world::MapRule;
@@ -135,6 +135,7 @@ impl<'b, J: Naming, R: MapRule> Writer<'b, J, R> {
     ) -> Result<Receipt<'b, J, R>, Front<'b, J, R>>
         requires room { length self.old < 2 ^ 62 }
         requires own { length (commits_of session.old.number self.old) ≡ made session.old }
+        requires unfenced { is_fenced session.old.number self.old ≡ false }
         requires read { IsTrue (are_objects J.blocks (T.reads transaction.now)) }
         requires written { IsTrue (are_objects J.blocks (T.writes transaction.now)) }
         requires agrees { IsTrue (is_trusted self.old) → Agrees (latest self.old) (T.reads transaction.now) }
@@ -167,6 +168,24 @@ impl<'b, J: Naming, R: MapRule> Writer<'b, J, R> {
         let _len = self.front.len();
         self.front = self.front.add_after::<u64, AskMark>(&self.front, &n)?;
         self.mark = n;
+        Ok(())
+    }
+
+    /// Fences a session: no commit of that number is added from then on.
+    ///
+    /// At `Err` the history is longer than the writer's, and the front has seen it. The writer stays as it
+    /// was.
+    pub fn fence(&mut self, session: u64) -> Result<(), Front<'b, J, R>>
+        requires room { length self.old < 2 ^ 62 }
+        ensures added { OnOk result (self.new ≡ self.old ++ fence session ∷ []) }
+        ensures stale { IfErr result (λ front. IsLonger self.old front) }
+        ensures unchanged { OnErr result (self.new ≡ self.old) }
+    {
+        // Called for its contract: the history is sound.
+        let _len = self.front.len();
+        self.front = self
+            .front
+            .add_after::<u64, AskFence>(&self.front, &session)?;
         Ok(())
     }
 

@@ -1,5 +1,5 @@
-ghost use Rattle.std.specs.Prelude.{◌≡◌, length, IfSome};
-ghost use Rattle.journal_world.specs.Histories.{commits_of};
+ghost use Rattle.std.specs.Prelude.{◌≡◌, false, length, IfSome};
+ghost use Rattle.journal_world.specs.Histories.{commits_of, is_fenced};
 ghost use Rattle.journal_history.specs.Tokens.{made};
 
 use crate::runs::number;
@@ -43,12 +43,13 @@ type Told = [u64; 3];
 
 const REFUSED: Told = [u64::MAX; 3];
 
-// A writer with a session whose commits are all that the history has under its number.
+// A writer with a session whose commits are all that the history has under its number, and which is not fenced.
 #[derive(Drop)]
 struct Author<'b, J: Naming> {
     writer: Writer<'b, J, AnyMap>,
     session: Session<'b, J, AnyMap>,
     ghost own: { length (commits_of session.number writer) ≡ made session },
+    ghost unfenced: { is_fenced session.number writer ≡ false },
 }
 
 impl<'b, J: Naming> Author<'b, J> {
@@ -88,6 +89,18 @@ impl<'b, J: Naming> Author<'b, J> {
             return REFUSED;
         }
         self.writer.tell();
+        [self.writer.len(), self.writer.count(), self.writer.floor()]
+    }
+
+    // Fences the other session's number, 5 where this one's is 3. How long the history is then, how many commits it has, and how
+    // many of them are stable.
+    fn fence(&mut self) -> Told {
+        if self.writer.len() >= 100 || self.session.number() == 5 {
+            return REFUSED;
+        }
+        if self.writer.fence(5).is_err() {
+            return REFUSED;
+        }
         [self.writer.len(), self.writer.count(), self.writer.floor()]
     }
 
@@ -147,6 +160,7 @@ fn note<J: Naming>(writer: &Writer<J, AnyMap>) -> Told {
 enum Call {
     Commit,
     Mark,
+    Fence,
     Note,
     /// The author's session sees the beginning of the history.
     SeeStart,
@@ -158,7 +172,7 @@ enum Call {
     IsStable(u64),
 }
 
-use Call::{Commit, IsStable, Mark, Note, Other, SeeStart, Session as Own, Show};
+use Call::{Commit, Fence, IsStable, Mark, Note, Other, SeeStart, Session as Own, Show};
 
 type Row = (Call, Told);
 
@@ -171,6 +185,7 @@ fn answer<'b, J: Naming>(
     match call {
         Commit => author.commit(),
         Mark => author.mark(),
+        Fence => author.fence(),
         Note => note(&author.writer),
         SeeStart => {
             author.session.see(start);
@@ -222,7 +237,7 @@ fn run_new(rows: &[Row]) -> Option<(Wrong, [u64; 3])> {
 }
 
 // A mark is known once it is told, and no more than it. What is shown is seen, and nothing is forgotten.
-static ANSWERS: [Row; 16] = [
+static ANSWERS: [Row; 18] = [
     (Commit, [1, 1, 2]),
     (Commit, [2, 2, 3]),
     (Own, [3, 2, 3]),
@@ -239,11 +254,13 @@ static ANSWERS: [Row; 16] = [
     (SeeStart, [3, 3, 5]),
     (Show, [3, 3, 6]),
     (Other, [5, 0, 6]),
+    (Fence, [7, 3, 3]),
+    (Commit, [7, 4, 8]),
 ];
 
 #[test]
 fn each_call_answers_by_the_history(rt: HostRuntime) {
-    assert_eq!(rt; run_new(&ANSWERS), Some((None, [1, 1, 6])));
+    assert_eq!(rt; run_new(&ANSWERS), Some((None, [1, 1, 8])));
 }
 
 static LONGER: [Row; 2] = [(Commit, [1, 1, 2]), (Mark, [3, 1, 1])];

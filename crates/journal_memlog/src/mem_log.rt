@@ -229,22 +229,25 @@ impl MemLog {
     {
         prove!(upto <= self.next());
         while self.start < upto {
-            self.drop_first();
+            drop(self.take_first());
         }
     }
 
-    // Drops the first position.
-    fn drop_first(&mut self)
+    /// Drops the first position, and hands out its update by move.
+    pub fn take_first(&mut self) -> Update
         requires { self.old.start < self.old.logged }
+        ensures first { self.old.updates ≡ result ∷ self.new.updates }
         ensures log { self.new ≡ trimmed self.old (self.old.start + 1) }
         ensures sound { IsMemLog self.new }
     {
-        let block = self.updates.pop_front().unwrap().block as usize;
+        let update = self.updates.pop_front().unwrap();
+        let block = update.block as usize;
         self.start += 1;
         // A later update of the block keeps its entry.
         if self.newest[block] == self.start {
             self.newest[block] = 0;
         }
+        update
     }
 }
 

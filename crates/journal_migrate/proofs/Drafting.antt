@@ -5,7 +5,7 @@ use Rattle.std.proofs.lemmas.List.Elements.{All-nil, All-cons}
 use Rattle.journal_world.specs.declared.address.Addr.{Addr}
 use Rattle.journal_world.specs.Addresses.{slot_of, is_valid}
 use Rattle.journal_world.specs.Maps.{Map, Agrees, overwritten}
-use Rattle.journal_world.specs.Histories.{Entry, opened, is_trusted, latest, count, floor, touched, commits_of}
+use Rattle.journal_world.specs.Histories.{Entry, opened, is_trusted, latest, count, floor, touched, commits_of, is_fenced}
 use Rattle.journal_world.specs.Histories.Entry.{opening, commit}
 use Rattle.journal_world.specs.declared.refusal.Refusal.{Refusal}
 use Rattle.journal_world.specs.declared.refusal.Refusal.TheVariants.{NoMemory, BadAddress, BadSize, TooLarge, Busy, DeviceFailed, BadLog, BadSuper, Stale, Stranger, Worn, Full, Closed, Fenced}
@@ -265,7 +265,7 @@ module _ (first old new : CoreState) (session : SessionState) (t : TransactionSt
   commit_refused (Worn cause) is = (worn is.2, is.3)
   commit_refused (Full cause) is = absurd (full is.3)
   commit_refused (Closed cause) is = absurd (false≢true (sym (sym is.closed ∙ running.0)))
-  commit_refused Fenced is = is
+  commit_refused Fenced is = absurd (false≢true (sym (ap (is_fenced session.number) (at.history ∙ begun)) ∙ is.1.fenced))
 
 behind : (history : List Entry) (t : TransactionState) (cause : Told) → IsBehind history t cause → length history < length t.seen
 behind history t cause is = is.1.1

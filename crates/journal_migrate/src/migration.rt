@@ -26,6 +26,9 @@ use journal_history::{Book, Naming};
 use journal_world::{BLOCK_BYTES, Refusal, Refused, Value};
 use std::alloc::{AllocError, Global};
 
+// Of how many blocks that are at home copies are kept in memory: of one, since one is read, once.
+const COPIES: usize = 1;
+
 // Why it is refused.
 type Why<'b, J> = Refusal<Cause<'b, J, EitherVersion>>;
 
@@ -55,7 +58,7 @@ pub fn migrate<'b, D: BlockDisk, J: Naming>(
     ensures handed_back { IfErr result (λ refused. Keeps (D.state disk) (D.state refused.disk)) }
 {
     let rule = EitherVersion::new(alloc);
-    let mut core = Core::open_step(alloc, book, disk, &rule)?;
+    let mut core = Core::open_step(alloc, book, disk, &rule, COPIES)?;
     match upgrade(alloc, &mut core) {
         Ok(()) => Ok(core.into_disk()),
         Err(refusal) => Err(Refused {

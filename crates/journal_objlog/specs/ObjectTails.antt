@@ -13,7 +13,7 @@ use Rattle.journal_block.specs.Updates.{Content, updated, with_updates, updates_
 use Rattle.journal_memlog.specs.Logs.{next_position, tail_of}
 use Rattle.journal_object.specs.Objects.{IsMapOf, map_of_blocks}
 use Rattle.journal_wal.specs.Wal.{AreHomes}
-use Rattle.journal_wal.specs.Tails.{TailState, TakesUpdates}
+use Rattle.journal_wal.specs.Tails.{TailState, TakesUpdates, known_blocks}
 use Rattle.journal_objlog.specs.Maps.{object_or_zeros}
 use Rattle.journal_objlog.specs.ObjectLogs.{Base}
 use Rattle.journal_objlog.specs.Writes.{writes_block, CanPrepare, IsWriteRefusal}
@@ -24,9 +24,10 @@ use Rattle.journal_objlog.specs.declared.tail_prepare.Preparation.TheVariants.{R
 abbrev pub blocks_of : TailState → ℕ
 blocks_of t = t.log.blocks
 
--- All updates of which memory knows: each fetched block as one that came before, then those of the tail
+-- All updates of which memory knows: each fetched block as one that came before, then the copies of home blocks, and then
+-- those of the tail
 abbrev pub known_updates : List Update → TailState → List Update
-known_updates fetched t = fetched ++ t.log.updates
+known_updates fetched t = fetched ++ known_blocks t
 
 -- On a disk of n blocks: the object that the last update of its block has at the address, or nothing where no update is of it
 abbrev pub known_object : ℕ → List Update → Addr → Option Value

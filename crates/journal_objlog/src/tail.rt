@@ -19,8 +19,9 @@ use std::marker::Model;
 /// The objects that lie in memory, for a lock of their own: it knows no disk, and each call ends without waiting
 /// for one.
 ///
-/// It has what was overwritten since a cut that is at home. A call that needs another block says so. The caller
-/// fetches it, and makes the call again with the block beside.
+/// It has what was overwritten since a cut that is at home, and copies of blocks that are at home. A call that needs
+/// another block says so. The caller fetches it, and makes the call again with the block beside. What was fetched may be
+/// kept as a copy.
 #[derive(Drop)]
 pub struct ObjectTail {
     pub(crate) alloc: Global,
@@ -40,16 +41,23 @@ impl Model for ObjectTail {
 }
 
 impl ObjectTail {
-    /// The objects in memory over a disk whose log ends at a position: none yet, and no commit was made.
+    /// The objects in memory over a disk whose log ends at a position: none yet, and no commit was made. It will keep
+    /// no more than `copies` blocks that are at home.
     ///
-    /// Answers J1 `NoMemory`, and nothing else, where memory for the index is refused.
-    pub fn new<C>(alloc: Global, layout: Layout, end: u64) -> Result<ObjectTail, Refusal<C>>
-        requires { end < 2 ^ 62 }
+    /// Answers J1 `NoMemory`, and nothing else, where memory for an index is refused.
+    pub fn new<C>(
+        alloc: Global,
+        layout: Layout,
+        end: u64,
+        copies: usize,
+    ) -> Result<ObjectTail, Refusal<C>>
+        requires end { end < 2 ^ 62 }
+        requires some { 0 < copies }
         ensures tail { IfOk result (λ tail. tail ≡ empty_tail layout.blocks end tail.log.room) }
         ensures refusal { IsOkUnless result Refusal.NoMemory }
     {
         objects_law();
-        let tail = Tail::new(alloc, layout.blocks, end)?;
+        let tail = Tail::new(alloc, layout.blocks, end, copies)?;
         Ok(ObjectTail {
             alloc,
             layout,
@@ -65,7 +73,7 @@ impl ObjectTail {
     }
 
     /// Reads the object of the address into bytes that are as many as it has: as memory has it, or where memory
-    /// has no update of its block, as the fetched blocks have it. Answers no where the block is to be fetched; the
+    /// does not know its block, as the fetched blocks have it. Answers no where the block is to be fetched; the
     /// bytes are then as they were. It takes no memory.
     ///
     /// Answers J2 `BadAddress`, and nothing else, where the address is not valid.
@@ -88,12 +96,12 @@ impl ObjectTail {
         Ok(true)
     }
 
-    // The block as memory has it, or where memory has no update of it, as the fetched blocks have it.
+    // The block as memory has it, or where memory does not know it, as the fetched blocks have it.
     pub(crate) fn known<'a>(&'a self, fetched: &'a [Update], block: u64) -> Option<&'a Block>
         ensures found { is_some result ≡ updates_block (known_updates fetched.now self.now) block }
         ensures content { IfSome result (λ found. updated (known_updates fetched.now self.now) block [] ≡ found.now) }
     {
-        match self.tail.latest(block) {
+        match self.tail.known(block) {
             Some(found) => Some(found),
             None => newest(fetched, block),
         }

@@ -1,10 +1,10 @@
 // Objects in memory are cut into groups for the log on the disk, and dropped once they are at home.
-ghost use Rattle.std.specs.Prelude.{ℕ, ◌≡◌, ◌≤◌, ◌<◌, length, OnOk, OnErr, IfOk, IsOkUnless};
+ghost use Rattle.std.specs.Prelude.{ℕ, ◌≡◌, ◌≤◌, ◌<◌, ◌++◌, length, OnOk, OnErr, IfOk, IsOkUnless};
 ghost use Rattle.std.specs.List.{All};
 ghost use Rattle.journal_block.specs.Updates.{updates_block};
 ghost use Rattle.journal_memlog.specs.Logs.{HasDistinctBlocks, bounds_of, tail_of};
 ghost use Rattle.journal_wal.specs.Wal.{AreHomes};
-ghost use Rattle.journal_wal.specs.Tails.{DropsCuts, cut_after, updates_from};
+ghost use Rattle.journal_wal.specs.Tails.{MakeTheSame, MakesNoOther, DropsCuts, known_blocks, cut_after, updates_from};
 ghost use Rattle.journal_wal.specs.declared.append.TheConstants.{MAX_TAIL};
 ghost use Rattle.journal_objlog.specs.ObjectTails.{blocks_of};
 
@@ -59,12 +59,32 @@ impl ObjectTail {
         self.tail.cut(commits)
     }
 
-    /// Drops the updates of each cut that ends at the position or before it: they are at home.
+    /// Makes the copy of the block the one that was used last, where there is one.
+    pub fn touch(&mut self, block: u64)
+        ensures same { MakeTheSame self.new.home self.old.home }
+        ensures others { self.new ≡ record self.old { home = self.new.home } }
+    {
+        self.tail.touch(block);
+    }
+
+    /// Keeps copies of these blocks, which are at home as these have them but for the updates in memory. Where there are
+    /// too many, those go that were used least recently. One for which memory is refused is not kept.
+    pub fn keep(&mut self, copies: Vec<Update>)
+        ensures known { MakesNoOther (self.old.home ++ copies.items) self.new.home }
+        ensures others { self.new ≡ record self.old { home = self.new.home } }
+    {
+        self.tail.keep(copies);
+    }
+
+    /// Drops the updates of each cut that ends at the position or before it: they are at home. Copies of their blocks are
+    /// overwritten by them. It takes no memory, and moves the blocks.
     pub fn trim(&mut self, upto: u64)
         ensures drops { DropsCuts self.old upto self.new }
         ensures left { All (λ c. upto < c.end) self.new.cuts }
         // What was updated since a cut that is left is as it was.
         ensures since { (from : ℕ) → self.new.log.start ≤ from → updates_from self.new.log from ≡ updates_from self.old.log from }
+        // Of each block that memory still knows it knows what it knew.
+        ensures known { MakesNoOther (known_blocks self.old) (known_blocks self.new) }
     {
         self.tail.trim(upto);
     }

@@ -6,11 +6,12 @@ use Rattle.journal_world.specs.declared.address.Addr.{Addr}
 use Rattle.journal_world.specs.declared.refusal.Refusal.{Refusal}
 use Rattle.journal_world.specs.declared.refusal.Refusal.TheVariants.{NoMemory}
 use Rattle.journal_world.specs.Addresses.{Value}
+use Rattle.journal_world.specs.Histories.{is_fenced}
 use Rattle.journal_history.specs.Tokens.{SessionState, CommitPlace, OnlyExtends}
 use Rattle.journal_core.specs.Causes.{Told}
-use Rattle.journal_twophase.specs.Journals.{IsLogRefusal, IsInstallRefusal}
+use Rattle.journal_twophase.specs.Journals.{IsFenceRefusal, IsLogRefusal, IsInstallRefusal}
 use Rattle.journal_twophase.specs.Transactions.{TxnState, core_of, begun, holding, ReadsValue, Overwrites, IsReadRefusal, IsOverwriteRefusal}
-use Rattle.journal_twophase.specs.Commits.{IsCommitted, IsTryRefusal}
+use Rattle.journal_twophase.specs.Commits.{IsCommitted, ShowsFence, IsTryRefusal}
 use Rattle.journal_command.specs.declared.command.Command.{Command}
 use Rattle.journal_command.specs.declared.command.Command.TheVariants as commands
 use Rattle.journal_command.specs.declared.command.Choice.{Choice}
@@ -68,6 +69,7 @@ pub record CommitsAndEnds (t : TxnState) (old : ClientState) (n : ℕ) (new : Cl
 -- It was refused, and is ended
 pub record RefusesAndEnds (t : TxnState) (old : ClientState) (why : Refusal Told) (new : ClientState) : Type 0 where
   pub refused : IsTryRefusal (core_of t) old.session why
+  pub fenced : ShowsFence new.session why
   pub session : OnlyExtends old.session new.session
   pub ended : new.txn ≡ None
 
@@ -77,6 +79,24 @@ CommitsOpen old (Ok (answers.Committed n)) new = MatchOption old.txn ⊥ (λ t. 
 CommitsOpen old (Ok answers.NoTransaction) new = (old.txn ≡ None) × (new ≡ old)
 CommitsOpen old (Ok answer) new = ⊥
 CommitsOpen old (Err why) new = MatchOption old.txn ⊥ (λ t. RefusesAndEnds t old why new)
+
+-- The session's fence stands, and the session has seen it. A transaction that is open stays open
+pub record FencesSession (old new : ClientState) : Type 0 where
+  pub fenced : is_fenced new.session.number new.session.seen ≡ true
+  pub session : OnlyExtends old.session new.session
+  pub txn : new.txn ≡ old.txn
+
+-- The fence was refused
+pub record RefusesFence (old : ClientState) (why : Refusal Told) (new : ClientState) : Type 0 where
+  pub refused : IsFenceRefusal why
+  pub session : OnlyExtends old.session new.session
+  pub txn : new.txn ≡ old.txn
+
+-- what a fence answers
+abbrev pub FencesOwn : ClientState → Result Answer (Refusal Told) → ClientState → Type 0
+FencesOwn old (Ok answers.Done) new = FencesSession old new
+FencesOwn old (Ok answer) new = ⊥
+FencesOwn old (Err why) new = RefusesFence old why new
 
 -- so many steps, at most, where a number stands there
 abbrev pub most_of : Option ℕ → ℕ
@@ -130,6 +150,8 @@ Obeys blocks old commands.Commit answers.NoTransaction new = (old.txn ≡ None) 
 Obeys blocks old commands.Commit answer new = MatchOption old.txn ⊥ (λ t. IsRefused (λ why. RefusesAndEnds t old why new) answer)
 Obeys blocks old commands.Abort answers.Done new = IsSome old.txn × (new ≡ record old { txn = None })
 Obeys blocks old commands.Abort answer new = (answer ≡ answers.NoTransaction) × (old.txn ≡ None) × (new ≡ old)
+Obeys blocks old commands.Fence answers.Done new = FencesSession old new
+Obeys blocks old commands.Fence answer new = IsRefused (λ why. RefusesFence old why new) answer
 Obeys blocks old command answer new = (GivesAnswer blocks command answer ⊎ IsRefused (IsRefusal command) answer) × (new ≡ old)
 
 -- The numbers choose the image: 0 for each block, the last write of each, or what the line lists

@@ -4,7 +4,7 @@ ghost use Rattle.journal_world.specs.Addresses.{Value};
 ghost use Rattle.journal_twophase.specs.Journals.{IsSessionRefusal};
 ghost use Rattle.journal_twophase.specs.Transactions.{IsOverwriteRefusal, IsReadRefusal};
 ghost use Rattle.journal_command.specs.Commands.{IsInside};
-ghost use Rattle.journal_script.specs.Clients.{most_of, FindsTransaction, PutsValue, Gets, KeepsOpen, CommitsOpen, IsChosen, IsStepRefusal, GivesAnswer, Obeys, Replies, AnswersLine, GoesOn, EndsMount};
+ghost use Rattle.journal_script.specs.Clients.{most_of, FindsTransaction, PutsValue, Gets, KeepsOpen, CommitsOpen, FencesOwn, IsChosen, IsStepRefusal, GivesAnswer, Obeys, Replies, AnswersLine, GoesOn, EndsMount};
 
 use crate::answer::Answer;
 use crate::blocks::bytes_of;
@@ -101,6 +101,7 @@ impl<'j, 'b, J: Naming> Client<'j, 'b, J> {
             Command::Get { addr } => goes_on(self.get(rt, addr)),
             Command::Commit => goes_on(self.commit(rt)),
             Command::Abort => ControlFlow::Continue(self.abort(rt)),
+            Command::Fence => goes_on(self.fence(rt)),
             Command::Wait => goes_on(self.wait(rt)),
             Command::Log { most } => goes_on(self.log(rt, most)),
             Command::Install { most } => goes_on(self.install(rt, most)),
@@ -171,6 +172,15 @@ impl<'j, 'b, J: Naming> Client<'j, 'b, J> {
         };
         txn.abort(rt);
         Answer::Done
+    }
+
+    // Fences the session.
+    fn fence<W: Wait>(&mut self, rt: &W) -> Answered<'b, J>
+        ensures { FencesOwn self.old result self.new }
+    {
+        let number = self.session.number();
+        self.journal.fence(rt, &mut self.session, number)?;
+        Ok(Answer::Done)
     }
 
     fn wait<W: Wait>(&self, rt: &W) -> Answered<'b, J>

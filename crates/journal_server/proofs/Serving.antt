@@ -1,19 +1,18 @@
 -- A connection, a piece after another.
 use Rattle.std.proofs.Common.{◌≡◌, ◌≢◌, ℕ, Bool, true, false, List, [], ◌∷◌, ◌++◌, Option, Some, None, refl, sym, ap, subst, ◌∙◌, append_assoc, inl, inr, length}
 use Rattle.std.proofs.lemmas.List.{append-nil}
-use Rattle.std.specs.Prelude.{MatchBool, ◌<◌, ◌^◌, Result, Ok, Err, IfOk, OnErr}
+use Rattle.std.specs.Prelude.{MatchBool, ◌<◌, ◌^◌}
 use Rattle.std.specs.Io.KnownBytes.{Consumes, Keeps, IsAtEnd}
 use Rattle.std.proofs.KnownBytes.{Consumes-nil, Appends-nil, Consumes-trans, Appends-trans}
 use Rattle.journal_rpc.specs.declared.part.Part.TheVariants.{TooLong}
 use Rattle.journal_rpc.specs.Stream.{Stream, fresh, after}
 use Rattle.journal_rpc.proofs.Streams.{after-append, after_none}
 use Rattle.journal_rpc.specs.Calls.{Message}
+use Rattle.journal_history.specs.Tokens.{SessionState, OnlyExtends}
 use Rattle.journal_server.specs.declared.connection.End.{End}
-use Rattle.journal_server.specs.declared.connection.Served.{Served}
-use Rattle.journal_server.specs.declared.connection.ConnFault.{ConnFault}
 use Rattle.journal_server.specs.declared.connection.End.TheVariants.{EndOfInput, Truncated, BadRecord}
 use Rattle.journal_server.specs.Output.{RepliesUpToBad, AllReplies, records_of, answered_of, AllCalls}
-use Rattle.journal_server.specs.Connections.{Exchanges, Closes, IsEnd, IsBeginning}
+use Rattle.journal_server.specs.Connections.{Exchanges, Closes, IsEnd, IsBeginning, IsBefore}
 use Rattle.journal_server.specs.Serving.{SoFar, Finished, Failed}
 use Rattle.journal_server.specs.Sending.{Sent, SentUpToBad, SentInPart}
 use Rattle.journal_server.proofs.Answering.{then_replies, all_then, stops}
@@ -193,38 +192,39 @@ ends_quiet answers from left left2 before held waiting start now piece n end h c
     of Truncated b = (quiet, calls, λ t. b (record { begun = sym begun ∙ t.begun; part = sym part ∙ t.part }), λ long. h.short (sym part ∙ long))
     of BadRecord b = absurd b
 
--- ---- what is told of a connection, a fact at a time
-
-module _ {S : Type 0} (answers : Message → S → S → List ℕ → Type 0) (from left held holds : Option (List ℕ)) (old new : S) where
-  pub tells_replies : (r : Result Served ConnFault) → IfOk r (λ s. Finished answers from left held holds old new s.answered s.end) → IfOk r (λ s. Exchanges from left held holds (λ input text. RepliesUpToBad answers (records_of input) old new text))
-  tells_replies (Ok s) h = (h.input, h.text, h.read, h.wrote, h.replied)
-  tells_replies (Err why) h = tt
-
-  pub tells_count : (r : Result Served ConnFault) → IfOk r (λ s. Finished answers from left held holds old new s.answered s.end) → IfOk r (λ s. Exchanges from left held holds (λ input text. answered_of (records_of input) < 2 ^ 64 → s.answered ≡ answered_of (records_of input)))
-  tells_count (Ok s) h = (h.input, h.text, h.read, h.wrote, h.count)
-  tells_count (Err why) h = tt
-
-  pub tells_end : (r : Result Served ConnFault) → IfOk r (λ s. Finished answers from left held holds old new s.answered s.end) → IfOk r (λ s. Exchanges from left held holds (λ input text. IsEnd s.end input left))
-  tells_end (Ok s) h = (h.input, h.text, h.read, h.wrote, h.ended)
-  tells_end (Err why) h = tt
-
-  pub tells_beginning : (r : Result Served ConnFault) → OnErr r (Failed answers from left held holds old new) → OnErr r (Exchanges from left held holds (λ input text. IsBeginning answers (records_of input) old new text))
-  tells_beginning (Ok s) h = tt
-  tells_beginning (Err why) h = (h.input, h.text, h.read, h.wrote, h.begun)
-
 -- nothing was read, and nothing written
-pub exchanges_nothing : {S : Type 0} (answers : Message → S → S → List ℕ → Type 0) (from held : Option (List ℕ)) (old : S) → Exchanges from from held held (λ input text. IsBeginning answers (records_of input) old old text)
-exchanges_nothing answers from held old = (
-  [],
-  [],
-  Consumes-nil from,
-  Appends-nil held,
-  record {
+pub fails_at_once : {S : Type 0} (answers : Message → S → S → List ℕ → Type 0) (from held : Option (List ℕ)) (old : S) → Failed answers from from held held old old
+fails_at_once answers from held old = record {
+  input = [];
+  text = [];
+  read = Consumes-nil from;
+  wrote = Appends-nil held;
+  begun = record {
     answered = [];
     others = [];
     front = ap (λ (s : Stream). s.records) (after_none fresh [] refl);
     whole = [];
     replied = (refl, refl);
     written = ([], refl);
-  },
-)
+  };
+}
+
+-- ---- what is told of a connection whose session has only seen more since its last reply, a fact at a time
+
+module _ (answers : SessionState → Message → SessionState → SessionState → List ℕ → Type 0) (from left held holds : Option (List ℕ)) (old last now : SessionState)
+    (later : OnlyExtends last now) where
+  pub tells_replies : (answered : ℕ) (end : End) → Finished (answers last) from left held holds old last answered end
+      → Exchanges from left held holds (λ input text. IsBefore now (λ l. RepliesUpToBad (answers l) (records_of input) old l text))
+  tells_replies answered end h = (h.input, h.text, h.read, h.wrote, (last, later, h.replied))
+
+  pub tells_count : (answered : ℕ) (end : End) → Finished (answers last) from left held holds old last answered end
+      → Exchanges from left held holds (λ input text. answered_of (records_of input) < 2 ^ 64 → answered ≡ answered_of (records_of input))
+  tells_count answered end h = (h.input, h.text, h.read, h.wrote, h.count)
+
+  pub tells_end : (answered : ℕ) (end : End) → Finished (answers last) from left held holds old last answered end
+      → Exchanges from left held holds (λ input text. IsEnd end input left)
+  tells_end answered end h = (h.input, h.text, h.read, h.wrote, h.ended)
+
+  pub tells_beginning : Failed (answers last) from left held holds old last
+      → Exchanges from left held holds (λ input text. IsBefore now (λ l. IsBeginning (answers l) (records_of input) old l text))
+  tells_beginning h = (h.input, h.text, h.read, h.wrote, (last, later, h.begun))

@@ -122,6 +122,14 @@ stays_stable version tells verifier call operation r old mid new reply behind mo
     let reach : IsPrefix replied.done.seen new.seen = grows-trans replied.done mid new replied.later.seen grown.0 in
     (now.0, commits_later old replied.done mid now.0 replied.later now.1, marked_whole replied.done.seen new.seen now.0 _ reach now.1.stands now.2)
 
+-- the commit and its mark, of a session that has seen more since
+pub stays_later : (old last now : SessionState) (place : ℕ) → OnlyExtends last now → CommitsOnceAt old last place → IsMarked last.seen place
+    → CommitsOnceAt old now place × IsMarked now.seen place
+stays_later old last now place later once low = (
+  commits_later old last now place later once,
+  marked_whole last.seen now.seen place (commit once.made) later.seen once.stands (omega (arith, low, floor_grows last now later.seen)),
+)
+
 pub all_are_replies : {S : Type 0} (answers : Message → S → S → List ℕ → Type 0) (records : List (List ℕ)) (old new : S) (text : List ℕ) → AllReplies answers records old new text → RepliesUpToBad answers records old new text
 all_are_replies answers records old new text h =
     subst (λ (rs : List (List ℕ)). RepliesUpToBad answers rs old new text) (append-nil records)

@@ -2,6 +2,7 @@
 use Rattle.std.specs.Prelude.{◌≡◌, ◌≢◌, ℕ, List, ◌∷◌, ◌++◌, Option, None, ◌⊎◌}
 use Rattle.std.specs.Io.KnownBytes.{Consumes, Appends, IsAtEnd}
 use mathlib.Core.List.{IsPrefix}
+use Rattle.journal_history.specs.Tokens.{SessionState, OnlyExtends}
 use Rattle.journal_rpc.specs.declared.part.Part.TheVariants.{TooLong}
 use Rattle.journal_rpc.specs.Calls.{Message, message}
 use Rattle.journal_rpc.specs.Stream.{Stream, fresh, after, IsBetween}
@@ -12,6 +13,10 @@ use Rattle.journal_server.specs.Output.{AllReplies, AllCalls}
 -- The reader gave the input, the writer got the text, and this holds of the two. From a reader and to a writer that tell their bytes, they can be no others
 abbrev pub Exchanges : Option (List ℕ) → Option (List ℕ) → Option (List ℕ) → Option (List ℕ) → (List ℕ → List ℕ → Type 0) → Type 0
 Exchanges from left held holds so = (input : List ℕ) × (text : List ℕ) × Consumes from left input × Appends held holds text × so input text
+
+-- This held of the session, which has only seen more since
+abbrev pub IsBefore : SessionState → (SessionState → Type 0) → Type 0
+IsBefore now so = (last : SessionState) × OnlyExtends last now × so last
 
 -- a header took a record above the limit, or some complete record is no call
 abbrev pub HasBadRecord : Stream → Type 0

@@ -1,7 +1,8 @@
 // A connection, from its first byte to its end.
-ghost use Rattle.std.specs.Prelude.{◌≡◌, ◌<◌, ◌^◌, length, IfOk, OnErr};
+ghost use Rattle.std.specs.Prelude.{◌≡◌, ◌<◌, ◌^◌, true, IsTrue, length, IfOk, OnErr};
+ghost use Rattle.journal_world.specs.Histories.{is_fenced};
 ghost use Rattle.journal_server.specs.Output.{IsReply, RepliesUpToBad, records_of, answered_of};
-ghost use Rattle.journal_server.specs.Connections.{Exchanges, IsEnd, Closes, IsBeginning};
+ghost use Rattle.journal_server.specs.Connections.{Exchanges, IsEnd, Closes, IsBeginning, IsBefore};
 ghost use Rattle.journal_server.specs.Serving.{Finished, Failed};
 
 use crate::holding::Holding;
@@ -34,12 +35,21 @@ pub enum End {
     BadRecord,
 }
 
-/// How many records of a connection were answered, and how it ended.
+/// How many records of a connection were answered, how it ended, and whether its session is fenced.
 #[derive(Clone, Copy, Debug, PartialEq, Eq)]
 pub struct Served {
     /// The records that were answered. It stops at 2^64 - 1.
     pub answered: u64,
     /// How the connection ended.
+    pub end: End,
+    /// Whether the session's fence stands: a yes says that the session has seen it, so that no commit is added under its number
+    /// from then on. A no says that the fence was refused, which changes nothing else.
+    pub fenced: bool,
+}
+
+// The same before the session is fenced.
+pub(crate) struct Ended {
+    pub answered: u64,
     pub end: End,
 }
 
@@ -61,6 +71,8 @@ pub enum ConnFault {
 /// replies, before it reads on. Of a turn it does all calls, and waits once until the last of those is stable that are to be:
 /// the replies in front of the first of them go out before, and the others after. It may wait for the peer, and for the
 /// journal.
+///
+/// At every end it fences the session, also where it gives up: so nothing is committed under its number later.
 ///
 /// Where it gives up, some of the records that it read were answered, from the first on, and their replies were
 /// written up to some byte: a call whose reply could not be written was done.
@@ -88,9 +100,10 @@ pub fn serve<
 ) -> Result<Served, ConnFault>
     // What was written is the replies to the records of what was read, in order, up to the first that is no call. Each
     // is what its call comes to at a moment of the clock, and it leads from what the session had seen after the one
-    // before it to what it saw then. What of a reply is to be stable is marked in what the session has seen at the end.
+    // before it to what it saw then. What of a reply is to be stable is marked in what the session had seen behind the last of
+    // them. It has only seen more since, the fence.
     ensures replies { IfOk result (λ served. Exchanges (R.remaining reader.old) (R.remaining reader.new) (W.contents writer.old) (W.contents writer.new)
-        (λ input text. RepliesUpToBad (IsReply V.VERSION (C.tells clock.now) verifier.0 session.new.seen) (records_of input) session.old session.new text)) }
+        (λ input text. IsBefore session.new (λ last. RepliesUpToBad (IsReply V.VERSION (C.tells clock.now) verifier.0 last.seen) (records_of input) session.old last text))) }
 
     // They are counted.
     ensures counted { IfOk result (λ served. Exchanges (R.remaining reader.old) (R.remaining reader.new) (W.contents writer.old) (W.contents writer.new)
@@ -100,10 +113,13 @@ pub fn serve<
     ensures ended { IfOk result (λ served. Exchanges (R.remaining reader.old) (R.remaining reader.new) (W.contents writer.old) (W.contents writer.new)
         (λ input text. IsEnd served.end input (R.remaining reader.new))) }
 
+    // The fence stands where it says so.
+    ensures fenced { IfOk result (λ served. IsTrue served.fenced → is_fenced session.new.number session.new.seen ≡ true) }
+
     // Where it gave up, what was written is a beginning of the replies to a front of the records of what was read, and
-    // the session has seen what these come to, with the marks of what was written.
+    // the session has seen what these come to, with the marks of what was written, and then at most more.
     ensures given_up { OnErr result (Exchanges (R.remaining reader.old) (R.remaining reader.new) (W.contents writer.old) (W.contents writer.new)
-        (λ input text. IsBeginning (IsReply V.VERSION (C.tells clock.now) verifier.0 session.new.seen) (records_of input) session.old session.new text)) }
+        (λ input text. IsBefore session.new (λ last. IsBeginning (IsReply V.VERSION (C.tells clock.now) verifier.0 last.seen) (records_of input) session.old last text))) }
 {
     let service = Service {
         alloc,
@@ -113,10 +129,46 @@ pub fn serve<
         gate,
         number,
     };
-    let Ok(mut buffer) = vec![in alloc; 0u8; PIECE_BYTES] else {
+    let answer = answer_to_end(rt, &service, session, reader, writer);
+    let own = session.number();
+    let fenced = files.journal().fence(rt, session, own).is_ok();
+    match answer {
+        Ok(Ended { answered, end }) => Ok(Served {
+            answered,
+            end,
+            fenced,
+        }),
+        Err(fault) => Err(fault),
+    }
+}
+
+// Answers the calls, with a buffer of its own.
+fn answer_to_end<
+    'b,
+    R: Read,
+    W: Write,
+    D: BlockDisk,
+    J: Naming,
+    V: Version,
+    C: Clock,
+    G: Gate,
+    H: Wait,
+>(
+    rt: &H,
+    service: &Service<'_, 'b, D, J, V, C, G>,
+    session: &mut Session<'b, J, SoundFiles<V>>,
+    reader: &mut R,
+    writer: &mut W,
+) -> Result<Ended, ConnFault>
+    ensures finished { IfOk result (λ ended. Finished (IsReply V.VERSION (C.tells service.now.clock.now) service.now.verifier.0 session.new.seen)
+        (R.remaining reader.old) (R.remaining reader.new) (W.contents writer.old) (W.contents writer.new) session.old session.new ended.answered ended.end) }
+    ensures given_up { OnErr result (Failed (IsReply V.VERSION (C.tells service.now.clock.now) service.now.verifier.0 session.new.seen)
+        (R.remaining reader.old) (R.remaining reader.new) (W.contents writer.old) (W.contents writer.new) session.old session.new) }
+{
+    let Ok(mut buffer) = vec![in service.alloc; 0u8; PIECE_BYTES] else {
         return Err(ConnFault::NoMemory);
     };
-    answer_all(rt, &service, session, reader, writer, &mut buffer)
+    answer_all(rt, service, session, reader, writer, &mut buffer)
 }
 
 // Answers the calls, with a buffer that takes a piece.
@@ -137,10 +189,10 @@ fn answer_all<
     reader: &mut R,
     writer: &mut W,
     buffer: &mut [u8],
-) -> Result<Served, ConnFault>
+) -> Result<Ended, ConnFault>
     requires { 0 < length buffer.old }
-    ensures finished { IfOk result (λ served. Finished (IsReply V.VERSION (C.tells service.now.clock.now) service.now.verifier.0 session.new.seen)
-        (R.remaining reader.old) (R.remaining reader.new) (W.contents writer.old) (W.contents writer.new) session.old session.new served.answered served.end) }
+    ensures finished { IfOk result (λ ended. Finished (IsReply V.VERSION (C.tells service.now.clock.now) service.now.verifier.0 session.new.seen)
+        (R.remaining reader.old) (R.remaining reader.new) (W.contents writer.old) (W.contents writer.new) session.old session.new ended.answered ended.end) }
     ensures given_up { OnErr result (Failed (IsReply V.VERSION (C.tells service.now.clock.now) service.now.verifier.0 session.new.seen)
         (R.remaining reader.old) (R.remaining reader.new) (W.contents writer.old) (W.contents writer.new) session.old session.new) }
 {
@@ -155,7 +207,7 @@ fn answer_all<
         };
         if count == 0 {
             let end = end_of(&records);
-            return Ok(Served { answered, end });
+            return Ok(Ended { answered, end });
         }
         let goes_on = answer_piece(
             rt,
@@ -169,7 +221,7 @@ fn answer_all<
         )?;
         if !goes_on {
             let end = End::BadRecord;
-            return Ok(Served { answered, end });
+            return Ok(Ended { answered, end });
         }
     }
     Err(ConnFault::ReadFailed)

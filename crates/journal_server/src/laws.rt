@@ -2,7 +2,7 @@
 ghost use Rattle.std.specs.Prelude.{◌≡◌, ◌≤◌, ℕ, List, IsTrue, Ok};
 ghost use mathlib.Core.List.{IsPrefix};
 ghost use Rattle.journal_world.specs.Histories.{Entry, floor};
-ghost use Rattle.journal_history.specs.Tokens.{SessionState};
+ghost use Rattle.journal_history.specs.Tokens.{SessionState, OnlyExtends};
 ghost use Rattle.journal_inode.specs.declared.version.FormatVersion.{FormatVersion};
 ghost use Rattle.journal_rpc.specs.Calls.{Message};
 ghost use Rattle.journal_nfs3.specs.Arguments.{Operation};
@@ -18,6 +18,8 @@ use crate::service::Clock;
 /// before it, whenever `serve` returns: also where it gave up behind that reply, since a front of the records that
 /// were all replied is a connection's output too.
 ///
+/// A session that has only seen more since, as `serve` leaves it behind the last reply, has that commit and that mark.
+///
 /// COMMIT, SETATTR, CREATE, REMOVE, and WRITE with DATA_SYNC or FILE_SYNC wait so (RFC 1813, sections 3.3.7 and 3.3.21).
 pub fn what_was_stable_stays_stable<C: Clock>(clock: &C)
     ensures grows { (version : FormatVersion) (verifier : List ℕ) (records : List (List ℕ)) (old new : SessionState) (text : List ℕ)
@@ -29,6 +31,8 @@ pub fn what_was_stable_stays_stable<C: Clock>(clock: &C)
         → IsTrue (has_to_wait operation) → IsTrue (is_accepted r)
         → RepliesUpToBad (IsReply version (C.tells clock.now) verifier new.seen) behind mid new more
         → (place : ℕ) × CommitsOnceAt old mid place × IsMarked new.seen place }
+    ensures later { (old last now : SessionState) (place : ℕ) → OnlyExtends last now → CommitsOnceAt old last place → IsMarked last.seen place
+        → CommitsOnceAt old now place × IsMarked now.seen place }
     ensures front { (version : FormatVersion) (verifier : List ℕ) (history : List Entry) (records : List (List ℕ)) (old new : SessionState) (text : List ℕ)
         → AllReplies (IsReply version (C.tells clock.now) verifier history) records old new text → RepliesUpToBad (IsReply version (C.tells clock.now) verifier history) records old new text }
 {

@@ -1,3 +1,4 @@
+mod fences;
 mod moments;
 mod peers;
 mod sockets;
@@ -6,6 +7,7 @@ mod waits;
 mod wire;
 mod workers;
 
+pub(crate) use fences::{Before, create_behind};
 pub(crate) use moments::write_in_one_piece;
 pub(crate) use sockets::{Visit, serve_visit};
 pub(crate) use wire::serve_all;

@@ -2,7 +2,9 @@
 use crate::calls::{ask, ask_cut};
 use crate::filestore::{fill_all, storm};
 use crate::nfs3::{Cause, call_while};
-use crate::server::{Team, Visit, serve_all, serve_team, serve_visit, write_in_one_piece};
+use crate::server::{
+    Before, Team, Visit, create_behind, serve_all, serve_team, serve_visit, write_in_one_piece,
+};
 use crate::stores::{Files, Told, beside};
 use journal_history::Naming;
 use std::alloc::Global;
@@ -23,6 +25,8 @@ pub(crate) enum Story {
     While(Cause, &'static str),
     // The connections of a table.
     Connections(&'static str),
+    // A connection that is to create a file behind something that ends its session.
+    Create(Before),
     // Connections over memory that are served side by side.
     Team(Team),
     // Connections over TCP.
@@ -53,6 +57,7 @@ pub(crate) fn tell<
         Story::Beside(errand) => beside(rt, alloc, files, errand),
         Story::While(cause, table) => call_while(rt, alloc, files, cause, table),
         Story::Connections(table) => serve_all(rt, alloc, files, table),
+        Story::Create(before) => create_behind(rt, alloc, files, before),
         Story::Team(team) => serve_team(rt, alloc, files, team),
         Story::Visit(visit) => serve_visit(rt, alloc, files, visit),
     }

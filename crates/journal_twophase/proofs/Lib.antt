@@ -1,3 +1,4 @@
 pub mod Knowing
 pub mod Looking
 pub mod Committing
+pub mod Fencing

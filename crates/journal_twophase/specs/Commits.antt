@@ -1,10 +1,10 @@
 -- What a commit is, and why one is refused.
-use Rattle.std.specs.Prelude.{ℕ, ◌≡◌, ◌⊎◌, ◌<◌, ◌≤◌, IsTrue, List, length}
+use Rattle.std.specs.Prelude.{ℕ, true, ◌≡◌, ◌⊎◌, ◌<◌, ◌≤◌, IsTrue, List, length}
 use mathlib.Core.List.{IsPrefix}
 use Rattle.journal_world.specs.declared.refusal.Refusal.{Refusal}
-use Rattle.journal_world.specs.declared.refusal.Refusal.TheVariants.{NoMemory, TooLarge, DeviceFailed, Stale, Stranger, Worn, Full, Closed}
+use Rattle.journal_world.specs.declared.refusal.Refusal.TheVariants.{NoMemory, TooLarge, DeviceFailed, Stale, Stranger, Worn, Full, Closed, Fenced}
 use Rattle.journal_world.specs.Maps.{Map, Agrees}
-use Rattle.journal_world.specs.Histories.{Entry, is_trusted, latest, commits_of}
+use Rattle.journal_world.specs.Histories.{Entry, is_trusted, is_fenced, latest, commits_of}
 use Rattle.journal_objlog.specs.Writes.{written_blocks}
 use Rattle.journal_history.specs.Tokens.{SessionState, CommitPlace, made, next_transaction, IsExact, Commits, IsReceiptFor}
 use Rattle.journal_core.specs.declared.refusal_number.RefusalNumber.TheVariants.{J6, J9, J10, J11, J12, J13}
@@ -35,7 +35,12 @@ pub record IsCommitted (rule : Map → Type 0) (blocks : ℕ) (began : List Entr
 abbrev pub ShowsStrange : SessionState → Told → Type 0
 ShowsStrange s cause = (history : List Entry) × IsExplained J10 history cause × (made s < length (commits_of s.number history))
 
--- Why a transaction is not committed at once
+-- J14: the session has then seen its fence, by which each later commit of it is refused
+abbrev pub ShowsFence : SessionState → Refusal Told → Type 0
+ShowsFence s Fenced = is_fenced s.number s.seen ≡ true
+ShowsFence s other = Unit {0}
+
+-- Why a transaction is not committed at once. What J14 says is `ShowsFence`
 abbrev pub IsTryRefusal : TransactionState → SessionState → Refusal Told → Type 0
 IsTryRefusal t s (Closed cause) = IsUnexplained J13 cause
 IsTryRefusal t s (DeviceFailed cause) = IsUnexplained J6 cause
@@ -45,6 +50,7 @@ IsTryRefusal t s TooLarge = MAX_UPDATES < written_blocks t.writes
 IsTryRefusal t s (Worn cause) = (written_blocks t.writes ≤ MAX_UPDATES) × IsUnexplained J11 cause
 IsTryRefusal t s (Full cause) = (written_blocks t.writes ≤ MAX_UPDATES) × IsUnexplained J12 cause
 IsTryRefusal t s NoMemory = Unit {0}
+IsTryRefusal t s Fenced = Unit {0}
 IsTryRefusal t s other = ⊥
 
 -- why it is not committed, with time to wait for room

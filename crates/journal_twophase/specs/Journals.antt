@@ -44,6 +44,15 @@ abbrev pub IsSessionRefusal : Refusal Told → Type 0
 IsSessionRefusal (Worn cause) = IsUnexplained J11 cause
 IsSessionRefusal other = ⊥
 
+-- why a session is not fenced
+abbrev pub IsFenceRefusal : Refusal Told → Type 0
+IsFenceRefusal (Closed cause) = IsUnexplained J13 cause
+IsFenceRefusal NoMemory = Unit {0}
+IsFenceRefusal (DeviceFailed cause) = IsUnexplained J6 cause
+IsFenceRefusal (Stale cause) = IsShown J9 cause
+IsFenceRefusal (Worn cause) = IsUnexplained J11 cause
+IsFenceRefusal other = ⊥
+
 -- why a step of the logger is refused
 abbrev pub IsLogRefusal : Refusal Told → Type 0
 IsLogRefusal (Closed cause) = IsUnexplained J13 cause

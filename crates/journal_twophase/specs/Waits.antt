@@ -11,7 +11,7 @@ use Rattle.journal_core.specs.Transactions.{TransactionState}
 use Rattle.journal_twophase.specs.declared.waiting.WaitFault.{WaitFault}
 use Rattle.journal_twophase.specs.declared.waiting.WaitFault.TheVariants.{Refused, Unsure}
 use Rattle.journal_twophase.specs.Journals.{IsKnown, IsShown}
-use Rattle.journal_twophase.specs.Commits.{IsCommitted, IsCommitRefusal, ShowsStrange}
+use Rattle.journal_twophase.specs.Commits.{IsCommitted, IsCommitRefusal, ShowsStrange, ShowsFence}
 
 -- The note says that at least so many commits are stable, by a mark in the history that the session has seen
 pub record IsStable (commits : ℕ) (note : StableCount) (session : SessionState) : Type 0 where
@@ -44,5 +44,5 @@ IsEndedUnmarked old new other = Unit {0}
 
 -- Why a commit that waits for its mark has none: the history lacks it, or it stands there and is not known to be stable
 abbrev pub IsWaitFault : (Map → Type 0) → ℕ → List Entry → TransactionState → SessionState → SessionState → WaitFault CommitPlace Told → Type 0
-IsWaitFault rule blocks began t old new (Refused why) = IsCommitRefusal t old why × OnlyExtends old new
+IsWaitFault rule blocks began t old new (Refused why) = IsCommitRefusal t old why × OnlyExtends old new × ShowsFence new why
 IsWaitFault rule blocks began t old new (Unsure place why) = CommitsAndWaits rule blocks began t old new place × IsWaitRefusal new why

@@ -3,7 +3,7 @@ ghost use Rattle.std.specs.Prelude.{◌≡◌, IfOk, IfErr, OnErr};
 ghost use Rattle.journal_world.specs.Maps.{Map, Agrees, overwritten};
 ghost use Rattle.journal_history.specs.Tokens.{OnlyExtends};
 ghost use Rattle.journal_twophase.specs.Transactions.{core_of};
-ghost use Rattle.journal_twophase.specs.Commits.{IsCommitted, IsTryRefusal, IsCommitRefusal};
+ghost use Rattle.journal_twophase.specs.Commits.{IsCommitted, ShowsFence, IsTryRefusal, IsCommitRefusal};
 ghost use Rattle.journal_twophase.specs.Waits.{IsStable, CommitsAndWaits, IsWaitFault};
 
 use crate::shared::Why;
@@ -21,12 +21,12 @@ impl<'j, 'b, D: BlockDisk, R: MapRule, J: Naming> Txn<'j, 'b, D, R, J> {
     /// while the log's tail has no room. The transaction is ended either way, and its slots are given up.
     ///
     /// The first that applies of these refuses it: J13 `Closed` where the journal was stopped, J6 `DeviceFailed` where
-    /// the device failed before, J9 `Stale`
-    /// where the history is longer than the core's, J10 `Stranger` where the history has a commit under the
-    /// session's number that the session did not make, or a commit touched a slot under which the transaction
-    /// had read, J4 `TooLarge` where more than 128 distinct blocks are written, J11 `Worn` where the history's
-    /// length, the session's number or a position of the log would reach 2^62, then J1 `NoMemory` where memory
-    /// is refused, or J6 where the device fails in this call. The history then lacks the transaction.
+    /// the device failed before, J9 `Stale` where the history is longer than the core's, J10 `Stranger` where the
+    /// history has a commit under the session's number that the session did not make, or a commit touched a slot under
+    /// which the transaction had read, J14 `Fenced` where the session is fenced, J4 `TooLarge` where more than 128
+    /// distinct blocks are written, J11 `Worn` where the history's length, the session's number or a position of the log
+    /// would reach 2^62, then J1 `NoMemory` where memory is refused, or J6 where the device fails in this call. The
+    /// history then lacks the transaction. At J14 the session has seen its fence: reads and aborts go on, commits do not.
     pub fn commit<W: Wait>(
         self,
         rt: &W,
@@ -36,6 +36,7 @@ impl<'j, 'b, D: BlockDisk, R: MapRule, J: Naming> Txn<'j, 'b, D, R, J> {
             → R.statement (overwritten m self.writes) }
         ensures committed { IfOk result (IsCommitted R.statement J.blocks self.entry.began (core_of self.entry) session.old session.new) }
         ensures refusal { IfErr result (IsCommitRefusal (core_of self.entry) session.old) }
+        ensures fenced { IfErr result (ShowsFence session.new) }
         ensures session { OnErr result (OnlyExtends session.old session.new) }
     {
         let journal = self.journal;
@@ -60,6 +61,7 @@ impl<'j, 'b, D: BlockDisk, R: MapRule, J: Naming> Txn<'j, 'b, D, R, J> {
             → R.statement (overwritten m self.writes) }
         ensures committed { IfOk result (IsCommitted R.statement J.blocks self.entry.began (core_of self.entry) session.old session.new) }
         ensures refusal { IfErr result (IsTryRefusal (core_of self.entry) session.old) }
+        ensures fenced { IfErr result (ShowsFence session.new) }
         ensures session { OnErr result (OnlyExtends session.old session.new) }
     {
         let journal = self.journal;

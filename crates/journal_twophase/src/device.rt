@@ -14,7 +14,7 @@ ghost use Rattle.journal_core.specs.Cores.{Leaves};
 ghost use Rattle.journal_core.specs.Durables.{disk_of};
 ghost use Rattle.journal_twophase.specs.Journals.{IsLogRefusal, IsInstallRefusal, IsFetchRefusal, IsCloseRefusal, IsImageRefusal};
 ghost use Rattle.journal_twophase.specs.Transactions.{Finds, IsLookRefusal};
-ghost use Rattle.journal_twophase.specs.Commits.{IsCommitted, IsTryRefusal};
+ghost use Rattle.journal_twophase.specs.Commits.{IsCommitted, ShowsFence, IsTryRefusal};
 
 use crate::shared::{Shared, SharedCore, Why, commit_in, is_crowded};
 use journal_block::Block;
@@ -139,7 +139,8 @@ impl<'b, D: BlockDisk, R: MapRule, J: Naming> SharedCore<'b, D, R, J> {
     }
 
     // Reads an object, and fetches its block where it still is not in memory. The disk's lock is held from the fetch to the next
-    // look in memory, so that of several threads that need one block the first fetches it for all of those that write in it.
+    // look in memory, so that of several threads that need one block the first fetches it for all. What was fetched and used is
+    // kept in memory.
     pub(crate) fn read_fetched<W: Wait>(
         &self,
         rt: &W,
@@ -159,7 +160,7 @@ impl<'b, D: BlockDisk, R: MapRule, J: Naming> SharedCore<'b, D, R, J> {
         let mut fetched = nothing;
         let mut durable = self.durable.lock(rt);
         for _ in rt.forever() {
-            if let Some(found) = self.read_with(rt, transaction, addr, &fetched, into)? {
+            if let Some(found) = self.read_with(rt, transaction, addr, fetched, into)? {
                 return Ok(found);
             }
             fetched = self.fetch(rt, &mut durable, &[addr.block])?;
@@ -183,6 +184,7 @@ impl<'b, D: BlockDisk, R: MapRule, J: Naming> SharedCore<'b, D, R, J> {
             → R.statement (overwritten m transaction.now.writes) }
         ensures committed { IfOk result.1 (IsCommitted R.statement J.blocks transaction.now.seen transaction.now session.old session.new) }
         ensures refusal { IfErr result.1 (IsTryRefusal transaction.now session.old) }
+        ensures fenced { IfErr result.1 (ShowsFence session.new) }
         ensures session { OnErr result.1 (OnlyExtends session.old session.new) }
     {
         let mut fetched = nothing;
@@ -197,7 +199,10 @@ impl<'b, D: BlockDisk, R: MapRule, J: Naming> SharedCore<'b, D, R, J> {
                 &fetched,
             ) {
                 Ok(CommitStep::Missing(blocks)) => blocks,
-                Ok(CommitStep::Done(receipt)) => return (shared, Ok(receipt)),
+                Ok(CommitStep::Done(receipt)) => {
+                    shared.volatile.keep(fetched);
+                    return (shared, Ok(receipt));
+                }
                 Err(why) => return (shared, Err(why)),
             };
             drop(shared);

@@ -1,15 +1,16 @@
 // The journal, and what is no transaction's.
-ghost use Rattle.std.specs.Prelude.{◌≡◌, ◌<◌, IsTrue, IfOk, IfErr, OnOk, IsOkUnless};
+ghost use Rattle.std.specs.Prelude.{◌≡◌, ◌≤◌, ◌<◌, true, IsTrue, IfOk, IfErr, OnOk, IsOkUnless};
 ghost use mathlib.Core.List.{IsPrefix};
-ghost use Rattle.journal_world.specs.Histories.{is_trusted, count};
+ghost use Rattle.journal_world.specs.Histories.{is_trusted, is_fenced, count};
 ghost use Rattle.journal_disk.specs.Disks.{IsSettled};
 ghost use Rattle.journal_disk.specs.Images.{EveryImage};
 ghost use Rattle.journal_history.specs.Tokens.{made, IsExact, OnlyExtends};
 ghost use Rattle.journal_core.specs.Cores.{Leaves};
 ghost use Rattle.journal_core.specs.Openings.{HasWellFormedLog, IsOpenRefusal, OnlyReadsDisk};
-ghost use Rattle.journal_twophase.specs.Journals.{BeginsWith, IsKnown, IsSessionRefusal, IsLogRefusal, IsInstallRefusal, IsCloseRefusal, IsImageRefusal};
+ghost use Rattle.journal_twophase.specs.Journals.{BeginsWith, IsKnown, IsSessionRefusal, IsFenceRefusal, IsLogRefusal, IsInstallRefusal, IsCloseRefusal, IsImageRefusal};
 ghost use Rattle.journal_twophase.specs.Waits.{IsStable, IsWaitRefusal, IsEndedUnmarked};
 ghost use Rattle.journal_twophase.specs.Transactions.{begun};
+ghost use Rattle.journal_twophase.specs.declared.journal.TheConstants.{MAX_CACHED_BLOCKS};
 
 use crate::shared::{SharedCore, Why};
 use crate::txn::Txn;
@@ -22,6 +23,12 @@ use journal_world::{Layout, MapRule, Refusal, Refused, Step};
 use std::alloc::Global;
 use std::marker::Model;
 use std::sync::Wait;
+
+/// Of how many blocks that are at home `Journal::open` keeps copies in memory at most.
+pub const CACHED_BLOCKS: usize = 64;
+
+/// Of how many blocks that are at home `Journal::open_with_cache` may be told to keep copies.
+pub const MAX_CACHED_BLOCKS: usize = 4096;
 
 /// A journal over a disk, lent the book of its history, which threads share by `&`. Contracts see the
 /// history at its opening.
@@ -53,12 +60,37 @@ impl<'b, D: BlockDisk, R: MapRule, J: Naming> Journal<'b, D, R, J> {
     /// where the book has a history already. J1 `NoMemory` where memory is refused, and J6 `DeviceFailed` where
     /// the device fails or the rule says so, come where they are met. A refusal hands the disk back, with nothing
     /// written, and leaves the book as it was.
+    ///
+    /// Copies of no more than 64 blocks that are at home are kept in memory.
     pub fn open(
         alloc: Global,
         book: &'b Book<R>,
         disk: D,
         rule: &R,
     ) -> Result<Journal<'b, D, R, J>, Refused<D, Cause<'b, J, R>>>
+        requires book { book.now ≡ J.book }
+        requires blocks { (D.state disk).past.size ≡ J.blocks }
+        requires settled { IsTrue (D.state disk).honest → IsSettled (D.state disk).past }
+        ensures begun { IfOk result (λ journal. BeginsWith R.statement (D.state disk) journal.start) }
+        ensures well_formed { IsTrue (D.state disk).honest → OnOk result (HasWellFormedLog (D.state disk)) }
+        ensures refusal { IfErr result (λ refused. IsOpenRefusal R.statement (D.state disk) (D.state refused.disk) refused.refusal) }
+        ensures left { IfErr result (λ refused. OnlyReadsDisk (D.state disk) (D.state refused.disk)) }
+    {
+        Journal::open_with_cache(alloc, book, disk, rule, CACHED_BLOCKS)
+    }
+
+    /// Opens a disk as `open` does, and is refused as it is. Copies of no more than so many blocks that are at home are kept
+    /// in memory, from 1 to 4096, those that were used last: a read or a commit that finds its block there asks the device
+    /// for nothing. What a read or a commit answers does not depend on it.
+    pub fn open_with_cache(
+        alloc: Global,
+        book: &'b Book<R>,
+        disk: D,
+        rule: &R,
+        cached: usize,
+    ) -> Result<Journal<'b, D, R, J>, Refused<D, Cause<'b, J, R>>>
+        requires some { 1 ≤ cached }
+        requires most { cached ≤ MAX_CACHED_BLOCKS }
         requires book { book.now ≡ J.book }
         requires blocks { (D.state disk).past.size ≡ J.blocks }
         requires settled { IsTrue (D.state disk).honest → IsSettled (D.state disk).past }
@@ -78,7 +110,7 @@ impl<'b, D: BlockDisk, R: MapRule, J: Naming> Journal<'b, D, R, J> {
             Err(refusal) => return Err(Refused { refusal, disk }),
         };
         // Nothing but the core's opening can be refused from here on, so a refusal leaves the book as it was.
-        let (core, start) = SharedCore::open(alloc, book, disk, rule)?;
+        let (core, start) = SharedCore::open(alloc, book, disk, rule, cached)?;
         Ok(Journal {
             layout,
             slots,
@@ -87,8 +119,8 @@ impl<'b, D: BlockDisk, R: MapRule, J: Naming> Journal<'b, D, R, J> {
         })
     }
 
-    /// A session of a number that no session had before and that the history has no commit of. It has seen the
-    /// whole history, which goes on from the journal's opening. It takes no memory.
+    /// A session of a number that no session had before and that the history has no commit and no fence of. It has
+    /// seen the whole history, which goes on from the journal's opening. It takes no memory.
     ///
     /// Answers J11 `Worn` where the number would reach 2^62.
     pub fn session<W: Wait>(&self, rt: &W) -> Result<Session<'b, J, R>, Why<'b, J, R>>
@@ -101,6 +133,27 @@ impl<'b, D: BlockDisk, R: MapRule, J: Naming> Journal<'b, D, R, J> {
         let session = self.core.session(rt)?;
         self.begins(&session);
         Ok(session)
+    }
+
+    /// Fences a session by its number, by an entry of the history where no fence of it stands: none of its commits is
+    /// added from then on, and no session gets the number. Reads and aborts go on. The session that is lent has then
+    /// seen the fence. It may be the one that is fenced. Whoever waits for room under it is refused by J14 `Fenced`.
+    ///
+    /// The first that applies of these refuses it: J13 `Closed` where the journal was stopped, J6 `DeviceFailed` where the
+    /// device failed before, J9 `Stale` where the history is longer than the core's, and where no fence of it stands J11
+    /// `Worn` where the history's length or the number that is to be fenced would reach 2^62, then J1 `NoMemory` where
+    /// memory is refused. No fence is then added.
+    pub fn fence<W: Wait>(
+        &self,
+        rt: &W,
+        session: &mut Session<'b, J, R>,
+        target: u64,
+    ) -> Result<(), Why<'b, J, R>>
+        ensures fenced { OnOk result (is_fenced target session.new.seen ≡ true) }
+        ensures refusal { IfErr result IsFenceRefusal }
+        ensures session { OnlyExtends session.old session.new }
+    {
+        self.core.fence(rt, session, target)
     }
 
     // Called for its contract: what a session has seen begins with the journal's opening, since both are of one

@@ -10,6 +10,9 @@
 //! while a barrier waits. Under the disk's lock it makes at most one device call that changes the disk. Whoever needs
 //! both takes the disk's first.
 //!
+//! What was fetched from the disk and used is kept in memory, up to a number of blocks. So a block that is read often is
+//! not read from the device each time.
+//!
 //! Nothing can be said outside of what lies under a lock, so clients know the journal by
 //! histories: the journal shows the one at its opening, a session what it has seen, a receipt where a commit
 //! stands, and an open transaction one at whose end all that it read is what the map gives. What they tell
@@ -26,7 +29,7 @@ mod sleepers;
 mod txn;
 mod waiting;
 
-pub use journal::Journal;
+pub use journal::{CACHED_BLOCKS, Journal, MAX_CACHED_BLOCKS};
 pub use shared::Why;
 pub use txn::Txn;
 pub use waiting::{WaitFault, Waited};

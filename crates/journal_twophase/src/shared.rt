@@ -3,18 +3,18 @@
 // The memory lock stands here and in `device.rt` and `waiting.rt`, the disk's in `device.rt` alone, and neither a part nor a guard
 // of it leaves these three. What the functions tell is told of sessions, transactions and receipts, since nothing stays true
 // of a part once its lock is let go.
-ghost use Rattle.std.specs.Prelude.{◌≡◌, ◌<◌, length, IsTrue, IsSome, IfOk, IfErr, IfSome, OnOk, OnErr, All};
+ghost use Rattle.std.specs.Prelude.{◌≡◌, ◌<◌, true, length, IsTrue, IsSome, IfOk, IfErr, IfSome, OnOk, OnErr, All};
 ghost use Rattle.journal_world.specs.Addresses.{is_valid};
 ghost use Rattle.journal_world.specs.Maps.{Map, Agrees, is_object, value_at, overwritten};
 ghost use Rattle.journal_object.specs.Objects.{size_at};
-ghost use Rattle.journal_world.specs.Histories.{is_trusted, latest};
+ghost use Rattle.journal_world.specs.Histories.{is_trusted, is_fenced, latest};
 ghost use Rattle.journal_disk.specs.Disks.{IsSettled};
 ghost use Rattle.journal_history.specs.Tokens.{made, IsExact, OnlyExtends};
 ghost use Rattle.journal_core.specs.VolatileCommits.{IfDone, IfMissing};
 ghost use Rattle.journal_core.specs.Openings.{HasWellFormedLog, IsOpenRefusal, OnlyReadsDisk};
-ghost use Rattle.journal_twophase.specs.Journals.{BeginsWith, IsSessionRefusal};
+ghost use Rattle.journal_twophase.specs.Journals.{BeginsWith, IsSessionRefusal, IsFenceRefusal};
 ghost use Rattle.journal_twophase.specs.Transactions.{Finds, IsLookRefusal, IsEndRefusal};
-ghost use Rattle.journal_twophase.specs.Commits.{IsCommitted, IsTryRefusal, IsCommitRefusal};
+ghost use Rattle.journal_twophase.specs.Commits.{IsCommitted, ShowsFence, IsTryRefusal, IsCommitRefusal};
 
 use crate::sleepers::Sleepers;
 use journal_core::{
@@ -71,7 +71,9 @@ impl<'b, D: BlockDisk, R: MapRule, J: Naming> SharedCore<'b, D, R, J> {
         book: &'b Book<R>,
         disk: D,
         rule: &R,
+        copies: usize,
     ) -> Result<(SharedCore<'b, D, R, J>, Front<'b, J, R>), Refused<D, Cause<'b, J, R>>>
+        requires some { 0 < copies }
         requires book { book.now ≡ J.book }
         requires blocks { (D.state disk).past.size ≡ J.blocks }
         requires settled { IsTrue (D.state disk).honest → IsSettled (D.state disk).past }
@@ -80,7 +82,7 @@ impl<'b, D: BlockDisk, R: MapRule, J: Naming> SharedCore<'b, D, R, J> {
         ensures refusal { IfErr result (λ refused. IsOpenRefusal R.statement (D.state disk) (D.state refused.disk) refused.refusal) }
         ensures left { IfErr result (λ refused. OnlyReadsDisk (D.state disk) (D.state refused.disk)) }
     {
-        let core = Core::open_step(alloc, book, disk, rule)?;
+        let core = Core::open_step(alloc, book, disk, rule, copies)?;
         let start = core.front();
         let (durable, volatile) = core.into_parts();
         let (log_start, _) = durable.log_range();
@@ -109,6 +111,23 @@ impl<'b, D: BlockDisk, R: MapRule, J: Naming> SharedCore<'b, D, R, J> {
         ensures refusal { IfErr result IsSessionRefusal }
     {
         self.shared.lock(rt).volatile.session()
+    }
+
+    // Fences a session. Answers J13, J6 of an earlier fault, J9, J11 and J1. Who waits for room is woken: it may wait under
+    // the session that is fenced, and is refused then.
+    pub(crate) fn fence<W: Wait>(
+        &self,
+        rt: &W,
+        session: &mut Session<'b, J, R>,
+        target: u64,
+    ) -> Result<(), Why<'b, J, R>>
+        ensures fenced { OnOk result (is_fenced target session.new.seen ≡ true) }
+        ensures refusal { IfErr result IsFenceRefusal }
+        ensures session { OnlyExtends session.old session.new }
+    {
+        let answer = self.shared.lock(rt).volatile.fence_step(session, target);
+        self.room.notify_all();
+        answer
     }
 
     // Answers J13 where the core was stopped, J6 where the device failed before, and nothing else.
@@ -193,20 +212,22 @@ impl<'b, D: BlockDisk, R: MapRule, J: Naming> SharedCore<'b, D, R, J> {
         ensures below { addr.block < J.blocks }
         ensures refusal { IfErr result (IsLookRefusal transaction.now) }
     {
-        let shared = self.shared.lock(rt);
+        let mut shared = self.shared.lock(rt);
         // Called for its contract: how many blocks there are at least.
         let _layout = shared.volatile.layout();
-        shared.volatile.read(transaction, addr, fetched, into)
+        let answer = shared.volatile.read(transaction, addr, fetched, into);
+        shared.volatile.touch(addr.block);
+        answer
     }
 
-    // Reads it as `read_in` does, with what was fetched. Answers none also where the fetch has seen more of the history than
-    // there is, which no fetch from the same core has.
+    // Reads it as `read_in` does, with what was fetched, and keeps that in memory where it is used. Answers none also where the
+    // fetch has seen more of the history than there is, which no fetch from the same core has.
     pub(crate) fn read_with<W: Wait>(
         &self,
         rt: &W,
         transaction: &Transaction<'b, J, R>,
         addr: Addr,
-        fetched: &Fetched<'b, J, R>,
+        fetched: Fetched<'b, J, R>,
         into: &mut Vec<u8>,
     ) -> Result<Option<Found<'b, J, R>>, Why<'b, J, R>>
         requires valid { IsTrue (is_valid J.blocks addr) }
@@ -217,10 +238,14 @@ impl<'b, D: BlockDisk, R: MapRule, J: Naming> SharedCore<'b, D, R, J> {
         ensures size { length into.new.items ≡ length into.old.items }
         ensures refusal { IfErr result (IsLookRefusal transaction.now) }
     {
-        let shared = self.shared.lock(rt);
+        let mut shared = self.shared.lock(rt);
         shared.volatile.check_read(transaction, addr)?;
-        match shared.volatile.read(transaction, addr, fetched, into) {
-            Ok(found) => Ok(found),
+        match shared.volatile.read(transaction, addr, &fetched, into) {
+            Ok(Some(found)) => {
+                shared.volatile.keep(fetched);
+                Ok(Some(found))
+            }
+            Ok(None) => Ok(None),
             Err(_) => Ok(None),
         }
     }
@@ -244,6 +269,7 @@ impl<'b, D: BlockDisk, R: MapRule, J: Naming> SharedCore<'b, D, R, J> {
             → R.statement (overwritten m transaction.now.writes) }
         ensures committed { IfOk result (IsCommitted R.statement J.blocks transaction.now.seen transaction.now session.old session.new) }
         ensures refusal { IfErr result (IsCommitRefusal transaction.now session.old) }
+        ensures fenced { IfErr result (ShowsFence session.new) }
         ensures session { OnErr result (OnlyExtends session.old session.new) }
     {
         let (answer, sleeps) = {
@@ -266,6 +292,7 @@ impl<'b, D: BlockDisk, R: MapRule, J: Naming> SharedCore<'b, D, R, J> {
             → R.statement (overwritten m transaction.now.writes) }
         ensures committed { IfOk result (IsCommitted R.statement J.blocks transaction.now.seen transaction.now session.old session.new) }
         ensures refusal { IfErr result (IsTryRefusal transaction.now session.old) }
+        ensures fenced { IfErr result (ShowsFence session.new) }
         ensures session { OnErr result (OnlyExtends session.old session.new) }
     {
         let (answer, sleeps) = {
@@ -292,6 +319,7 @@ impl<'b, D: BlockDisk, R: MapRule, J: Naming> SharedCore<'b, D, R, J> {
             → R.statement (overwritten m transaction.now.writes) }
         ensures committed { IfOk result.1 (IsCommitted R.statement J.blocks transaction.now.seen transaction.now session.old session.new) }
         ensures refusal { IfErr result.1 (IsCommitRefusal transaction.now session.old) }
+        ensures fenced { IfErr result.1 (ShowsFence session.new) }
         ensures session { OnErr result.1 (OnlyExtends session.old session.new) }
     {
         let mut shared = self.shared.lock(rt);
@@ -321,6 +349,7 @@ impl<'b, D: BlockDisk, R: MapRule, J: Naming> SharedCore<'b, D, R, J> {
             → R.statement (overwritten m transaction.now.writes) }
         ensures committed { IfOk result.1 (IsCommitted R.statement J.blocks transaction.now.seen transaction.now session.old session.new) }
         ensures refusal { IfErr result.1 (IsTryRefusal transaction.now session.old) }
+        ensures fenced { IfErr result.1 (ShowsFence session.new) }
         ensures session { OnErr result.1 (OnlyExtends session.old session.new) }
     {
         let mut shared = shared;
@@ -444,6 +473,7 @@ pub(crate) fn commit_in<'b, R: MapRule, J: Naming>(
     ensures waits { IfOk result (IfMissing (λ _. OnlyExtends session.old session.new)) }
     ensures below { IfOk result (IfMissing (All (λ b. b < J.blocks))) }
     ensures refusal { IfErr result (IsTryRefusal transaction.now session.old) }
+    ensures fenced { IfErr result (ShowsFence session.new) }
     ensures session { OnErr result (OnlyExtends session.old session.new) }
 {
     let answer = volatile.commit(session, transaction, spares, fetched);

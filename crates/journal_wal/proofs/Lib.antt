@@ -12,4 +12,5 @@ pub mod Opening
 pub mod Reading
 pub mod Grouping
 pub mod Scanning
+pub mod Kept
 pub mod Tailing

@@ -1,9 +1,8 @@
 -- Updates in memory, and where they were cut.
-use Rattle.std.proofs.Common.{◌≡◌, inl, inr, ◌<◌, ◌≤◌, ◌+◌, ◌-◌, ◌^◌, ℕ, zero, suc, ◌||◌, Bool, List, [], ◌∷◌, ◌++◌, length, length-drop, append_assoc, take, drop, get_or, Some, Result, Ok, Err, OnOk, refl, sym, ap, subst, ◌∙◌, arith}
+use Rattle.std.proofs.Common.{◌≡◌, inr, ◌<◌, ◌≤◌, ◌+◌, ◌-◌, ◌^◌, ℕ, zero, suc, ◌||◌, Bool, List, [], ◌∷◌, ◌++◌, length, length-drop, append_assoc, take, drop, get_or, Some, Result, Ok, Err, OnOk, sym, ap, subst, ◌∙◌, arith}
 use Rattle.std.specs.List.{All, slice_get}
 use Rattle.std.proofs.Math.Seq.{take-suc}
-use Rattle.std.proofs.lemmas.List.{append-nil, drop-append-le, drop-drop, get_or-drop, length-take-le, take-append-drop, take_all}
-use Rattle.std.proofs.lemmas.List.Elements.{All-drop}
+use Rattle.std.proofs.lemmas.List.{append-nil, drop-append-le, drop-drop, get_or-drop, length-take-le, take-append-drop}
 use Rattle.std.proofs.lemmas.Option.{get_or_from_slice_get, slice_get_within}
 use Rattle.journal_block.specs.declared.update.Update.{Update}
 use Rattle.journal_block.specs.Updates.{updated, updates_block}
@@ -149,9 +148,9 @@ rises_past from to upto cuts c later is rises past =
     all c (next ∷ later) rise lt (suc k) d within = all next later rise.1 (omega (arith, lt, rise.0)) k d (omega (arith, within))
 
 -- and the first cut of those that are left
-pub drops_first : (old mid new : TailState) (upto : ℕ) (c : CutPoint) (later : List CutPoint) → DropsCuts old upto mid → mid.cuts ≡ c ∷ later
-    → mid.log.start ≤ c.end → c.end ≤ upto → new ≡ without_first mid c later → DropsCuts old upto new
-drops_first old mid new upto c later drops first rises le is =
+pub drops_first : (old mid new : TailState) (upto : ℕ) (c : CutPoint) (later : List CutPoint) (home : List Update) → DropsCuts old upto mid
+    → mid.cuts ≡ c ∷ later → mid.log.start ≤ c.end → c.end ≤ upto → new ≡ without_first mid c later home → DropsCuts old upto new
+drops_first old mid new upto c later home drops first rises le is =
     subst (λ (t : TailState). DropsCuts old upto t) (sym is) (record {
       earlier = drops.earlier ++ record { end = mid.log.start; commits = mid.trimmed } ∷ [];
       points = drops.points
@@ -190,3 +189,19 @@ tail_cut t p cuts later is cuts_is end later_is sound = record {
       (subst (λ (cs : List CutPoint). RisesTo t.log.start (next_position t.log) cs) (sym cuts_is)
       (rises_push t.log.start t.log.cut (next_position t.log) p t.cuts end is.log.bounds.cut_to_next is.cuts));
 }
+
+-- What is dropped comes home
+
+-- the first update is dropped, and with it those before a position
+pub trimmed_first : (log : LogState) (upto : ℕ) → log.start < upto → trimmed (trimmed log (log.start + 1)) upto ≡ trimmed log upto
+trimmed_first log upto lt = λ i. record log {
+  start = upto;
+  updates = (drop-drop (upto - (log.start + 1)) (log.start + 1 - log.start) log.updates ∙ ap (λ (n : ℕ). drop n log.updates) width) i;
+  room = room i;
+}
+  where
+    width : (log.start + 1 - log.start) + (upto - (log.start + 1)) ≡ upto - log.start
+    width = omega (arith, lt)
+
+    room : log.room + (log.start + 1 - log.start) + (upto - (log.start + 1)) ≡ log.room + (upto - log.start)
+    room = omega (arith, lt)

@@ -1,5 +1,5 @@
 -- What contracts see of a tail: the updates in memory, and the cuts whose updates are still there.
-use Rattle.std.specs.Prelude.{ℕ, ◌≡◌, ◌⊎◌, ◌<◌, ◌≤◌, ◌+◌, ◌-◌, ◌^◌, List, [], ◌∷◌, ◌++◌, length, drop}
+use Rattle.std.specs.Prelude.{ℕ, ◌≡◌, ◌⊎◌, ◌<◌, ◌≤◌, ◌+◌, ◌-◌, ◌^◌, true, List, [], ◌∷◌, ◌++◌, length, drop}
 use Rattle.journal_world.specs.declared.refusal.Refusal.{Refusal}
 use Rattle.journal_world.specs.declared.refusal.Refusal.TheVariants.{TooLarge, Worn, Full}
 use Rattle.journal_block.specs.declared.update.Update.{Update}
@@ -17,10 +17,16 @@ pub record TailState : Type 0 where
   pub trimmed : ℕ
   -- the later cuts, the oldest first
   pub cuts : List CutPoint
+  -- copies of blocks that are at home, but for the updates in memory
+  pub home : List Update
 
 -- the cuts from the last one whose updates were dropped
 abbrev pub cut_points : TailState → List CutPoint
 cut_points t = record { end = t.log.start; commits = t.trimmed } ∷ t.cuts
+
+-- what memory knows of blocks: their copies, and then the updates
+abbrev pub known_blocks : TailState → List Update
+known_blocks t = t.home ++ t.log.updates
 
 -- the updates from a position on
 abbrev pub updates_from : LogState → ℕ → List Update
@@ -30,6 +36,11 @@ updates_from log from = drop (from - log.start) log.updates
 pub record MakeTheSame (us vs : List Update) : Type 0 where
   pub blocks : (b : ℕ) → updates_block us b ≡ updates_block vs b
   pub content : (b : ℕ) (before : Bytes) → updated us b before ≡ updated vs b before
+
+-- Of each block that the later updates are of, the earlier ones make the same
+pub record MakesNoOther (earlier later : List Update) : Type 0 where
+  pub blocks : (b : ℕ) → updates_block later b ≡ true → updates_block earlier b ≡ true
+  pub content : (b : ℕ) (before : Bytes) → updates_block later b ≡ true → updated later b before ≡ updated earlier b before
 
 -- The ends of the cuts never fall from one position to another, which is the last
 abbrev pub RisesTo : ℕ → ℕ → List CutPoint → Type 0
@@ -47,9 +58,9 @@ pub record IsTail (t : TailState) : Type 0 where
 
 -- What each call makes of a tail
 
--- one of a disk of so many blocks, which begins at a position and has no updates
+-- one of a disk of so many blocks, which begins at a position and knows no block
 abbrev pub empty_tail : ℕ → ℕ → ℕ → TailState
-empty_tail blocks start room = record { log = empty_log blocks start room; trimmed = 0; cuts = [] }
+empty_tail blocks start room = record { log = empty_log blocks start room; trimmed = 0; cuts = []; home = [] }
 
 -- with all updates cut, after so many commits
 abbrev pub cut_after : TailState → ℕ → TailState
@@ -58,10 +69,10 @@ cut_after t commits = record t {
   cuts = t.cuts ++ record { end = next_position t.log; commits = commits } ∷ [];
 }
 
--- without the updates of the first cut
-abbrev pub without_first : TailState → CutPoint → List CutPoint → TailState
-without_first t c later =
-    record { log = trimmed (record t.log { logged = c.end }) c.end; trimmed = c.commits; cuts = later }
+-- without the updates of the first cut, and with these copies
+abbrev pub without_first : TailState → CutPoint → List CutPoint → List Update → TailState
+without_first t c later home =
+    record { log = trimmed (record t.log { logged = c.end }) c.end; trimmed = c.commits; cuts = later; home = home }
 
 -- The updates of some first cuts were dropped, of none that ends past the position
 pub record DropsCuts (old : TailState) (upto : ℕ) (new : TailState) : Type 0 where

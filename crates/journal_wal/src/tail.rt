@@ -4,12 +4,13 @@ ghost use Rattle.std.specs.List.{All};
 ghost use Rattle.journal_block.specs.declared.update.Update.{Update};
 ghost use Rattle.journal_block.specs.Block.{Bytes};
 ghost use Rattle.journal_block.specs.Updates.{updated, updates_block};
-ghost use Rattle.journal_memlog.specs.Logs.{HasDistinctBlocks, bounds_of, next_position, tail_of, appended};
+ghost use Rattle.journal_memlog.specs.Logs.{IsMemLog, HasDistinctBlocks, bounds_of, next_position, tail_of, appended, trimmed};
 ghost use Rattle.journal_wal.specs.Wal.{AreHomes};
-ghost use Rattle.journal_wal.specs.Tails.{TailState, MakeTheSame, DropsCuts, AdmitsBlocks, IsTailRefusal, TakesUpdates, TakesFresh, updates_from, empty_tail, cut_after, without_first};
+ghost use Rattle.journal_wal.specs.Tails.{TailState, MakeTheSame, MakesNoOther, DropsCuts, AdmitsBlocks, IsTailRefusal, TakesUpdates, TakesFresh, known_blocks, updates_from, empty_tail, cut_after, without_first};
 ghost use Rattle.journal_wal.specs.declared.append.TheConstants.{MAX_TAIL};
 
 use crate::append::{MAX_POSITION, MAX_TAIL, MAX_UPDATES};
+use crate::home_blocks::HomeBlocks;
 use journal_block::{Block, Update};
 use journal_memlog::{Bounds, MemLog};
 use journal_world::Refusal;
@@ -29,13 +30,15 @@ pub struct CutPoint {
 /// The updates in memory, for a lock of their own: it knows no disk, and each call ends without waiting for one.
 ///
 /// A cut hands out a copy of the tail, which the log on the disk takes as its group. The updates stay here until a
-/// trim says that they are at home, so what a commit wrote after the last cut that was trimmed is found here.
+/// trim says that they are at home, so what a commit wrote after the last cut that was trimmed is found here. So are
+/// copies of blocks that were fetched from the disk's part, which a trim overwrites by what it drops.
 #[derive(Drop)]
 pub struct Tail {
     alloc: Global,
     memory: MemLog,
     trimmed: u64,
     cuts: VecDeque<CutPoint>,
+    home: HomeBlocks,
 }
 
 impl Model for Tail {
@@ -43,26 +46,30 @@ impl Model for Tail {
 
     ghost Value = { TailState };
 
-    ghost view = { λ t. record { log = t.memory; trimmed = t.trimmed; cuts = t.cuts.items } };
+    ghost view = { λ t. record { log = t.memory; trimmed = t.trimmed; cuts = t.cuts.items; home = t.home } };
 
-    ghost invariant = { λ t. IsTail (record { log = t.memory; trimmed = t.trimmed; cuts = t.cuts.items }) };
+    ghost invariant = { λ t. IsTail (record { log = t.memory; trimmed = t.trimmed; cuts = t.cuts.items; home = t.home }) };
 }
 
 impl Tail {
-    /// The tail of a disk of so many blocks whose log ends at a position. It has no updates, and no commit was made.
+    /// The tail of a disk of so many blocks whose log ends at a position. It has no updates and no copies, of which it
+    /// will have no more than `most`, and no commit was made.
     ///
-    /// Answers J1 `NoMemory`, and nothing else, where memory for the index is refused.
-    pub fn new<C>(alloc: Global, blocks: u64, start: u64) -> Result<Tail, Refusal<C>>
-        requires { start < 2 ^ 62 }
+    /// Answers J1 `NoMemory`, and nothing else, where memory for an index is refused.
+    pub fn new<C>(alloc: Global, blocks: u64, start: u64, most: usize) -> Result<Tail, Refusal<C>>
+        requires start { start < 2 ^ 62 }
+        requires some { 0 < most }
         ensures tail { IfOk result (λ tail. tail ≡ empty_tail blocks start tail.log.room) }
         ensures refusal { IsOkUnless result Refusal.NoMemory }
     {
         let memory = MemLog::new(alloc, blocks, start)?;
+        let home = HomeBlocks::new(alloc, most)?;
         Ok(Tail {
             alloc,
             memory,
             trimmed: 0,
             cuts: VecDeque::new(alloc),
+            home,
         })
     }
 
@@ -88,13 +95,33 @@ impl Tail {
         self.trimmed
     }
 
-    /// The block with all updates, lent, where one is of it.
-    pub fn latest(&self, block: u64) -> Option<&Block>
-        ensures found { is_some result ≡ updates_block self.now.log.updates block }
+    /// The block, lent, where memory knows it: with all updates where one is of it, and else as its copy has it.
+    pub fn known(&self, block: u64) -> Option<&Block>
+        ensures found { is_some result ≡ updates_block (known_blocks self.now) block }
         ensures content { IfSome result (λ found.
-            (before : Bytes) → updated self.now.log.updates block before ≡ found.now) }
+            (before : Bytes) → updated (known_blocks self.now) block before ≡ found.now) }
     {
-        self.memory.latest(block)
+        match self.memory.latest(block) {
+            Some(found) => Some(found),
+            None => self.home.find(block),
+        }
+    }
+
+    /// Makes the copy of the block the one that was used last, where there is one.
+    pub fn touch(&mut self, block: u64)
+        ensures same { MakeTheSame self.new.home self.old.home }
+        ensures others { self.new ≡ record self.old { home = self.new.home } }
+    {
+        self.home.touch(block);
+    }
+
+    /// Keeps copies of these blocks, which are at home as these have them but for the updates in memory. Where there are
+    /// too many, those go that were used least recently. One for which memory is refused is not kept.
+    pub fn keep(&mut self, copies: Vec<Update>)
+        ensures known { MakesNoOther (self.old.home ++ copies.items) self.new.home }
+        ensures others { self.new ≡ record self.old { home = self.new.home } }
+    {
+        self.home.keep_all(copies);
     }
 
     /// Whether the block stands in the tail, so that an update of it takes no new place.
@@ -190,12 +217,15 @@ impl Tail {
         Ok(group)
     }
 
-    /// Drops the updates of each cut that ends at the position or before it: they are at home.
+    /// Drops the updates of each cut that ends at the position or before it: they are at home. Where there is a copy of
+    /// their block, it is overwritten by them. It takes no memory, and moves the blocks.
     pub fn trim(&mut self, upto: u64)
         ensures drops { DropsCuts self.old upto self.new }
         ensures left { All (λ c. upto < c.end) self.new.cuts }
         // What was updated since a cut that is left is as it was.
         ensures since { (from : ℕ) → self.new.log.start ≤ from → updates_from self.new.log from ≡ updates_from self.old.log from }
+        // Of each block that memory still knows it knows what it knew.
+        ensures known { MakesNoOther (known_blocks self.old) (known_blocks self.new) }
     {
         while self.has_cut_by(upto) {
             self.drop_first_cut();
@@ -217,11 +247,34 @@ impl Tail {
     // Drops the updates of the first cut.
     fn drop_first_cut(&mut self)
         requires { 0 < length self.old.cuts }
-        ensures { (c : CutPoint) (later : List CutPoint) → self.old.cuts ≡ c ∷ later → self.new ≡ without_first self.old c later }
+        ensures drops { (c : CutPoint) (later : List CutPoint) → self.old.cuts ≡ c ∷ later → self.new ≡ without_first self.old c later self.new.home }
+        ensures known { MakesNoOther (known_blocks self.old) (known_blocks self.new) }
     {
-        let cut = self.cuts.pop_front().unwrap();
-        self.memory.logged(cut.end);
-        self.memory.trim(cut.end);
-        self.trimmed = cut.commits;
+        let Tail {
+            memory,
+            trimmed,
+            cuts,
+            home,
+            ..
+        } = self;
+        let cut = cuts.pop_front().unwrap();
+        memory.logged(cut.end);
+        bring_home(memory, home, cut.end);
+        *trimmed = cut.commits;
+    }
+}
+
+// Drops the updates before the position. Where there is a copy of their block, it is overwritten by them.
+fn bring_home(memory: &mut MemLog, home: &mut HomeBlocks, upto: u64)
+    requires from_start { memory.old.start ≤ upto }
+    requires to_logged { upto ≤ memory.old.logged }
+    ensures log { memory.new ≡ trimmed memory.old upto }
+    ensures sound { IsMemLog memory.new }
+    ensures known { MakesNoOther (home.old ++ memory.old.updates) (home.new ++ memory.new.updates) }
+{
+    // Called for its contract: the log is sound.
+    let _bounds = memory.bounds();
+    while memory.bounds().start < upto {
+        home.replace(memory.take_first());
     }
 }

@@ -1,17 +1,14 @@
 -- The values of a map are of their kinds, where its pairs are objects; and those of a legal history's maps are.
-use Rattle.std.proofs.Common.{◌≡◌, ℕ, zero, suc, Bool, true, false, cond, ◌==◌, nat_lt, IsTrue, List, [], ◌∷◌, length, replicate, Option, Some, None, slice_get, refl, sym, subst, ◌∙◌}
+use Rattle.std.proofs.Common.{◌≡◌, ℕ, zero, suc, Bool, true, false, cond, ◌==◌, nat_lt, IsTrue, List, [], ◌∷◌, length, replicate, Option, Some, None, refl, sym, subst}
 use Rattle.std.specs.Prelude.{unwrap_or}
 use Rattle.std.specs.List.{list_all}
 use Rattle.std.proofs.lemmas.Bool.{and_from, and_parts, eq-eqb, false≢true}
 use Rattle.std.proofs.lemmas.List.{length-replicate}
-use Rattle.std.proofs.lemmas.List.Folds.{list_all-append}
 use Rattle.journal_world.specs.declared.address.Addr.{Addr}
 use Rattle.journal_world.specs.declared.address.Kind.{Kind}
 use Rattle.journal_world.specs.declared.address.Kind.TheVariants.{Bit, Inode, Block}
 use Rattle.journal_world.specs.Addresses.{kind_of, is_valid, starts_object, bytes_of, limit_of, is_value_of, zeros_of, is_same}
-use Rattle.journal_world.specs.Maps.{Pair, Map, Transaction, value_among, zeros_at, value_at, is_value_at, is_object, are_objects, apply}
-use Rattle.journal_world.specs.Histories.{Entry, opened_map, commits, opened, after, latest, IsLegal}
-use Rattle.journal_world.specs.Histories.Entry.{opening, commit, stable}
+use Rattle.journal_world.specs.Maps.{Pair, Map, value_among, zeros_at, value_at, is_value_at, is_object, are_objects}
 use Rattle.journal_world.proofs.Lookups.{same_addr}
 
 list_all-replicate : (p : ℕ → Bool) (n x : ℕ) → p x ≡ true → list_all p (replicate n x) ≡ true

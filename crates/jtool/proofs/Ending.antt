@@ -4,7 +4,7 @@ use Rattle.std.specs.Prelude.{◌==◌}
 use Rattle.std.proofs.lemmas.Fmt.{decimal_injective}
 use Rattle.journal_command.specs.declared.ask.AskFault.{AskFault}
 use Rattle.journal_command.specs.declared.ask.AskFault.TheVariants as asks_for
-use Rattle.journal_command.specs.Asks.{AsksScript, AsksFormat, AsksServe, IsSize, CannotBegin}
+use Rattle.journal_command.specs.Asks.{AsksScript, AsksFormat, IsSize, CannotBegin}
 use Rattle.jtool.specs.declared.fault.Fault.{Fault}
 use Rattle.jtool.specs.declared.fault.Fault.TheVariants as faults
 use Rattle.journal_script.specs.Transcripts.{IsTranscript}

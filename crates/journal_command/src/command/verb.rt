@@ -10,6 +10,7 @@ pub enum Verb {
     Get,
     Commit,
     Abort,
+    Fence,
     Wait,
     Log,
     Install,
@@ -23,11 +24,12 @@ pub enum Verb {
     Poke,
 }
 
-const VERBS: [Verb; 15] = [
+const VERBS: [Verb; 16] = [
     Verb::Put,
     Verb::Get,
     Verb::Commit,
     Verb::Abort,
+    Verb::Fence,
     Verb::Wait,
     Verb::Log,
     Verb::Install,
@@ -64,6 +66,7 @@ impl Verb {
             Verb::Get => b"get",
             Verb::Commit => b"commit",
             Verb::Abort => b"abort",
+            Verb::Fence => b"fence",
             Verb::Wait => b"wait",
             Verb::Log => b"log",
             Verb::Install => b"install",

@@ -219,7 +219,7 @@ fn a_barrier_stops_no_observer(rt: HostRuntime) {
 }
 
 /// Overwrites these data blocks, and says whether it could.
-fn fills<D: BlockDisk, J: Naming, W: Wait>(
+pub(super) fn fills<D: BlockDisk, J: Naming, W: Wait>(
     rt: &W,
     txn: &mut OpenTxn<D, J>,
     (first, end): (u64, u64),
@@ -248,7 +248,7 @@ fn tries<'b, D: BlockDisk, J: Naming, W: Wait>(
 }
 
 /// Fills the log's tail, so that a further block does not fit.
-fn fills_up<J: Naming, H: Abort + Wait>(
+pub(super) fn fills_up<J: Naming, H: Abort + Wait>(
     rt: &H,
     alloc: Global,
     journal: &Open<MemDisk, J>,
@@ -289,7 +289,7 @@ fn breaks<J: Naming, H: Abort + Wait>(rt: &H, alloc: Global, journal: &Open<MemD
 }
 
 /// Gives another thread time to fall asleep, once it asks for room.
-fn lets_wait(asks: &AtomicBool) {
+pub(super) fn lets_wait(asks: &AtomicBool) {
     comes(asks);
     for _ in 0..20_000 {
         yield_now();

@@ -74,7 +74,7 @@ fn empty(rt: &impl Abort, alloc: Global, blocks: u64, end: u64) -> Run<Memory>
 {
     let layout = Layout::new(blocks).expect(rt, "a disk of this size has a layout");
     Ok(Memory {
-        tail: ObjectTail::new(alloc, layout, end)?,
+        tail: ObjectTail::new(alloc, layout, end, 1)?,
         fetched: Vec::new(alloc),
         group: Vec::new(alloc),
     })
@@ -196,7 +196,7 @@ fn answer(alloc: Global, memory: &mut Memory, call: Call) -> Run<u64> {
             let layout = memory.tail.layout();
             has(
                 alloc,
-                &ObjectTail::new(alloc, layout, 0)?,
+                &ObjectTail::new(alloc, layout, 0, 1)?,
                 &memory.group,
                 fill,
             )

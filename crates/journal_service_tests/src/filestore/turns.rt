@@ -181,7 +181,8 @@ fn over<'w, 'b, J: Naming + Send + Sync, H: Threads + Wait + Sync>(
     requires blocks { disk.disk.past.size ≡ J.blocks }
     requires settled { IsSettled disk.disk.past }
 {
-    let mounted: Result<Watched<'w, 'b, J>, _> = FileStore::mount(alloc, book, disk);
+    // Each attempt reads two blocks, so that with one copy none of its reads finds its block in memory.
+    let mounted: Result<Watched<'w, 'b, J>, _> = FileStore::mount_with_cache(alloc, book, disk, 1);
     match mounted {
         Ok(files) => contend(rt, alloc, &files, watch, contest),
         Err(_) => Err(Wrong::Refused),

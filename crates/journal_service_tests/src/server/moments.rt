@@ -82,7 +82,13 @@ fn serve_writes<'b, J: Naming, W: Wait>(
     let gate = NotingGate::new(alloc);
     let outcome = serve_piece(rt, alloc, files, session, &input, &mut writer, &gate);
     let (answered, end) = (4, End::EndOfInput);
-    if outcome != Ok(Served { answered, end }) {
+    if outcome
+        != Ok(Served {
+            answered,
+            end,
+            fenced: true,
+        })
+    {
         return Err(Wrong::At(0));
     }
     if writer.taken.as_slice() != wanted.as_slice() {

@@ -142,7 +142,11 @@ impl Gate for HeldGate {
 
 // Whether a connection has one outcome, and this one: it answered so many records, and ended so.
 pub(crate) fn is_as(outcomes: &[(u64, Outcome)], number: u64, answered: u64, end: End) -> bool {
-    let wanted = Ok(Served { answered, end });
+    let wanted = Ok(Served {
+        answered,
+        end,
+        fenced: true,
+    });
     let mut has = false;
     for (other, outcome) in outcomes {
         if *other == number {

@@ -263,6 +263,11 @@ fn keeps_log<'s, 'b, J: Naming, W: Wait>(rt: &W, files: &Gated<'s, 'b, J>, signa
     }
 }
 
+// A device that failed leaves a journal that fences nobody.
+fn is_fenced(way: Way) -> bool {
+    !matches!(way, Way::Fails(_))
+}
+
 fn tell_piece<'s, 'b, J: Naming + Send + Sync, H: Threads + Wait + Sync>(
     rt: &H,
     alloc: Global,
@@ -309,7 +314,13 @@ fn tell_piece<'s, 'b, J: Naming + Send + Sync, H: Threads + Wait + Sync>(
     );
     let answered = piece.calls.len() as u64;
     let end = End::EndOfInput;
-    let is_as_wanted = outcome == Ok(Served { answered, end })
+    let fenced = is_fenced(piece.way);
+    let is_as_wanted = outcome
+        == Ok(Served {
+            answered,
+            end,
+            fenced,
+        })
         && writer.taken.as_slice() == wanted.as_slice()
         && !signals.gave_up.load(Ordering::SeqCst);
     if is_as_wanted {

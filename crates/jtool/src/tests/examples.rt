@@ -56,6 +56,42 @@ const EXAMPLES: &[(&[u8], &[u8], u8)] = &[
         ",
         0,
     ),
+    // fence
+    (
+        b"put 515 0 01*128\n\
+        commit\n\
+        put 515 0 02*128\n\
+        fence\n\
+        commit\n\
+        get 515 0\n\
+        wait\n\
+        crash none\n\
+        get 515 0\n\
+        put 515 0 03*128\n\
+        commit\n\
+        down none\n\
+        fence\n\
+        open\n\
+        stat\n\
+        ",
+        b"ok\n\
+        committed 1\n\
+        ok\n\
+        ok\n\
+        refused J14 Fenced\n\
+        = 01*128\n\
+        stable 1\n\
+        opened\n\
+        = 01*128\n\
+        ok\n\
+        committed 1\n\
+        ok\n\
+        down\n\
+        opened\n\
+        commits 0 floor 0 start 0 end 1\n\
+        ",
+        0,
+    ),
     // first
     (
         b"put 515 0 01*128\n\

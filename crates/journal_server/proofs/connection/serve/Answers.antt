@@ -1,17 +1,20 @@
-use Rattle.journal_server.proofs.Serving.{tells_replies, tells_count, tells_end, tells_beginning, exchanges_nothing}
+use Rattle.std.proofs.Common.{rules}
+use Rattle.journal_server.specs.Output.{IsReply}
+use Rattle.journal_server.proofs.Serving.{tells_replies, tells_count, tells_end, tells_beginning}
 use Rattle.journal_server.proofs.connection.serve.Goals as goal
 
-pub returns-clause-replies : goal.returns-clause-replies
-returns-clause-replies g c = tells_replies _ _ _ _ _ _ _ c.answer_all.result c.answer_all.ensures.finished
+pub returns-in-Ok-clause-replies : goal.returns-in-Ok-clause-replies
+returns-in-Ok-clause-replies g c =
+    tells_replies (λ s. IsReply g.V.Version.VERSION (g.C.Clock.tells c.args.clock.now) c.args.verifier.0 s.seen) _ _ _ _ _ _ _ c.fence.ensures.session c.in-Ok.field-0.answered c.in-Ok.field-0.end (search rules)
 
-pub returns-clause-counted : goal.returns-clause-counted
-returns-clause-counted g c = tells_count _ _ _ _ _ _ _ c.answer_all.result c.answer_all.ensures.finished
+pub returns-in-Ok-clause-counted : goal.returns-in-Ok-clause-counted
+returns-in-Ok-clause-counted g c =
+    tells_count (λ s. IsReply g.V.Version.VERSION (g.C.Clock.tells c.args.clock.now) c.args.verifier.0 s.seen) _ _ _ _ c.args.session.now _ _ c.fence.ensures.session c.in-Ok.field-0.answered c.in-Ok.field-0.end (search rules)
 
-pub returns-clause-ended : goal.returns-clause-ended
-returns-clause-ended g c = tells_end _ _ _ _ _ _ _ c.answer_all.result c.answer_all.ensures.finished
+pub returns-in-Ok-clause-ended : goal.returns-in-Ok-clause-ended
+returns-in-Ok-clause-ended g c =
+    tells_end (λ s. IsReply g.V.Version.VERSION (g.C.Clock.tells c.args.clock.now) c.args.verifier.0 s.seen) _ _ _ _ c.args.session.now _ _ c.fence.ensures.session c.in-Ok.field-0.answered c.in-Ok.field-0.end (search rules)
 
 pub returns-clause-given_up : goal.returns-clause-given_up
-returns-clause-given_up g c = tells_beginning _ _ _ _ _ _ _ c.answer_all.result c.answer_all.ensures.given_up
-
-pub returns-in_default-clause-given_up : goal.returns-in_default-clause-given_up
-returns-in_default-clause-given_up g c = exchanges_nothing _ _ _ _
+returns-clause-given_up g c =
+    tells_beginning (λ s. IsReply g.V.Version.VERSION (g.C.Clock.tells c.args.clock.now) c.args.verifier.0 s.seen) _ _ _ _ _ _ _ c.fence.ensures.session (search rules)

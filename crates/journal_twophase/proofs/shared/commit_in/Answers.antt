@@ -1,5 +1,6 @@
 use Rattle.journal_twophase.proofs.Knowing.{known}
 use Rattle.journal_twophase.proofs.Committing.{committed}
+use Rattle.journal_twophase.proofs.Fencing.{shows_fence}
 use Rattle.journal_twophase.proofs.shared.commit_in.Goals as goal
 
 pub returns-clause-committed : goal.returns-clause-committed
@@ -11,3 +12,7 @@ returns-clause-committed g c =
     committed rule blocks c.args.transaction.now c.args.session.now step.new.session c.args.volatile.now step.new.self step.result
     step.ensures.committed step.ensures.receipt step.ensures.can step.ensures.agrees
     (known rule blocks step.new.session.seen seen.on_disk seen.sound seen.legal)
+
+pub returns-clause-fenced : goal.returns-clause-fenced
+returns-clause-fenced g c =
+    shows_fence c.args.volatile.now.memory.history c.commit-answer.new.session c.commit-answer.result c.commit-answer.ensures.longer

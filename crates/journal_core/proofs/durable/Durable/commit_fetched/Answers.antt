@@ -1,6 +1,7 @@
 use Rattle.std.proofs.Common.{◌≡◌, ◌≢◌, ◌≤◌, ◌++◌, [], map, refl, sym, ap, subst, ◌∙◌, arith, rules}
 use Rattle.journal_world.proofs.Prefixes.{IsPrefix-refl}
 use Rattle.journal_block.specs.declared.update.Update.{Update}
+use Rattle.journal_wal.specs.Tails.{known_blocks}
 use Rattle.journal_objlog.specs.ObjectTails.{known_updates, missing_blocks}
 use Rattle.journal_core.specs.Volatiles.{VolatileState, usable}
 use Rattle.journal_core.specs.VolatileCommits.{IsCommitted as IsCommittedIn}
@@ -38,8 +39,8 @@ unreachable-requires g c =
     let fresh : v.tail.trimmed ≤ f.commits = omega (arith, c.fetch_step.ensures.pair.tied.trimmed, c.in_ok-fetched.ensures.commits) in
     let missing : c.in-Ok-Missing.field-0-0.items ≡ missing_blocks n (known_updates (usable v f) v.tail) writes = search rules in
     let some : c.in-Ok-Missing.field-0-0.items ≢ [] = search rules in
-    let none : missing_blocks n (f.updates ++ v.tail.log.updates) writes ≡ [] =
-    fetched_all n f.updates v.tail.log.updates (map (λ (u : Update). u.block) c.args.rooms.items) writes c.in_ok-fetched.ensures.named
+    let none : missing_blocks n (f.updates ++ known_blocks v.tail) writes ≡ [] =
+    fetched_all n f.updates (known_blocks v.tail) (map (λ (u : Update). u.block) c.args.rooms.items) writes c.in_ok-fetched.ensures.named
     (subst (λ (x : VolatileState). map (λ (u : Update). u.block) c.args.rooms.items ≡ missing_blocks n (known_updates [] x.tail) writes) (sym c.in_ok-fetched.ensures.memory) c.requires.named) in
     some (missing ∙ ap (λ us. missing_blocks n (known_updates us v.tail) writes) (all_usable v f fresh) ∙ none)
 

@@ -6,7 +6,7 @@ use Rattle.journal_core.specs.Transactions.{TransactionState}
 use Rattle.journal_core.specs.SlotCounts.{CountsWrites}
 use Rattle.journal_core.specs.Memories.{MemoryState}
 use Rattle.journal_core.proofs.Committing.{ruled_then, few_commits}
-use Rattle.journal_core.proofs.Counting.{memory_committed, few_counted}
+use Rattle.journal_core.proofs.Counting.{memory_committed, memory_reserved, few_counted}
 use Rattle.journal_core.proofs.memory.Memory.commit.Goals as goal
 
 pub commit-requires-clause-rule : goal.commit-requires-clause-rule
@@ -24,6 +24,12 @@ pub count_writes-requires : goal.count_writes-requires
 count_writes-requires g c =
     few_counted c.self.inside.tally c.self.inside.slots c.self.inside.writer c.self.invariant.counts
     (subst (λ (s : MemoryState). length s.history + 1 < 2 ^ 62) (sym c.self.view_is) c.requires.room)
+
+pub invariant_of-self-in-Err : goal.invariant_of-self-in-Err
+invariant_of-self-in-Err g c =
+    memory_reserved c.self.inside.tally c.self.inside.slots c.self.inside.covered
+    (record { history = c.self.inside.writer; cut = c.self.inside.cut; next = c.self.inside.next; closed = c.self.inside.closed }) c.self.invariant
+    c.reserve.new.self c.commit.new.self c.reserve.ensures.same c.in-Err.ensures.unchanged.0
 
 pub invariant_of-self-2 : goal.invariant_of-self-2
 invariant_of-self-2 g c =

@@ -7,4 +7,4 @@ use Rattle.journal_core.proofs.memory.Memory.new.Goals as goal
 pub invariant_of-result : goal.invariant_of-result
 invariant_of-result g c =
     subst (λ (t : Pairs). IsMemory t c.args.slots (record { marked = c.len-len.result; cut = c.len-len.result }) (record { history = c.args.writer; cut = 0; next = 0; closed = false })) (sym c.new.ensures)
-    (memory_begun c.args.slots (record { marked = c.len-len.result; cut = c.len-len.result }) c.args.writer c.requires.none c.requires.unmarked c.requires.slots c.len-len.ensures.length c.len-len.ensures.length)
+    (memory_begun c.args.slots (record { marked = c.len-len.result; cut = c.len-len.result }) c.args.writer c.requires.none c.requires.unmarked c.requires.unfenced c.requires.slots c.len-len.ensures.length c.len-len.ensures.length)

@@ -3,4 +3,4 @@ use Rattle.journal_twophase.proofs.shared.SharedCore.read_in.Goals as goal
 
 pub returns-clause-found : goal.returns-clause-found
 returns-clause-found g c =
-    finds _ c.args.addr g.J.Naming.blocks c.args.transaction.now c.read.result c.read.ensures.found c.read.ensures.may
+    finds _ c.args.addr g.J.Naming.blocks c.args.transaction.now c.read-answer.result c.read-answer.ensures.found c.read-answer.ensures.may

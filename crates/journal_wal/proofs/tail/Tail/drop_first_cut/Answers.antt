@@ -1,5 +1,8 @@
-use Rattle.std.proofs.Common.{◌≡◌, ◌∷◌, ◌++◌, ap, ◌∙◌}
+use Rattle.std.proofs.Common.{◌≡◌, ◌∷◌, ◌++◌, List, ap, subst, ◌∙◌}
 use Rattle.std.specs.Option.{option_to_list}
+use Rattle.journal_block.specs.declared.update.Update.{Update}
+use Rattle.journal_memlog.specs.Logs.{LogState}
+use Rattle.journal_wal.specs.Tails.{TailState, MakesNoOther, known_blocks}
 use Rattle.journal_wal.proofs.Tailing.{rises_first}
 use Rattle.journal_wal.proofs.tail.Tail.drop_first_cut.Goals as goal
 
@@ -8,3 +11,9 @@ logged-requires-clause-to_cut c =
     let first : c.self.inside.cuts.items ≡ c.unwrap-cut.result ∷ c.pop_front.new.self.items =
     c.pop_front.ensures.items ∙ ap (λ o. option_to_list o ++ c.pop_front.new.self.items) c.unwrap-cut.ensures in
     (rises_first c.self.inside.memory.start c.self.inside.memory.cut c.self.inside.cuts.items c.unwrap-cut.result c.pop_front.new.self.items first c.self.invariant.cuts).1
+
+pub returns-clause-known : goal.returns-clause-known
+returns-clause-known c =
+    subst (λ (t : TailState). MakesNoOther (known_blocks t) (c.bring_home.new.home ++ c.bring_home.new.memory.updates)) c.self.view_is
+    (subst (λ (us : List Update). MakesNoOther (c.self.inside.home ++ us) (c.bring_home.new.home ++ c.bring_home.new.memory.updates))
+    (ap (λ (l : LogState). l.updates) c.logged.ensures.log) c.bring_home.ensures.known)

@@ -1,0 +1,176 @@
+-- What a fence keeps: what is counted beside the history, what is in memory of it, and what ties the two parts.
+use Rattle.std.proofs.Math.Bool.{or-false}
+use Rattle.std.proofs.lemmas.Bool.{or_right, eq-eqb, ne_eqb, eqb-true, eqb-false}
+use Rattle.std.proofs.Common.{inl, inr, ⊎_elim, ◌≡◌, ◌+◌, ◌==◌, ◌||◌, ◌++◌, max, ℕ, Bool, true, false, cond, IsTrue, List, [], ◌∷◌, length, Result, Ok, Err, OnOk, OnErr, IfErr, refl, sym, ap, subst, ◌∙◌, arith}
+use Rattle.std.specs.List.{filter}
+use Rattle.journal_world.specs.declared.refusal.Refusal.{Refusal}
+use Rattle.journal_world.specs.Maps.{Map, Transaction}
+use Rattle.journal_world.specs.Histories.{Entry, is_fenced, writes_slot}
+use Rattle.journal_world.specs.Histories.Entry.{fence}
+use Rattle.journal_world.proofs.LongerHistories.{opened-append}
+use Rattle.journal_world.proofs.MapsOfHistories.{is_trusted-append}
+use Rattle.journal_world.proofs.Prefixes.{IsPrefix-trans}
+use Rattle.journal_world.proofs.Fences.{commits-fence, count-fence, floor-fence, is_fenced-fence}
+use Rattle.journal_wal.specs.Tails.{known_blocks}
+use Rattle.journal_core.specs.declared.covered.Covered.{Covered}
+use Rattle.journal_core.specs.Causes.{Told}
+use Rattle.journal_core.specs.Covers.{Covers, KeepsCovered, with_quiet}
+use Rattle.journal_core.specs.Tallies.{Pairs, SameTally, NotesFence, fenced_among}
+use Rattle.journal_core.specs.SlotCounts.{Counts, KeepsCounts}
+use Rattle.journal_core.specs.Memories.{MemoryState, IsMemory}
+use Rattle.journal_core.specs.Updates.{AreObjectsOf}
+use Rattle.journal_core.specs.Fences.{AddsFence, HasFence, SetsFence}
+use Rattle.journal_core.specs.Durables.{DurableState}
+use Rattle.journal_core.specs.Volatiles.{VolatileState, IsVolatile}
+use Rattle.journal_core.specs.Pairs.{Tied}
+use Rattle.journal_core.specs.Cores.{CoreState, Crashes, IsPair, core_of}
+use Rattle.journal_core.specs.FenceSteps.{IsFenceRefusal, AnswersFence, SetsFence as SetsInCore}
+use Rattle.journal_core.proofs.Covering.{covers_quiet}
+use Rattle.journal_core.proofs.Fronts.{append-some}
+use Rattle.journal_core.proofs.Latest.{latest_fence, since_fence}
+
+-- the session's fence is kept, and no other
+fenced_so : (old mid new : Pairs) (history : List Entry) (session s : ℕ) → SameTally old mid → NotesFence session mid new → fenced_among old s ≡ is_fenced s history
+    → fenced_among new s ≡ is_fenced s (history ++ fence session ∷ [])
+fenced_so old mid new history session s same notes was = notes.fenced s ∙ by (s == session) refl ∙ sym (is_fenced-fence s session history)
+  where
+    by : (b : Bool) → (s == session) ≡ b → cond (s == session) true (fenced_among mid s) ≡ (is_fenced s history || (session == s))
+    by true is =
+        ap (λ (b : Bool). cond b true (fenced_among mid s)) is
+        ∙ sym (or_right (is_fenced s history) (session == s) (eq-eqb session s (sym (eqb-true s session is))))
+    by false is =
+        ap (λ (b : Bool). cond b true (fenced_among mid s)) is
+        ∙ same.fenced s ∙ was
+        ∙ sym (ap (λ (b : Bool). is_fenced s history || b) (ne_eqb session s (λ e. eqb-false s session is (sym e))) ∙ or-false (is_fenced s history))
+
+-- a fence is no commit
+keeps_fence : (old mid new : Pairs) (slots : Counts) (history : List Entry) (session : ℕ) → SameTally old mid → NotesFence session mid new → KeepsCounts old slots history
+    → KeepsCounts new slots (history ++ fence session ∷ [])
+keeps_fence old mid new slots history session same notes kept = record {
+  tallied = λ s. notes.made s ∙ same.made s ∙ kept.tallied s
+      ∙ sym (ap (λ (ts : List Transaction). length (filter (λ (t : Transaction). t.session == s) ts)) (commits-fence history session));
+  fenced = λ s. fenced_so old mid new history session s same notes (kept.fenced s);
+  touched = record {
+    slots = kept.touched.slots;
+    commits = kept.touched.commits ∙ sym (ap length (commits-fence history session));
+    touched = λ slot lt. kept.touched.touched slot lt ∙ sym (ap (λ (ts : List Transaction). length (filter (writes_slot slot) ts)) (commits-fence history session));
+  };
+}
+
+covers_fence : (covered now : Covered) (history : List Entry) (cut len session : ℕ) → len ≡ length history
+    → now ≡ record { marked = with_quiet len covered.marked; cut = with_quiet len covered.cut } → KeepsCovered covered history cut
+    → KeepsCovered now (history ++ fence session ∷ []) cut
+covers_fence covered now history cut len session is longer kept =
+    let same = count-fence history session in
+    let floors = floor-fence history session in
+    subst (λ (c : Covered). KeepsCovered c (history ++ fence session ∷ []) cut) (sym longer) (record {
+      marked = subst (λ (n : ℕ). Covers (history ++ fence session ∷ []) n (with_quiet len covered.marked)) (sym floors)
+          (covers_quiet history (fence session) _ covered.marked len same is kept.marked);
+      cut = covers_quiet history (fence session) cut covered.cut len same is kept.cut;
+      rises = omega (arith, floors, kept.rises);
+      made = omega (arith, same, kept.made);
+    })
+
+-- what the memory part keeps
+pub memory_fenced : (tally mid new : Pairs) (slots : Counts) (covered now : Covered) (m : MemoryState) (history : List Entry) (len next session : ℕ)
+    → IsMemory tally slots covered m → history ≡ m.history ++ fence session ∷ [] → len ≡ length m.history → next ≡ max m.next (session + 1)
+    → SameTally tally mid → NotesFence session mid new → now ≡ record { marked = with_quiet len covered.marked; cut = with_quiet len covered.cut }
+    → IsMemory new slots now (record m { history = history; next = next })
+memory_fenced tally mid new slots covered now m history len next session kept added is raised same notes longer =
+    subst (λ (h : List Entry). IsMemory new slots now (record m { history = h; next = next })) (sym added) (record {
+      counts = keeps_fence tally mid new slots m.history session same notes kept.counts;
+      fronts = covers_fence covered now m.history m.cut len session is longer kept.fronts;
+      fresh = λ s le.
+          ap (λ (ts : List Transaction). filter (λ (t : Transaction). t.session == s) ts) (commits-fence m.history session)
+          ∙ kept.fresh s (omega (arith, raised, le));
+      unfenced = λ s le.
+          is_fenced-fence s session m.history
+          ∙ ap (λ (b : Bool). is_fenced s m.history || b) (ne_eqb session s (λ equal. omega (arith, equal, raised, le)))
+          ∙ or-false (is_fenced s m.history)
+          ∙ kept.unfenced s (omega (arith, raised, le));
+    })
+
+-- what the volatile part keeps
+module _ (blocks : ℕ) (v : VolatileState) (kept : IsVolatile blocks v) where
+  volatile_fenced : (session next : ℕ) → IsVolatile blocks (record v { memory = record v.memory { history = v.memory.history ++ fence session ∷ []; next = next } })
+  volatile_fenced session next = record {
+    size = kept.size;
+    begun = append-some v.memory.history (fence session ∷ []) kept.begun;
+    on_disk = ap (λ (m : Map). m.blocks) (opened-append v.memory.history (fence session ∷ []) kept.begun) ∙ kept.on_disk;
+    made = omega (arith, kept.made, count-fence v.memory.history session);
+    cut_to_next = kept.cut_to_next;
+    small = kept.small;
+    cuts = λ k d lt. let was = kept.cuts k d lt in record { above = was.above; below = was.below; earlier = was.earlier };
+    updates = λ trusted. let has = kept.updates (subst IsTrue (is_trusted-append v.memory.history (fence session ∷ []) kept.begun) trusted) in record {
+      since = λ k d lt. since_fence blocks v.memory.history session _ _ kept.begun (has.since k d lt);
+      since_last = since_fence blocks v.memory.history session _ _ kept.begun has.since_last;
+    };
+    known = λ trusted. subst (λ (m : Map). AreObjectsOf blocks m (known_blocks v.tail)) (sym (latest_fence v.memory.history session kept.begun))
+        (kept.known (subst IsTrue (is_trusted-append v.memory.history (fence session ∷ []) kept.begun) trusted));
+  }
+
+  -- whatever is answered
+  pub kept_fenced : {T E : Type 0} (session : ℕ) (new : MemoryState) (r : Result T E) → OnOk r (SetsFence session v.memory new) → OnErr r (new ≡ v.memory)
+      → IsVolatile blocks (record v { memory = new })
+  kept_fenced session new (Ok value) did same = ⊎_elim
+      (λ (adds : AddsFence session v.memory new).
+      subst (λ (m : MemoryState). IsVolatile blocks (record v { memory = m })) (sym adds.fenced) (volatile_fenced session (max v.memory.next (session + 1))))
+      (λ (has : HasFence session v.memory new). subst (λ (m : MemoryState). IsVolatile blocks (record v { memory = m })) (sym has.same) kept)
+      did
+  kept_fenced session new (Err why) did same = subst (λ (m : MemoryState). IsVolatile blocks (record v { memory = m })) (sym same) kept
+
+-- what ties the two parts, and what each of them keeps
+module _ (blocks : ℕ) (v : VolatileState) (d : DurableState) (pair : IsPair blocks v d) where
+  tied_fenced : (session next : ℕ) → Tied (record v { memory = record v.memory { history = v.memory.history ++ fence session ∷ []; next = next } }) d
+  tied_fenced session next = record {
+    begins = IsPrefix-trans d.front v.memory.history (v.memory.history ++ fence session ∷ []) pair.tied.begins (fence session ∷ [], refl);
+    marked = floor-fence v.memory.history session ∙ pair.tied.marked;
+    trimmed = pair.tied.trimmed;
+    cut = pair.tied.cut;
+    position = pair.tied.position;
+    logged = pair.tied.logged;
+  }
+
+  pair_added : (session next : ℕ) → IsPair blocks (record v { memory = record v.memory { history = v.memory.history ++ fence session ∷ []; next = next } }) d
+  pair_added session next = record {
+    volatile = volatile_fenced blocks v pair.volatile session next;
+    durable = pair.durable;
+    tied = tied_fenced session next;
+    fault = pair.fault;
+  }
+
+  pair_set : (session : ℕ) (w : VolatileState) → w ≡ record v { memory = w.memory } → SetsFence session v.memory w.memory → IsPair blocks w d
+  pair_set session w others did = subst (λ (x : VolatileState). IsPair blocks x d) (sym others) (⊎_elim
+      (λ (adds : AddsFence session v.memory w.memory).
+      subst (λ (m : MemoryState). IsPair blocks (record v { memory = m }) d) (sym adds.fenced) (pair_added session (max v.memory.next (session + 1))))
+      (λ (has : HasFence session v.memory w.memory). subst (λ (m : MemoryState). IsPair blocks (record v { memory = m }) d) (sym has.same) pair)
+      did)
+
+  pub pair_fenced : {T E : Type 0} (session : ℕ) (w : VolatileState) (r : Result T E) → w ≡ record v { memory = w.memory } → OnOk r (SetsFence session v.memory w.memory)
+      → OnErr r (w ≡ v) → IsPair blocks w d
+  pair_fenced session w (Ok value) others did same = pair_set session w others did
+  pair_fenced session w (Err why) others did same = subst (λ (x : VolatileState). IsPair blocks x d) (sym same) pair
+
+  -- the same as a step of the core
+  set_in_core : (session : ℕ) (w : VolatileState) → w ≡ record v { memory = w.memory } → SetsFence session v.memory w.memory → SetsInCore session (core_of v d) (core_of w d)
+  set_in_core session w others did = ⊎_elim
+      (λ (adds : AddsFence session v.memory w.memory). inl (record {
+        free = adds.free;
+        fenced = ap (λ (x : VolatileState). core_of x d) (others ∙ ap (λ (m : MemoryState). record v { memory = m }) adds.fenced);
+      }))
+      (λ (has : HasFence session v.memory w.memory). inr (record {
+        stands = has.stands;
+        same = ap (λ (x : VolatileState). core_of x d) (others ∙ ap (λ (m : MemoryState). record v { memory = m }) has.same);
+      }))
+      did
+
+  pub fenced_in_core : {T E : Type 0} (session : ℕ) (w : VolatileState) (now : CoreState) (r : Result T E) → core_of v d ≡ now → w ≡ record v { memory = w.memory }
+      → OnOk r (SetsFence session v.memory w.memory) → OnOk r (SetsInCore session now (core_of w d))
+  fenced_in_core session w now (Ok value) is others did = subst (λ (c : CoreState). SetsInCore session c (core_of w d)) is (set_in_core session w others did)
+  fenced_in_core session w now (Err why) is others did = tt
+
+-- what is answered, as one event
+pub answers_fence : (session : ℕ) (old new : CoreState) (r : Result (Unit {0}) (Refusal Told)) → Crashes old new → OnOk r (SetsInCore session old new)
+    → IfErr r (IsFenceRefusal session old) → OnErr r (new ≡ old) → AnswersFence session old r new
+answers_fence session old new (Ok done) crash did refusal same = record { did = did; crash = crash }
+answers_fence session old new (Err why) crash did refusal same = record { refusal = refusal; same = same; crash = crash }
