@@ -4,5 +4,6 @@ mod headers;
 mod lives;
 mod refusals;
 mod statuses;
+mod versions;
 
 pub(crate) use refusals::{Cause, call_while};
