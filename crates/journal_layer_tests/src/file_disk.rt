@@ -105,6 +105,21 @@ fn new_file(rt: &impl Files<File = File>, path: &PathBuf, bytes: u64) -> io::Res
     Ok(file)
 }
 
+// Such a file, made anew under this name. Its path.
+fn new_named(
+    rt: &(impl Env + Files<File = File> + AllocGlobal),
+    name: &str,
+    bytes: u64,
+) -> Result<PathBuf, Fail> {
+    let path = new_path(rt, name)?;
+    drop(new_file(rt, &path, bytes)?);
+    Ok(path)
+}
+
+fn text_of(path: &PathBuf) -> Result<&str, Fail> {
+    Ok(path.as_path().to_str().ok_or("the path is text")?)
+}
+
 // The first row that the disk in the file at a path answers otherwise.
 fn wrong_in_file(
     rt: &(impl Files<File = File> + AllocGlobal + Abort),
@@ -121,18 +136,22 @@ static WRITTEN: [Row; 3] = [(Size, 3), (Write(2, 7), 0), (Barrier, 0)];
 // The same file, opened again.
 static READ: [Row; 3] = [(Read(1), 0), (Read(2), 7), (Failures, 0)];
 
+// What is answered otherwise as the file is written, and as it is read; and whether no disk is opened once it is gone.
+fn wrong_in_both(
+    rt: &(impl Files<File = File> + AllocGlobal + Abort),
+    name: &str,
+) -> io::Result<(Wrong, Wrong, bool)> {
+    let written = wrong_in_file(rt, name, &WRITTEN)?;
+    let read = wrong_in_file(rt, name, &READ)?;
+    fs::remove_file(rt, name)?;
+    Ok((written, read, FileDisk::open(rt, name).is_err()))
+}
+
 #[test]
 fn what_is_written_is_in_the_file(rt: HostRuntime) -> Result<(), Fail> {
-    let path = new_path(&rt, "palkhuveg-file-disk")?;
-    drop(new_file(&rt, &path, 3 * 4096 + 4095)?);
-    let name = path.as_path().to_str().ok_or("the path is text")?;
-    let written = wrong_in_file(&rt, name, &WRITTEN)?;
-    let read = wrong_in_file(&rt, name, &READ)?;
-    fs::remove_file(&rt, name)?;
-    assert_eq!(rt;
-        (written, read, FileDisk::open(&rt, name).is_err()),
-        (None, None, true)
-    );
+    let path = new_named(&rt, "palkhuveg-file-disk", 3 * 4096 + 4095)?;
+    let found = wrong_in_both(&rt, text_of(&path)?)?;
+    assert_eq!(rt; found, (None, None, true));
     Ok(())
 }
 
@@ -144,16 +163,23 @@ static CUT: [Row; 4] = [
     (Failures, 1),
 ];
 
+fn wrong_where_cut(
+    rt: &(impl Files<File = File> + AllocGlobal + Abort),
+    path: &PathBuf,
+    name: &str,
+) -> io::Result<Wrong> {
+    let mut disk = FileDisk::open(rt, name)?;
+    drop(new_file(rt, path, 4096)?);
+    let wrong = wrong_row(rt, rt.alloc(), &mut disk, &CUT);
+    fs::remove_file(rt, name)?;
+    Ok(wrong)
+}
+
 // Who cuts the file of a disk that is used makes its calls fail, and no bytes are made up for what is gone.
 #[test]
 fn a_block_that_was_cut_off_is_not_read(rt: HostRuntime) -> Result<(), Fail> {
-    let path = new_path(&rt, "palkhuveg-cut-disk")?;
-    drop(new_file(&rt, &path, 2 * 4096)?);
-    let name = path.as_path().to_str().ok_or("the path is text")?;
-    let mut disk = FileDisk::open(&rt, name)?;
-    drop(new_file(&rt, &path, 4096)?);
-    let wrong = wrong_row(&rt, rt.alloc(), &mut disk, &CUT);
-    fs::remove_file(&rt, name)?;
+    let path = new_named(&rt, "palkhuveg-cut-disk", 2 * 4096)?;
+    let wrong = wrong_where_cut(&rt, &path, text_of(&path)?)?;
     assert_eq!(rt; wrong, None);
     Ok(())
 }
@@ -190,10 +216,7 @@ fn wrong_unevenly(
     [uneven, refused, wrong_row(rt, alloc, disk, &AGAIN)]
 }
 
-#[test]
-fn short_and_interrupted_calls_are_carried_on(rt: HostRuntime) -> Result<(), Fail> {
-    let path = new_path(&rt, "palkhuveg-uneven-disk")?;
-    let file = new_file(&rt, &path, 2 * 4096)?;
+fn wrong_where_uneven(rt: &impl Abort, alloc: Global, file: File) -> io::Result<[Wrong; 3]> {
     let calls = Calls {
         made: Cell::new(0),
         refused_from: Cell::new(u64::MAX),
@@ -202,7 +225,14 @@ fn short_and_interrupted_calls_are_carried_on(rt: HostRuntime) -> Result<(), Fai
         file,
         calls: &calls,
     })?;
-    let wrong = wrong_unevenly(&rt, rt.alloc(), &mut disk, &calls);
+    Ok(wrong_unevenly(rt, alloc, &mut disk, &calls))
+}
+
+#[test]
+fn short_and_interrupted_calls_are_carried_on(rt: HostRuntime) -> Result<(), Fail> {
+    let path = new_path(&rt, "palkhuveg-uneven-disk")?;
+    let file = new_file(&rt, &path, 2 * 4096)?;
+    let wrong = wrong_where_uneven(&rt, rt.alloc(), file)?;
     fs::remove_file(&rt, &path)?;
     assert_eq!(rt; wrong, [None, None, None]);
     Ok(())
@@ -275,32 +305,29 @@ impl<'a> Seek for Noted<'a> {
     }
 }
 
-// What a power loss leaves rests on it that each barrier asks the system, the first one too.
-#[test]
-fn each_barrier_is_a_sync(rt: HostRuntime) -> Result<(), Fail> {
+static BARRIERED: [Row; 3] = [(Write(1, 5), 0), (Write(0, 5), 0), (Barrier, 0)];
+
+// What is answered otherwise, and what the file heard.
+fn what_is_heard(rt: &impl Abort, alloc: Global) -> io::Result<(Wrong, [Option<Heard>; 4], usize)> {
     let notes = Notes {
         calls: Cell::new([None; 4]),
         made: Cell::new(0),
     };
     let mut disk = FileDisk::over(Noted { notes: &notes })?;
-    let wrong = wrong_row(
-        &rt,
-        rt.alloc(),
-        &mut disk,
-        &[(Write(1, 5), 0), (Write(0, 5), 0), (Barrier, 0)],
-    );
-    assert_eq!(rt;
-        (wrong, notes.calls.get(), notes.made.get()),
-        (
-            None,
-            [
-                Some(Heard::Write(4096)),
-                Some(Heard::Write(0)),
-                Some(Heard::Sync),
-                None
-            ],
-            3
-        )
-    );
+    let wrong = wrong_row(rt, alloc, &mut disk, &BARRIERED);
+    Ok((wrong, notes.calls.get(), notes.made.get()))
+}
+
+// What a power loss leaves rests on it that each barrier asks the system, the first one too.
+#[test]
+fn each_barrier_is_a_sync(rt: HostRuntime) -> Result<(), Fail> {
+    let heard = what_is_heard(&rt, rt.alloc())?;
+    let calls = [
+        Some(Heard::Write(4096)),
+        Some(Heard::Write(0)),
+        Some(Heard::Sync),
+        None,
+    ];
+    assert_eq!(rt; heard, (None, calls, 3));
     Ok(())
 }

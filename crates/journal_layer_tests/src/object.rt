@@ -6,15 +6,26 @@ use journal_world::{Addr, Layout};
 use std::alloc::Global;
 use std::test::Fail;
 
-// A block written by each call that writes: a number, a bit set and one cleared, a range, a byte,
-// and all of it as a copy.
-fn written(alloc: Global) -> Run<Block> {
-    let mut block = Block::try_new(alloc)?;
+// Writes a number, sets a bit and clears one.
+fn write_front(block: &mut Block) {
     block.put_u64(8, 0x0102_0304_0506_0708);
     block.set_bit(9, true);
     block.set_bit(64, false);
+}
+
+// Writes a range and a byte.
+fn write_end(block: &mut Block) {
     block.copy_range(4094, &[0x55, 0xaa]);
-    block.as_mut_bytes()[4093] = 0x80;
+    if let Some(byte) = block.as_mut_bytes().get_mut(4093) {
+        *byte = 0x80;
+    }
+}
+
+// A copy of a block that is written by each call that writes.
+fn written(alloc: Global) -> Run<Block> {
+    let mut block = Block::try_new(alloc)?;
+    write_front(&mut block);
+    write_end(&mut block);
     let mut copy = Block::try_new(alloc)?;
     copy.copy_from(&block);
     Ok(copy)
@@ -65,20 +76,31 @@ fn numbers_and_bits_lie_lowest_first(rt: HostRuntime) -> Result<(), Fail> {
 #[derive(Clone, Copy)]
 struct Object(u64, u32, usize, u8);
 
+fn put(layout: &Layout, block: &mut Block, addr: Addr, bytes: &[u8]) -> Run<()> {
+    store(layout, block, addr, bytes)
+}
+
+// Overwrites the bytes with those of the object.
+fn get(layout: &Layout, block: &Block, addr: Addr, bytes: &mut [u8]) -> Run<()> {
+    bytes.fill(0);
+    load(layout, block, addr, bytes)
+}
+
+// A number, and another in thousands.
+fn pair(first: u64, thousands: u64) -> u64 {
+    thousands.wrapping_mul(1000).wrapping_add(first)
+}
+
 // The byte at a place of that block, and in thousands the last one of what is loaded.
 fn stored(alloc: Global, layout: &Layout, object: Object, at: usize) -> Run<u64> {
     let Object(block, off, size, byte) = object;
     let addr = Addr { block, off };
     let mut block = Block::try_new(alloc)?;
     let mut bytes = vec![in alloc; byte; size]?;
-    store(layout, &mut block, addr, &bytes)?;
-    bytes.fill(0);
-    load(layout, &block, addr, &mut bytes)?;
+    put(layout, &mut block, addr, &bytes)?;
+    get(layout, &block, addr, &mut bytes)?;
     let last = byte_at(&bytes, size.wrapping_sub(1));
-    Ok(
-        last.wrapping_mul(1000)
-            .wrapping_add(byte_at(block.as_bytes(), at)),
-    )
+    Ok(pair(byte_at(block.as_bytes(), at), last))
 }
 
 fn wrong_object(alloc: Global, layout: &Layout, rows: &[(Object, usize, u64)]) -> Wrong {

@@ -1,29 +1,50 @@
-// The map of objects over a disk in memory, call by call.
+// The map of objects over a disk in memory, beside the objects in memory whose groups it takes, call by call.
 //
 // Any one request for memory may be refused in a run. A refused run is made again, from its disk on.
+ghost use Rattle.std.specs.Prelude.{◌≡◌, length, IfOk};
 ghost use Rattle.journal_disk.specs.Disks.{IsSettled};
+ghost use Rattle.journal_object.specs.Objects.{size_at};
 
 use crate::runs::{
     BAD_ADDRESS, BAD_SIZE, DEVICE_FAILED, FULL, Run, TOO_LARGE, Wrong, is_refused, number, told,
 };
 use crate::world::FirstBitIsClear;
-use journal_block::Block;
+use journal_block::{Block, Update};
 use journal_disk::{BlockDisk, MemDisk};
-use journal_objlog::{ObjectLog, Spares};
+use journal_objlog::{ObjectLog, ObjectTail, Preparation, Spares};
 use journal_wal::{GroupStep, InstallStep};
-use journal_world::{Addr, Layout, Objects, Value};
+use journal_world::{Addr, Layout, Objects, Refusal, Value};
 use std::alloc::Global;
+use std::marker::Model;
 use std::process::Abort;
 
 mod crashes;
 mod tails;
 
-type Log = ObjectLog<MemDisk>;
+/// The objects in memory, which know no disk, and the log on the disk, which takes what they cut.
+#[derive(Drop)]
+struct Pair {
+    tail: ObjectTail,
+    log: ObjectLog<MemDisk>,
+}
+
+impl Model for Pair {
+    ghost use Rattle.std.specs.Prelude.{◌≡◌};
+    ghost use Rattle.journal_wal.specs.Wal.{size_of, tail_length};
+    ghost use Rattle.journal_objlog.specs.ObjectTails.{blocks_of};
+
+    ghost Value = { Unit {0} };
+
+    ghost view = { λ _. tt };
+
+    // The log has no tail of its own, and both are of one disk.
+    ghost invariant = { λ p. (tail_length p.log ≡ 0) × (blocks_of p.tail ≡ size_of p.log) };
+}
 
 // An object: its block, its first bit there, and what each of its bytes is or becomes.
 type Fill = (u64, u32, u8);
 
-/// A call of an object log. It answers a number.
+/// A call of a pair. It answers a number.
 #[derive(Clone, Copy)]
 enum Call {
     /// Overwrites objects. How many blocks the tail then has.
@@ -32,7 +53,7 @@ enum Call {
     FillBlocks(u64, u64),
     /// 1 where the object is so.
     Has(Fill),
-    /// The next of the logger: 1 where it moved, and 0 where it is idle.
+    /// The next of the logger: 1 where it moved, and 0 where it is idle. To take what was overwritten is a move.
     Logger,
     /// The next of the installer.
     Installer,
@@ -62,15 +83,30 @@ use Call::{
 /// How often a call is made, and what it answers each time.
 type Row = (u32, Call, u64);
 
-// Opens the map of a disk on which nothing is pending.
-fn open(rt: &impl Abort, alloc: Global, disk: MemDisk) -> Run<Log>
+// How many blocks that were fetched are kept.
+const COPIES: usize = 16;
+
+// Opens the map of a disk on which nothing is pending, beside no objects yet.
+fn open(rt: &impl Abort, alloc: Global, disk: MemDisk) -> Run<Pair>
     requires { IsSettled disk.past }
 {
     let layout = Layout::new(disk.size()).expect(rt, "a disk of this size has a layout");
-    match ObjectLog::open(alloc, layout, disk) {
-        Ok(log) => Ok(log),
-        Err(refused) => Err(refused.refusal),
+    let log = match ObjectLog::open(alloc, layout, disk) {
+        Ok(log) => log,
+        Err(refused) => return Err(refused.refusal),
+    };
+    let end = log.log_range().1;
+    assert!(rt; end < 1 << 62);
+    let tail = ObjectTail::new(alloc, layout, end, COPIES)?;
+    Ok(Pair { tail, log })
+}
+
+// Refuses each call on a disk that has failed.
+fn usable(log: &ObjectLog<MemDisk>) -> Run<()> {
+    if log.is_faulted() {
+        return Err(Refusal::DeviceFailed(()));
     }
+    Ok(())
 }
 
 // How many bytes an object of the block has.
@@ -86,11 +122,69 @@ fn filled(alloc: Global, bytes: usize, byte: u8) -> Run<Value> {
     Ok(Value::new(vec![in alloc; byte; bytes]?))
 }
 
-fn has(alloc: Global, log: &mut Log, fill: Fill) -> Run<bool> {
+// As many bytes as the address's object has.
+fn room_for(alloc: Global, layout: Layout, addr: Addr) -> Run<Vec<u8>>
+    ensures { IfOk result (λ room. length room.items ≡ size_at layout.blocks addr) }
+{
+    let size = match layout.kind(addr.block) {
+        Some(kind) => kind.bytes(),
+        None => 0,
+    };
+    Ok(vec![in alloc; 0xaau8; size]?)
+}
+
+// A block as it is logged.
+fn fetch(rt: &impl Abort, alloc: Global, pair: &mut Pair, block: u64) -> Run<Block> {
+    let Pair { tail, log } = pair;
+    let mut bytes = Block::try_new(alloc)?;
+    assert!(rt; block < tail.layout().blocks);
+    log.read_logged(block, &mut bytes)?;
+    Ok(bytes)
+}
+
+// These blocks as they are logged.
+fn fetch_all(rt: &impl Abort, alloc: Global, pair: &mut Pair, blocks: &[u64]) -> Run<Vec<Update>> {
+    let mut fetched = Vec::new(alloc);
+    for block in blocks {
+        let bytes = fetch(rt, alloc, pair, *block)?;
+        fetched.push(Update {
+            block: *block,
+            bytes,
+        })?;
+    }
+    Ok(fetched)
+}
+
+fn keep(pair: &mut Pair, fetched: Vec<Update>) {
+    pair.tail.keep(fetched);
+}
+
+// The bytes of an object in memory, or of one of a fetched block, or none where it is in neither.
+fn look(alloc: Global, tail: &ObjectTail, fetched: &[Update], addr: Addr) -> Run<Option<Vec<u8>>> {
+    let mut room = room_for(alloc, tail.layout(), addr)?;
+    let is_known = tail.read(addr, fetched, &mut room)?;
+    Ok(if is_known { Some(room) } else { None })
+}
+
+fn read(rt: &impl Abort, alloc: Global, pair: &mut Pair, addr: Addr) -> Run<Option<Vec<u8>>> {
+    usable(&pair.log)?;
+    if let Some(bytes) = look(alloc, &pair.tail, &[], addr)? {
+        return Ok(Some(bytes));
+    }
+    let fetched = fetch_all(rt, alloc, pair, &[addr.block])?;
+    let found = look(alloc, &pair.tail, &fetched, addr);
+    keep(pair, fetched);
+    found
+}
+
+fn has(rt: &impl Abort, alloc: Global, pair: &mut Pair, fill: Fill) -> Run<bool> {
     let (block, off, byte) = fill;
-    let value = log.read(Addr { block, off })?;
+    let found = read(rt, alloc, pair, Addr { block, off })?;
     let want = filled(alloc, bytes_in(block), byte)?;
-    Ok(value.bytes() == want.bytes())
+    match found {
+        Some(bytes) => Ok(bytes.as_slice() == want.bytes()),
+        None => Ok(false),
+    }
 }
 
 fn writes(alloc: Global, fills: &[Fill]) -> Run<Objects> {
@@ -105,20 +199,71 @@ fn writes(alloc: Global, fills: &[Fill]) -> Run<Objects> {
     Ok(writes)
 }
 
-fn overwrite(alloc: Global, log: &mut Log, fills: &[Fill]) -> Run<u64> {
-    let writes = writes(alloc, fills)?;
-    let mut spares = Spares::for_writes(alloc, &writes);
-    let prepared = log.prepare(&writes, &mut spares)?;
-    log.apply(prepared);
-    Ok(log.tail_len())
+// Overwrites objects with these blocks fetched, or tells which of them are missing.
+fn prepare(alloc: Global, pair: &mut Pair, writes: &Objects, fetched: &[Update]) -> Run<Vec<u64>> {
+    let Pair { tail, log: _ } = pair;
+    let mut spares = Spares::for_writes(alloc, writes);
+    match tail.prepare(writes, &mut spares, fetched)? {
+        Preparation::Ready(prepared) => {
+            tail.apply(prepared);
+            Ok(Vec::new(alloc))
+        }
+        Preparation::Missing(missing) => Ok(missing),
+    }
 }
 
-fn overwrite_blocks(alloc: Global, log: &mut Log, first: u64, end: u64) -> Run<u64> {
+fn overwrite(rt: &impl Abort, alloc: Global, pair: &mut Pair, fills: &[Fill]) -> Run<u64> {
+    usable(&pair.log)?;
+    let writes = writes(alloc, fills)?;
+    let missing = prepare(alloc, pair, &writes, &[])?;
+    if !missing.is_empty() {
+        let fetched = fetch_all(rt, alloc, pair, &missing)?;
+        let _ = prepare(alloc, pair, &writes, &fetched)?;
+    }
+    Ok(pair.tail.tail_len())
+}
+
+fn overwrite_blocks(
+    rt: &impl Abort,
+    alloc: Global,
+    pair: &mut Pair,
+    first: u64,
+    end: u64,
+) -> Run<u64> {
     let mut fills = Vec::new(alloc);
     for block in first..end {
         fills.push((block, 0, 7))?;
     }
-    overwrite(alloc, log, &fills)
+    overwrite(rt, alloc, pair, &fills)
+}
+
+// Takes the whole tail as the group in flight, where none is and the log has a place for it.
+fn cut(pair: &mut Pair) -> Run<bool> {
+    let Pair { tail, log } = pair;
+    if !log.reserve_group(tail.tail_len() as usize)? {
+        return Ok(false);
+    }
+    let group = tail.cut(0)?;
+    log.take_reserved(group);
+    Ok(true)
+}
+
+fn logger(pair: &mut Pair) -> Run<u64> {
+    if cut(pair)? {
+        return Ok(1);
+    }
+    Ok(number(pair.log.log_step()? != GroupStep::Idle))
+}
+
+fn installer(pair: &mut Pair) -> Run<u64> {
+    let Pair { tail, log } = pair;
+    // Called for its contract: nothing is logged that was not cut.
+    let _logging = log.is_logging();
+    let step = log.install_step()?;
+    if let InstallStep::Freed(upto) = step {
+        tail.trim(upto);
+    }
+    Ok(number(step != InstallStep::Idle))
 }
 
 fn home(rt: &impl Abort, alloc: Global, disk: &MemDisk, position: usize) -> Run<u64> {
@@ -128,31 +273,33 @@ fn home(rt: &impl Abort, alloc: Global, disk: &MemDisk, position: usize) -> Run<
     Ok(header.get_u64(8 + 8 * position))
 }
 
-fn answer(rt: &impl Abort, alloc: Global, log: &mut Log, call: Call) -> Run<u64> {
+fn fail_in(pair: &mut Pair, call: u64) -> Run<u64> {
+    pair.log.fail_in(call);
+    Ok(0)
+}
+
+fn answer(rt: &impl Abort, alloc: Global, pair: &mut Pair, call: Call) -> Run<u64> {
     match call {
-        Call::Fill(fills) => overwrite(alloc, log, fills),
-        FillBlocks(first, end) => overwrite_blocks(alloc, log, first, end),
-        Has(fill) => Ok(number(has(alloc, log, fill)?)),
-        Logger => Ok(number(log.log_step()? != GroupStep::Idle)),
-        Installer => Ok(number(log.install_step()? != InstallStep::Idle)),
-        Start => Ok(log.log_range().0),
-        End => Ok(log.log_range().1),
-        IsLogging => Ok(number(log.is_logging())),
-        IsFaulted => Ok(number(log.is_faulted())),
-        Blocks => Ok(log.layout().blocks),
-        Home(position) => home(rt, alloc, log.disk(), position),
-        Failures => Ok(log.disk().failures()),
-        FailIn(call) => {
-            log.fail_in(call);
-            Ok(0)
-        }
+        Call::Fill(fills) => overwrite(rt, alloc, pair, fills),
+        FillBlocks(first, end) => overwrite_blocks(rt, alloc, pair, first, end),
+        Has(fill) => Ok(number(has(rt, alloc, pair, fill)?)),
+        Logger => logger(pair),
+        Installer => installer(pair),
+        Start => Ok(pair.log.log_range().0),
+        End => Ok(pair.log.log_range().1),
+        IsLogging => Ok(number(pair.log.is_logging())),
+        IsFaulted => Ok(number(pair.log.is_faulted())),
+        Blocks => Ok(pair.log.layout().blocks),
+        Home(position) => home(rt, alloc, pair.log.disk(), position),
+        Failures => Ok(pair.log.disk().failures()),
+        FailIn(call) => fail_in(pair, call),
     }
 }
 
-fn walk(rt: &impl Abort, alloc: Global, log: &mut Log, rows: &[Row]) -> Wrong {
+fn walk(rt: &impl Abort, alloc: Global, pair: &mut Pair, rows: &[Row]) -> Wrong {
     for (number, (times, call, want)) in rows.iter().enumerate() {
         for _i in 0..*times {
-            let got = told(answer(rt, alloc, log, *call));
+            let got = told(answer(rt, alloc, pair, *call));
             if got != *want {
                 return Some((number + 1, got));
             }
@@ -161,11 +308,17 @@ fn walk(rt: &impl Abort, alloc: Global, log: &mut Log, rows: &[Row]) -> Wrong {
     None
 }
 
+// Gives the disk up.
+fn close(pair: Pair) {
+    let Pair { tail: _, log } = pair;
+    let _ = log.into_disk();
+}
+
 // The first row that is answered otherwise by the log of a new disk of so many blocks.
 fn run(rt: &impl Abort, alloc: Global, blocks: u64, rows: &[Row]) -> Run<Wrong> {
-    let mut log = open(rt, alloc, MemDisk::new(alloc, blocks)?)?;
-    let wrong = walk(rt, alloc, &mut log, rows);
-    let _ = log.into_disk();
+    let mut pair = open(rt, alloc, MemDisk::new(alloc, blocks)?)?;
+    let wrong = walk(rt, alloc, &mut pair, rows);
+    close(pair);
     Ok(wrong)
 }
 
@@ -247,20 +400,27 @@ fn each_refusal(rt: HostRuntime) {
     assert_eq!(rt; wrong_row(&rt, rt.alloc(), 800, &REFUSED), None);
 }
 
-// Whether a rule admits the map after an overwrite, where a device call is to fail. Beside it, how many blocks the tail
-// has then, and whether the log has failed.
+// Overwrites an object, and takes it as the group in flight.
+fn take(rt: &impl Abort, alloc: Global, pair: &mut Pair, fill: Fill) -> Run<u64> {
+    overwrite(rt, alloc, pair, &[fill])?;
+    logger(pair)
+}
+
+// Whether a rule admits the map after an overwrite, where a device call is to fail. Beside it, whether the group with it
+// is in flight then, and whether the log has failed.
 fn admitted(rt: &impl Abort, alloc: Global, fill: Fill, fail_in: u64) -> Run<[u64; 3]> {
-    let mut log = open(rt, alloc, MemDisk::new(alloc, 600)?)?;
-    let overwritten = overwrite(alloc, &mut log, &[fill]);
+    let mut pair = open(rt, alloc, MemDisk::new(alloc, 600)?)?;
+    let taken = take(rt, alloc, &mut pair, fill);
+    let Pair { tail: _, mut log } = pair;
     log.fail_in(fail_in);
     let (log, admitted) = log.admitted_by(&FirstBitIsClear);
     let found = [
         told(admitted.map(number)),
-        log.tail_len(),
+        number(log.is_logging()),
         number(log.is_faulted()),
     ];
     let _ = log.into_disk();
-    overwritten?;
+    taken?;
     Ok(found)
 }
 

@@ -1,30 +1,31 @@
-// A write-ahead log over a disk in memory of 600 blocks, call by call.
+// A write-ahead log over a disk in memory of 600 blocks, beside the updates in memory that it takes, call by call.
 //
 // Any one request for memory may be refused in a run. A refused run is made again, from its disk on.
-ghost use Rattle.std.specs.Prelude.{◌≡◌, IfOk};
+ghost use Rattle.std.specs.Prelude.{◌≡◌, ◌≤◌, ◌<◌, ◌^◌, length, IfOk};
 ghost use Rattle.journal_disk.specs.Disks.{IsSettled};
-ghost use Rattle.journal_memlog.specs.Logs.{HasDistinctBlocks};
-ghost use Rattle.journal_wal.specs.Wal.{AreHomes};
+ghost use Rattle.journal_memlog.specs.Logs.{fresh_count, tail_of};
+ghost use Rattle.journal_wal.specs.Wal.{AreHomes, IsAtRest, size_of};
 
 use crate::runs::{DEVICE_FAILED, Run, Wrong, block_with, called, is_refused, number, told};
 use journal_block::{Block, Update};
 use journal_disk::{BlockDisk, MemDisk};
-use journal_wal::{GroupStep, InstallStep, Wal};
-use journal_world::MIN_BLOCKS;
+use journal_wal::{GroupStep, InstallStep, Tail, Wal};
+use journal_world::{MIN_BLOCKS, Refusal};
 use std::alloc::Global;
+use std::marker::Model;
 use std::process::Abort;
 
-/// A call of a log. It answers a number.
+/// A call of a pair. It answers a number.
 #[derive(Clone, Copy)]
 pub(crate) enum Call {
     /// Updates of blocks that follow each other from the first on, each with a number at its front. How many blocks the
     /// tail then has.
     Append(u64, &'static [u64]),
-    /// The next of the logger: 1 where it moved, and 0 where it is idle.
+    /// The next of the logger: 1 where it moved, and 0 where it is idle. To take what was appended is a move.
     Log,
     /// The next of the installer.
     Install,
-    /// The number at the front of a block with all updates.
+    /// The number at the front of a block with all updates, read from the log where it is not in memory.
     Read(u64),
     /// The same where the block is in memory, and 0 where it is not.
     Latest(u64),
@@ -57,11 +58,48 @@ use Call::{
 /// How often a call is made, and what it answers each time.
 pub(crate) type Row = (u32, Call, u64);
 
+/// The updates in memory, which know no disk, and the log on the disk, which takes what they cut.
+#[derive(Drop)]
+struct Pair {
+    tail: Tail,
+    wal: Wal<MemDisk>,
+}
+
+impl Model for Pair {
+    ghost use Rattle.std.specs.Prelude.{◌≡◌};
+    ghost use Rattle.journal_wal.specs.Wal.{size_of, tail_length};
+
+    ghost Value = { Unit {0} };
+
+    ghost view = { λ _. tt };
+
+    // The log has no tail of its own, and both are of one disk.
+    ghost invariant = { λ p. (tail_length p.wal ≡ 0) × (p.tail.log.blocks ≡ size_of p.wal) };
+}
+
+// Writes a block of zeros but for a number at its front.
+fn put_number(
+    rt: &impl Abort,
+    alloc: Global,
+    disk: &mut MemDisk,
+    block: u64,
+    number: u64,
+) -> Run<()> {
+    let bytes = block_with(alloc, number)?;
+    assert!(rt; block < disk.size());
+    called(disk.write(block, &bytes))
+}
+
 // Makes the two blocks stable that say where a log lies.
-fn put_headers(rt: &impl Abort, disk: &mut MemDisk, header: &Block, start: &Block) -> Run<()> {
-    assert!(rt; disk.size() > 1);
-    called(disk.write(0, header))?;
-    called(disk.write(1, start))?;
+fn put_headers(
+    rt: &impl Abort,
+    alloc: Global,
+    disk: &mut MemDisk,
+    start: u64,
+    end: u64,
+) -> Run<()> {
+    put_number(rt, alloc, disk, 0, end)?;
+    put_number(rt, alloc, disk, 1, start)?;
     called(disk.barrier())
 }
 
@@ -69,23 +107,38 @@ fn put_headers(rt: &impl Abort, disk: &mut MemDisk, header: &Block, start: &Bloc
 fn disk_with_log(rt: &impl Abort, alloc: Global, start: u64, end: u64) -> Run<MemDisk>
     ensures { IfOk result (λ disk. IsSettled disk.past) }
 {
-    let front = block_with(alloc, start)?;
-    let header = block_with(alloc, end)?;
     let mut disk = MemDisk::new(alloc, 600)?;
-    let put = put_headers(rt, &mut disk, &header, &front);
-    let disk = disk.crash(&[]);
-    put?;
-    Ok(disk)
+    put_headers(rt, alloc, &mut disk, start, end)?;
+    Ok(disk.crash(&[]))
 }
 
 fn open(rt: &impl Abort, alloc: Global, disk: MemDisk) -> Run<Wal<MemDisk>>
     requires { IsSettled disk.past }
+    ensures { IfOk result IsAtRest }
 {
     assert!(rt; disk.size() >= MIN_BLOCKS);
     match Wal::open(alloc, disk) {
         Ok(wal) => Ok(wal),
         Err(refused) => Err(refused.refusal),
     }
+}
+
+// The log, beside no updates yet.
+fn paired(rt: &impl Abort, alloc: Global, wal: Wal<MemDisk>) -> Run<Pair>
+    requires { IsAtRest wal }
+{
+    let end = wal.log_range().1;
+    assert!(rt; end < 1 << 62);
+    let tail = Tail::new(alloc, wal.size(), end, 1)?;
+    Ok(Pair { tail, wal })
+}
+
+// Refuses each call on a disk that has failed.
+fn usable(wal: &Wal<MemDisk>) -> Run<()> {
+    if wal.is_faulted() {
+        return Err(Refusal::DeviceFailed(()));
+    }
+    Ok(())
 }
 
 fn updates(
@@ -95,8 +148,7 @@ fn updates(
     first: u64,
     numbers: &[u64],
 ) -> Run<Vec<Update>>
-    ensures homes { IfOk result (λ updates. AreHomes blocks updates.items) }
-    ensures distinct { IfOk result (λ updates. HasDistinctBlocks updates.items) }
+    ensures { IfOk result (λ updates. AreHomes blocks updates.items) }
 {
     let mut updates = Vec::new(alloc);
     let mut block = first;
@@ -109,29 +161,96 @@ fn updates(
     Ok(updates)
 }
 
+// How many of the updates are of blocks that do not stand in the tail.
+fn count_fresh(tail: &Tail, updates: &[Update]) -> usize
+    ensures number { result ≡ fresh_count (tail_of tail.now.log) updates.now }
+    ensures few { result ≤ length updates.now }
+{
+    updates
+        .iter()
+        .filter(|update| !tail.stands(update.block))
+        .count()
+}
+
+// Appends updates where they have room. How many blocks the tail then has.
+fn enter(tail: &mut Tail, updates: Vec<Update>) -> Run<u64>
+    requires { AreHomes tail.old.log.blocks updates.items }
+    ensures { tail.new.log.blocks ≡ tail.old.log.blocks }
+{
+    let fresh = count_fresh(tail, &updates);
+    tail.check_room(updates.len(), fresh)?;
+    tail.reserve(fresh)?;
+    tail.append_reserved(updates);
+    Ok(tail.tail_len())
+}
+
 fn append(
     rt: &impl Abort,
     alloc: Global,
-    wal: &mut Wal<MemDisk>,
+    pair: &mut Pair,
     first: u64,
     numbers: &[u64],
 ) -> Run<u64> {
+    let Pair { tail, wal } = pair;
+    usable(wal)?;
     let updates = updates(rt, alloc, wal.size(), first, numbers)?;
-    wal.append(updates)?;
-    Ok(wal.tail_len())
+    enter(tail, updates)
 }
 
-fn read(rt: &impl Abort, alloc: Global, wal: &mut Wal<MemDisk>, block: u64) -> Run<u64> {
+// Takes the whole tail as the group in flight, where none is and the log has a place for it.
+fn cut(pair: &mut Pair) -> Run<bool> {
+    let Pair { tail, wal } = pair;
+    if !wal.reserve_group(tail.tail_len() as usize)? {
+        return Ok(false);
+    }
+    let group = tail.cut(0)?;
+    wal.take_reserved(group);
+    Ok(true)
+}
+
+fn log(pair: &mut Pair) -> Run<u64> {
+    if cut(pair)? {
+        return Ok(1);
+    }
+    Ok(number(pair.wal.log_step()? != GroupStep::Idle))
+}
+
+fn install(pair: &mut Pair) -> Run<u64> {
+    let Pair { tail, wal } = pair;
+    // Called for its contract: nothing is logged that was not cut.
+    let _logging = wal.is_logging();
+    let step = wal.install_step()?;
+    if let InstallStep::Freed(upto) = step {
+        tail.trim(upto);
+    }
+    Ok(number(step != InstallStep::Idle))
+}
+
+// Reads by the log alone.
+fn read_from(rt: &impl Abort, alloc: Global, wal: &mut Wal<MemDisk>, block: u64) -> Run<u64>
+    ensures log { wal.new.log ≡ wal.old.log }
+    ensures size { size_of wal.new ≡ size_of wal.old }
+{
     let mut bytes = Block::try_new(alloc)?;
     assert!(rt; block < wal.size());
     wal.read(block, &mut bytes)?;
     Ok(bytes.get_u64(0))
 }
 
-fn latest(wal: &Wal<MemDisk>, block: u64) -> u64 {
-    match wal.latest(block) {
-        Some(bytes) => bytes.get_u64(0),
-        None => 0,
+// The number at the front of a block, where it is in memory.
+fn known(tail: &Tail, block: u64) -> Option<u64> {
+    match tail.known(block) {
+        Some(bytes) => Some(bytes.get_u64(0)),
+        None => None,
+    }
+}
+
+fn read(rt: &impl Abort, alloc: Global, pair: &mut Pair, block: u64) -> Run<u64> {
+    let Pair { tail, wal } = pair;
+    usable(wal)?;
+    match known(tail, block) {
+        Some(number) => Ok(number),
+        None => read_from(rt, alloc, wal, block),
     }
 }
 
@@ -144,35 +263,41 @@ fn peek(rt: &impl Abort, alloc: Global, disk: &MemDisk, block: u64, at: usize) -
 
 fn left(rt: &impl Abort, alloc: Global, disk: &MemDisk, block: u64) -> Run<u64> {
     let mut wal = open(rt, alloc, disk.image(&[])?)?;
-    read(rt, alloc, &mut wal, block)
+    read_from(rt, alloc, &mut wal, block)
 }
 
-fn answer(rt: &impl Abort, alloc: Global, wal: &mut Wal<MemDisk>, call: Call) -> Run<u64> {
+fn pending(disk: &MemDisk) -> Run<u64> {
+    Ok(disk.pending::<()>()?.len() as u64)
+}
+
+fn fail_in(pair: &mut Pair, call: u64) -> Run<u64> {
+    pair.wal.fail_in(call);
+    Ok(0)
+}
+
+fn answer(rt: &impl Abort, alloc: Global, pair: &mut Pair, call: Call) -> Run<u64> {
     match call {
-        Append(first, numbers) => append(rt, alloc, wal, first, numbers),
-        Log => Ok(number(wal.log_step()? != GroupStep::Idle)),
-        Install => Ok(number(wal.install_step()? != InstallStep::Idle)),
-        Read(block) => read(rt, alloc, wal, block),
-        Latest(block) => Ok(latest(wal, block)),
-        Stands(block) => Ok(number(wal.stands(block))),
-        Start => Ok(wal.log_range().0),
-        End => Ok(wal.log_range().1),
-        IsLogging => Ok(number(wal.is_logging())),
-        Peek(block, at) => peek(rt, alloc, wal.disk(), block, at),
-        Pending => Ok(wal.disk().pending::<()>()?.len() as u64),
-        Left(block) => left(rt, alloc, wal.disk(), block),
-        FailIn(call) => {
-            wal.fail_in(call);
-            Ok(0)
-        }
-        Failures => Ok(wal.disk().failures()),
+        Append(first, numbers) => append(rt, alloc, pair, first, numbers),
+        Log => log(pair),
+        Install => install(pair),
+        Read(block) => read(rt, alloc, pair, block),
+        Latest(block) => Ok(known(&pair.tail, block).unwrap_or(0)),
+        Stands(block) => Ok(number(pair.tail.stands(block))),
+        Start => Ok(pair.wal.log_range().0),
+        End => Ok(pair.wal.log_range().1),
+        IsLogging => Ok(number(pair.wal.is_logging())),
+        Peek(block, at) => peek(rt, alloc, pair.wal.disk(), block, at),
+        Pending => pending(pair.wal.disk()),
+        Left(block) => left(rt, alloc, pair.wal.disk(), block),
+        FailIn(call) => fail_in(pair, call),
+        Failures => Ok(pair.wal.disk().failures()),
     }
 }
 
-fn walk(rt: &impl Abort, alloc: Global, wal: &mut Wal<MemDisk>, rows: &[Row]) -> Wrong {
+fn walk(rt: &impl Abort, alloc: Global, pair: &mut Pair, rows: &[Row]) -> Wrong {
     for (number, (times, call, want)) in rows.iter().enumerate() {
         for _i in 0..*times {
-            let got = told(answer(rt, alloc, wal, *call));
+            let got = told(answer(rt, alloc, pair, *call));
             if got != *want {
                 return Some((number + 1, got));
             }
@@ -182,8 +307,10 @@ fn walk(rt: &impl Abort, alloc: Global, wal: &mut Wal<MemDisk>, rows: &[Row]) ->
 }
 
 fn run(rt: &impl Abort, alloc: Global, start: u64, end: u64, rows: &[Row]) -> Run<Wrong> {
-    let mut wal = open(rt, alloc, disk_with_log(rt, alloc, start, end)?)?;
-    let wrong = walk(rt, alloc, &mut wal, rows);
+    let wal = open(rt, alloc, disk_with_log(rt, alloc, start, end)?)?;
+    let mut pair = paired(rt, alloc, wal)?;
+    let wrong = walk(rt, alloc, &mut pair, rows);
+    let Pair { tail: _, wal } = pair;
     let _ = wal.into_disk();
     Ok(wrong)
 }

@@ -10,8 +10,6 @@ pub mod Staged
 pub mod Refusing
 pub mod Readings
 pub mod Counting
-pub mod StagingLoop
-pub mod Preparing
 pub mod Fetched
 pub mod Missing
 pub mod KnownObjects

@@ -4,17 +4,12 @@ use Rattle.std.specs.Option.{option_eq}
 use Rattle.std.proofs.Math.Dec.{eqb}
 use Rattle.std.proofs.lemmas.Bool.{false≢true, eqb-true}
 use Rattle.journal_world.specs.declared.address.Addr.{Addr}
-use Rattle.journal_block.specs.Block.{Bytes}
-use Rattle.journal_world.specs.declared.refusal.Refusal.{Refusal}
-use Rattle.journal_world.specs.declared.refusal.Refusal.TheVariants.{NoMemory, BadAddress, BadSize, TooLarge, Busy, DeviceFailed, BadLog, BadSuper, Stale, Stranger, Worn, Full, Closed, Fenced}
 use Rattle.journal_world.specs.Addresses.{Value, is_valid}
 use Rattle.journal_world.specs.Maps.{value_at}
-use Rattle.journal_world.specs.Refusals.{IsReadingRefusal}
 use Rattle.journal_wal.specs.Wal.{WalState, size_of, blocks_now}
-use Rattle.journal_objlog.specs.ObjectLogs.{map_now, KeepsMaps, Crashes, OnlyReads, IsLeft, IsReadRefusal, disk_of, is_faulted}
+use Rattle.journal_objlog.specs.ObjectLogs.{map_now, KeepsMaps, Crashes, OnlyReads, disk_of}
 use Rattle.journal_objlog.specs.MapLaws.{map_of-blocks}
-use Rattle.journal_objlog.specs.Reading.{OnlyReadSince, IsBlockOf}
-use Rattle.journal_objlog.specs.ReadLaws.{block_read}
+use Rattle.journal_objlog.specs.Reading.{OnlyReadSince}
 use Rattle.journal_objlog.specs.Soundness.{IsObjectLog}
 use Rattle.journal_objlog.proofs.Openings.{crash_after, OnlyReads-refl, OnlyReads-trans}
 use Rattle.journal_objlog.proofs.Refusing.{keeps_trans, still}
@@ -62,23 +57,3 @@ pub value_read : (opened old : WalState) → OnlyReadSince opened old → (a : A
     → IsTrue (disk_of opened).honest → value ≡ value_at (map_now opened) a
 value_read opened old read a valid value is honest =
     is (subst IsTrue (sym read.crash.keeps.honest) honest) ∙ (read.maps honest).now.values a (subst (λ (n : ℕ). IsTrue (is_valid n a)) (sym (blocks_read opened old read)) valid)
-
--- a read of a valid address is refused for want of memory, or by the device, which then has failed
-pub refusal_read : (opened old new : WalState) → OnlyReadSince opened old → (a : Addr) → IsTrue (is_valid (map_now opened).blocks a)
-    → (refusal : Refusal Unit) → IsReadRefusal old a new refusal → IsLeft new refusal → IsReadingRefusal (is_faulted new) refusal
-refusal_read opened old new read a valid NoMemory is left = tt
-refusal_read opened old new read a valid (DeviceFailed cause) is left = left
-refusal_read opened old new read a valid BadAddress is left =
-    absurd (false≢true (sym is.1
-    ∙ subst (λ (n : ℕ). IsTrue (is_valid n a)) (sym (blocks_read opened old read) ∙ map_of-blocks (size_of old) (blocks_now old)) valid))
-refusal_read opened old new read a valid BadSize is left = absurd is
-refusal_read opened old new read a valid TooLarge is left = absurd is
-refusal_read opened old new read a valid Busy is left = absurd is
-refusal_read opened old new read a valid BadLog is left = absurd is
-refusal_read opened old new read a valid BadSuper is left = absurd is
-refusal_read opened old new read a valid (Stale cause) is left = absurd is
-refusal_read opened old new read a valid (Stranger cause) is left = absurd is
-refusal_read opened old new read a valid (Worn cause) is left = absurd is
-refusal_read opened old new read a valid (Full cause) is left = absurd is
-refusal_read opened old new read a valid (Closed cause) is left = absurd is
-refusal_read opened old new read a valid Fenced is left = absurd is

@@ -1,5 +1,5 @@
 -- Staging one more write.
-use Rattle.std.proofs.Common.{◌≡◌, ◌⊎◌, inl, inr, ⊎_elim, ◌<◌, ◌≤◌, ℕ, Bool, false, List, [], ◌∷◌, IsTrue, Some, refl, sym, ap, subst, ◌∙◌}
+use Rattle.std.proofs.Common.{◌≡◌, ◌⊎◌, inl, inr, ⊎_elim, ◌<◌, ◌≤◌, ℕ, false, List, [], ◌∷◌, IsTrue, Some, refl, sym, ap, subst, ◌∙◌}
 use Rattle.journal_world.specs.declared.address.Addr.{Addr}
 use Rattle.journal_world.specs.declared.address.Kind.TheVariants.{Block}
 use Rattle.journal_world.specs.Addresses.{kind_of, is_valid}
@@ -9,14 +9,11 @@ use Rattle.journal_block.specs.declared.update.Update.{Update}
 use Rattle.journal_block.specs.Block.{Bytes}
 use Rattle.journal_block.specs.Updates.{with_updates, updates_block}
 use Rattle.journal_block.specs.UpdateLaws.{updated-unnamed}
-use Rattle.journal_disk.specs.Disks.{Past, read_of}
-use Rattle.journal_memlog.specs.Logs.{next_position, tail_of}
 use Rattle.journal_object.specs.Objects.{ChangesOnly}
-use Rattle.journal_wal.specs.Wal.{WalState, size_of}
 use Rattle.journal_objlog.specs.Maps.{HasObjects, map_of}
-use Rattle.journal_objlog.specs.ObjectLogs.{OnlyReads, Base, base_of, map_in, disk_of}
+use Rattle.journal_objlog.specs.ObjectLogs.{Base, map_in}
 use Rattle.journal_objlog.specs.Writes.{writes_block}
-use Rattle.journal_objlog.specs.Staging.{IsAboveNone, first_update, first_bytes, with_first, CoversBlocks, IsStaged, IsOpen, IsOpenIn}
+use Rattle.journal_objlog.specs.Staging.{IsAboveNone, first_update, first_bytes, with_first, CoversBlocks, IsStaged, IsOpen}
 use Rattle.journal_object.proofs.MapOfBlocks.{valid_block}
 use Rattle.journal_objlog.proofs.Stored.{HasObjects-stored}
 use Rattle.journal_objlog.proofs.Updates.{updated_first, updated_later}
@@ -24,13 +21,13 @@ use Rattle.journal_objlog.proofs.Ascending.{not_first}
 use Rattle.journal_objlog.proofs.Covering.{apart_first, covers_first, covers_more, covers_stored}
 
 -- the block stands there already
-pub open_first : (honest : Bool) (b : Base) (ws : List Pair) (us : List Update) (a : Addr) → IsStaged honest b ws us → first_update us ≡ Some a.block
-    → IsOpen honest b ws a us
-open_first honest b ws us a staged first = record {
+pub open_first : (b : Base) (ws : List Pair) (us : List Update) (a : Addr) → IsStaged b ws us → first_update us ≡ Some a.block
+    → IsOpen b ws a us
+open_first b ws us a staged first = record {
   blocks = covers_first b.size b.tail ws us staged.blocks a first;
-  bytes = λ is_honest. record {
+  bytes = record {
     content = with_updates b.content us;
-    objects = staged.objects is_honest;
+    objects = staged.objects;
     here = inr (bytes us staged.blocks first);
     others = λ c other. refl;
   };
@@ -45,16 +42,16 @@ open_first honest b ws us a staged first = record {
         ∙ ap (with_updates b.content (u ∷ vs)) same
 
 -- it is put before the others
-pub open_more : (honest : Bool) (b : Base) (ws : List Pair) (us : List Update) (a : Addr) (bytes : Bytes) → 532 ≤ b.size → IsTrue (is_valid b.size a)
-    → IsStaged honest b ws us → HasAscendingBlocks ws → IsAboveNone a.block ws → (first_update us ≡ Some a.block → ⊥)
-    → (IsTrue honest → (kind_of b.size a.block ≡ Some Block) ⊎ (bytes ≡ b.content a.block))
-    → IsOpen honest b ws a (record { block = a.block; bytes = bytes } ∷ us)
-open_more honest b ws us a bytes low valid staged ascending below other read = record {
+pub open_more : (b : Base) (ws : List Pair) (us : List Update) (a : Addr) (bytes : Bytes) → 532 ≤ b.size → IsTrue (is_valid b.size a)
+    → IsStaged b ws us → HasAscendingBlocks ws → IsAboveNone a.block ws → (first_update us ≡ Some a.block → ⊥)
+    → (kind_of b.size a.block ≡ Some Block) ⊎ (bytes ≡ b.content a.block)
+    → IsOpen b ws a (record { block = a.block; bytes = bytes } ∷ us)
+open_more b ws us a bytes low valid staged ascending below other read = record {
   blocks = covers_more b.size b.tail ws us staged.blocks a bytes unnamed at.0 at.1;
-  bytes = λ is_honest. record {
+  bytes = record {
     content = with_updates b.content us;
-    objects = staged.objects is_honest;
-    here = ⊎_elim (λ whole. inl whole) (λ is. inr (is ∙ sym stays)) (read is_honest);
+    objects = staged.objects;
+    here = ⊎_elim (λ whole. inl whole) (λ is. inr (is ∙ sym stays)) read;
     others = λ c apart. updated_later b.content (record { block = a.block; bytes = bytes }) us c apart;
   };
 }
@@ -69,12 +66,12 @@ open_more honest b ws us a bytes low valid staged ascending below other read = r
     stays = updated-unnamed us a.block (b.content a.block) (staged.blocks.named a.block ∙ unnamed)
 
 -- the write is stored in it
-pub stored : (honest : Bool) (b : Base) (ws : List Pair) (a : Addr) (value : List ℕ) (us vs : List Update) → IsOpen honest b ws a us
+pub stored : (b : Base) (ws : List Pair) (a : Addr) (value : List ℕ) (us vs : List Update) → IsOpen b ws a us
     → vs ≡ with_first us (first_bytes vs) → ChangesOnly b.size (first_bytes us) (first_bytes vs) a value
-    → IsTrue (is_object b.size (a, value)) → IsStaged honest b ((a, value) ∷ ws) vs
+    → IsTrue (is_object b.size (a, value)) → IsStaged b ((a, value) ∷ ws) vs
 unfolding map_of
-stored honest b ws a value [] vs opened is changes object = let first = opened.blocks.first in let impossible : ⊥ = cc in absurd impossible
-stored honest b ws a value (u ∷ us) vs opened is changes object = subst (λ (xs : List Update). IsStaged honest b ((a, value) ∷ ws) xs) (sym is) staged
+stored b ws a value [] vs opened is changes object = let first = opened.blocks.first in let impossible : ⊥ = cc in absurd impossible
+stored b ws a value (u ∷ us) vs opened is changes object = subst (λ (xs : List Update). IsStaged b ((a, value) ∷ ws) xs) (sym is) staged
   where
     bytes : Bytes
     bytes = first_bytes vs
@@ -88,9 +85,9 @@ stored honest b ws a value (u ∷ us) vs opened is changes object = subst (λ (x
     block : u.block ≡ a.block
     block = let first = opened.blocks.first in cc
 
-    has : IsTrue honest → HasObjects (with_updates b.content later) (overwritten (map_in b) ((a, value) ∷ ws))
-    has is_honest =
-        let open_in = opened.bytes is_honest in
+    has : HasObjects (with_updates b.content later) (overwritten (map_in b) ((a, value) ∷ ws))
+    has =
+        let open_in = opened.bytes in
         HasObjects-stored (overwritten (map_in b) ws) open_in.content (with_updates b.content later) a value u.bytes bytes
         open_in.objects open_in.here changes object
         (ap (with_updates b.content later) (sym block) ∙ updated_first b.content (record u { bytes = bytes }) us apart)
@@ -100,24 +97,5 @@ stored honest b ws a value (u ∷ us) vs opened is changes object = subst (λ (x
         ∙ sym (updated_later b.content u us c away)
         ∙ open_in.others c other)
 
-    staged : IsStaged honest b ((a, value) ∷ ws) later
+    staged : IsStaged b ((a, value) ∷ ws) later
     staged = record { blocks = covers_stored b.size b.tail ws a value u us bytes opened.blocks; objects = has }
-
--- reads of the disk change none of it
-pub covers_read : (old new : WalState) → OnlyReads old new → (ws : List Pair) (us : List Update)
-    → CoversBlocks (size_of old) (tail_of old.log) ws us → CoversBlocks (size_of new) (tail_of new.log) ws us
-covers_read old new reads ws us covers =
-    subst (λ (n : ℕ). CoversBlocks n (tail_of new.log) ws us) (sym reads.keeps.size)
-    (subst (λ (tail : List Update). CoversBlocks (size_of old) tail ws us) (sym (ap (λ (w : WalState). tail_of w.log) reads.same)) covers)
-
-base_read : (old new : WalState) → OnlyReads old new → IsTrue (disk_of old).honest → base_of new ≡ base_of old
-base_read old new reads honest = ap base_of reads.same
-    ∙ ap (λ (past : Past). record { size = past.size; content = with_updates (read_of past) old.log.updates; tail = tail_of old.log; next = next_position old.log }) (reads.past honest)
-
-pub open_read : (old new : WalState) → OnlyReads old new → (ws : List Pair) (a : Addr) (us : List Update)
-    → IsOpen (disk_of old).honest (base_of old) ws a us → IsOpen (disk_of new).honest (base_of new) ws a us
-open_read old new reads ws a us opened = record {
-  blocks = covers_read old new reads ((a, []) ∷ ws) us opened.blocks;
-  bytes = λ honest. let was : IsTrue (disk_of old).honest = subst IsTrue reads.keeps.honest honest in
-      subst (λ (b : Base). IsOpenIn b ws a us) (sym (base_read old new reads was)) (opened.bytes was);
-}

@@ -5,14 +5,14 @@ use Rattle.journal_world.specs.declared.refusal.Refusal.TheVariants.{NoMemory, B
 use Rattle.std.proofs.lemmas.Bool.{and_parts}
 use Rattle.journal_world.specs.declared.address.Addr.{Addr}
 use Rattle.journal_world.specs.Addresses.{Value, kind_of, is_valid}
-use Rattle.journal_world.specs.Maps.{Pair, SameMap, value_at, zeros_at, is_value_at, is_object, overwritten}
+use Rattle.journal_world.specs.Maps.{SameMap, value_at, zeros_at, is_value_at, is_object}
 use Rattle.journal_block.specs.declared.update.Update.{Update}
 use Rattle.journal_block.specs.Block.{Bytes}
 use Rattle.journal_object.specs.Objects.{object_at}
 use Rattle.journal_block.specs.Updates.{Content, with_updates}
-use Rattle.journal_wal.specs.Wal.{WalState, size_of, blocks_now, blocks_cut, blocks_logged, Fails, LogAnswers, InstallAnswers, IsInstallRefusal, SameBlocks, Appends}
+use Rattle.journal_wal.specs.Wal.{WalState, size_of, blocks_now, blocks_cut, blocks_logged, Fails, LogAnswers, InstallAnswers, IsInstallRefusal, SameBlocks}
 use Rattle.journal_objlog.specs.Maps.{map_of}
-use Rattle.journal_objlog.specs.ObjectLogs.{base_of, map_now, map_cut, map_logged, KeepsMaps, LogsMaps, disk_of}
+use Rattle.journal_objlog.specs.ObjectLogs.{map_now, map_cut, map_logged, KeepsMaps, LogsMaps, disk_of}
 use Rattle.journal_wal.specs.declared.step.GroupStep.{GroupStep}
 use Rattle.journal_wal.specs.declared.step.GroupStep.TheVariants.{Idle, Cut, Put, Logged}
 use Rattle.journal_wal.specs.declared.step.InstallStep.{InstallStep}
@@ -20,9 +20,8 @@ use Rattle.journal_wal.specs.declared.step.InstallStep.TheVariants.{Idle as Inst
 use Rattle.journal_wal.specs.Groups.{TakesGroup}
 use Rattle.journal_circ.specs.Ring.{Ring}
 use Rattle.journal_objlog.specs.Groups.{TakesMap}
-use Rattle.journal_objlog.specs.Writes.{IsPrepared}
 use Rattle.journal_objlog.specs.Soundness.{IsObjectLog}
-use Rattle.journal_world.proofs.SameMaps.{SameMap-refl, SameMap-trans}
+use Rattle.journal_world.proofs.SameMaps.{SameMap-refl}
 use Rattle.journal_objlog.proofs.MapsOfBlocks.{HasObjects-map_of, map_of-same}
 use Rattle.journal_objlog.proofs.Openings.{law_of, low_of, keeps_maps}
 
@@ -80,20 +79,6 @@ module _ (n : ℕ) (old new : WalState) (sound : IsObjectLog n old) (size : size
   installs_maps honest (Ok InstallPut) answers fault = keeps_maps n old new sound size (answers.0.blocks honest)
   installs_maps honest (Ok (Freed upto)) answers fault = keeps_maps n old new sound size (answers.0.blocks honest)
   installs_maps honest (Err refusal) answers fault = fault_maps honest refusal fault
-
--- what is prepared overwrites the map now
-pub applied : (n : ℕ) (old new : WalState) (updates : List Update) → IsObjectLog n old → Appends old updates new → (writes : List Pair)
-    → IsTrue (disk_of old).honest → IsPrepared (disk_of old).honest (base_of old) updates writes → SameMap (map_now new) (overwritten (map_now old) writes)
-applied n old new updates sound appends writes honest prepared =
-    SameMap-trans (map_now new) (map_of (size_of old) (with_updates (blocks_now old) updates)) (overwritten (map_now old) writes)
-    (same_map n old new sound (ap size_of appends.log) (blocks_now new) (with_updates (blocks_now old) updates) appends.now)
-    (prepared.map honest)
-
-pub applied_cut : (n : ℕ) (old new : WalState) (updates : List Update) → IsObjectLog n old → Appends old updates new → SameMap (map_cut new) (map_cut old)
-applied_cut n old new updates sound appends = same_map n old new sound (ap size_of appends.log) (blocks_cut new) (blocks_cut old) appends.cut
-
-pub applied_logged : (n : ℕ) (old new : WalState) (updates : List Update) → IsObjectLog n old → Appends old updates new → SameMap (map_logged new) (map_logged old)
-applied_logged n old new updates sound appends = same_map n old new sound (ap size_of appends.log) (blocks_logged new) (blocks_logged old) appends.logged
 
 -- a group that was cut elsewhere is taken
 pub takes_map : (n : ℕ) (old new : WalState) (group : List Update) → IsObjectLog n old → TakesGroup old group new → TakesMap old group new

@@ -1,14 +1,11 @@
 -- What contracts see of an object log: the map now, the two that a crash may leave, and what each call makes of them.
 use Rattle.std.specs.Prelude.{ℕ, ◌≡◌, ◌⊎◌, Bool, true, false, IsTrue, List}
-use Rattle.journal_world.specs.declared.address.Addr.{Addr}
 use Rattle.journal_world.specs.declared.refusal.Refusal.{Refusal}
-use Rattle.journal_world.specs.declared.refusal.Refusal.TheVariants.{NoMemory, BadAddress, DeviceFailed}
-use Rattle.journal_world.specs.Addresses.{is_valid}
+use Rattle.journal_world.specs.declared.refusal.Refusal.TheVariants.{DeviceFailed}
 use Rattle.journal_world.specs.Maps.{Map, SameMap}
 use Rattle.journal_block.specs.declared.update.Update.{Update}
 use Rattle.journal_block.specs.Block.{Bytes}
 use Rattle.journal_block.specs.Updates.{Content}
-use Rattle.journal_memlog.specs.Logs.{next_position, tail_of}
 use Rattle.journal_disk.specs.Disks.{DiskState, Keeps, HasFailed}
 use Rattle.journal_disk.specs.Images.{EveryImage}
 use Rattle.journal_disk.specs.Moments.{LeavesOnly}
@@ -55,9 +52,6 @@ pub record Base : Type 0 where
   pub tail : List Update
   pub next : ℕ
 
-abbrev pub base_of : WalState → Base
-base_of w = record { size = size_of w; content = blocks_now w; tail = tail_of w.log; next = next_position w.log }
-
 -- the map that its blocks make
 abbrev pub map_in : Base → Map
 map_in b = map_of b.size b.content
@@ -96,18 +90,6 @@ pub record OnlyReads (old new : WalState) : Type 0 where
 abbrev pub IsLeft : WalState → Refusal Unit → Type 0
 IsLeft new (DeviceFailed cause) = is_faulted new ≡ true
 IsLeft new other = is_faulted new ≡ false
-
--- Why an object is not looked up: the first of these that holds, then a new J6
-abbrev pub IsLookRefusal : WalState → Addr → WalState → Refusal Unit → Type 0
-IsLookRefusal old addr new (DeviceFailed cause) =
-    IsTrue (is_faulted old) ⊎ (IsTrue (is_valid (size_of old) addr) × HasFailed (disk_of old) (disk_of new))
-IsLookRefusal old addr new BadAddress = (is_faulted old ≡ false) × (is_valid (size_of old) addr ≡ false)
-IsLookRefusal old addr new other = ⊥
-
--- Why an object is not read: for want of memory too, where it may be looked up
-abbrev pub IsReadRefusal : WalState → Addr → WalState → Refusal Unit → Type 0
-IsReadRefusal old addr new NoMemory = (is_faulted old ≡ false) × IsTrue (is_valid (size_of old) addr)
-IsReadRefusal old addr new other = IsLookRefusal old addr new other
 
 -- The tail was cut: what a crash may leave from now on is the map now
 pub record CutsMap (old new : WalState) : Type 0 where

@@ -1,19 +1,18 @@
 -- What is kept while writes are stored in updates of their blocks, from the last write on.
-use Rattle.std.specs.Prelude.{ℕ, ◌≡◌, ◌⊎◌, ◌≤◌, Bool, IsTrue, List, [], ◌∷◌, length, Option, Some, None}
+use Rattle.std.specs.Prelude.{ℕ, ◌≡◌, ◌⊎◌, ◌≤◌, List, [], ◌∷◌, length, Option, Some, None}
 use Rattle.std.specs.List.{AllByRecursion}
 use Rattle.journal_world.specs.declared.address.Addr.{Addr}
 use Rattle.journal_world.specs.declared.address.Kind.TheVariants.{Block}
-use Rattle.journal_world.specs.declared.refusal.Refusal.{Refusal}
 use Rattle.journal_world.specs.Addresses.{kind_of}
 use Rattle.journal_world.specs.Maps.{Pair, overwritten}
 use Rattle.journal_block.specs.declared.update.Update.{Update}
 use Rattle.journal_block.specs.Block.{Bytes}
 use Rattle.journal_block.specs.Updates.{Content, updates_block, with_updates}
 use Rattle.journal_memlog.specs.Logs.{HasDistinctBlocks, fresh_count}
-use Rattle.journal_wal.specs.Wal.{WalState, AreHomes}
+use Rattle.journal_wal.specs.Wal.{AreHomes}
 use Rattle.journal_objlog.specs.Maps.{HasObjects}
-use Rattle.journal_objlog.specs.ObjectLogs.{Base, map_in, KeepsMaps, Crashes, IsLeft, disk_of}
-use Rattle.journal_objlog.specs.Writes.{writes_block, written_blocks, fresh_among, IsLateRefusal}
+use Rattle.journal_objlog.specs.ObjectLogs.{Base, map_in}
+use Rattle.journal_objlog.specs.Writes.{writes_block, written_blocks, fresh_among}
 
 -- block b is above none of the writes'
 abbrev pub IsAboveNone : ℕ → List Pair → Type 0
@@ -46,10 +45,10 @@ pub record CoversBlocks (n : ℕ) (tail : List Update) (writes : List Pair) (upd
   pub number : length updates ≡ written_blocks writes
   pub fresh : fresh_count tail updates ≡ fresh_among tail writes
 
--- These writes are stored. That their objects are is owed where what was read is what the blocks hold
-pub record IsStaged (honest : Bool) (b : Base) (writes : List Pair) (updates : List Update) : Type 0 where
+-- These writes are stored
+pub record IsStaged (b : Base) (writes : List Pair) (updates : List Update) : Type 0 where
   pub blocks : CoversBlocks b.size b.tail writes updates
-  pub objects : IsTrue honest → HasObjects (with_updates b.content updates) (overwritten (map_in b) writes)
+  pub objects : HasObjects (with_updates b.content updates) (overwritten (map_in b) writes)
 
 -- In blocks that have the objects of the stored writes, the address's block is the first update, unless all of it is to be overwritten
 pub record IsOpenIn (b : Base) (writes : List Pair) (a : Addr) (updates : List Update) : Type 0 where
@@ -59,13 +58,6 @@ pub record IsOpenIn (b : Base) (writes : List Pair) (a : Addr) (updates : List U
   pub others : (c : ℕ) → (c ≡ a.block → ⊥) → with_updates b.content updates c ≡ content c
 
 -- These writes are stored, and one of the address may be next
-pub record IsOpen (honest : Bool) (b : Base) (writes : List Pair) (a : Addr) (updates : List Update) : Type 0 where
+pub record IsOpen (b : Base) (writes : List Pair) (a : Addr) (updates : List Update) : Type 0 where
   pub blocks : CoversBlocks b.size b.tail ((a, []) ∷ writes) updates
-  pub bytes : IsTrue honest → IsOpenIn b writes a updates
-
--- What a refusal for want of memory, or by the device, is and leaves
-pub record RefusesLate (old new : WalState) (refusal : Refusal Unit) : Type 0 where
-  pub reason : IsLateRefusal old new refusal
-  pub left : IsLeft new refusal
-  pub maps : IsTrue (disk_of old).honest → KeepsMaps old new
-  pub crash : Crashes old new
+  pub bytes : IsOpenIn b writes a updates

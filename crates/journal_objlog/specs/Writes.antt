@@ -1,16 +1,14 @@
 -- Which writes can be prepared, why others are refused, and what it is to be prepared.
-use Rattle.std.specs.Prelude.{ℕ, ◌≡◌, ◌⊎◌, ◌<◌, ◌≤◌, ◌+◌, ◌^◌, ◌==◌, ◌||◌, Bool, false, IsTrue, if◌then◌else◌, List, [], ◌∷◌, length}
+use Rattle.std.specs.Prelude.{ℕ, ◌≡◌, ◌<◌, ◌≤◌, ◌+◌, ◌^◌, ◌==◌, ◌||◌, Bool, false, IsTrue, if◌then◌else◌, List, [], ◌∷◌, length}
 use Rattle.std.specs.List.{list_all}
 use Rattle.journal_world.specs.declared.refusal.Refusal.{Refusal}
-use Rattle.journal_world.specs.declared.refusal.Refusal.TheVariants.{NoMemory, BadAddress, BadSize, TooLarge, DeviceFailed, Worn, Full}
+use Rattle.journal_world.specs.declared.refusal.Refusal.TheVariants.{BadAddress, BadSize, TooLarge, DeviceFailed, Worn, Full}
 use Rattle.journal_world.specs.Addresses.{is_valid}
 use Rattle.journal_world.specs.Maps.{Pair, SameMap, are_objects, overwritten}
 use Rattle.journal_block.specs.declared.update.Update.{Update}
 use Rattle.journal_block.specs.Updates.{updates_block, with_updates}
-use Rattle.journal_disk.specs.Disks.{HasFailed}
-use Rattle.journal_wal.specs.Wal.{WalState, HasRoom, AreHomes, size_of}
 use Rattle.journal_objlog.specs.Maps.{map_of}
-use Rattle.journal_objlog.specs.ObjectLogs.{Base, base_of, map_in, disk_of, is_faulted}
+use Rattle.journal_objlog.specs.ObjectLogs.{Base, map_in}
 use Rattle.journal_wal.specs.declared.append.TheConstants.{MAX_TAIL, MAX_UPDATES}
 
 -- whether one of the writes is in block b
@@ -56,23 +54,6 @@ IsWriteRefusal faulted b writes (Full cause) =
     (faulted ≡ false) × IsTrue (are_objects b.size writes) × (written_blocks writes ≤ MAX_UPDATES)
     × (b.next + fresh_blocks b writes < 2 ^ 62) × (MAX_TAIL < length b.tail + fresh_blocks b writes)
 IsWriteRefusal faulted b writes other = ⊥
-
--- What refuses them then: J1, or J6 where the device failed
-abbrev pub IsLateRefusal : WalState → WalState → Refusal Unit → Type 0
-IsLateRefusal old new NoMemory = Unit {0}
-IsLateRefusal old new (DeviceFailed cause) = HasFailed (disk_of old) (disk_of new)
-IsLateRefusal old new other = ⊥
-
--- why writes are not prepared
-abbrev pub IsPrepareRefusal : WalState → List Pair → WalState → Refusal Unit → Type 0
-IsPrepareRefusal old writes new refusal =
-    IsWriteRefusal (is_faulted old) (base_of old) writes refusal
-    ⊎ (CanPrepare (base_of old) writes × IsLateRefusal old new refusal × (is_faulted old ≡ false))
-
--- What is prepared can be applied here, without memory and without a refusal
-pub record IsReady (w : WalState) (prepared : List Update) : Type 0 where
-  pub homes : AreHomes (size_of w) prepared
-  pub room : HasRoom w prepared
 
 -- What is prepared overwrites the map by the writes, where what was read is what the blocks hold
 pub record IsPrepared (honest : Bool) (b : Base) (prepared : List Update) (writes : List Pair) : Type 0 where

@@ -1,15 +1,13 @@
 // An object log, how it is opened, and what it tells without a step.
-ghost use Rattle.std.specs.Prelude.{ℕ, ◌≡◌, ◌<◌, ◌↔◌, ◌⊎◌, ◌≤◌, false, IsTrue, IfOk, IfErr, MatchResult};
+ghost use Rattle.std.specs.Prelude.{ℕ, ◌≡◌, ◌<◌, ◌↔◌, ◌⊎◌, false, IsTrue, IfOk, IfErr, MatchResult};
 ghost use Rattle.journal_disk.specs.Disks.{Keeps, IsSettled};
 ghost use Rattle.journal_disk.specs.Images.{EveryImage, reading};
 ghost use Rattle.journal_circ.specs.Log.{IsWellFormed};
 ghost use Rattle.journal_circ.specs.Ring.{IsOpenRefusal};
-ghost use Rattle.journal_wal.specs.Wal.{IsAtRest, IsLogIdle, HasBoundsIn, log_steps, tail_length, size_of};
+ghost use Rattle.journal_wal.specs.Wal.{IsAtRest, HasBoundsIn, log_steps};
 ghost use Rattle.journal_objlog.specs.Maps.{OpensAs};
 ghost use Rattle.journal_objlog.specs.ObjectLogs.{map_now, IsCutLogged, disk_of, is_faulted};
-ghost use Rattle.journal_wal.specs.declared.append.TheConstants.{MAX_TAIL};
 
-use journal_block::Block;
 use journal_disk::{BlockDisk, MemDisk};
 use journal_object::objects_law;
 use journal_wal::Wal;
@@ -22,8 +20,6 @@ use std::marker::Model;
 pub struct ObjectLog<D: BlockDisk> {
     pub(crate) alloc: Global,
     pub(crate) layout: Layout,
-    // What a read from the device is made into.
-    pub(crate) spare: Block,
     pub(crate) wal: Wal<D>,
 }
 
@@ -66,17 +62,8 @@ impl<D: BlockDisk> ObjectLog<D> {
             EveryImage (disk_of log).past (OpensAs (map_now log))) }
     {
         objects_law();
-        let spare = match Block::try_new(alloc) {
-            Ok(spare) => spare,
-            Err(refusal) => return Err(Refused { refusal, disk }),
-        };
         let wal = Wal::open(alloc, disk)?;
-        Ok(ObjectLog {
-            alloc,
-            layout,
-            spare,
-            wal,
-        })
+        Ok(ObjectLog { alloc, layout, wal })
     }
 
     /// Which addresses the map has.
@@ -102,22 +89,7 @@ impl<D: BlockDisk> ObjectLog<D> {
         self.wal.is_logging()
     }
 
-    /// Whether the logger has nothing to do: no group is in flight, and the tail is empty or has no place in the log.
-    pub fn is_log_idle(&self) -> bool
-        ensures { is_faulted self.now ≡ false → IsTrue result ↔ IsLogIdle self.now }
-    {
-        self.wal.is_log_idle()
-    }
-
-    /// How many blocks stand in the tail, at most 255.
-    pub fn tail_len(&self) -> u64
-        ensures length { result ≡ tail_length self.now }
-        ensures few { result ≤ MAX_TAIL }
-    {
-        self.wal.tail_len()
-    }
-
-    /// Whether the device failed, so that each read, overwrite and step answers J6.
+    /// Whether the device failed, so that each read, group and step answers J6.
     pub fn is_faulted(&self) -> bool
         ensures { result ≡ is_faulted self.now }
     {
@@ -138,7 +110,6 @@ impl<D: BlockDisk> ObjectLog<D> {
         let ObjectLog {
             alloc: _,
             layout: _,
-            spare: _,
             wal,
         } = self;
         wal.into_disk()

@@ -1,11 +1,11 @@
 // Asking a rule about the map now.
-ghost use Rattle.std.specs.Prelude.{◌≡◌, ◌↔◌, false, length, IsTrue, IsErr, OnOk, IfOk, IfErr};
+ghost use Rattle.std.specs.Prelude.{◌≡◌, ◌↔◌, false, length, IsTrue, IsErr, OnOk, IfOk, IfErr, IsOkUnless};
 ghost use Rattle.journal_world.specs.Refusals.{IsReadingRefusal};
 ghost use Rattle.journal_world.specs.Addresses.{is_valid};
 ghost use Rattle.journal_world.specs.Maps.{value_at, is_object};
 ghost use Rattle.journal_object.specs.Objects.{size_at};
 ghost use Rattle.journal_wal.specs.Wal.{size_of};
-ghost use Rattle.journal_objlog.specs.ObjectLogs.{map_now, KeepsMaps, Crashes, OnlyReads, IsLeft, IsReadRefusal, disk_of, is_faulted};
+ghost use Rattle.journal_objlog.specs.ObjectLogs.{map_now, KeepsMaps, Crashes, OnlyReads, IsLeft, disk_of, is_faulted};
 ghost use Rattle.journal_objlog.specs.Reading.{OnlyReadSince, IsBlockOf};
 
 use crate::object_log::ObjectLog;
@@ -13,6 +13,7 @@ use crate::read::load_object;
 use journal_block::Block;
 use journal_disk::BlockDisk;
 use journal_world::{Addr, Kind, Layout, MapRule, ObjectReader, Refusal, Value};
+use std::alloc::Global;
 use std::marker::{Brand, Model, PhantomData};
 
 // The log before its map was read. It stands in proofs alone, and is picked where the reading begins.
@@ -30,11 +31,12 @@ impl Opening for Brand {
 
 // Reads the map that the log had then. It holds the log, so that whatever reads by it leaves a log that was
 // only read. Of blocks with many objects it keeps the one that it read last, so that a rule that goes through such a
-// block reads it once.
+// block reads it once. A block that is one object is read beside it.
 struct MapReader<D: BlockDisk, O: Opening> {
     log: ObjectLog<D>,
     kept: Option<u64>,
     block: Block,
+    whole: Block,
     opening: PhantomData<O>,
 }
 
@@ -65,7 +67,8 @@ impl<D: BlockDisk, O: Opening> ObjectReader for MapReader<D, O> {
 
     fn read(&mut self, addr: Addr) -> Result<Value, Refusal<()>> {
         if let Some(Kind::Block) = self.log.layout().kind(addr.block) {
-            return self.log.read(addr);
+            self.log.read_block(addr, &mut self.whole)?;
+            return self.log.value_in(&self.whole, addr);
         }
         if self.kept != Some(addr.block) {
             self.kept = None;
@@ -115,18 +118,29 @@ impl<D: BlockDisk> ObjectLog<D> {
         self.wal.read(addr.block, into)
     }
 
-    // The value that a block of the log has at the address. No device is asked.
+    // The value that a block of the log has at the address. No device is asked. Refuses by J1 alone.
     fn value_in(&self, block: &Block, addr: Addr) -> Result<Value, Refusal<()>>
         requires { IsTrue (is_valid (size_of self.now) addr) }
         ensures value { IsTrue (disk_of self.now).honest → IsBlockOf self.now block.now addr.block
             → IfOk result (λ value. value ≡ value_at (map_now self.now) addr) }
         ensures object { IfOk result (λ value. IsTrue (is_object (map_now self.now).blocks (addr, value))) }
-        ensures refusal { IfErr result (IsReadRefusal self.now addr self.now) }
-        ensures left { IfErr result (IsLeft self.now) }
+        ensures refusal { IsOkUnless result Refusal.NoMemory }
     {
         let mut bytes = self.room_for(addr)?;
         self.object_in(block, addr, &mut bytes);
         Ok(Value::new(bytes))
+    }
+
+    // Zeros in the number of bytes that the address's object has. Refuses by J1 alone.
+    fn room_for(&self, addr: Addr) -> Result<Vec<u8>, Refusal<()>>
+        ensures size { IfOk result (λ bytes. length bytes.items ≡ size_at (size_of self.now) addr) }
+        ensures refusal { IsOkUnless result Refusal.NoMemory }
+    {
+        let size = match self.layout.kind(addr.block) {
+            Some(kind) => kind.bytes(),
+            None => 0,
+        };
+        Ok(vec![in self.alloc; 0u8; size]?)
     }
 
     // Reads the object that a block of the log has at the address.
@@ -160,14 +174,15 @@ fn read_by<O: Opening, D: BlockDisk, R: MapRule>(
     ensures read { OnlyReadSince O.log result.0 }
 {
     log.untouched();
-    let block = match Block::try_new(log.alloc) {
-        Ok(block) => block,
+    let (block, whole) = match two_blocks(log.alloc) {
+        Ok(blocks) => blocks,
         Err(refusal) => return (log, Err(refusal)),
     };
     let mut reader = MapReader::<D, O> {
         log,
         kept: None,
         block,
+        whole,
         opening: PhantomData,
     };
     let admitted = rule.admit(&mut reader);
@@ -175,7 +190,15 @@ fn read_by<O: Opening, D: BlockDisk, R: MapRule>(
         log,
         kept: _,
         block: _,
+        whole: _,
         opening: _,
     } = reader;
     (log, admitted)
+}
+
+// Two blocks to read into.
+fn two_blocks(alloc: Global) -> Result<(Block, Block), Refusal<()>>
+    ensures { IsOkUnless result Refusal.NoMemory }
+{
+    Ok((Block::try_new(alloc)?, Block::try_new(alloc)?))
 }

@@ -9,12 +9,28 @@ ghost use Rattle.journal_objlog.specs.ObjectTails.{blocks_of, known_updates, kno
 ghost use Rattle.journal_objlog.specs.Places.{places_of};
 ghost use Rattle.journal_objlog.specs.Writes.{written_blocks, fresh_blocks, CanPrepare, IsPrepared, IsWriteRefusal};
 
-use crate::prepare::Prepared;
 use crate::spares::Spares;
 use crate::tail::ObjectTail;
 use crate::writes::{Places, is_block, judge};
 use journal_block::Update;
 use journal_world::{Objects, Refusal};
+use std::marker::Model;
+
+/// Overwrites that are ready to be applied, made by [`ObjectTail::prepare`].
+#[derive(Drop)]
+pub struct Prepared {
+    // One for each block that is written, blocks ascending, with its objects stored.
+    updates: Vec<Update>,
+}
+
+impl Model for Prepared {
+    ghost use Rattle.std.specs.Prelude.{List};
+    ghost use Rattle.journal_block.specs.declared.update.Update.{Update};
+
+    ghost Value = { List Update };
+
+    ghost view = { λ prepared. prepared.updates.items };
+}
 
 /// What `ObjectTail::prepare` answers.
 #[derive(Drop)]

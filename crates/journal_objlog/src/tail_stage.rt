@@ -1,5 +1,5 @@
 // The blocks that are written in memory: which have to be fetched first, and what they hold with the writes stored.
-ghost use Rattle.std.specs.Prelude.{◌≡◌, ◌⊎◌, ◌≤◌, false, true, IsTrue, OnOk, IfOk, IsOkUnless, List, Some};
+ghost use Rattle.std.specs.Prelude.{◌≡◌, ◌⊎◌, ◌≤◌, false, IsTrue, OnOk, IfOk, IsOkUnless, List, Some};
 ghost use Rattle.journal_world.specs.declared.layout.TheConstants.{MIN_BLOCKS};
 ghost use Rattle.journal_world.specs.Addresses.{kind_of, is_valid};
 ghost use Rattle.journal_world.specs.Maps.{Pair, are_objects};
@@ -59,7 +59,7 @@ impl ObjectTail {
     ) -> Result<Vec<Update>, Refusal<()>>
         requires objects { IsTrue (are_objects (blocks_of self.now) writes.now) }
         requires present { HasBlocks (blocks_of self.now) (known_updates fetched.now self.now) writes.now }
-        ensures staged { IfOk result (λ updates. IsStaged true (tail_base fetched.now self.now) writes.now updates.items) }
+        ensures staged { IfOk result (λ updates. IsStaged (tail_base fetched.now self.now) writes.now updates.items) }
         ensures refusal { IsOkUnless result Refusal.NoMemory }
     {
         let mut updates = Backwards::new(self.alloc, spares);
@@ -81,8 +81,8 @@ impl ObjectTail {
     ) -> Result<(), Refusal<()>>
         requires valid { IsTrue (is_valid (blocks_of self.now) addr) }
         requires present { is_missing (blocks_of self.now) (known_updates fetched.now self.now) addr.block ≡ false }
-        ensures opened { OnOk result ((writes : List Pair) → IsStaged true (tail_base fetched.now self.now) writes updates.old
-            → HasAscendingBlocks writes → IsAboveNone addr.block writes → IsOpen true (tail_base fetched.now self.now) writes addr updates.new) }
+        ensures opened { OnOk result ((writes : List Pair) → IsStaged (tail_base fetched.now self.now) writes updates.old
+            → HasAscendingBlocks writes → IsAboveNone addr.block writes → IsOpen (tail_base fetched.now self.now) writes addr updates.new) }
         ensures refusal { IsOkUnless result Refusal.NoMemory }
     {
         if updates.has_first(addr.block) {

@@ -1,13 +1,9 @@
 // What writes are: their addresses, their values and their blocks.
-ghost use Rattle.std.specs.Prelude.{◌≡◌, ◌≤◌, ◌↔◌, IsTrue, Some};
+ghost use Rattle.std.specs.Prelude.{◌≡◌, ◌↔◌, IsTrue, Some};
 ghost use Rattle.journal_world.specs.Addresses.{is_valid};
 ghost use Rattle.journal_world.specs.Maps.{is_object, are_objects};
-ghost use Rattle.journal_wal.specs.Wal.{size_of};
-ghost use Rattle.journal_objlog.specs.ObjectLogs.{base_of};
-ghost use Rattle.journal_objlog.specs.Writes.{are_valid, written_blocks, fresh_blocks};
+ghost use Rattle.journal_objlog.specs.Writes.{are_valid};
 
-use crate::object_log::ObjectLog;
-use journal_disk::BlockDisk;
 use journal_world::{Addr, Layout, Objects, Value};
 
 /// How many distinct blocks writes are in, and how many of these do not stand in the tail.
@@ -40,29 +36,6 @@ fn is_admitted(layout: &Layout, addr: Addr, value: &Value) -> bool
     match layout.kind(addr.block) {
         Some(kind) => kind.admits(value.bytes()),
         None => false,
-    }
-}
-
-impl<D: BlockDisk> ObjectLog<D> {
-    /// How many distinct blocks are written, and how many of these do not stand in the tail.
-    pub(crate) fn count_blocks(&self, writes: &Objects) -> Places
-        requires { IsTrue (are_objects (size_of self.now) writes.now) }
-        ensures blocks { result.blocks ≡ written_blocks writes.now }
-        ensures fresh { result.fresh ≡ fresh_blocks (base_of self.now) writes.now }
-        ensures fewer { result.fresh ≤ result.blocks }
-    {
-        let mut blocks = 0;
-        let mut fresh = 0;
-        let mut last = None;
-        for (addr, _) in writes.iter().rev() {
-            if is_block(last, addr.block) {
-                continue;
-            }
-            last = Some(addr.block);
-            blocks += 1;
-            fresh += usize::from(!self.wal.stands(addr.block));
-        }
-        Places { blocks, fresh }
     }
 }
 

@@ -7,8 +7,6 @@ use Rattle.journal_block.specs.Updates.{with_updates}
 use Rattle.journal_memlog.specs.Logs.{next_position}
 use Rattle.journal_wal.specs.Wal.{WalState, SameBlocks, size_of, blocks_now, blocks_cut, blocks_logged, log_steps, tail_length, free_positions}
 use Rattle.journal_wal.specs.declared.append.TheConstants.{MAX_TAIL}
-use Rattle.journal_wal.specs.declared.step.GroupStep.{GroupStep}
-use Rattle.journal_wal.specs.declared.step.GroupStep.TheVariants.{Idle, Cut}
 
 -- There is a place for a group of so many blocks: none is in flight, it has a block, and the log a position for each
 pub record FitsGroup (w : WalState) (blocks : ℕ) : Type 0 where
@@ -43,9 +41,3 @@ IsGroupRefusal w blocks (DeviceFailed cause) = w.ring.faulted ≡ true
 IsGroupRefusal w blocks (Worn cause) = (w.ring.faulted ≡ false) × FitsGroup w blocks × (2 ^ 62 ≤ next_position w.log + blocks)
 IsGroupRefusal w blocks NoMemory = (w.ring.faulted ≡ false) × FitsGroup w blocks × (next_position w.log + blocks < 2 ^ 62)
 IsGroupRefusal w blocks other = ⊥
-
--- What is answered where a group is handed in, and done
-abbrev pub GroupAnswers : WalState → List Update → GroupStep → WalState → Type 0
-GroupAnswers old updates Idle new = (FitsGroup old (length updates) → ⊥) × (new ≡ old)
-GroupAnswers old updates Cut new = FitsGroup old (length updates) × TakesGroup old updates new
-GroupAnswers old updates other new = ⊥

@@ -16,9 +16,8 @@ use Rattle.journal_disk.specs.Moments.{LeavesOnly}
 use Rattle.journal_circ.specs.StandsFor.{StandsFor}
 use Rattle.journal_circ.specs.Log.{log_block, with_end, start_block, start_in, end_in}
 use Rattle.journal_circ.specs.Ring.{Ring, home_of, MakesCall, TriesCall}
-use Rattle.journal_memlog.specs.Logs.{LogState, next_position, tail_of, absorbed, appended, trimmed, CanTake}
+use Rattle.journal_memlog.specs.Logs.{LogState, next_position, tail_of, trimmed}
 use Rattle.journal_circ.specs.declared.layout.TheConstants.{FIRST_HOME, LOG_POSITIONS}
-use Rattle.journal_wal.specs.declared.append.TheConstants.{MAX_TAIL, MAX_UPDATES}
 use Rattle.journal_wal.specs.declared.step.GroupStep.{GroupStep}
 use Rattle.journal_wal.specs.declared.step.GroupStep.TheVariants.{Idle, Cut, Put, Logged}
 use Rattle.journal_wal.specs.declared.step.InstallStep.{InstallStep}
@@ -169,23 +168,9 @@ TriesDueCall (Some event) old new = TriesCall event old new
 abbrev pub AreHomes : ℕ → List Update → Type 0
 AreHomes n updates = All (λ u. (FIRST_HOME ≤ u.block) × (u.block < n)) updates
 
--- The updates can be appended without memory and without a refusal
-pub record HasRoom (w : WalState) (updates : List Update) : Type 0 where
-  pub faulted : w.ring.faulted ≡ false
-  pub few : length updates ≤ MAX_UPDATES
-  pub room : CanTake w.log updates
-  pub tail : length (absorbed (tail_of w.log) updates) ≤ MAX_TAIL
-
 -- the log with other room in memory
 abbrev pub with_room : WalState → ℕ → WalState
 with_room w room = record w { log = record w.log { room = room } }
-
--- The updates were appended, without a device call
-pub record Appends (old : WalState) (updates : List Update) (new : WalState) : Type 0 where
-  pub log : new ≡ record old { log = record (appended old.log updates) { room = new.log.room } }
-  pub now : SameBlocks (size_of old) (blocks_now new) (with_updates (blocks_now old) updates)
-  pub cut : SameBlocks (size_of old) (blocks_cut new) (blocks_cut old)
-  pub logged : SameBlocks (size_of old) (blocks_logged new) (blocks_logged old)
 
 -- What each call says of the disk: at every moment of it each image is one that a crash might have left before, and at
 -- its end one that a crash may leave now

@@ -1,12 +1,11 @@
 // A group that was cut elsewhere is taken whole.
-ghost use Rattle.std.specs.Prelude.{ℕ, ◌≡◌, ◌≤◌, ◌<◌, ◌↔◌, false, IsTrue, length, OnErr, IfOk, IfErr};
+ghost use Rattle.std.specs.Prelude.{ℕ, ◌≡◌, ◌≤◌, ◌<◌, ◌↔◌, false, IsTrue, length, IfOk, IfErr};
 ghost use Rattle.journal_memlog.specs.Logs.{HasDistinctBlocks};
 ghost use Rattle.journal_wal.specs.Wal.{AreHomes, Crashes, size_of, tail_length, with_room};
-ghost use Rattle.journal_wal.specs.Groups.{FitsGroup, HasGroupRoom, TakesGroup, IsGroupRefusal, GroupAnswers};
+ghost use Rattle.journal_wal.specs.Groups.{FitsGroup, HasGroupRoom, TakesGroup, IsGroupRefusal};
 ghost use Rattle.journal_wal.specs.declared.append.TheConstants.{MAX_TAIL};
 
 use crate::append::MAX_POSITION;
-use crate::step::GroupStep;
 use crate::wal::Wal;
 use journal_block::Update;
 use journal_circ::LOG_POSITIONS;
@@ -14,35 +13,13 @@ use journal_disk::BlockDisk;
 use journal_world::Refusal;
 
 impl<D: BlockDisk> Wal<D> {
-    /// Takes updates that were cut elsewhere as the group in flight, all or none. No two of them are of one
-    /// block. It is idle where a group is in flight, where there are no updates, and where the log lacks a
+    /// Makes room for a group of so many blocks, so that `take_reserved` takes it, as long as no other call comes
+    /// between. Answers no where a group is in flight, where there are no blocks, and where the log lacks a
     /// position for one of them.
     ///
-    /// The first that applies of these refuses them: J6 `DeviceFailed` where the device failed before, J11
-    /// `Worn` where a position would reach 2^62, J1 `NoMemory` where memory is refused. The log is then as it
-    /// was, but may have more room in memory.
-    pub fn take_group(&mut self, updates: Vec<Update>) -> Result<GroupStep, Refusal<()>>
-        requires homes { AreHomes (size_of self.old) updates.items }
-        requires distinct { HasDistinctBlocks updates.items }
-        requires few { length updates.items ≤ MAX_TAIL }
-        requires empty { tail_length self.old ≡ 0 }
-        ensures ok { IfOk result (λ step. GroupAnswers self.old updates.items step self.new) }
-        ensures refusal { IfErr result (IsGroupRefusal self.old (length updates.items)) }
-        ensures err { OnErr result (self.new ≡ with_room self.old self.new.log.room) }
-        ensures crash { Crashes self.old self.new }
-    {
-        if !self.reserve_group(updates.len())? {
-            return Ok(GroupStep::Idle);
-        }
-        self.take_reserved(updates);
-        Ok(GroupStep::Cut)
-    }
-
-    /// Makes room for a group of so many blocks, so that `take_reserved` takes it, as long as no other call
-    /// comes between. Answers no where `take_group` would be idle.
-    ///
-    /// Refusals are those of `take_group`. Refused or not, the log is as it was, but may have more room in
-    /// memory where it had too little.
+    /// The first that applies of these refuses it: J6 `DeviceFailed` where the device failed before, J11 `Worn`
+    /// where a position would reach 2^62, J1 `NoMemory` where memory is refused. Refused or not, the log is as it
+    /// was, but may have more room in memory where it had too little.
     pub fn reserve_group(&mut self, blocks: usize) -> Result<bool, Refusal<()>>
         requires few { blocks ≤ MAX_TAIL }
         requires empty { tail_length self.old ≡ 0 }
@@ -76,8 +53,8 @@ impl<D: BlockDisk> Wal<D> {
         !self.is_logging() && 0 < blocks && blocks as u64 <= free
     }
 
-    /// Takes as the group in flight updates that `reserve_group` made room for. It takes no memory, and moves
-    /// the blocks.
+    /// Takes as the group in flight updates that were cut elsewhere, which `reserve_group` made room for. No two of them
+    /// are of one block. It takes no memory, and moves the blocks.
     pub fn take_reserved(&mut self, updates: Vec<Update>)
         requires homes { AreHomes (size_of self.old) updates.items }
         requires distinct { HasDistinctBlocks updates.items }

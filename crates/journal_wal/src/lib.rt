@@ -8,8 +8,8 @@
 //! `install_call` that of the installer, whose plan has the last logged update of each block, blocks
 //! ascending. No other call but a read and the opening asks the device for anything, and those only read.
 //!
-//! A `Tail` has the part in memory alone, for a lock of its own. What it cuts, `Wal::take_group` takes whole. Beside it
-//! lie copies of blocks that are at home, so that what is read often is not read from the device each time.
+//! A `Tail` has the part in memory alone, for a lock of its own. What it cuts, `Wal::take_reserved` takes whole. Beside
+//! it lie copies of blocks that are at home, so that what is read often is not read from the device each time.
 #![tactic(auto)]
 
 mod append;

@@ -1,9 +1,7 @@
 // The write-ahead log, and what it tells without a step.
-ghost use Rattle.std.specs.Prelude.{ℕ, ◌≡◌, ◌≤◌, ◌<◌, ◌↔◌, ◌⊎◌, true, false, is_some, IsTrue, OnOk, OnErr, IsErr, IfErr, IfSome};
-ghost use Rattle.journal_block.specs.Updates.{updates_block};
+ghost use Rattle.std.specs.Prelude.{ℕ, ◌≡◌, ◌≤◌, ◌<◌, ◌↔◌, ◌⊎◌, true, false, IsTrue, OnOk, OnErr, IsErr, IfErr};
 ghost use Rattle.journal_circ.specs.Ring.{IsFault};
-ghost use Rattle.journal_wal.specs.Wal.{OnlyReads, Crashes, IsLogIdle, size_of, tail_length, free_positions, blocks_now, log_steps};
-ghost use Rattle.journal_wal.specs.declared.append.TheConstants.{MAX_TAIL};
+ghost use Rattle.journal_wal.specs.Wal.{OnlyReads, Crashes, size_of, tail_length, free_positions, blocks_now, log_steps};
 
 use crate::disk_log::DiskLog;
 use journal_block::Block;
@@ -16,9 +14,9 @@ use std::marker::Model;
 
 /// A write-ahead log over a disk.
 ///
-/// The updates in memory and the log on the disk are apart. Updates are appended and cut in memory alone,
-/// where the disk has not failed. A read looks into memory first, and then at the disk. The logger and the
-/// installer write each log block and each home block from memory, and tell it the end of a cycle.
+/// The updates in memory and the log on the disk are apart. A group is taken in memory alone, where the disk has not
+/// failed. A read looks into memory first, and then at the disk. The logger and the installer write each log block and
+/// each home block from memory, and tell it the end of a cycle.
 #[derive(Drop)]
 pub struct Wal<D: BlockDisk> {
     pub(crate) alloc: Global,
@@ -63,7 +61,7 @@ impl<D: BlockDisk> Wal<D> {
         (bounds.start, bounds.logged)
     }
 
-    /// Whether a device call failed, so that every step, read and append answers J6.
+    /// Whether a device call failed, so that every step, read and group answers J6.
     pub fn is_faulted(&self) -> bool
         ensures { result ≡ self.now.ring.faulted }
     {
@@ -80,14 +78,6 @@ impl<D: BlockDisk> Wal<D> {
         bounds.logged < bounds.cut
     }
 
-    /// How many blocks stand in the tail, at most 255.
-    pub fn tail_len(&self) -> u64
-        ensures length { result ≡ tail_length self.now }
-        ensures few { result ≤ MAX_TAIL }
-    {
-        self.memory.tail_len()
-    }
-
     // Whether the tail has a block, and the log a position for each.
     pub(crate) fn tail_fits(&self) -> bool
         ensures { IsTrue result ↔ ((0 < tail_length self.now) × (tail_length self.now ≤ free_positions self.now)) }
@@ -95,21 +85,6 @@ impl<D: BlockDisk> Wal<D> {
         let bounds = self.memory.bounds();
         let tail = self.memory.tail_len();
         0 < tail && tail <= LOG_POSITIONS - (bounds.logged - bounds.start)
-    }
-
-    /// Whether the logger has nothing to do: no group is in flight, and the tail is empty or has no place in the log.
-    pub fn is_log_idle(&self) -> bool
-        ensures { self.now.ring.faulted ≡ false → IsTrue result ↔ IsLogIdle self.now }
-    {
-        !self.is_logging() && !self.tail_fits()
-    }
-
-    /// The block with all updates, lent, where it is in memory.
-    pub fn latest(&self, block: u64) -> Option<&Block>
-        ensures found { is_some result ≡ updates_block self.now.log.updates block }
-        ensures some { IfSome result (λ found. found.now ≡ blocks_now self.now block) }
-    {
-        self.memory.latest(block)
     }
 
     /// Copies the block with all updates. It is read from the device only where it is not in memory.

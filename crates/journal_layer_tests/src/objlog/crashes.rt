@@ -1,6 +1,6 @@
 // Three commits, and what a crash leaves of them after each call of the logger and of the installer.
 use super::Call::{self, End, Failures, Home, Installer, IsLogging, Logger, Start};
-use super::{Log, Row, answer, has, open, walk};
+use super::{Pair, Row, answer, close, has, open, walk};
 use crate::runs::{Run, Wrong, is_refused, told};
 use journal_disk::MemDisk;
 use std::alloc::Global;
@@ -34,20 +34,20 @@ const SECOND: Call = Call::Fill(&[(514, 4, 1), (515, 1024, 21), (530, 31744, 22)
 
 const THIRD: Call = Call::Fill(&[(514, 3, 0), (531, 0, 31), (532, 0, 32)]);
 
-fn is_map(alloc: Global, log: &mut Log, bytes: &[u8]) -> Run<bool> {
+fn is_map(rt: &impl Abort, alloc: Global, pair: &mut Pair, bytes: &[u8]) -> Run<bool> {
     for (number, (block, off)) in OBJECTS.iter().enumerate() {
         let byte = bytes.get(number).copied().unwrap_or(0);
-        if !has(alloc, log, (*block, *off, byte))? {
+        if !has(rt, alloc, pair, (*block, *off, byte))? {
             return Ok(false);
         }
     }
     Ok(true)
 }
 
-// How many commits make the map that the log has, and 9 where none of these maps is it.
-fn commits_on(alloc: Global, log: &mut Log) -> Run<u64> {
+// How many commits make the map that the pair has, and 9 where none of these maps is it.
+fn commits_on(rt: &impl Abort, alloc: Global, pair: &mut Pair) -> Run<u64> {
     for (commits, bytes) in MAPS.iter().enumerate() {
-        if is_map(alloc, log, bytes)? {
+        if is_map(rt, alloc, pair, bytes)? {
             return Ok(commits as u64);
         }
     }
@@ -56,19 +56,19 @@ fn commits_on(alloc: Global, log: &mut Log) -> Run<u64> {
 
 // The same of what a crash leaves by a choice.
 fn commits_left(rt: &impl Abort, alloc: Global, disk: &MemDisk, choice: &[u32]) -> Run<u64> {
-    let mut log = open(rt, alloc, disk.image(choice)?)?;
-    let commits = commits_on(alloc, &mut log);
-    let _ = log.into_disk();
+    let mut pair = open(rt, alloc, disk.image(choice)?)?;
+    let commits = commits_on(rt, alloc, &mut pair);
+    close(pair);
     commits
 }
 
-// Makes a call. Its answer, the commits on the log after it, and those that a crash then leaves where no pending write
+// Makes a call. Its answer, the commits on the pair after it, and those that a crash then leaves where no pending write
 // reaches the disk, and where all do, each as a digit.
-fn turn(rt: &impl Abort, alloc: Global, log: &mut Log, call: Call) -> Run<u64> {
-    let answered = answer(rt, alloc, log, call)?;
-    let now = commits_on(alloc, log)?;
-    let none = commits_left(rt, alloc, log.disk(), &[])?;
-    let all = commits_left(rt, alloc, log.disk(), &[u32::MAX; 16])?;
+fn turn(rt: &impl Abort, alloc: Global, pair: &mut Pair, call: Call) -> Run<u64> {
+    let answered = answer(rt, alloc, pair, call)?;
+    let now = commits_on(rt, alloc, pair)?;
+    let none = commits_left(rt, alloc, pair.log.disk(), &[])?;
+    let all = commits_left(rt, alloc, pair.log.disk(), &[u32::MAX; 16])?;
     let mut digits = answered;
     for digit in [now, none, all] {
         digits = digits.wrapping_mul(10).wrapping_add(digit);
@@ -101,10 +101,10 @@ static TURNS: [Row; 18] = [
 ];
 
 // The first turn that comes to something else.
-fn wrong_turn(rt: &impl Abort, alloc: Global, log: &mut Log) -> Wrong {
+fn wrong_turn(rt: &impl Abort, alloc: Global, pair: &mut Pair) -> Wrong {
     for (number, (times, call, want)) in TURNS.iter().enumerate() {
         for _i in 0..*times {
-            let got = told(turn(rt, alloc, log, *call));
+            let got = told(turn(rt, alloc, pair, *call));
             if got != *want {
                 return Some((number + 1, got));
             }
@@ -134,10 +134,10 @@ static ENDED: [Row; 15] = [
 
 // The first turn that comes to something else, and the first row that is answered otherwise in the end.
 fn crash(rt: &impl Abort, alloc: Global) -> Run<(Wrong, Wrong)> {
-    let mut log = open(rt, alloc, MemDisk::new(alloc, 600)?)?;
-    let turn = wrong_turn(rt, alloc, &mut log);
-    let row = walk(rt, alloc, &mut log, &ENDED);
-    let _ = log.into_disk();
+    let mut pair = open(rt, alloc, MemDisk::new(alloc, 600)?)?;
+    let turn = wrong_turn(rt, alloc, &mut pair);
+    let row = walk(rt, alloc, &mut pair, &ENDED);
+    close(pair);
     Ok((turn, row))
 }
 

@@ -1,10 +1,9 @@
 // The objects in memory, call by call. They know no disk: what they lack is fetched for them.
 //
 // Any one request for memory may be refused in a run. A refused run is made again.
-ghost use Rattle.std.specs.Prelude.{◌≡◌, ◌<◌, ◌^◌, length, IfOk};
-ghost use Rattle.journal_object.specs.Objects.{size_at};
+ghost use Rattle.std.specs.Prelude.{◌<◌, ◌^◌};
 
-use super::{Fill, bytes_in, filled, writes};
+use super::{Fill, bytes_in, filled, room_for, writes};
 use crate::runs::{
     BAD_ADDRESS, BAD_SIZE, FULL, Run, TOO_LARGE, WORN, Wrong, is_refused, number, told,
 };
@@ -78,17 +77,6 @@ fn empty(rt: &impl Abort, alloc: Global, blocks: u64, end: u64) -> Run<Memory>
         fetched: Vec::new(alloc),
         group: Vec::new(alloc),
     })
-}
-
-// As many bytes as the address's object has.
-fn room_for(alloc: Global, layout: Layout, addr: Addr) -> Run<Vec<u8>>
-    ensures { IfOk result (λ room. length room.items ≡ size_at layout.blocks addr) }
-{
-    let size = match layout.kind(addr.block) {
-        Some(kind) => kind.bytes(),
-        None => 0,
-    };
-    Ok(vec![in alloc; 0xaau8; size]?)
 }
 
 // Whether memory and these fetched blocks have the object so.

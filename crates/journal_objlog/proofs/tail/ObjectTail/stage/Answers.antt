@@ -2,8 +2,7 @@ use Rattle.std.proofs.Common.{◌∷◌, [], ap, ◌∙◌}
 use Rattle.std.specs.Iterator.Adapters.{rev_source}
 use Rattle.journal_world.specs.Maps.{Pair}
 use Rattle.journal_objlog.specs.ObjectTails.{blocks_of, known_updates, tail_base}
-use Rattle.journal_objlog.proofs.StagingLoop.{some_first}
-use Rattle.journal_objlog.proofs.TailStaging.{tail_below, tail_present, tail_staged_on, tail_staging_begins}
+use Rattle.journal_objlog.proofs.TailStaging.{some_first, tail_below, tail_present, tail_staged_on, tail_staging_begins}
 use Rattle.journal_objlog.proofs.tail.ObjectTail.stage.Goals as goal
 
 pub loop-addr-init : goal.loop-addr-init
