@@ -9,12 +9,13 @@ use journal_world::{AnyMap, slot_of};
 use rand_core::Rng;
 use rand_pcg::Pcg32;
 use std::alloc::Global;
+use std::rt::Clock;
 use std::sync::Wait;
 use std::thread;
 use std::thread::Threads;
 
 /// Commits the load, beside the daemon, until all is stable. Then the journal is stopped.
-pub fn run<'b, D: BlockDisk + Send, J: Naming + Send + Sync, R: Threads + Wait + Sync>(
+pub fn run<'b, D: BlockDisk + Send, J: Naming + Send + Sync, R: Threads + Wait + Clock + Sync>(
     rt: &R,
     alloc: Global,
     journal: &Journal<'b, D, AnyMap, J>,

@@ -1,5 +1,6 @@
 // What a thread of the daemon does, over and over.
 use journal_world::{Refusal, Step};
+use std::rt::Clock;
 use std::sync::Wait;
 
 /// The logger's number at a gate.
@@ -13,7 +14,7 @@ pub trait OneStep {
     type Cause: Drop;
 
     /// Makes the next step, or is idle where there is none.
-    fn step<W: Wait>(&self, rt: &W) -> Result<Step, Refusal<Self::Cause>>;
+    fn step<W: Wait + Clock>(&self, rt: &W) -> Result<Step, Refusal<Self::Cause>>;
 
     /// Is called after an idle step, and may wait until there is something to do.
     fn idle<W: Wait>(&self, rt: &W);
@@ -35,7 +36,7 @@ impl Gate for OpenGate {
 
 // Makes steps, each behind the gate, until one is refused for another reason than memory. Where memory was refused the
 // step is tried again.
-pub(crate) fn run<S: OneStep, G: Gate, W: Wait>(rt: &W, steps: &S, gate: &G, who: u64) {
+pub(crate) fn run<S: OneStep, G: Gate, W: Wait + Clock>(rt: &W, steps: &S, gate: &G, who: u64) {
     let mut n: u64 = 0;
     for _ in rt.forever() {
         gate.pass(rt, who, n);

@@ -7,6 +7,7 @@ mod fences;
 mod gated_disk;
 mod one_thread;
 mod openings;
+mod pairs;
 mod recovered;
 mod steps;
 mod threads;
@@ -17,11 +18,13 @@ ghost use Rattle.journal_disk.specs.Disks.{IsSettled};
 
 use journal_disk::{BlockDisk, MemDisk};
 use journal_history::{Book, Naming, Receipt, Session};
-use journal_twophase::{Journal, Txn, Why};
+use journal_twophase::{Journal, Txn, WaitFault, Waited, Why};
 use journal_world::{Addr, AnyMap, Refusal, Step};
 use std::alloc::Global;
+use std::fmt::Debug;
 use std::marker::Brand;
 use std::process::Abort;
+use std::rt::Clock;
 use std::sync::Wait;
 use std::thread::Threads;
 
@@ -76,14 +79,24 @@ enum Trial {
     RecoverAFullLog,
 }
 
+/// Wants the two to be equal. An assertion is dear to prove wherever it stands, so almost all are made here.
+fn wants<T: PartialEq + Debug>(rt: &impl Abort, found: &T, wanted: &T) {
+    assert_eq!(rt; found, wanted);
+}
+
+/// The same at one of several device calls, which the message tells.
+fn wants_at<T: PartialEq + Debug>(rt: &impl Abort, call: u64, found: &T, wanted: &T) {
+    assert_eq!(rt; found, wanted, "at call {call}");
+}
+
 /// Opens a journal over a new disk, and makes the trial.
-fn try_out<H: Abort + Threads + Wait + Sync>(rt: &H, alloc: Global, trial: Trial) {
+fn try_out<H: Abort + Threads + Wait + Clock + Sync>(rt: &H, alloc: Global, trial: Trial) {
     let book: Book<AnyMap> = Book::open::<()>().ok().expect(rt, "a book");
     try_in_book::<Brand, _>(rt, alloc, &book, trial);
 }
 
 // It owns the journal for all trials, and takes it apart at its end: both are dear to prove, and are proved once.
-fn try_in_book<J: Naming + Send + Sync, H: Abort + Threads + Wait + Sync>(
+fn try_in_book<J: Naming + Send + Sync, H: Abort + Threads + Wait + Clock + Sync>(
     rt: &H,
     alloc: Global,
     book: &Book<AnyMap>,
@@ -97,7 +110,7 @@ fn try_in_book<J: Naming + Send + Sync, H: Abort + Threads + Wait + Sync>(
     let _disk = journal.into_disk();
 }
 
-fn try_on<J: Naming + Send + Sync, H: Abort + Threads + Wait + Sync>(
+fn try_on<J: Naming + Send + Sync, H: Abort + Threads + Wait + Clock + Sync>(
     rt: &H,
     alloc: Global,
     journal: &Open<MemDisk, J>,
@@ -173,8 +186,50 @@ fn put<'b, D: BlockDisk, J: Naming, W: Wait>(
     bytes: &[u8],
 ) -> (u64, u64) {
     let mut txn = journal.begin(alloc, session);
-    let number = number_of(txn.overwrite(rt, addr, bytes));
-    (number, count_of(txn.commit(rt, session)))
+    let number = overwrites(rt, &mut txn, addr, bytes);
+    (number, commit_count(rt, txn, session))
+}
+
+/// Commits a transaction. Answers the receipt's count, or 0.
+fn commit_count<'b, D: BlockDisk, J: Naming, W: Wait>(
+    rt: &W,
+    txn: OpenTxn<'_, 'b, D, J>,
+    session: &mut Client<'b, J>,
+) -> u64 {
+    count_of(txn.commit(rt, session))
+}
+
+/// Commits a transaction. Answers the refusal's number.
+fn commit_number<'b, D: BlockDisk, J: Naming, W: Wait>(
+    rt: &W,
+    txn: OpenTxn<'_, 'b, D, J>,
+    session: &mut Client<'b, J>,
+) -> u64 {
+    number_of(txn.commit(rt, session))
+}
+
+/// Commits a transaction, and waits until it is stable.
+fn commit_ending<'b, D: BlockDisk, J: Naming, W: Wait>(
+    rt: &W,
+    txn: OpenTxn<'_, 'b, D, J>,
+    session: &mut Client<'b, J>,
+) -> Ended {
+    end_of_wait(txn.commit_wait(rt, session))
+}
+
+/// Overwrites an address. Answers the refusal's number.
+fn overwrites<D: BlockDisk, J: Naming, W: Wait>(
+    rt: &W,
+    txn: &mut OpenTxn<D, J>,
+    addr: Addr,
+    bytes: &[u8],
+) -> u64 {
+    number_of(txn.overwrite(rt, addr, bytes))
+}
+
+/// Reads an address. Answers the refusal's number alone.
+fn reads<D: BlockDisk, J: Naming, W: Wait>(rt: &W, txn: &mut OpenTxn<D, J>, addr: Addr) -> u64 {
+    number_of(txn.read(rt, addr))
 }
 
 /// Reads one address in a transaction that is given up.
@@ -218,14 +273,55 @@ fn count_of<'b, J: Naming>(answer: Result<Receipt<'b, J, AnyMap>, Reason<'b, J>>
 fn number_of<T: Drop, C: Drop>(answer: Result<T, Refusal<C>>) -> u64 {
     match answer {
         Ok(_) => 0,
-        Err(Refusal::BadAddress) => 2,
-        Err(Refusal::BadSize) => 3,
-        Err(Refusal::Busy) => 5,
-        Err(Refusal::DeviceFailed(_)) => 6,
-        Err(Refusal::Full(_)) => 12,
-        Err(Refusal::Closed(_)) => 13,
-        Err(Refusal::Fenced) => 14,
-        Err(_) => 15,
+        Err(why) => number_in(&why),
+    }
+}
+
+/// The number of this refusal, or 15 where it is none of these.
+fn number_in<C>(why: &Refusal<C>) -> u64 {
+    match why {
+        Refusal::BadAddress => 2,
+        Refusal::BadSize => 3,
+        Refusal::Busy => 5,
+        Refusal::DeviceFailed(_) => 6,
+        Refusal::Full(_) => 12,
+        Refusal::Closed(_) => 13,
+        Refusal::Fenced => 14,
+        _ => 15,
+    }
+}
+
+/// How a commit that waited ended.
+#[derive(Clone, Copy, Debug, PartialEq, Eq, Drop)]
+enum Ending {
+    Stable,
+    /// Of a mark that does not cover it.
+    Uncovered,
+    /// Known to be in the history, the wait refused.
+    Unsure,
+    /// Known not to be in the history.
+    Lost,
+    /// By another refusal than J6, or after one.
+    Refused,
+}
+
+/// That, and the count of the receipt where the mark covers it, else the number of the refusal.
+type Ended = (Ending, u64);
+
+fn end_of_wait<'b, J: Naming>(answer: Waited<'b, J, AnyMap>) -> Ended {
+    match answer {
+        Ok((receipt, note)) => marked(receipt.count(), note.count()),
+        Err(WaitFault::Unsure(_receipt, why)) => (Ending::Unsure, number_in(&why)),
+        Err(WaitFault::Refused(why)) => (Ending::Lost, number_in(&why)),
+    }
+}
+
+/// The ending of a commit of this count that was told of this mark.
+fn marked(count: u64, mark: u64) -> Ended {
+    if count <= mark {
+        (Ending::Stable, count)
+    } else {
+        (Ending::Uncovered, 0)
     }
 }
 
@@ -237,6 +333,16 @@ fn logs<D: BlockDisk, J: Naming, W: Wait>(rt: &W, journal: &Open<D, J>, most: u6
         }
     }
     most
+}
+
+/// Makes a step of the logger. Answers the refusal's number.
+fn log_number<D: BlockDisk, J: Naming, W: Wait>(rt: &W, journal: &Open<D, J>) -> u64 {
+    number_of(journal.log_step(rt))
+}
+
+/// The same of the installer.
+fn install_number<D: BlockDisk, J: Naming, W: Wait>(rt: &W, journal: &Open<D, J>) -> u64 {
+    number_of(journal.install_step(rt))
 }
 
 /// Whether a step moved.

@@ -7,6 +7,7 @@ use journal_disk::BlockDisk;
 use journal_history::Naming;
 use journal_twophase::{Journal, Why};
 use journal_world::{MapRule, Refusal, Step};
+use std::rt::Clock;
 use std::sync::Wait;
 use std::thread;
 use std::thread::Threads;
@@ -25,7 +26,7 @@ impl<'j, 'b, D: BlockDisk, R: MapRule, J: Naming> Drop for Logger<'j, 'b, D, R, 
 impl<'j, 'b, D: BlockDisk, R: MapRule, J: Naming> OneStep for Logger<'j, 'b, D, R, J> {
     type Cause = Cause<'b, J, R>;
 
-    fn step<W: Wait>(&self, rt: &W) -> Result<Step, Refusal<Cause<'b, J, R>>> {
+    fn step<W: Wait + Clock>(&self, rt: &W) -> Result<Step, Refusal<Cause<'b, J, R>>> {
         self.journal.log_gathered(rt)
     }
 
@@ -49,7 +50,7 @@ impl<'j, 'b, D: BlockDisk, R: MapRule, J: Naming> Drop for Installer<'j, 'b, D, 
 impl<'j, 'b, D: BlockDisk, R: MapRule, J: Naming> OneStep for Installer<'j, 'b, D, R, J> {
     type Cause = Cause<'b, J, R>;
 
-    fn step<W: Wait>(&self, rt: &W) -> Result<Step, Refusal<Cause<'b, J, R>>> {
+    fn step<W: Wait + Clock>(&self, rt: &W) -> Result<Step, Refusal<Cause<'b, J, R>>> {
         self.journal.install_where_crowded(rt)
     }
 
@@ -70,7 +71,7 @@ pub fn start<
     R: MapRule + Send + Sync,
     J: Naming + Send + Sync,
     G: Gate + Sync,
-    H: Threads + Wait + Sync,
+    H: Threads + Wait + Clock + Sync,
 >(rt: &H, journal: &Journal<'b, D, R, J>, gate: &G) -> Result<(), Why<'b, J, R>>
     ensures { IsOkUnless result Refusal.NoMemory }
 {

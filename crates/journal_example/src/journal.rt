@@ -9,6 +9,7 @@ use journal_twophase::{Journal, Why};
 use journal_world::AnyMap;
 use std::alloc::Global;
 use std::marker::Brand;
+use std::rt::Clock;
 use std::sync::Wait;
 use std::thread::{Threads, join};
 
@@ -20,7 +21,7 @@ type Counters<'b, J> = Journal<'b, FileDisk, AnyMap, J>;
 
 /// Opens a journal over the disk, adds 1 so often in each of four threads, and gives the disk up. What the counter was
 /// before, and what it is then, all of it stable.
-pub fn count_in<R: Threads + Wait + Sync>(
+pub fn count_in<R: Threads + Wait + Clock + Sync>(
     rt: &R,
     alloc: Global,
     disk: FileDisk,
@@ -33,7 +34,7 @@ pub fn count_in<R: Threads + Wait + Sync>(
     }
 }
 
-fn count_in_book<J: Naming + Send + Sync, R: Threads + Wait + Sync>(
+fn count_in_book<J: Naming + Send + Sync, R: Threads + Wait + Clock + Sync>(
     rt: &R,
     alloc: Global,
     book: &Book<AnyMap>,
@@ -53,7 +54,7 @@ fn count_in_book<J: Naming + Send + Sync, R: Threads + Wait + Sync>(
 }
 
 // Counts beside the logger and the installer, which make commits stable. They end once the journal is stopped.
-fn count_on<J: Naming + Send + Sync, R: Threads + Wait + Sync>(
+fn count_on<J: Naming + Send + Sync, R: Threads + Wait + Clock + Sync>(
     rt: &R,
     alloc: Global,
     journal: &Counters<J>,

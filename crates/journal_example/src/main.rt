@@ -16,6 +16,7 @@ use std::env::Env;
 use std::fs::{File, Files};
 use std::io::Write;
 use std::process::ExitCode;
+use std::rt::Clock;
 use std::sync::Wait;
 use std::thread::Threads;
 use std::{env, io};
@@ -24,7 +25,7 @@ use std::{env, io};
 const TIMES: u32 = 25;
 
 /// Adds to the counter in the file at the path, and then opens it again and looks.
-fn run<R: Files<File = File> + Threads + Wait + Sync, O: Write>(
+fn run<R: Files<File = File> + Threads + Wait + Clock + Sync, O: Write>(
     rt: &R,
     alloc: Global,
     path: &str,
@@ -37,7 +38,7 @@ fn run<R: Files<File = File> + Threads + Wait + Sync, O: Write>(
 }
 
 /// Opens the disk, and adds 1 so often in each of four threads. What the counter was, and what it is.
-fn count<R: Files<File = File> + Threads + Wait + Sync>(
+fn count<R: Files<File = File> + Threads + Wait + Clock + Sync>(
     rt: &R,
     alloc: Global,
     path: &str,
@@ -51,7 +52,7 @@ fn count<R: Files<File = File> + Threads + Wait + Sync>(
 }
 
 /// Does that where the program was given one word, the path.
-fn start<R: Env + AllocGlobal + Files<File = File> + Threads + Wait + Sync, O: Write>(
+fn start<R: Env + AllocGlobal + Files<File = File> + Threads + Wait + Clock + Sync, O: Write>(
     rt: &R,
     output: &mut O,
 ) -> io::Result<()> {

@@ -5,6 +5,7 @@ use journal_disk::FileDisk;
 use journal_filestore::FileStore;
 use journal_history::Naming;
 use journal_inode::Version;
+use std::rt::Clock;
 use std::sync::{Condvar, Mutex, Wait};
 use std::thread::Threads;
 
@@ -45,7 +46,7 @@ impl Daemon {
     }
 
     /// Runs the daemon until the journal is stopped.
-    pub fn run<'b, J: Naming + Send + Sync, V: Version + Send + Sync, R: Threads + Wait + Sync>(
+    pub fn run<'b, J: Naming + Send + Sync, V: Version + Send + Sync, R: Threads + Wait + Clock + Sync>(
         &self,
         rt: &R,
         files: &FileStore<'b, FileDisk, J, V>,

@@ -25,6 +25,7 @@ use journal_core::{
 use journal_disk::{BlockDisk, MemDisk};
 use journal_history::{Naming, Receipt, Session};
 use journal_world::{Addr, MapRule, Refusal, Refused};
+use std::rt::Clock;
 use std::sync::{MutexGuard, Wait};
 
 impl<'b, D: BlockDisk, R: MapRule, J: Naming> SharedCore<'b, D, R, J> {
@@ -37,12 +38,13 @@ impl<'b, D: BlockDisk, R: MapRule, J: Naming> SharedCore<'b, D, R, J> {
         answer
     }
 
-    // Does the next thing of the logger once all have gone on that a mark woke. Else the first of them that commits again
-    // would have a group for itself, and the others would wait for the next.
-    pub(crate) fn log_gathered<W: Wait>(&self, rt: &W) -> Result<LogStep, Why<'b, J, R>>
+    // Does the next thing of the logger once all have gone on that a mark woke, and as many wait again or have had their time
+    // to. Else the first of them that commits again would have a group for itself, and the others would wait for the next.
+    pub(crate) fn log_gathered<W: Wait + Clock>(&self, rt: &W) -> Result<LogStep, Why<'b, J, R>>
         ensures { IfErr result IsLogRefusal }
     {
         self.await_gathered(rt);
+        self.await_company(rt);
         self.log_step(rt)
     }
 
@@ -63,7 +65,8 @@ impl<'b, D: BlockDisk, R: MapRule, J: Naming> SharedCore<'b, D, R, J> {
         }
     }
 
-    // Marks, cuts, or is idle, in a hold of both locks. Those that a mark is to wake are counted in the same hold.
+    // Marks, cuts, or is idle, in a hold of both locks. Those that a mark is to wake are counted in the same hold, and nobody
+    // is awaited behind a cut.
     fn settle<W: Wait>(
         &self,
         rt: &W,
@@ -73,8 +76,10 @@ impl<'b, D: BlockDisk, R: MapRule, J: Naming> SharedCore<'b, D, R, J> {
     {
         let mut shared = self.shared.lock(rt);
         let answer = durable.settle(&mut shared.volatile);
-        if matches!(answer, Ok(LogStep::Marked(_))) {
-            shared.sleepers.wake();
+        match answer {
+            Ok(LogStep::Marked(_)) => shared.sleepers.wake(),
+            Ok(LogStep::Cut) => shared.sleepers.cut(),
+            _ => {}
         }
         answer
     }

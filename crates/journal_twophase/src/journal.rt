@@ -22,6 +22,7 @@ use journal_lockmap::LockMap;
 use journal_world::{Layout, MapRule, Refusal, Refused, Step};
 use std::alloc::Global;
 use std::marker::Model;
+use std::rt::Clock;
 use std::sync::Wait;
 
 /// Of how many blocks that are at home `Journal::open` keeps copies in memory at most.
@@ -196,10 +197,11 @@ impl<'b, D: BlockDisk, R: MapRule, J: Naming> Journal<'b, D, R, J> {
 
     /// Does the next thing of the logger as `log_step` does, but first waits until all threads have gone on that a mark
     /// woke, so that their next commits share a group. They need nothing of the logger to go on, so the wait ends, and a
-    /// stop or a device that failed ends it too. It waits for no commit, since a thread may have none to make.
+    /// stop or a device that failed ends it too. Where some then wait for the next mark, it also waits until as many do as
+    /// the last mark woke, but at most 200 microseconds, since a thread may have nothing to commit.
     ///
     /// It is refused as `log_step` is.
-    pub fn log_gathered<W: Wait>(&self, rt: &W) -> Result<Step, Why<'b, J, R>>
+    pub fn log_gathered<W: Wait + Clock>(&self, rt: &W) -> Result<Step, Why<'b, J, R>>
         ensures { IfErr result IsLogRefusal }
     {
         Ok(log_moved(self.core.log_gathered(rt)?))

@@ -24,7 +24,9 @@ use journal_disk::BlockDisk;
 use journal_history::{Book, Front, Naming, Receipt, Session};
 use journal_world::{Addr, MapRule, Refusal, Refused};
 use std::alloc::Global;
-use std::sync::{Condvar, Mutex, MutexGuard, Wait};
+use std::rt::Clock;
+use std::sync::{Condvar, CondvarTimeouts, Mutex, MutexGuard, Wait};
+use std::time::Duration;
 
 /// Why a journal refuses.
 pub type Why<'b, J, R> = Refusal<Cause<'b, J, R>>;
@@ -58,7 +60,7 @@ pub(crate) struct SharedCore<'b, D: BlockDisk, R: MapRule, J: Naming> {
     pub(crate) marked: Condvar,
     // The logger waits for a commit, or for positions that are free.
     pub(crate) logging: Condvar,
-    // The logger waits until all have gone on that a mark woke.
+    // The logger waits until all have gone on that a mark woke, and until as many sleep again.
     pub(crate) gathered: Condvar,
     // The installer waits for a crowded log.
     pub(crate) installing: Condvar,
@@ -401,6 +403,17 @@ impl<'b, D: BlockDisk, R: MapRule, J: Naming> SharedCore<'b, D, R, J> {
         }
     }
 
+    // Where some wait for the next mark, waits until as many do as the last one woke, but not for long: one of them may have
+    // nothing to commit. Who is woken too early cuts too early, which harms nobody.
+    pub(crate) fn await_company<W: Wait + Clock>(&self, rt: &W) {
+        let shared = self.shared.lock(rt);
+        if shared.sleepers.are_too_few() {
+            let _ended = self
+                .gathered
+                .wait_timeout(rt, shared, Duration::from_micros(COMPANY));
+        }
+    }
+
     // Waits until the log is crowded, or the installer would be refused.
     pub(crate) fn await_install_work<W: Wait>(&self, rt: &W) {
         let mut shared = self.shared.lock(rt);
@@ -438,6 +451,10 @@ impl<'b, D: BlockDisk, R: MapRule, J: Naming> SharedCore<'b, D, R, J> {
         self.installing.notify_all();
     }
 }
+
+// How long the logger waits at most before it cuts a group for fewer than the last one was for, in microseconds: some barriers
+// of a fast device, or what a client at the other end of a connection takes from a reply to its next call.
+const COMPANY: u64 = 200;
 
 // The installer waits until so many positions of the log are used. A tail has at most 255 blocks, so it fits then. So many are
 // those of two groups at least, of which one is logged, so that the installer has something to do.

@@ -5,28 +5,51 @@ ghost use Rattle.std.specs.Prelude.{◌≡◌, ◌+◌, ◌-◌, ◌^◌, ◌<�
 //
 // A thread is counted in before it sleeps, and out once it has the lock again. One that wakes without a mark may be
 // counted out in the place of one that a mark woke, which is then counted out in its place.
+//
+// Those whom a mark woke are likely to commit again at once, so that many are awaited until a group is cut.
 #[derive(Default, Drop)]
 pub(crate) struct Sleepers {
     asleep: u64,
     woken: u64,
+    awaited: u64,
 }
 
 impl Sleepers {
-    // Counts a thread in that is to sleep.
-    pub(crate) fn count_in(&mut self)
+    // Counts a thread in that is to sleep. Says whether as many sleep then as are awaited.
+    pub(crate) fn count_in(&mut self) -> bool
+        ensures enough { IsTrue result ↔ (self.new.asleep ≡ self.old.awaited) }
         ensures asleep { self.old.asleep + 1 < 2 ^ 64 → self.new.asleep ≡ self.old.asleep + 1 }
         ensures woken { self.new.woken ≡ self.old.woken }
+        ensures awaited { self.new.awaited ≡ self.old.awaited }
     {
         self.asleep = self.asleep.saturating_add(1);
+        self.asleep == self.awaited
     }
 
-    // Counts all that sleep as woken, where a mark was made.
+    // Counts all that sleep as woken, where a mark was made, and awaits as many.
     pub(crate) fn wake(&mut self)
         ensures asleep { self.new.asleep ≡ 0 }
+        ensures awaited { self.new.awaited ≡ self.old.asleep }
         ensures woken { self.old.woken + self.old.asleep < 2 ^ 64 → self.new.woken ≡ self.old.woken + self.old.asleep }
     {
         self.woken = self.woken.saturating_add(self.asleep);
+        self.awaited = self.asleep;
         self.asleep = 0;
+    }
+
+    // Awaits nobody, where a group was cut: who sleeps from now on does so for the next.
+    pub(crate) fn cut(&mut self)
+        ensures awaited { self.new.awaited ≡ 0 }
+        ensures others { (self.new.asleep ≡ self.old.asleep) × (self.new.woken ≡ self.old.woken) }
+    {
+        self.awaited = 0;
+    }
+
+    // Whether some sleep, but fewer than are awaited.
+    pub(crate) fn are_too_few(&self) -> bool
+        ensures { IsTrue result ↔ (0 < self.now.asleep × self.now.asleep < self.now.awaited) }
+    {
+        0 < self.asleep && self.asleep < self.awaited
     }
 
     // Counts a thread out that has the lock again. Says whether it was the last that a mark woke.
@@ -35,6 +58,7 @@ impl Sleepers {
         ensures asleep { self.old.woken ≡ 0 → self.new.asleep ≡ self.old.asleep - 1 }
         ensures same { 0 < self.old.woken → self.new.asleep ≡ self.old.asleep }
         ensures last { IsTrue result ↔ (self.old.woken ≡ 1) }
+        ensures awaited { self.new.awaited ≡ self.old.awaited }
     {
         let Some(woken) = self.woken.checked_sub(1) else {
             self.asleep = self.asleep.saturating_sub(1);

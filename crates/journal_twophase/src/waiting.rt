@@ -94,14 +94,17 @@ impl<'b, D: BlockDisk, R: MapRule, J: Naming> SharedCore<'b, D, R, J> {
         unreachable!()
     }
 
-    // Sleeps until a mark is made or all are woken. The last that a mark woke lets the logger go on, which waits for them.
+    // Sleeps until a mark is made or all are woken. The logger waits for those whom a mark woke: the last of them lets it go
+    // on, and so does the last that sleeps again.
     fn sleep<'s, W: Wait>(
         &'s self,
         rt: &W,
         shared: MutexGuard<'s, Shared<'b, R, J>>,
     ) -> MutexGuard<'s, Shared<'b, R, J>> {
         let mut shared = shared;
-        shared.sleepers.count_in();
+        if shared.sleepers.count_in() {
+            self.gathered.notify_all();
+        }
         let mut shared = self.marked.wait(rt, shared);
         if shared.sleepers.count_out() {
             self.gathered.notify_all();

@@ -1,28 +1,33 @@
-// Threads that commit beside a logger and an installer.
+// Threads that commit beside one another, and beside a logger and an installer.
 use super::*;
 use crate::{Gate, INSTALLER, LOGGER, start};
-use journal_twophase::{WaitFault, Waited};
 use std::sync::atomic::{AtomicBool, AtomicU64, Ordering};
 use std::thread::{join, yield_now};
 
 /// What a thread does with the journal.
-trait Work {
+pub(super) trait Work {
     type Answer: Send;
 
-    fn work<J: Naming, H: Abort + Wait>(
+    fn work<D: BlockDisk + Send, J: Naming + Send + Sync, H: Abort + Threads + Wait + Clock + Sync>(
         &self,
         rt: &H,
         alloc: Global,
-        journal: &Open<MemDisk, J>,
+        journal: &Open<D, J>,
         number: u8,
     ) -> Self::Answer;
 }
 
-/// Does the work of two numbers, each in a thread of its own.
-fn in_two<T: Work + Sync, J: Naming + Send + Sync, H: Abort + Threads + Wait + Sync>(
+/// Does the work of two numbers, each in a thread of its own. Almost all threads that share a journal are made here, since what
+/// a thread is made of is dear to prove.
+pub(super) fn in_two<
+    T: Work + Sync,
+    D: BlockDisk + Send,
+    J: Naming + Send + Sync,
+    H: Abort + Threads + Wait + Clock + Sync,
+>(
     rt: &H,
     alloc: Global,
-    journal: &Open<MemDisk, J>,
+    journal: &Open<D, J>,
     work: &T,
     (first, second): (u8, u8),
 ) -> (T::Answer, T::Answer) {
@@ -34,13 +39,12 @@ fn in_two<T: Work + Sync, J: Naming + Send + Sync, H: Abort + Threads + Wait + S
 }
 
 /// Does that of four.
-fn in_four<T: Work + Sync, J: Naming + Send + Sync, H: Abort + Threads + Wait + Sync>(
-    rt: &H,
-    alloc: Global,
-    journal: &Open<MemDisk, J>,
-    work: &T,
-    numbers: [u8; 4],
-) -> [T::Answer; 4] {
+fn in_four<
+    T: Work + Sync,
+    D: BlockDisk + Send,
+    J: Naming + Send + Sync,
+    H: Abort + Threads + Wait + Clock + Sync,
+>(rt: &H, alloc: Global, journal: &Open<D, J>, work: &T, numbers: [u8; 4]) -> [T::Answer; 4] {
     let [first, second, third, fourth] = numbers;
     let ((one, two), (three, four)) = join(
         rt,
@@ -48,6 +52,53 @@ fn in_four<T: Work + Sync, J: Naming + Send + Sync, H: Abort + Threads + Wait + 
         || in_two(rt, alloc, journal, work, (third, fourth)),
     );
     [one, two, three, four]
+}
+
+/// Does the work of one number beside the daemon, which passes the gate, and is stopped then. Says whether the daemon ended well.
+pub(super) fn beside<
+    T: Work + Sync,
+    G: Gate + Sync,
+    J: Naming + Send + Sync,
+    H: Abort + Threads + Wait + Clock + Sync,
+>(
+    rt: &H,
+    alloc: Global,
+    journal: &Open<MemDisk, J>,
+    gate: &G,
+    work: &T,
+    number: u8,
+) -> (bool, T::Answer) {
+    let works = || {
+        let answer = work.work(rt, alloc, journal, number);
+        journal.stop(rt);
+        answer
+    };
+    join(rt, || start(rt, journal, gate).is_ok(), works)
+}
+
+/// The same of four. A flag says when their work is done, before the daemon is stopped.
+pub(super) fn four_beside<
+    T: Work + Sync,
+    G: Gate + Sync,
+    D: BlockDisk + Send,
+    J: Naming + Send + Sync,
+    H: Abort + Threads + Wait + Clock + Sync,
+>(
+    rt: &H,
+    alloc: Global,
+    journal: &Open<D, J>,
+    (gate, done): (&G, &AtomicBool),
+    work: &T,
+    numbers: [u8; 4],
+) -> [T::Answer; 4] {
+    let four = || {
+        let answers = in_four(rt, alloc, journal, work, numbers);
+        done.store(true, Ordering::SeqCst);
+        journal.stop(rt);
+        answers
+    };
+    let (_ended, answers) = join(rt, || start(rt, journal, gate).is_ok(), four);
+    answers
 }
 
 /// A gate that holds each thread until the journal has four commits or the gate is opened, for a million turns at
@@ -69,8 +120,9 @@ impl<'j, 'b, J: Naming> Gate for HeldGate<'j, 'b, J> {
     }
 }
 
-/// Does it beside the daemon, which may be held at its gate first. The gate is opened and the daemon stopped then.
-fn beside_daemon<T: Work + Sync, J: Naming + Send + Sync, H: Abort + Threads + Wait + Sync>(
+/// Does the work of four numbers beside the daemon, which may be held at its gate first. The gate is opened and the daemon
+/// stopped then.
+fn beside_daemon<T: Work + Sync, J: Naming + Send + Sync, H: Abort + Threads + Wait + Clock + Sync>(
     rt: &H,
     alloc: Global,
     journal: &Open<MemDisk, J>,
@@ -109,46 +161,36 @@ fn increment(bytes: &mut [u8]) {
 }
 
 /// Adds 1 to the counter, in a transaction. Says whether it could.
-fn add<J: Naming, W: Wait>(rt: &W, txn: &mut OpenTxn<MemDisk, J>) -> bool {
+fn add<D: BlockDisk, J: Naming, W: Wait>(rt: &W, txn: &mut OpenTxn<D, J>) -> bool {
     match txn.read(rt, COUNTER) {
         Ok(value) => {
             let mut bytes = value.into_bytes();
             increment(&mut bytes);
-            txn.overwrite(rt, COUNTER, &bytes).is_ok()
+            overwrites(rt, txn, COUNTER, &bytes) == 0
         }
         Err(_) => false,
     }
 }
 
-/// What was refused has no count.
-fn no_count<C: Drop>(_why: Refusal<C>) -> u64 {
-    0
-}
-
 /// The count of the receipt of a commit that waited and is covered by its mark, or 0.
-fn count_of_stable<'b, J: Naming>(answer: Waited<'b, J, AnyMap>) -> u64 {
-    match answer {
-        Ok((receipt, note)) if receipt.count() <= note.count() => receipt.count(),
-        Ok(_) => 0,
-        Err(WaitFault::Unsure(_receipt, why)) => no_count(why),
-        Err(WaitFault::Refused(why)) => no_count(why),
-    }
+fn count_of_stable((ending, count): Ended) -> u64 {
+    if ending == Ending::Stable { count } else { 0 }
 }
 
 /// Commits such a transaction, and may wait until it is stable. Answers the receipt's count, or 0.
-fn commit_one<'b, J: Naming, W: Wait>(
+fn commit_one<'b, D: BlockDisk, J: Naming, W: Wait>(
     rt: &W,
     alloc: Global,
-    journal: &Open<'b, MemDisk, J>,
+    journal: &Open<'b, D, J>,
     session: &mut Client<'b, J>,
     has_to_wait: bool,
 ) -> u64 {
     let mut txn = journal.begin(alloc, session);
     let added = add(rt, &mut txn);
     let count = if has_to_wait {
-        count_of_stable(txn.commit_wait(rt, session))
+        count_of_stable(commit_ending(rt, txn, session))
     } else {
-        count_of(txn.commit(rt, session))
+        commit_count(rt, txn, session)
     };
     if added { count } else { 0 }
 }
@@ -163,22 +205,35 @@ struct Done {
 }
 
 /// Whether the counter is 2000, of which the low byte is the first, and zeros are behind it.
-fn is_two_thousand<'b, J: Naming, W: Wait>(
+fn is_two_thousand<'b, D: BlockDisk, J: Naming, W: Wait>(
     rt: &W,
     alloc: Global,
-    journal: &Open<'b, MemDisk, J>,
+    journal: &Open<'b, D, J>,
     session: &mut Client<'b, J>,
 ) -> bool {
     let mut txn = journal.begin(alloc, session);
     let found = txn.read(rt, COUNTER);
     txn.abort(rt);
-    let mut wanted = [0; 128];
-    wanted[0] = 0xd0;
-    wanted[1] = 0x07;
     match found {
-        Ok(value) => value.bytes() == wanted.as_slice(),
+        Ok(value) => are_two_thousand(value.bytes()),
         Err(_) => false,
     }
+}
+
+fn are_two_thousand(bytes: &[u8]) -> bool {
+    match bytes {
+        [0xd0, 0x07, rest @ ..] => rest.len() == 126 && are_zeros(rest),
+        _ => false,
+    }
+}
+
+fn are_zeros(bytes: &[u8]) -> bool {
+    for byte in bytes {
+        if *byte != 0 {
+            return false;
+        }
+    }
+    true
 }
 
 /// Such commits, 500 of them.
@@ -190,11 +245,11 @@ struct CommitMany {
 impl Work for CommitMany {
     type Answer = Done;
 
-    fn work<J: Naming, H: Abort + Wait>(
+    fn work<D: BlockDisk + Send, J: Naming + Send + Sync, H: Abort + Threads + Wait + Clock + Sync>(
         &self,
         rt: &H,
         alloc: Global,
-        journal: &Open<MemDisk, J>,
+        journal: &Open<D, J>,
         _number: u8,
     ) -> Done {
         let mut session = client(rt, journal);
@@ -212,24 +267,40 @@ impl Work for CommitMany {
 }
 
 /// How many of the threads' receipts have this count.
-fn times(done: &[Done], count: u64) -> usize {
-    done.iter()
-        .filter(|thread| thread.counts.contains(&count))
-        .count()
+fn times(done: &[Done], count: u64) -> u64 {
+    let mut times = 0u64;
+    for thread in done {
+        if thread.counts.contains(&count) {
+            times = times.saturating_add(1);
+        }
+    }
+    times
 }
 
-/// Whether the counts are 1 to 2000, each once, and how many commits the sessions made.
-fn counted(done: &[Done]) -> (bool, u64) {
-    let each_once = (1..=2000u64).all(|count| times(done, count) == 1);
-    let made = done
-        .iter()
-        .fold(0u64, |made, thread| made.saturating_add(thread.made));
-    (each_once, made)
+/// Whether the threads' counts are 1 to 2000, each once.
+fn are_each_once(done: &[Done]) -> bool {
+    for count in 1..=2000 {
+        if times(done, count) != 1 {
+            return false;
+        }
+    }
+    true
+}
+
+/// How many commits the threads' sessions made, and whether one of them found the counter at 2000.
+fn made_and_found(done: &[Done]) -> (u64, bool) {
+    let mut made = 0u64;
+    let mut is_found = false;
+    for thread in done {
+        made = made.saturating_add(thread.made);
+        is_found |= thread.is_two_thousand;
+    }
+    (made, is_found)
 }
 
 /// Four threads commit 500 times each, and each commit may wait. Their counts are 1 to 2000, each once, and who is the
 /// last finds the counter at 2000.
-pub(super) fn count_once<J: Naming + Send + Sync, H: Abort + Threads + Wait + Sync>(
+pub(super) fn count_once<J: Naming + Send + Sync, H: Abort + Threads + Wait + Clock + Sync>(
     rt: &H,
     alloc: Global,
     journal: &Open<MemDisk, J>,
@@ -237,11 +308,13 @@ pub(super) fn count_once<J: Naming + Send + Sync, H: Abort + Threads + Wait + Sy
 ) {
     let commits = CommitMany { have_to_wait };
     let done = beside_daemon(rt, alloc, journal, false, &commits, [1, 2, 3, 4]);
-    let (each_once, made) = counted(&done);
-    let is_found = done.iter().any(|thread| thread.is_two_thousand);
-    assert_eq!(rt;
-        (each_once, made, journal.stat(rt).commits, is_found),
-        (true, 2000, 2000, true)
+    let each_once = are_each_once(&done);
+    let (made, is_found) = made_and_found(&done);
+    let commits = journal.stat(rt).commits;
+    wants(
+        rt,
+        &(each_once, made, commits, is_found),
+        &(true, 2000, 2000, true),
     );
 }
 
@@ -255,71 +328,49 @@ fn four_threads_that_wait_count_to_two_thousand(rt: HostRuntime) {
     try_out(&rt, rt.alloc(), Trial::CountOnce(true));
 }
 
-/// How a commit that waited ended.
-#[derive(Clone, Copy, Debug, PartialEq, Eq, Drop)]
-pub(super) enum Ending {
-    Stable,
-    // Of a mark that does not cover it.
-    Uncovered,
-    // Known to be in the history, the wait refused by J6.
-    Unsure,
-    // Known not to be in the history, by J6.
-    Lost,
-    Refused,
-}
-
 /// Commits an inode of its own, and waits until it is stable.
-pub(super) fn waits<J: Naming, H: Abort + Wait>(
+pub(super) fn waits<D: BlockDisk, J: Naming, H: Abort + Wait>(
     rt: &H,
     alloc: Global,
-    journal: &Open<MemDisk, J>,
+    journal: &Open<D, J>,
     number: u8,
 ) -> Ending {
     let mut session = client(rt, journal);
     let mut txn = journal.begin(alloc, &mut session);
-    let wrote = number_of(txn.overwrite(rt, inode(number), &[number; 128]));
-    let ending = end_of_wait(txn.commit_wait(rt, &mut session));
-    if wrote == 0 { ending } else { Ending::Refused }
+    let wrote = overwrites(rt, &mut txn, inode(number), &[number; 128]);
+    let ended = commit_ending(rt, txn, &mut session);
+    by_fault(wrote, ended)
+}
+
+/// This ending, where all was written, and refused by J6 alone.
+fn by_fault(wrote: u64, (ending, number): Ended) -> Ending {
+    match ending {
+        Ending::Unsure | Ending::Lost if number != 6 => Ending::Refused,
+        _ if wrote != 0 => Ending::Refused,
+        _ => ending,
+    }
 }
 
 /// That, in a thread.
 #[derive(Drop)]
-struct WaitOnce;
+pub(super) struct WaitOnce;
 
 impl Work for WaitOnce {
     type Answer = Ending;
 
-    fn work<J: Naming, H: Abort + Wait>(
+    fn work<D: BlockDisk + Send, J: Naming + Send + Sync, H: Abort + Threads + Wait + Clock + Sync>(
         &self,
         rt: &H,
         alloc: Global,
-        journal: &Open<MemDisk, J>,
+        journal: &Open<D, J>,
         number: u8,
     ) -> Ending {
         waits(rt, alloc, journal, number)
     }
 }
 
-/// How it ended.
-fn end_of_wait<'b, J: Naming>(answer: Waited<'b, J, AnyMap>) -> Ending {
-    match answer {
-        Ok((receipt, note)) if receipt.count() <= note.count() => Ending::Stable,
-        Ok(_) => Ending::Uncovered,
-        Err(WaitFault::Unsure(_receipt, why)) => by_fault(why, Ending::Unsure),
-        Err(WaitFault::Refused(why)) => by_fault(why, Ending::Lost),
-    }
-}
-
-/// This ending where the refusal is J6.
-fn by_fault<C: Drop>(why: Refusal<C>, ending: Ending) -> Ending {
-    match why {
-        Refusal::DeviceFailed(_cause) => ending,
-        _other => Ending::Refused,
-    }
-}
-
 /// Commits that waited are in the least that a crash may leave, and one group carried them all.
-pub(super) fn become_stable<J: Naming + Send + Sync, H: Abort + Threads + Wait + Sync>(
+pub(super) fn become_stable<J: Naming + Send + Sync, H: Abort + Threads + Wait + Clock + Sync>(
     rt: &H,
     alloc: Global,
     journal: &Open<MemDisk, J>,
@@ -329,9 +380,10 @@ pub(super) fn become_stable<J: Naming + Send + Sync, H: Abort + Threads + Wait +
     let mut session = client(rt, journal);
     // No write since the last barrier stands.
     let bytes = image_bytes(rt, alloc, journal, &mut session, &[]);
-    assert_eq!(rt;
-        (endings, groups, bytes),
-        ([Ending::Stable; 4], 1, [1, 2, 3, 4])
+    wants(
+        rt,
+        &(endings, groups, bytes),
+        &([Ending::Stable; 4], 1, [1, 2, 3, 4]),
     );
 }
 
@@ -341,13 +393,14 @@ fn four_commits_wait_for_one_group(rt: HostRuntime) {
 }
 
 /// Four commits of one object are in one group: each gives up its slots before it waits.
-pub(super) fn wait_together<J: Naming + Send + Sync, H: Abort + Threads + Wait + Sync>(
+pub(super) fn wait_together<J: Naming + Send + Sync, H: Abort + Threads + Wait + Clock + Sync>(
     rt: &H,
     alloc: Global,
     journal: &Open<MemDisk, J>,
 ) {
     let endings = beside_daemon(rt, alloc, journal, true, &WaitOnce, [1; 4]);
-    assert_eq!(rt; (endings, journal.stat(rt).end), ([Ending::Stable; 4], 1));
+    let groups = journal.stat(rt).end;
+    wants(rt, &(endings, groups), &([Ending::Stable; 4], 1));
 }
 
 #[test]
@@ -366,7 +419,7 @@ fn ending_at(k: u64) -> Ending {
 }
 
 /// The device fails at its k-th call. Each commit that waits has ended, and what was told to be stable is.
-pub(super) fn end_by_the_fault<J: Naming + Send + Sync, H: Abort + Threads + Wait + Sync>(
+pub(super) fn end_by_the_fault<J: Naming + Send + Sync, H: Abort + Threads + Wait + Clock + Sync>(
     rt: &H,
     alloc: Global,
     journal: &Open<MemDisk, J>,
@@ -374,7 +427,7 @@ pub(super) fn end_by_the_fault<J: Naming + Send + Sync, H: Abort + Threads + Wai
 ) {
     journal.fail_in(rt, k);
     let endings = beside_daemon(rt, alloc, journal, true, &WaitOnce, [1, 2, 3, 4]);
-    assert_eq!(rt; endings, [ending_at(k); 4]);
+    wants(rt, &endings, &[ending_at(k); 4]);
 }
 
 #[test]
@@ -391,11 +444,11 @@ struct WaitOn;
 impl Work for WaitOn {
     type Answer = Ending;
 
-    fn work<J: Naming, H: Abort + Wait>(
+    fn work<D: BlockDisk + Send, J: Naming + Send + Sync, H: Abort + Threads + Wait + Clock + Sync>(
         &self,
         rt: &H,
         alloc: Global,
-        journal: &Open<MemDisk, J>,
+        journal: &Open<D, J>,
         number: u8,
     ) -> Ending {
         for _ in 0..10_000 {
@@ -414,16 +467,20 @@ fn is_ended(ending: Ending) -> bool {
 }
 
 /// The device fails at its k-th call, wherever that comes. Each thread has ended, by J6.
-pub(super) fn all_end_by_the_fault<J: Naming + Send + Sync, H: Abort + Threads + Wait + Sync>(
-    rt: &H,
-    alloc: Global,
-    journal: &Open<MemDisk, J>,
-    k: u64,
-) {
+pub(super) fn all_end_by_the_fault<
+    J: Naming + Send + Sync,
+    H: Abort + Threads + Wait + Clock + Sync,
+>(rt: &H, alloc: Global, journal: &Open<MemDisk, J>, k: u64) {
     journal.fail_in(rt, k);
     let endings = beside_daemon(rt, alloc, journal, false, &WaitOn, [1, 2, 3, 4]);
-    let ended = endings.map(is_ended);
-    assert_eq!(rt; ended, [true; 4], "{}: {endings:?}", k);
+    let [one, two, three, four] = endings;
+    let ended = [
+        is_ended(one),
+        is_ended(two),
+        is_ended(three),
+        is_ended(four),
+    ];
+    wants_at(rt, k, &(ended, endings), &([true; 4], endings));
 }
 
 #[test]
@@ -467,35 +524,39 @@ impl Gate for CountingGate {
     }
 }
 
-/// Six hundred commits wait, one after another, and the daemon is stopped. Answers whether all became stable.
-fn waits_often<J: Naming, H: Abort + Wait>(
-    rt: &H,
-    alloc: Global,
-    journal: &Open<MemDisk, J>,
-) -> bool {
-    let mut stable = true;
-    for _ in 0..600 {
-        stable &= waits(rt, alloc, journal, 1) == Ending::Stable;
+/// Six hundred commits wait, one after another. Answers whether all became stable.
+#[derive(Drop)]
+struct WaitOften;
+
+impl Work for WaitOften {
+    type Answer = bool;
+
+    fn work<D: BlockDisk + Send, J: Naming + Send + Sync, H: Abort + Threads + Wait + Clock + Sync>(
+        &self,
+        rt: &H,
+        alloc: Global,
+        journal: &Open<D, J>,
+        number: u8,
+    ) -> bool {
+        let mut stable = true;
+        for _ in 0..600 {
+            stable &= waits(rt, alloc, journal, number) == Ending::Stable;
+        }
+        stable
     }
-    journal.stop(rt);
-    stable
 }
 
 /// Each is a group of one block, and the log has 511 positions: the installer has made room.
-pub(super) fn go_round_the_log<J: Naming + Send + Sync, H: Abort + Threads + Wait + Sync>(
+pub(super) fn go_round_the_log<J: Naming + Send + Sync, H: Abort + Threads + Wait + Clock + Sync>(
     rt: &H,
     alloc: Global,
     journal: &Open<MemDisk, J>,
 ) {
     let gate = CountingGate::default();
-    let ended = join(
-        rt,
-        || start(rt, journal, &gate).is_ok(),
-        || waits_often(rt, alloc, journal),
-    );
+    let ended = beside(rt, alloc, journal, &gate, &WaitOften, 1);
     let stat = journal.stat(rt);
-    assert_eq!(rt; (ended, stat.end), ((true, true), 600));
-    assert!(rt; stat.start > 0 && gate.has_counted());
+    let has_room = stat.start > 0 && gate.has_counted();
+    wants(rt, &(ended, stat.end, has_room), &((true, true), 600, true));
 }
 
 #[test]

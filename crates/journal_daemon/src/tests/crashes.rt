@@ -2,14 +2,13 @@
 ghost use Rattle.std.specs.Prelude.{◌≡◌};
 ghost use Rattle.journal_disk.specs.Disks.{IsSettled};
 
+use super::beside_daemon::{Work, four_beside};
 use super::*;
-use crate::{OpenGate, start};
+use crate::OpenGate;
 use journal_block::Block;
 use journal_disk::DiskFault;
-use journal_twophase::{WaitFault, Waited};
 use journal_world::{MapRule, ObjectReader};
 use std::sync::atomic::{AtomicBool, AtomicU64, Ordering};
-use std::thread::join;
 
 /// The object of each thread, whose bytes all count how often it has added. Two of them lie in one block.
 const OBJECTS: [Addr; 4] = [
@@ -244,26 +243,31 @@ impl<'w> BlockDisk for WatchedDisk<'w> {
 
 type Watched<'w, 'b, J> = Open<'b, WatchedDisk<'w>, J>;
 
-/// Adds 1 to each byte of an object, in a transaction.
-fn add<'b, D: BlockDisk, J: Naming, W: Wait>(
-    rt: &W,
-    txn: &mut OpenTxn<'_, 'b, D, J>,
-    object: Addr,
-) -> Result<(), Reason<'b, J>> {
-    let mut bytes = txn.read(rt, object)?.into_bytes();
+/// Adds 1 to each of the bytes.
+fn add_to_each(bytes: &mut [u8]) {
     for byte in bytes.iter_mut() {
         *byte = byte.wrapping_add(1);
     }
-    txn.overwrite(rt, object, &bytes)
+}
+
+/// Adds 1 to each byte of an object, in a transaction. Answers the refusal's number.
+fn add<D: BlockDisk, J: Naming, W: Wait>(rt: &W, txn: &mut OpenTxn<D, J>, object: Addr) -> u64 {
+    match txn.read(rt, object) {
+        Ok(value) => {
+            let mut bytes = value.into_bytes();
+            add_to_each(&mut bytes);
+            overwrites(rt, txn, object, &bytes)
+        }
+        Err(why) => number_in(&why),
+    }
 }
 
 /// The number of the refusal of a commit that waits. A mark that does not cover it is none.
-fn refusal_of<'b, J: Naming>(answer: Waited<'b, J, AnyMap>) -> u64 {
-    match answer {
-        Ok((receipt, note)) if receipt.count() <= note.count() => 0,
-        Ok(_uncovered) => 14,
-        Err(WaitFault::Unsure(_receipt, why)) => number_of::<(), _>(Err(why)),
-        Err(WaitFault::Refused(why)) => number_of::<(), _>(Err(why)),
+fn refusal_in((ending, number): Ended) -> u64 {
+    match ending {
+        Ending::Stable => 0,
+        Ending::Uncovered => 14,
+        _ => number,
     }
 }
 
@@ -277,12 +281,12 @@ fn adds_once<'b, D: BlockDisk, J: Naming, W: Wait>(
     turn: u64,
 ) -> u64 {
     let mut txn = journal.begin(alloc, session);
-    let added = number_of(add(rt, &mut txn, object));
+    let added = add(rt, &mut txn, object);
     account.begun.store(turn, Ordering::SeqCst);
     if turn % 3 == 0 {
-        return added.max(number_of(txn.commit(rt, session)));
+        return added.max(commit_number(rt, txn, session));
     }
-    let refused = added.max(refusal_of(txn.commit_wait(rt, session)));
+    let refused = added.max(refusal_in(commit_ending(rt, txn, session)));
     if refused == 0 {
         account.told.store(turn, Ordering::SeqCst);
     }
@@ -306,36 +310,29 @@ fn adds<D: BlockDisk, J: Naming, H: Abort + Wait>(
     (0, session.made())
 }
 
-/// Two threads add.
-fn two_add<'w, J: Naming + Send + Sync, H: Abort + Threads + Wait + Sync>(
-    rt: &H,
-    alloc: Global,
-    journal: &Watched<'w, '_, J>,
-    (one, other): ((Addr, &Account), (Addr, &Account)),
-) -> ((u64, u64), (u64, u64)) {
-    join(
-        rt,
-        || adds(rt, alloc, journal, one),
-        || adds(rt, alloc, journal, other),
-    )
+/// Adds, each thread to the object of its number.
+#[derive(Drop)]
+struct AddOften<'w> {
+    accounts: &'w [Account; 4],
 }
 
-/// Four threads add, and the daemon is stopped then.
-fn four_add<'w, J: Naming + Send + Sync, H: Abort + Threads + Wait + Sync>(
-    rt: &H,
-    alloc: Global,
-    journal: &Watched<'w, '_, J>,
-    watch: &Watch,
-) -> [(u64, u64); 4] {
-    let [one, two, three, four] = OBJECTS;
-    let [first, second, third, fourth] = &watch.accounts;
-    let ((one, two), (three, four)) = join(
-        rt,
-        || two_add(rt, alloc, journal, ((one, first), (two, second))),
-        || two_add(rt, alloc, journal, ((three, third), (four, fourth))),
-    );
-    journal.stop(rt);
-    [one, two, three, four]
+impl<'w> Work for AddOften<'w> {
+    type Answer = (u64, u64);
+
+    fn work<D: BlockDisk + Send, J: Naming + Send + Sync, H: Abort + Threads + Wait + Clock + Sync>(
+        &self,
+        rt: &H,
+        alloc: Global,
+        journal: &Open<D, J>,
+        number: u8,
+    ) -> (u64, u64) {
+        let accounts = self.accounts;
+        let place = usize::from(number);
+        match (OBJECTS.get(place), accounts.get(place)) {
+            (Some(object), Some(account)) => adds(rt, alloc, journal, (*object, account)),
+            _ => (u64::MAX, 0),
+        }
+    }
 }
 
 /// Makes so many commits, each a group of one block of the log, to the last inodes of sixteen blocks. Answers how many
@@ -353,7 +350,7 @@ fn fills_log<D: BlockDisk, J: Naming, H: Abort + Wait>(
             off: 31 * 1024,
         };
         let (refused, _) = put(rt, alloc, journal, &mut session, addr, &[1; 128]);
-        assert_eq!(rt; (refused, logs(rt, journal, 100)), (0, 6));
+        wants(rt, &(refused, logs(rt, journal, 100)), &(0, 6));
     }
     session.made()
 }
@@ -367,7 +364,7 @@ struct Case {
 
 /// How four threads ended that added beside the daemon.
 #[derive(Clone, Copy, Drop)]
-struct Ended {
+struct Outcome {
     /// The number of each one's refusal.
     refused: [u64; 4],
     /// Whether the journal's commits are those that the sessions made.
@@ -377,39 +374,47 @@ struct Ended {
 }
 
 /// Four threads add beside the daemon, once so many positions of the log are taken, and the watch is on.
-fn run_watched<'w, J: Naming + Send + Sync, H: Abort + Threads + Wait + Sync>(
+fn run_watched<'w, J: Naming + Send + Sync, H: Abort + Threads + Wait + Clock + Sync>(
     rt: &H,
     alloc: Global,
     journal: &Watched<'w, '_, J>,
     watch: &Watch,
     filled: u64,
-) -> Ended {
+) -> Outcome {
     let first = fills_log(rt, alloc, journal, filled);
     watch.is_on.store(true, Ordering::SeqCst);
-    let (_ended, done) = join(
-        rt,
-        || start(rt, journal, &OpenGate).is_ok(),
-        || four_add(rt, alloc, journal, watch),
-    );
+    let add = AddOften {
+        accounts: &watch.accounts,
+    };
+    let done = AtomicBool::new(false);
+    let ended = four_beside(rt, alloc, journal, (&OpenGate, &done), &add, [0, 1, 2, 3]);
     let stat = journal.stat(rt);
-    let made = done
-        .iter()
-        .fold(first, |made, (_, more)| made.saturating_add(*more));
-    Ended {
-        refused: done.map(|(refused, _)| refused),
+    let (refused, made) = in_all(ended, first);
+    Outcome {
+        refused,
         are_counted: made == stat.commits,
         start: stat.start,
     }
 }
 
+/// The numbers of the threads' refusals, and how many commits they made behind the first ones.
+fn in_all(done: [(u64, u64); 4], first: u64) -> ([u64; 4], u64) {
+    let [(one, more), (two, second), (three, third), (four, fourth)] = done;
+    let front = first.saturating_add(more).saturating_add(second);
+    (
+        [one, two, three, four],
+        front.saturating_add(third).saturating_add(fourth),
+    )
+}
+
 /// The same over a new disk, at whose end the watch looks at it once more.
-fn watched_in<J: Naming + Send + Sync, H: Abort + Threads + Wait + Sync>(
+fn watched_in<J: Naming + Send + Sync, H: Abort + Threads + Wait + Clock + Sync>(
     rt: &H,
     alloc: Global,
     book: &Book<AnyMap>,
     watch: &Watch,
     case: Case,
-) -> Ended
+) -> Outcome
     requires book { book.now ≡ J.book }
     requires blocks { J.blocks ≡ 532 }
 {
@@ -422,12 +427,12 @@ fn watched_in<J: Naming + Send + Sync, H: Abort + Threads + Wait + Sync>(
     ended
 }
 
-fn watched<H: Abort + Threads + Wait + Sync>(
+fn watched<H: Abort + Threads + Wait + Clock + Sync>(
     rt: &H,
     alloc: Global,
     watch: &Watch,
     case: Case,
-) -> Ended {
+) -> Outcome {
     let book: Book<AnyMap> = Book::open::<()>().ok().expect(rt, "a book");
     watched_in::<Brand, _>(rt, alloc, &book, watch, case)
 }
@@ -444,11 +449,13 @@ fn each_call_leaves_what_each_thread_was_told(rt: HostRuntime) {
     };
     let ended = watched(&rt, rt.alloc(), &watch, case);
     let wrong = watch.wrong.load(Ordering::SeqCst);
-    assert_eq!(&rt;
-        (ended.refused, ended.are_counted, wrong),
-        ([0; 4], true, 0)
+    let refused = ended.refused;
+    let has_looked = ended.start > 0 && watch.images.load(Ordering::SeqCst) > 100;
+    wants(
+        &rt,
+        &(refused, ended.are_counted, wrong, has_looked),
+        &([0; 4], true, 0, true),
     );
-    assert!(&rt; ended.start > 0 && watch.images.load(Ordering::SeqCst) > 100);
 }
 
 /// The device fails at its k-th call while four threads commit. Each ends by J6, and each image has what was told to be
@@ -464,11 +471,11 @@ fn a_fault_takes_nothing_back(rt: HostRuntime) {
         let ended = watched(&rt, rt.alloc(), &watch, case);
         let wrong = watch.wrong.load(Ordering::SeqCst);
         let refused = ended.refused;
-        assert_eq!(&rt;
-            (refused, ended.are_counted, wrong),
-            ([6; 4], true, 0),
-            "{}",
-            k
+        wants_at(
+            &rt,
+            k,
+            &(refused, ended.are_counted, wrong),
+            &([6; 4], true, 0),
         );
     }
 }

@@ -21,12 +21,22 @@ fn is_fenced<'b, J: Naming, W: Wait>(
     flags: &Flags,
 ) -> ((u64, bool), u64, u64) {
     let mut txn = journal.begin(alloc, session);
-    let wrote = number_of(txn.overwrite(rt, INODE, &[1; 128]));
+    let wrote = overwrites(rt, &mut txn, INODE, &[1; 128]);
     flags.begun.store(true, Ordering::SeqCst);
     let told = comes(&flags.fenced);
-    let committed = number_of(txn.commit(rt, session));
+    let committed = commit_number(rt, txn, session);
     let (read, _, _) = look_at(rt, alloc, journal, session, BIT);
     ((wrote, told), committed, read)
+}
+
+/// Fences the session of this number. Answers the refusal's number.
+fn fence_number<'b, J: Naming, W: Wait>(
+    rt: &W,
+    journal: &Open<'b, MemDisk, J>,
+    session: &mut Client<'b, J>,
+    number: u64,
+) -> u64 {
+    number_of(journal.fence(rt, session, number))
 }
 
 /// Fences the number twice, of which the second adds nothing, and commits where the other transaction had overwritten.
@@ -39,15 +49,15 @@ fn fences<'b, J: Naming, H: Abort + Wait>(
 ) -> ((bool, u64, u64), (u64, u64), u64) {
     let begun = comes(&flags.begun);
     let mut session = client(rt, journal);
-    let first = number_of(journal.fence(rt, &mut session, number));
-    let again = number_of(journal.fence(rt, &mut session, number));
+    let first = fence_number(rt, journal, &mut session, number);
+    let again = fence_number(rt, journal, &mut session, number);
     flags.fenced.store(true, Ordering::SeqCst);
     let put = put(rt, alloc, journal, &mut session, INODE, &[2; 128]);
     ((begun, first, again), put, session.seen())
 }
 
 /// An open transaction meets the fence of its session at its commit, and gives its slot up to one that is committed.
-pub(super) fn end_a_session<J: Naming + Send + Sync, H: Abort + Threads + Wait + Sync>(
+pub(super) fn end_a_session<J: Naming + Send + Sync, H: Abort + Threads + Wait + Clock + Sync>(
     rt: &H,
     alloc: Global,
     journal: &Open<MemDisk, J>,
@@ -60,9 +70,12 @@ pub(super) fn end_a_session<J: Naming + Send + Sync, H: Abort + Threads + Wait +
         || is_fenced(rt, alloc, journal, &mut ours, &flags),
         || fences(rt, alloc, journal, number, &flags),
     );
-    assert_eq!(rt; ended, (((0, true), 14, 0), ((true, 0, 0), (0, 1), 3)));
-    assert_eq!(rt; first_byte(rt, alloc, journal, &mut ours, 0), 2);
-    assert_eq!(rt; ours.made(), 0);
+    let byte = first_byte(rt, alloc, journal, &mut ours, 0);
+    wants(
+        rt,
+        &(ended, byte, ours.made()),
+        &((((0, true), 14, 0), ((true, 0, 0), (0, 1), 3)), 2, 0),
+    );
 }
 
 #[test]
@@ -82,7 +95,7 @@ fn asks_for_room<'b, J: Naming, W: Wait>(
     let mut txn = journal.begin(alloc, session);
     let filled = fills(rt, &mut txn, (786, 787), bytes);
     asks.store(true, Ordering::SeqCst);
-    (filled, number_of(txn.commit(rt, session)))
+    (filled, commit_number(rt, txn, session))
 }
 
 /// Lets the other thread wait for a while, and fences its session.
@@ -94,15 +107,14 @@ fn fences_who_waits<'b, J: Naming, H: Abort + Wait>(
 ) -> u64 {
     lets_wait(asks);
     let mut session = client(rt, journal);
-    number_of(journal.fence(rt, &mut session, number))
+    fence_number(rt, journal, &mut session, number)
 }
 
 /// A commit waits for room, until its session is fenced.
-pub(super) fn end_the_wait_for_room<J: Naming + Send + Sync, H: Abort + Threads + Wait + Sync>(
-    rt: &H,
-    alloc: Global,
-    journal: &Open<MemDisk, J>,
-) {
+pub(super) fn end_the_wait_for_room<
+    J: Naming + Send + Sync,
+    H: Abort + Threads + Wait + Clock + Sync,
+>(rt: &H, alloc: Global, journal: &Open<MemDisk, J>) {
     let bytes = vec![in alloc; 1u8; 4096].expect(rt, "bytes");
     fills_up(rt, alloc, journal, &bytes);
     let asks = AtomicBool::new(false);
@@ -113,7 +125,7 @@ pub(super) fn end_the_wait_for_room<J: Naming + Send + Sync, H: Abort + Threads 
         || asks_for_room(rt, alloc, journal, &mut ours, &bytes, &asks),
         || fences_who_waits(rt, journal, number, &asks),
     );
-    assert_eq!(rt; ended, ((true, 14), 0));
+    wants(rt, &ended, &((true, 14), 0));
 }
 
 #[test]

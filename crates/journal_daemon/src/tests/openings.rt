@@ -136,20 +136,23 @@ fn refused_openings<H: Abort + Wait>(rt: &H, alloc: Global, book: &Ruled) -> [Ca
     ]
 }
 
+/// A refusal that shows nothing of the history.
+fn unshown(number: &'static str) -> Came {
+    Came::Refused { number, shown: 0 }
+}
+
 /// A book that no refusal begins is opened, and then no more.
 #[test]
 fn a_refused_opening_leaves_the_book_as_it_was(rt: HostRuntime) {
     let alloc = rt.alloc();
     let book: Ruled = Book::open::<()>().ok().expect(&rt, "a book");
-    let none = |number| Came::Refused { number, shown: 0 };
-    assert_eq!(rt;
-        refused_openings(&rt, alloc, &book),
-        [
-            none("J8 BadSuper"),
-            none("J7 BadLog"),
-            none("J6 DeviceFailed")
-        ]
-    );
+    let refused = refused_openings(&rt, alloc, &book);
+    let wanted = [
+        unshown("J8 BadSuper"),
+        unshown("J7 BadLog"),
+        unshown("J6 DeviceFailed"),
+    ];
+    wants(&rt, &refused, &wanted);
     let good = opening(&rt, alloc, &book, blank(&rt, alloc, false));
     let again = opening(&rt, alloc, &book, blank(&rt, alloc, false));
     let fresh = Came::Opened {
@@ -161,5 +164,5 @@ fn a_refused_opening_leaves_the_book_as_it_was(rt: HostRuntime) {
         number: "J9 Stale",
         shown: 1,
     };
-    assert_eq!(rt; (good, again), (fresh, taken));
+    wants(&rt, &(good, again), &(fresh, taken));
 }

@@ -2,10 +2,9 @@
 ghost use Rattle.std.specs.Prelude.{◌≡◌};
 ghost use Rattle.journal_disk.specs.Disks.{IsSettled};
 
-use super::beside_daemon::{Ending, waits};
+use super::beside_daemon::{WaitOnce, beside};
 use super::*;
-use crate::{OpenGate, start};
-use std::thread::join;
+use crate::OpenGate;
 
 /// How many positions the log has.
 const POSITIONS: u64 = 511;
@@ -24,7 +23,7 @@ fn fill_the_log<'b, J: Naming, W: Wait>(
 }
 
 /// Opens the disk, and commits and waits beside the daemon. Answers where the log began and ended, and how the commit ended.
-fn makes_room<J: Naming + Send + Sync, H: Abort + Threads + Wait + Sync>(
+fn makes_room<J: Naming + Send + Sync, H: Abort + Threads + Wait + Clock + Sync>(
     rt: &H,
     alloc: Global,
     book: &Book<AnyMap>,
@@ -36,19 +35,14 @@ fn makes_room<J: Naming + Send + Sync, H: Abort + Threads + Wait + Sync>(
 {
     let journal: Open<MemDisk, J> = opened_on(rt, alloc, book, disk);
     let opened = journal.stat(rt);
-    let commits = || {
-        let ending = waits(rt, alloc, &journal, 2);
-        journal.stop(rt);
-        ending
-    };
-    let (_ended, ending) = join(rt, || start(rt, &journal, &OpenGate).is_ok(), commits);
+    let (_ended, ending) = beside(rt, alloc, &journal, &OpenGate, &WaitOnce, 2);
     let _disk = journal.into_disk();
     ((opened.start, opened.end), ending)
 }
 
 /// What was recovered lies in the log alone, and takes its room all the same: the installer frees it, so that a commit is
 /// logged.
-pub(super) fn recover_a_full_log<J: Naming + Send + Sync, H: Abort + Threads + Wait + Sync>(
+pub(super) fn recover_a_full_log<J: Naming + Send + Sync, H: Abort + Threads + Wait + Clock + Sync>(
     rt: &H,
     alloc: Global,
     journal: &Open<MemDisk, J>,
@@ -58,7 +52,7 @@ pub(super) fn recover_a_full_log<J: Naming + Send + Sync, H: Abort + Threads + W
     let image = journal.image(rt, &mut session, &[]);
     let book: Book<AnyMap> = Book::open::<()>().ok().expect(rt, "a book");
     let ended = makes_room::<Brand, _>(rt, alloc, &book, image.ok().expect(rt, "an image"));
-    assert_eq!(rt; ended, ((0, POSITIONS), Ending::Stable));
+    wants(rt, &ended, &((0, POSITIONS), Ending::Stable));
 }
 
 #[test]

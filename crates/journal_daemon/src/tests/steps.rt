@@ -1,6 +1,8 @@
 // What each thread of the daemon does over and over, with steps that are made up.
+use super::wants;
 use crate::steps::{Gate, OneStep, run};
 use journal_world::{Refusal, Step};
+use std::rt::Clock;
 use std::sync::Wait;
 use std::sync::atomic::{AtomicBool, AtomicU64, Ordering};
 
@@ -26,7 +28,7 @@ struct MadeUp {
 impl OneStep for MadeUp {
     type Cause = ();
 
-    fn step<W: Wait>(&self, _rt: &W) -> Result<Step, Refusal<()>> {
+    fn step<W: Wait + Clock>(&self, _rt: &W) -> Result<Step, Refusal<()>> {
         let number = self.made.fetch_add(1, Ordering::SeqCst);
         match self.replies.get(number as usize) {
             Some(Moved) => Ok(Step::Moved),
@@ -62,7 +64,7 @@ impl Gate for OneGate {
 
 /// Runs steps that answer so until they end. How many were made, how often the thread was idle, how often it passed the
 /// gate, and whether it told the gate another number than its own or another step than the next.
-fn ran<W: Wait>(rt: &W, replies: [Reply; 5]) -> (u64, u64, u64, bool) {
+fn ran<W: Wait + Clock>(rt: &W, replies: [Reply; 5]) -> (u64, u64, u64, bool) {
     let steps = MadeUp {
         replies,
         made: AtomicU64::new(0),
@@ -86,5 +88,9 @@ fn ran<W: Wait>(rt: &W, replies: [Reply; 5]) -> (u64, u64, u64, bool) {
 fn a_step_without_memory_is_made_again(rt: HostRuntime) {
     let stopped = ran(&rt, [NoMemory, Moved, Idle, NoMemory, Idle]);
     let failed = ran(&rt, [Idle, Moved, DeviceFailed, Moved, Moved]);
-    assert_eq!(rt; (stopped, failed), ((6, 2, 6, false), (3, 1, 3, false)));
+    wants(
+        &rt,
+        &(stopped, failed),
+        &((6, 2, 6, false), (3, 1, 3, false)),
+    );
 }

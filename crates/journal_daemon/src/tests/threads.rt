@@ -1,7 +1,9 @@
 // What a journal answers several threads.
 ghost use Rattle.std.specs.Prelude.{◌≡◌};
 
+use super::beside_daemon::in_two;
 use super::gated_disk::{Gate, GatedDisk, comes};
+use super::pairs::{Job, Jobs};
 use super::*;
 use std::sync::atomic::{AtomicBool, Ordering};
 use std::thread::{join, yield_now};
@@ -31,10 +33,19 @@ fn commits_hundred<'b, J: Naming, H: Abort + Wait>(
     Done { session, counts }
 }
 
+/// Whether each of 1 to 200 stands on one side, and not on both.
+fn stand_once(ours: &[u64], theirs: &[u64]) -> bool {
+    for count in 1..=200u64 {
+        if ours.contains(&count) == theirs.contains(&count) {
+            return false;
+        }
+    }
+    true
+}
+
 /// How many counts there are on each side, and whether each of 1 to 200 stands on one.
 fn shared(ours: &[u64], theirs: &[u64]) -> (usize, usize, bool) {
-    let once = (1..=200u64).all(|count| ours.contains(&count) != theirs.contains(&count));
-    (ours.len(), theirs.len(), once)
+    (ours.len(), theirs.len(), stand_once(ours, theirs))
 }
 
 /// The sessions meet. Answers how much they have then seen, and how much they committed.
@@ -47,14 +58,17 @@ fn meet<'b, J: Naming>(one: &mut Client<'b, J>, other: &mut Client<'b, J>) -> (u
 fn agree<'b, J: Naming, H: Abort>(rt: &H, ours: &mut Done<'b, J>, theirs: &mut Done<'b, J>) {
     let counts = shared(&ours.counts, &theirs.counts);
     let met = meet(&mut ours.session, &mut theirs.session);
-    assert_eq!(rt; (counts, met), ((100, 100, true), (201, 201, 100, 100)));
+    wants(
+        rt,
+        &(counts, met),
+        &((100, 100, true), (201, 201, 100, 100)),
+    );
 }
 
-pub(super) fn commit_side_by_side<J: Naming + Send + Sync, H: Abort + Threads + Wait + Sync>(
-    rt: &H,
-    alloc: Global,
-    journal: &Open<MemDisk, J>,
-) {
+pub(super) fn commit_side_by_side<
+    J: Naming + Send + Sync,
+    H: Abort + Threads + Wait + Clock + Sync,
+>(rt: &H, alloc: Global, journal: &Open<MemDisk, J>) {
     let (mut ours, mut theirs) = join(
         rt,
         || commits_hundred(rt, alloc, journal, 515),
@@ -68,64 +82,20 @@ fn two_threads_commit_side_by_side(rt: HostRuntime) {
     try_out(&rt, rt.alloc(), Trial::CommitSideBySide);
 }
 
-/// What two threads tell one another: that a transaction is open, and that another was committed.
-#[derive(Default, Drop)]
-struct Flags {
-    begun: AtomicBool,
-    committed: AtomicBool,
-}
-
-/// Overwrites, and keeps the transaction open until another one was committed. Says whether one was.
-fn lingers<J: Naming, W: Wait>(
-    rt: &W,
-    txn: &mut OpenTxn<MemDisk, J>,
-    flags: &Flags,
-) -> (u64, bool) {
-    let wrote = number_of(txn.overwrite(rt, BIT, &[1]));
-    flags.begun.store(true, Ordering::SeqCst);
-    (wrote, comes(&flags.committed))
-}
-
-/// Commits a transaction that was kept open.
-fn keeps_open<J: Naming, H: Abort + Wait>(
-    rt: &H,
-    alloc: Global,
-    journal: &Open<MemDisk, J>,
-    flags: &Flags,
-) -> ((u64, bool), u64) {
-    let mut session = client(rt, journal);
-    let mut txn = journal.begin(alloc, &mut session);
-    let lingered = lingers(rt, &mut txn, flags);
-    (lingered, count_of(txn.commit(rt, &mut session)))
-}
-
-/// Commits while another transaction is open.
-fn commits_beside<J: Naming, H: Abort + Wait>(
-    rt: &H,
-    alloc: Global,
-    journal: &Open<MemDisk, J>,
-    flags: &Flags,
-) -> (bool, (u64, u64)) {
-    let seen = comes(&flags.begun);
-    let mut session = client(rt, journal);
-    let put = put(rt, alloc, journal, &mut session, INODE, &[1; 128]);
-    flags.committed.store(true, Ordering::SeqCst);
-    (seen, put)
-}
-
 /// A transaction that stands still stops no other one of other slots.
-pub(super) fn go_on<J: Naming + Send + Sync, H: Abort + Threads + Wait + Sync>(
+pub(super) fn go_on<J: Naming + Send + Sync, H: Abort + Threads + Wait + Clock + Sync>(
     rt: &H,
     alloc: Global,
     journal: &Open<MemDisk, J>,
 ) {
-    let flags = Flags::default();
-    let ended = join(
-        rt,
-        || keeps_open(rt, alloc, journal, &flags),
-        || commits_beside(rt, alloc, journal, &flags),
-    );
-    assert_eq!(rt; ended, (((0, true), 2), (true, (0, 1))));
+    let gate = Gate::default();
+    let jobs = Jobs {
+        first: Job::KeepOpen,
+        second: Job::CommitBeside,
+        gate: &gate,
+    };
+    let ended = in_two(rt, alloc, journal, &jobs, (0, 1));
+    wants(rt, &ended, &([0, 1, 2, 0], [1, 0, 1, 0]));
 }
 
 #[test]
@@ -133,70 +103,24 @@ fn an_open_transaction_stops_no_other(rt: HostRuntime) {
     try_out(&rt, rt.alloc(), Trial::GoOn);
 }
 
-/// Commits, and logs it as far as the first barrier and on to the mark. Says what was put, how many steps
-/// moved, and whether the commit is stable then.
-fn logs_one<D: BlockDisk, J: Naming, H: Abort + Wait>(
-    rt: &H,
-    alloc: Global,
-    journal: &Open<D, J>,
-) -> ((u64, u64), u64, bool) {
-    let mut session = client(rt, journal);
-    let put = put(rt, alloc, journal, &mut session, INODE, &[1; 128]);
-    (put, logs(rt, journal, 100), session.is_stable(1))
-}
-
-/// Begins a transaction, lets a barrier go on that waits, and gives the transaction up.
-fn begins<'b, D: BlockDisk, J: Naming, W: Wait>(
-    rt: &W,
-    alloc: Global,
-    journal: &Open<'b, D, J>,
-    session: &mut Client<'b, J>,
-    gate: &Gate,
-) {
-    let txn = journal.begin(alloc, session);
-    gate.opened.store(true, Ordering::SeqCst);
-    txn.abort(rt);
-}
-
-/// Observes, asks, meets and begins while a barrier waits, and then lets it go on. Says whether it waited,
-/// whether the commit was stable then, and how much of the history both sessions have seen.
-fn looks_on<'b, D: BlockDisk, J: Naming, W: Wait>(
-    rt: &W,
-    alloc: Global,
-    journal: &Open<'b, D, J>,
-    (session, other): (&mut Client<'b, J>, &mut Client<'b, J>),
-    gate: &Gate,
-) -> (bool, bool, u64, u64) {
-    let reached = comes(&gate.reached);
-    session.observe();
-    let stable = session.is_stable(1);
-    other.meet(session);
-    begins(rt, alloc, journal, session, gate);
-    (reached, stable, session.seen(), other.seen())
-}
-
 /// A hold of the core stops nobody who only looks.
-fn looks_beside<'b, J: Naming + Send + Sync, H: Abort + Threads + Wait + Sync>(
+fn looks_beside<'b, J: Naming + Send + Sync, H: Abort + Threads + Wait + Clock + Sync>(
     rt: &H,
     alloc: Global,
     journal: &Open<'b, GatedDisk, J>,
     gate: &Gate,
 ) {
-    let mut session = client(rt, journal);
-    let mut other = client(rt, journal);
-    let ended = join(
-        rt,
-        || logs_one(rt, alloc, journal),
-        || looks_on(rt, alloc, journal, (&mut session, &mut other), gate),
-    );
+    let jobs = Jobs {
+        first: Job::LogOne,
+        second: Job::LookOn,
+        gate,
+    };
+    let ended = in_two(rt, alloc, journal, &jobs, (0, 1));
     let forced = gate.forced.load(Ordering::SeqCst);
-    assert_eq!(rt;
-        (ended, forced),
-        ((((0, 1), 6, true), (true, false, 2, 2)), false)
-    );
+    wants(rt, &(ended, forced), &(([0, 1, 6, 1], [1, 0, 2, 2]), false));
 }
 
-fn stops_nobody<J: Naming + Send + Sync, H: Abort + Threads + Wait + Sync>(
+fn stops_nobody<J: Naming + Send + Sync, H: Abort + Threads + Wait + Clock + Sync>(
     rt: &H,
     alloc: Global,
     book: &Book<AnyMap>,
@@ -226,7 +150,7 @@ pub(super) fn fills<D: BlockDisk, J: Naming, W: Wait>(
     bytes: &[u8],
 ) -> bool {
     for block in first..end {
-        if txn.overwrite(rt, Addr { block, off: 0 }, bytes).is_err() {
+        if overwrites(rt, txn, Addr { block, off: 0 }, bytes) != 0 {
             return false;
         }
     }
@@ -261,8 +185,12 @@ pub(super) fn fills_up<J: Naming, H: Abort + Wait>(
     // What was refused left no entry.
     session.observe();
     let seen = session.seen();
-    assert_eq!(rt; (first, second, third), ((true, 0), (true, 0), (true, 12)));
-    assert_eq!(rt; (journal.stat(rt).commits, seen), (2, 3));
+    let commits = journal.stat(rt).commits;
+    wants(
+        rt,
+        &(first, second, third, commits, seen),
+        &((true, 0), (true, 0), (true, 12), 2, 3),
+    );
 }
 
 /// Says that it asks for room, and commits a further block. Answers the refusal's number.
@@ -277,7 +205,7 @@ fn waits_for_room<J: Naming, H: Abort + Wait>(
     let mut txn = journal.begin(alloc, &mut session);
     let filled = fills(rt, &mut txn, (786, 787), bytes);
     asks.store(true, Ordering::SeqCst);
-    (filled, number_of(txn.commit(rt, &mut session)))
+    (filled, commit_number(rt, txn, &mut session))
 }
 
 /// Makes the device fail at a read.
@@ -308,13 +236,13 @@ fn ends_the_wait<J: Naming, H: Abort + Wait>(
     if fails {
         breaks(rt, alloc, journal)
     } else {
-        number_of(journal.log_step(rt))
+        log_number(rt, journal)
     }
 }
 
 /// A commit waits for room, until there is some or the device fails. It and the other thread are refused by
 /// this number then.
-pub(super) fn wait_for_room<J: Naming + Send + Sync, H: Abort + Threads + Wait + Sync>(
+pub(super) fn wait_for_room<J: Naming + Send + Sync, H: Abort + Threads + Wait + Clock + Sync>(
     rt: &H,
     alloc: Global,
     journal: &Open<MemDisk, J>,
@@ -329,7 +257,7 @@ pub(super) fn wait_for_room<J: Naming + Send + Sync, H: Abort + Threads + Wait +
         || waits_for_room(rt, alloc, journal, &bytes, &asks),
         || ends_the_wait(rt, alloc, journal, &asks, fails),
     );
-    assert_eq!(rt; ended, ((true, refused), refused));
+    wants(rt, &ended, &((true, refused), refused));
 }
 
 #[test]

@@ -18,9 +18,9 @@ fn committed<'b, J: Naming, H: Abort + Wait>(
     session: &mut Client<'b, J>,
 ) -> Receipt<'b, J, AnyMap> {
     let mut txn = journal.begin(alloc, session);
-    let wrote = number_of(txn.overwrite(rt, INODE, &[1; 128]));
+    let wrote = overwrites(rt, &mut txn, INODE, &[1; 128]);
     let answer = txn.commit(rt, session);
-    assert_eq!(rt; wrote, 0);
+    wants(rt, &wrote, &0);
     answer.ok().expect(rt, "a commit")
 }
 
@@ -31,8 +31,25 @@ fn awaits<'b, J: Naming, W: Wait>(
     session: &mut Client<'b, J>,
     receipt: &Receipt<'b, J, AnyMap>,
 ) -> ((u64, u64), (u64, u64)) {
-    let waited = noted(journal.wait_stable(rt, session, receipt));
-    (waited, noted(journal.flush(rt, session)))
+    let waited = waits_for(rt, journal, session, receipt);
+    (waited, flushes(rt, journal, session))
+}
+
+fn waits_for<'b, J: Naming, W: Wait>(
+    rt: &W,
+    journal: &Open<'b, MemDisk, J>,
+    session: &mut Client<'b, J>,
+    receipt: &Receipt<'b, J, AnyMap>,
+) -> (u64, u64) {
+    noted(journal.wait_stable(rt, session, receipt))
+}
+
+fn flushes<'b, J: Naming, W: Wait>(
+    rt: &W,
+    journal: &Open<'b, MemDisk, J>,
+    session: &mut Client<'b, J>,
+) -> (u64, u64) {
+    noted(journal.flush(rt, session))
 }
 
 /// A mark is told to who waits for it, and to an observer who never committed.
@@ -47,16 +64,12 @@ fn tells<'b, J: Naming, H: Abort + Wait>(
     let moved = logs(rt, journal, 100);
     let awaited = awaits(rt, journal, session, receipt);
     let told = other.is_stable(1);
-    assert_eq!(rt;
-        (
-            moved,
-            awaited,
-            before,
-            other.seen(),
-            told,
-            other.is_stable(2)
-        ),
-        (6, ((0, 1), (0, 1)), 2, 3, true, false)
+    let later = other.is_stable(2);
+    let seen = other.seen();
+    wants(
+        rt,
+        &(moved, awaited, before, seen, told, later),
+        &(6, ((0, 1), (0, 1)), 2, 3, true, false),
     );
 }
 
@@ -70,8 +83,8 @@ fn stops<'b, J: Naming, W: Wait>(
     let mut txn = journal.begin(alloc, session);
     journal.stop(rt);
     let read = look(rt, &mut txn, INODE);
-    let wrote = number_of(txn.overwrite(rt, INODE, &[2; 128]));
-    (read, wrote, number_of(txn.commit(rt, session)))
+    let wrote = overwrites(rt, &mut txn, INODE, &[2; 128]);
+    (read, wrote, commit_number(rt, txn, session))
 }
 
 /// After a stop all is refused by J13, but a wait for a mark that stands.
@@ -82,32 +95,33 @@ fn refuses_the_rest<'b, J: Naming, W: Wait>(
     receipt: &Receipt<'b, J, AnyMap>,
     late: &Receipt<'b, J, AnyMap>,
 ) -> ((u64, u64), (u64, u64), ((u64, u64), (u64, u64))) {
-    let log = number_of(journal.log_step(rt));
-    let install = number_of(journal.install_step(rt));
+    let log = log_number(rt, journal);
+    let install = install_number(rt, journal);
     let (stands, _) = awaits(rt, journal, session, receipt);
     ((log, install), stands, awaits(rt, journal, session, late))
 }
 
 /// A session that has seen the opening alone waits for nothing.
-pub(super) fn answer_waits<J: Naming + Send + Sync, H: Abort + Threads + Wait + Sync>(
+pub(super) fn answer_waits<J: Naming + Send + Sync, H: Abort + Threads + Wait + Clock + Sync>(
     rt: &H,
     alloc: Global,
     journal: &Open<MemDisk, J>,
 ) {
     let mut session = client(rt, journal);
-    let fresh = noted(journal.flush(rt, &mut session));
+    let fresh = flushes(rt, journal, &mut session);
     let receipt = committed(rt, alloc, journal, &mut session);
     tells(rt, journal, &mut session, &receipt);
     let late = committed(rt, alloc, journal, &mut session);
     let stopped = stops(rt, alloc, journal, &mut session);
     let rest = refuses_the_rest(rt, journal, &mut session, &receipt, &late);
-    assert_eq!(rt;
-        (fresh, stopped, rest),
-        (
+    wants(
+        rt,
+        &(fresh, stopped, rest),
+        &(
             (0, 0),
             ((13, 0, 0), 0, 13),
-            ((13, 13), (0, 1), ((13, 0), (13, 0)))
-        )
+            ((13, 13), (0, 1), ((13, 0), (13, 0))),
+        ),
     );
 }
 
@@ -124,31 +138,30 @@ fn ends<'b, J: Naming, W: Wait>(rt: &W, journal: &Open<'b, MemDisk, J>, by_fault
     } else {
         journal.stop(rt);
     }
-    number_of(journal.log_step(rt))
+    log_number(rt, journal)
 }
 
 /// One session's commit is marked, another's is not, and then the journal ends. The first has all stable that it has seen,
 /// and the second has not.
-pub(super) fn flush_after_the_end<J: Naming + Send + Sync, H: Abort + Threads + Wait + Sync>(
-    rt: &H,
-    alloc: Global,
-    journal: &Open<MemDisk, J>,
-    by_fault: bool,
-) {
+pub(super) fn flush_after_the_end<
+    J: Naming + Send + Sync,
+    H: Abort + Threads + Wait + Clock + Sync,
+>(rt: &H, alloc: Global, journal: &Open<MemDisk, J>, by_fault: bool) {
     let mut session = client(rt, journal);
     let mut other = client(rt, journal);
     let receipt = committed(rt, alloc, journal, &mut session);
     let moved = logs(rt, journal, 100);
-    let waited = noted(journal.wait_stable(rt, &mut session, &receipt));
+    let waited = waits_for(rt, journal, &mut session, &receipt);
     let late = put(rt, alloc, journal, &mut other, INODE, &[2; 128]);
     let end = ends(rt, journal, by_fault);
-    let flushed = noted(journal.flush(rt, &mut session));
-    let stands = noted(journal.wait_stable(rt, &mut session, &receipt));
-    let refused = noted(journal.flush(rt, &mut other));
+    let flushed = flushes(rt, journal, &mut session);
+    let stands = waits_for(rt, journal, &mut session, &receipt);
+    let refused = flushes(rt, journal, &mut other);
     let number = if by_fault { 6 } else { 13 };
-    assert_eq!(rt;
-        (moved, waited, late, end, flushed, stands, refused),
-        (6, (0, 1), (0, 2), number, (0, 1), (0, 1), (number, 0))
+    wants(
+        rt,
+        &(moved, waited, late, end, flushed, stands, refused),
+        &(6, (0, 1), (0, 2), number, (0, 1), (0, 1), (number, 0)),
     );
 }
 
@@ -163,7 +176,7 @@ fn a_flush_of_what_is_marked_outlasts_a_stop(rt: HostRuntime) {
 }
 
 /// Where block 0 was written and no barrier made, a crash leaves the old map or the new one.
-pub(super) fn leave_either<J: Naming + Send + Sync, H: Abort + Threads + Wait + Sync>(
+pub(super) fn leave_either<J: Naming + Send + Sync, H: Abort + Threads + Wait + Clock + Sync>(
     rt: &H,
     alloc: Global,
     journal: &Open<MemDisk, J>,
@@ -173,7 +186,11 @@ pub(super) fn leave_either<J: Naming + Send + Sync, H: Abort + Threads + Wait + 
     let moved = logs(rt, journal, 4);
     let [none, ..] = image_bytes(rt, alloc, journal, &mut session, &[]);
     let [all, ..] = image_bytes(rt, alloc, journal, &mut session, &[1]);
-    assert_eq!(rt; (put == (0, 1), moved == 4, none, all), (true, true, 0, 1));
+    wants(
+        rt,
+        &(put == (0, 1), moved == 4, none, all),
+        &(true, true, 0, 1),
+    );
 }
 
 #[test]
