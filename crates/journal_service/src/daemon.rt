@@ -46,11 +46,12 @@ impl Daemon {
     }
 
     /// Runs the daemon until the journal is stopped.
-    pub fn run<'b, J: Naming + Send + Sync, V: Version + Send + Sync, R: Threads + Wait + Clock + Sync>(
-        &self,
-        rt: &R,
-        files: &FileStore<'b, FileDisk, J, V>,
-    ) {
+    pub fn run<
+        'b,
+        J: Naming + Send + Sync,
+        V: Version + Send + Sync,
+        R: Threads + Wait + Clock + Sync,
+    >(&self, rt: &R, files: &FileStore<'b, FileDisk, J, V>) {
         // That a thread was refused shows in how many came to a step.
         let _ = start(rt, files.journal(), self);
         self.progress.lock(rt).has_ended = true;

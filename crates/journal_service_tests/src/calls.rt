@@ -1,5 +1,5 @@
 // Calls and their replies: the words that RFC 5531 and RFC 1813 make them of, as text.
-use crate::stores::{Client, Told, Wrong};
+use crate::stores::{Client, Told, Wrong, commits, session_of};
 use journal_disk::BlockDisk;
 use journal_filestore::FileStore;
 use journal_history::Naming;
@@ -9,6 +9,7 @@ use journal_rpc::read_call;
 use journal_world::Moment;
 use std::alloc::{AllocError, Global};
 use std::sync::Wait;
+use std::sync::atomic::{AtomicBool, Ordering};
 
 // What stands for several words.
 //
@@ -201,14 +202,33 @@ pub(crate) fn ask<'b, D: BlockDisk, J: Naming, V: Version, W: Wait>(
     files: &FileStore<'b, D, J, V>,
     table: &str,
 ) -> Told {
-    match files.journal().session(rt) {
-        Ok(mut session) => {
-            let before = files.journal().stat(rt).commits;
-            walk(rt, alloc, files, &mut session, table)?;
-            made_all(before, &session, files.journal().stat(rt).commits)
-        }
-        Err(_) => Err(Wrong::Refused),
-    }
+    let mut session = session_of(rt, files)?;
+    ask_alone(rt, alloc, files, &mut session, table)
+}
+
+// The same, and says then that it is done.
+pub(crate) fn ask_to_the_end<'b, D: BlockDisk, J: Naming, V: Version, W: Wait>(
+    rt: &W,
+    alloc: Global,
+    files: &FileStore<'b, D, J, V>,
+    table: &str,
+    done: &AtomicBool,
+) -> Told {
+    let told = ask(rt, alloc, files, table);
+    done.store(true, Ordering::SeqCst);
+    told
+}
+
+fn ask_alone<'b, D: BlockDisk, J: Naming, V: Version, W: Wait>(
+    rt: &W,
+    alloc: Global,
+    files: &FileStore<'b, D, J, V>,
+    session: &mut Client<'b, J, V>,
+    table: &str,
+) -> Told {
+    let before = commits(rt, files);
+    walk(rt, alloc, files, session, table)?;
+    made_all(before, session, commits(rt, files))
 }
 
 // All commits since then are the session's.
@@ -235,9 +255,7 @@ fn walk<'b, D: BlockDisk, J: Naming, V: Version, W: Wait>(
     for (i, line) in table.lines().enumerate() {
         match line.split_once(" = ") {
             Some((call, wanted)) => {
-                let now = Moment::new(at.0, at.1).ok_or(Wrong::Table)?;
-                let record = bytes_of(alloc, call, 0)?;
-                if !is_answered(rt, alloc, files, session, now, &record, wanted)? {
+                if !is_line(rt, alloc, files, session, at, call, wanted)? {
                     return Err(Wrong::At(i));
                 }
             }
@@ -246,6 +264,21 @@ fn walk<'b, D: BlockDisk, J: Naming, V: Version, W: Wait>(
         }
     }
     Ok(())
+}
+
+// Whether a call is answered so, at these seconds and nanoseconds.
+fn is_line<'b, D: BlockDisk, J: Naming, V: Version, W: Wait>(
+    rt: &W,
+    alloc: Global,
+    files: &FileStore<'b, D, J, V>,
+    session: &mut Client<'b, J, V>,
+    at: (u32, u32),
+    call: &str,
+    wanted: &str,
+) -> Result<bool, Wrong> {
+    let now = Moment::new(at.0, at.1).ok_or(Wrong::Table)?;
+    let record = bytes_of(alloc, call, 0)?;
+    is_answered(rt, alloc, files, session, now, &record, wanted)
 }
 
 // The seconds and nanoseconds of a line that says a moment.
@@ -262,10 +295,8 @@ pub(crate) fn ask_cut<'b, D: BlockDisk, J: Naming, V: Version, W: Wait>(
     files: &FileStore<'b, D, J, V>,
     table: &str,
 ) -> Told {
-    match files.journal().session(rt) {
-        Ok(mut session) => walk_cut(rt, alloc, files, &mut session, table),
-        Err(_) => Err(Wrong::Refused),
-    }
+    let mut session = session_of(rt, files)?;
+    walk_cut(rt, alloc, files, &mut session, table)
 }
 
 fn walk_cut<'b, D: BlockDisk, J: Naming, V: Version, W: Wait>(
@@ -277,13 +308,23 @@ fn walk_cut<'b, D: BlockDisk, J: Naming, V: Version, W: Wait>(
 ) -> Told {
     for (i, line) in table.lines().enumerate() {
         if let Some((call, _)) = line.split_once(" = ") {
-            let record = longer(alloc, call)?;
-            if !is_garbage_cut(rt, alloc, files, session, &record)? {
+            if !is_line_cut(rt, alloc, files, session, call)? {
                 return Err(Wrong::At(i));
             }
         }
     }
     Ok(())
+}
+
+fn is_line_cut<'b, D: BlockDisk, J: Naming, V: Version, W: Wait>(
+    rt: &W,
+    alloc: Global,
+    files: &FileStore<'b, D, J, V>,
+    session: &mut Client<'b, J, V>,
+    call: &str,
+) -> Result<bool, Wrong> {
+    let record = longer(alloc, call)?;
+    is_garbage_cut(rt, alloc, files, session, &record)
 }
 
 // The bytes of a call, and one more.

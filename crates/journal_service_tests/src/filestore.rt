@@ -6,6 +6,7 @@ mod storms;
 mod turns;
 mod versions;
 
+use crate::asserts::wants;
 use crate::stores::{Wrong, on_disk};
 use crate::stories::Story;
 use journal_disk::MemDisk;
@@ -16,6 +17,6 @@ pub(crate) use storms::{fill_all, storm};
 fn a_disk_of_zeros_is_handed_back(rt: HostRuntime) -> Result<(), Fail> {
     let disk = MemDisk::new::<()>(rt.alloc(), 600)?;
     let told = on_disk(&rt, rt.alloc(), disk, &Story::Table(""));
-    assert_eq!(rt; told.err(), Some(Wrong::BadSuper(600)));
+    wants(&rt, &told.err(), &Some(Wrong::BadSuper(600)));
     Ok(())
 }

@@ -1,6 +1,7 @@
 mod fences;
 mod moments;
 mod peers;
+mod serving;
 mod sockets;
 mod streams;
 mod waits;

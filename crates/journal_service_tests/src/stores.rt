@@ -47,6 +47,25 @@ impl From<AllocError> for Wrong {
 
 pub(crate) type Told = Result<(), Wrong>;
 
+// A session of a store.
+pub(crate) fn session_of<'b, D: BlockDisk, J: Naming, V: Version, W: Wait>(
+    rt: &W,
+    files: &FileStore<'b, D, J, V>,
+) -> Result<Client<'b, J, V>, Wrong> {
+    match files.journal().session(rt) {
+        Ok(session) => Ok(session),
+        Err(_) => Err(Wrong::Refused),
+    }
+}
+
+// How many commits were made.
+pub(crate) fn commits<D: BlockDisk, J: Naming, V: Version, W: Wait>(
+    rt: &W,
+    files: &FileStore<'_, D, J, V>,
+) -> u64 {
+    files.journal().stat(rt).commits
+}
+
 // Mounts a disk, tells the story, and closes the store. The disk that comes back is what a crash leaves then, where no pending
 // write survives.
 fn over<
@@ -86,11 +105,9 @@ fn over<
 fn close<'b, J: Naming, W: Wait>(rt: &W, files: Files<'b, J>) -> Result<MemDisk, Wrong>
     ensures settled { IfOk result (λ left. IsSettled left.past) }
 {
-    match files.journal().session(rt) {
-        Ok(mut session) => match files.close(&mut session) {
-            Ok(disk) => Ok(disk.crash(&[])),
-            Err(_) => Err(Wrong::Refused),
-        },
+    let mut session = session_of(rt, &files)?;
+    match files.close(&mut session) {
+        Ok(disk) => Ok(disk.crash(&[])),
         Err(_) => Err(Wrong::Refused),
     }
 }
@@ -118,16 +135,28 @@ pub(crate) fn on_formatted<
     requires blocks { (MIN_BLOCKS ≤ blocks) × (blocks ≤ MAX_BLOCKS) }
     ensures settled { IfOk result (λ left. IsSettled left.past) }
 {
+    let at = Moment { secs: 0, nanos: 0 };
+    match formatted(alloc, blocks, at, FormatVersion::One) {
+        Ok(disk) => on_disk(rt, alloc, disk, story),
+        Err(wrong) => Err(wrong),
+    }
+}
+
+// A new disk of a version without files.
+pub(crate) fn formatted(
+    alloc: Global,
+    blocks: u64,
+    at: Moment,
+    version: FormatVersion,
+) -> Result<MemDisk, Wrong>
+    requires blocks { (MIN_BLOCKS ≤ blocks) × (blocks ≤ MAX_BLOCKS) }
+    ensures settled { IfOk result (λ disk. IsSettled disk.past) }
+{
     let Ok(disk) = MemDisk::new::<()>(alloc, blocks) else {
         return Err(Wrong::Memory);
     };
-    match format(
-        alloc,
-        disk,
-        Moment { secs: 0, nanos: 0 },
-        FormatVersion::One,
-    ) {
-        Ok(disk) => on_disk(rt, alloc, disk, story),
+    match format(alloc, disk, at, version) {
+        Ok(disk) => Ok(disk),
         Err(_) => Err(Wrong::Refused),
     }
 }

@@ -1,5 +1,7 @@
 // Numbers that are handed out, and those that come back.
+use crate::asserts::wants;
 use journal_alloc::Alloc;
+use std::alloc::AllocError;
 use std::test::*;
 
 // The numbers 10 to 13, of which 11 is out.
@@ -29,11 +31,8 @@ fn give_all(numbers: &mut Alloc, back: &[u64; 6]) -> [bool; 6] {
 #[test]
 fn the_lowest_that_is_not_out_goes_first(rt: HostRuntime) -> Result<(), Fail> {
     let mut numbers = four(&rt)?;
-    let went = take_four(&mut numbers);
-    assert_eq!(rt;
-        (went, numbers.take()),
-        ([Some(10), Some(12), Some(13), None], None)
-    );
+    let went = (take_four(&mut numbers), numbers.take());
+    wants(&rt, &went, &([Some(10), Some(12), Some(13), None], None));
     Ok(())
 }
 
@@ -43,39 +42,49 @@ fn a_number_that_came_back_goes_again(rt: HostRuntime) -> Result<(), Fail> {
     let went = (numbers.take(), numbers.take());
     let back = (numbers.give(11), numbers.give(10));
     let again = take_four(&mut numbers);
-    assert_eq!(rt;
-        (went, back, again),
-        (
+    wants(
+        &rt,
+        &(went, back, again),
+        &(
             (Some(10), Some(12)),
             (true, true),
-            [Some(10), Some(11), Some(13), None]
-        )
+            [Some(10), Some(11), Some(13), None],
+        ),
     );
     Ok(())
 }
 
 // Whether so many are handed out.
-fn take(numbers: &mut Alloc, n: usize, out: &mut Vec<u64>) -> Result<bool, Fail> {
+fn take(numbers: &mut Alloc, n: usize, out: &mut Vec<u64>) -> Result<bool, AllocError> {
     out.reserve(n)?;
     Ok(numbers.take_many(n, out))
+}
+
+// Whether four of the three numbers go at once; two; none; and, once the lowest came back, the two that are left. Whether that
+// was taken back stands behind them.
+fn take_in_turn(numbers: &mut Alloc, out: &mut Vec<u64>) -> Result<[bool; 5], AllocError> {
+    let too_many = take(numbers, 4, out)?;
+    let two = take(numbers, 2, out)?;
+    let back = numbers.give(10);
+    let none = take(numbers, 0, out)?;
+    let rest = take(numbers, 2, out)?;
+    Ok([too_many, two, none, rest, back])
 }
 
 #[test]
 fn so_many_numbers_go_at_once_or_none(rt: HostRuntime) -> Result<(), Fail> {
     let mut numbers = four(&rt)?;
     let mut out = Vec::new(rt.alloc());
-    let too_many = take(&mut numbers, 4, &mut out)?;
-    let two = take(&mut numbers, 2, &mut out)?;
-    let back = numbers.give(10);
-    let none = take(&mut numbers, 0, &mut out)?;
-    let rest = take(&mut numbers, 2, &mut out)?;
-    assert_eq!(rt;
-        (too_many, two, back, none, rest),
-        (false, true, true, true, true)
-    );
-    assert_eq!(rt;
-        (out.as_slice(), numbers.take()),
-        ([10, 12, 10, 13].as_slice(), None)
+    let taken = take_in_turn(&mut numbers, &mut out)?;
+    let last = numbers.take();
+    wants(
+        &rt,
+        &(taken, out.as_slice(), last),
+        &(
+            [false, true, true, true, true],
+            [10, 12, 10, 13].as_slice(),
+            None,
+        ),
     );
     Ok(())
 }
@@ -85,7 +94,7 @@ fn what_is_not_out_is_not_taken_back(rt: HostRuntime) -> Result<(), Fail> {
     let mut numbers = four(&rt)?;
     let taken = give_all(&mut numbers, &[0, 9, 10, 12, 14, u64::MAX]);
     let twice = (numbers.give(11), numbers.give(11));
-    assert_eq!(rt; (taken, twice), ([false; 6], (true, false)));
+    wants(&rt, &(taken, twice), &([false; 6], (true, false)));
     Ok(())
 }
 
@@ -93,5 +102,6 @@ fn what_is_not_out_is_not_taken_back(rt: HostRuntime) -> Result<(), Fail> {
 fn an_empty_list_has_no_number(rt: HostRuntime) {
     let mut numbers = Alloc::new(u64::MAX, Vec::new(rt.alloc()));
     let went = numbers.take();
-    assert_eq!(rt; (went, numbers.give(u64::MAX)), (None, false));
+    let is_taken = numbers.give(u64::MAX);
+    wants(&rt, &(went, is_taken), &(None, false));
 }

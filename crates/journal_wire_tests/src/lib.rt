@@ -8,6 +8,8 @@
 #[cfg(test)]
 mod alloc;
 #[cfg(test)]
+mod asserts;
+#[cfg(test)]
 mod inode;
 #[cfg(test)]
 mod rpc;

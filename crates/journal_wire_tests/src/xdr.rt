@@ -1,4 +1,5 @@
 // Items, as RFC 4506 spells them.
+use crate::asserts::{wants, wants_at};
 use journal_xdr::{Enumeration, Reader, Writer};
 use std::alloc::{AllocError, Global};
 use std::test::*;
@@ -53,11 +54,15 @@ const DATA_BYTES: u32 = 65535;
 // A file of RFC 4506, section 7: its name, its kind, the program that made it or runs it, its owner and its data.
 type File<'a> = (&'a [u8], Kind, &'a [u8], &'a [u8], &'a [u8]);
 
+fn read_kind(reader: &mut Reader<'_>) -> Option<Kind> {
+    reader.enumeration()
+}
+
 fn read_nature<'a>(reader: &mut Reader<'a>) -> Option<(Kind, &'a [u8])> {
-    Some(match reader.enumeration()? {
-        Kind::Text => (Kind::Text, &[]),
-        kind => (kind, reader.string(NAME_BYTES)?),
-    })
+    match read_kind(reader)? {
+        Kind::Text => Some((Kind::Text, &[])),
+        kind => Some((kind, reader.string(NAME_BYTES)?)),
+    }
 }
 
 fn read_file(bytes: &[u8]) -> Option<File<'_>> {
@@ -75,26 +80,25 @@ const FILE: [u8; 48] = [
     b'i', b't', b')', 0, 0,
 ];
 
-// The same file.
+// The same file, as it is read, and as its items are written.
 const SILLY: File<'static> = (b"sillyprog", Kind::Exec, b"lisp", b"john", b"(quit)");
 
-fn write_file(writer: &mut Writer) -> Result<(), AllocError> {
-    writer.string(b"sillyprog")?;
-    writer.enumeration(Kind::Exec)?;
-    writer.string(b"lisp")?;
-    writer.string(b"john")?;
-    writer.opaque(b"(quit)")
-}
+static SILLY_ITEMS: [Item; 5] = [
+    Item::Name(b"sillyprog"),
+    Item::Listed(Kind::Exec),
+    Item::Name(b"lisp"),
+    Item::Name(b"john"),
+    Item::Data(b"(quit)"),
+];
 
 #[test]
 fn the_example_of_the_standard(rt: HostRuntime) -> Result<(), Fail> {
-    let mut writer = Writer::with_capacity(rt.alloc(), FILE.len())?;
-    write_file(&mut writer)?;
-    let length = writer.len();
-    let written = writer.into_bytes();
-    assert_eq!(rt;
-        (read_file(&FILE), length, written.as_slice()),
-        (Some(SILLY), 48, FILE.as_slice())
+    let (written, length) = spelled(rt.alloc(), FILE.len(), &SILLY_ITEMS)?;
+    let read = read_file(&FILE);
+    wants(
+        &rt,
+        &(read, length, written.as_slice()),
+        &(Some(SILLY), 48, FILE.as_slice()),
     );
     Ok(())
 }
@@ -124,14 +128,15 @@ fn is_refused(place: usize, byte: u8) -> bool {
 #[test]
 fn cut_short_or_changed_it_is_refused(rt: HostRuntime) {
     for length in 0..48 {
-        assert!(rt; read_file(&FILE[..length]).is_none(), "cut to {length}");
+        let is_none = read_file(&FILE[..length]).is_none();
+        wants_at(&rt, &length, &is_none, &true);
     }
     for (place, byte) in CHANGES {
-        assert!(rt; is_refused(place, byte), "{byte} at {place}");
+        wants_at(&rt, &(place, byte), &is_refused(place, byte), &true);
     }
 }
 
-// An item, as it is written and read. Of names and data 5 bytes may be read.
+// An item, as it is written and read. Of names and data 5 bytes may be read here.
 #[derive(Clone, Copy)]
 enum Item {
     Word(u32),
@@ -145,18 +150,42 @@ enum Item {
 
 const LIMIT: u32 = 5;
 
+// What is longer than any name is not written.
+fn write_name(writer: &mut Writer, bytes: &[u8]) -> Result<(), AllocError> {
+    if bytes.len() > 255 {
+        return Err(AllocError);
+    }
+    writer.string(bytes)
+}
+
+fn write_data(writer: &mut Writer, bytes: &[u8]) -> Result<(), AllocError> {
+    if bytes.len() > 255 {
+        return Err(AllocError);
+    }
+    writer.opaque(bytes)
+}
+
+fn write_kind(writer: &mut Writer, kind: Kind) -> Result<(), AllocError> {
+    writer.enumeration(kind)
+}
+
 fn write(writer: &mut Writer, item: Item) -> Result<(), AllocError> {
     match item {
         Item::Word(number) => writer.word(number),
         Item::Hyper(number) => writer.hyper(number),
         Item::Truth(truth) => writer.boolean(truth),
-        Item::Listed(kind) => writer.enumeration(kind),
+        Item::Listed(kind) => write_kind(writer, kind),
         Item::Fixed(bytes) => writer.fixed(bytes),
-        Item::Name(bytes) if bytes.len() <= 5 => writer.string(bytes),
-        Item::Data(bytes) if bytes.len() <= 5 => writer.opaque(bytes),
-        // What may not be read is not written.
-        Item::Name(_) | Item::Data(_) => Err(AllocError),
+        Item::Name(bytes) => write_name(writer, bytes),
+        Item::Data(bytes) => write_data(writer, bytes),
     }
+}
+
+fn write_all(writer: &mut Writer, items: &[Item]) -> Result<(), AllocError> {
+    for item in items {
+        write(writer, *item)?;
+    }
+    Ok(())
 }
 
 // Whether the item is read, or `None` where what is read is refused.
@@ -165,7 +194,7 @@ fn reads(reader: &mut Reader<'_>, item: Item) -> Option<bool> {
         Item::Word(number) => reader.word()? == number,
         Item::Hyper(number) => reader.hyper()? == number,
         Item::Truth(truth) => reader.boolean()? == truth,
-        Item::Listed(kind) => reader.enumeration::<Kind>()? == kind,
+        Item::Listed(kind) => read_kind(reader)? == kind,
         Item::Fixed(bytes) => reader.fixed(bytes.len())? == bytes,
         Item::Name(bytes) => reader.string(LIMIT)? == bytes,
         Item::Data(bytes) => reader.opaque(LIMIT)? == bytes,
@@ -173,7 +202,7 @@ fn reads(reader: &mut Reader<'_>, item: Item) -> Option<bool> {
 }
 
 // One item of each type with its spelling.
-const ITEMS: [(Item, &[u8]); 10] = [
+static ITEMS: [(Item, &[u8]); 10] = [
     (Item::Word(0x0102_0304), &[1, 2, 3, 4]),
     (Item::Word(0xffff_ffff), &[255, 255, 255, 255]),
     (
@@ -201,11 +230,12 @@ fn read_of(bytes: &[u8], item: Item) -> (Option<bool>, bool) {
     (reads(&mut reader, item), reader.is_at_end())
 }
 
-// What is written of the item.
-fn spelled(alloc: Global, item: Item) -> Result<Vec<u8>, AllocError> {
-    let mut writer = Writer::with_capacity(alloc, 0)?;
-    write(&mut writer, item)?;
-    Ok(writer.into_bytes())
+// What is written of the items where room is reserved for so many bytes, and how long the writer says that it is.
+fn spelled(alloc: Global, room: usize, items: &[Item]) -> Result<(Vec<u8>, usize), AllocError> {
+    let mut writer = Writer::with_capacity(alloc, room)?;
+    write_all(&mut writer, items)?;
+    let length = writer.len();
+    Ok((writer.into_bytes(), length))
 }
 
 // Whether the spelling is refused wherever it is cut.
@@ -220,43 +250,61 @@ fn is_whole(spelling: &[u8], item: Item) -> bool {
 
 #[test]
 fn one_item_of_each_type(rt: HostRuntime) -> Result<(), Fail> {
-    for (item, spelling) in ITEMS {
-        assert_eq!(rt; spelled(rt.alloc(), item)?.as_slice(), spelling);
-        assert_eq!(rt;
-            (read_of(spelling, item), is_whole(spelling, item)),
-            ((Some(true), true), true),
-            "{spelling:?}"
+    for (item, spelling) in &ITEMS {
+        let (written, length) = spelled(rt.alloc(), 0, &[*item])?;
+        wants(
+            &rt,
+            &(written.as_slice(), length),
+            &(*spelling, spelling.len()),
         );
+        let read = (read_of(spelling, *item), is_whole(spelling, *item));
+        wants_at(&rt, spelling, &read, &((Some(true), true), true));
     }
     Ok(())
 }
 
+// The words of two numbers, what is left between them, and whether nothing is left before and behind the second.
+fn two_words(bytes: &[u8]) -> ([Option<u32>; 2], &[u8], [bool; 2]) {
+    let mut reader = Reader::new(bytes);
+    let first = reader.word();
+    let at_end = reader.is_at_end();
+    let rest = reader.rest();
+    let second = reader.word();
+    ([first, second], rest, [at_end, reader.is_at_end()])
+}
+
 #[test]
 fn what_stands_behind_an_item_is_left(rt: HostRuntime) {
-    let mut reader = Reader::new(&[0, 0, 0, 9, 128, 0, 0, 7]);
-    let (first, at_end, rest) = (reader.word(), reader.is_at_end(), reader.rest());
-    assert_eq!(rt;
-        (first, at_end, rest, reader.word(), reader.is_at_end()),
-        (
-            Some(9),
-            false,
+    let found = two_words(&[0, 0, 0, 9, 128, 0, 0, 7]);
+    wants(
+        &rt,
+        &found,
+        &(
+            [Some(9), Some(0x8000_0007)],
             [128, 0, 0, 7].as_slice(),
-            Some(0x8000_0007),
-            true
-        )
+            [false, true],
+        ),
     );
+}
+
+// Two numbers, of which the first is replaced, and how long they were before.
+fn replaced(alloc: Global) -> Result<(Vec<u8>, usize), AllocError> {
+    let mut writer = Writer::with_capacity(alloc, 0)?;
+    write_all(&mut writer, &[Item::Word(0), Item::Word(7)])?;
+    let length = writer.len();
+    if length >= 4 {
+        writer.replace_first(0x8000_0004);
+    }
+    Ok((writer.into_bytes(), length))
 }
 
 #[test]
 fn the_first_number_is_replaced(rt: HostRuntime) -> Result<(), Fail> {
-    let mut writer = Writer::with_capacity(rt.alloc(), 0)?;
-    writer.word(0)?;
-    writer.word(7)?;
-    assert_eq!(rt; writer.len(), 8);
-    writer.replace_first(0x8000_0004);
-    assert_eq!(rt;
-        writer.into_bytes().as_slice(),
-        [128, 0, 0, 4, 0, 0, 0, 7].as_slice()
+    let (written, length) = replaced(rt.alloc())?;
+    wants(
+        &rt,
+        &(written.as_slice(), length),
+        &([128, 0, 0, 4, 0, 0, 0, 7].as_slice(), 8),
     );
     Ok(())
 }

@@ -5,11 +5,13 @@ mod examples;
 mod faults;
 mod rows;
 mod services;
+mod steps;
 mod streams;
 
 use crate::run;
 use journal_command::LINE_BYTES;
 use std::alloc::{AllocError, Global};
+use std::fmt::Debug;
 use std::fs::{File, Files};
 use std::net::{Net, TcpListener, TcpStream};
 use std::process::Abort;
@@ -45,24 +47,55 @@ fn run_with<
         + Threads
         + Wait
         + Sync,
->(rt: &H, alloc: Global, words: &[&str], mut input: &[u8]) -> Result<Run, AllocError> {
+>(rt: &H, alloc: Global, words: &[&str], input: &[u8]) -> Result<Run, AllocError> {
     let words = words_of(alloc, words)?;
+    Ok(run_words(rt, alloc, &words, input))
+}
+
+fn run_words<
+    H: Files<File = File>
+        + Net<Listener = TcpListener, Stream = TcpStream>
+        + Clock
+        + Threads
+        + Wait
+        + Sync,
+>(rt: &H, alloc: Global, words: &[String], mut input: &[u8]) -> Run {
     let mut output = Vec::new(alloc);
     let mut faults = Vec::new(alloc);
-    let status = run(rt, alloc, &words, &mut input, &mut output, &mut faults);
-    Ok(Run {
+    let status = run(rt, alloc, words, &mut input, &mut output, &mut faults);
+    Run {
         status,
         output,
         faults,
-    })
+    }
+}
+
+/// Wants the two to be equal. An assertion is dear to prove wherever it stands, so almost all are made here.
+fn wants<T: PartialEq + Debug>(rt: &impl Abort, found: &T, wanted: &T) {
+    assert_eq!(rt; found, wanted);
+}
+
+/// The same at one of several places, which the message tells.
+fn wants_at<T: PartialEq + Debug, P: Debug>(rt: &impl Abort, place: &P, found: &T, wanted: &T) {
+    assert_eq!(rt; found, wanted, "at {place:?}");
+}
+
+/// Wants that the run printed this line, told these faults, and ended with this status.
+fn told_so(rt: &impl Abort, run: &Run, (line, faults, status): (&str, &str, u8)) {
+    wants(
+        rt,
+        &(run.output.as_slice(), run.faults.as_slice(), run.status),
+        &(line.as_bytes(), faults.as_bytes(), status),
+    );
 }
 
 /// Wants this output of the run, nothing said of faults, and that status.
-fn wants(rt: &impl Abort, run: &Run, script: &[u8], output: &[u8], status: u8) {
-    assert_eq!(rt;
-        (run.output.as_slice(), run.faults.len(), run.status),
-        (output, 0, status),
-        "at {script:?}"
+fn prints(rt: &impl Abort, run: &Run, script: &[u8], output: &[u8], status: u8) {
+    wants_at(
+        rt,
+        &script,
+        &(run.output.as_slice(), run.faults.len(), run.status),
+        &(output, 0, status),
     );
 }
 
@@ -97,7 +130,7 @@ fn check_on<
     status: u8,
 ) -> Result<(), Fail> {
     let run = run_with(rt, alloc, &["script", blocks], script)?;
-    wants(rt, &run, script, output, status);
+    prints(rt, &run, script, output, status);
     Ok(())
 }
 
@@ -278,7 +311,7 @@ fn around_longest(alloc: Global, longest: &[u8]) -> Result<Vec<u8>, AllocError> 
 #[test]
 fn longer_lines_are_bad(rt: HostRuntime) -> Result<(), Fail> {
     let longest = longest_line(rt.alloc())?;
-    assert_eq!(&rt; longest.len(), LINE_BYTES);
+    wants(&rt, &longest.len(), &LINE_BYTES);
     let script = around_longest(rt.alloc(), &longest)?;
     let answers = b"ok\ncommitted 1\nbad line\nno transaction\nbad line\n= 00*4096\nok\n";
     check(&rt, rt.alloc(), &script, answers, 2)
@@ -286,10 +319,11 @@ fn longer_lines_are_bad(rt: HostRuntime) -> Result<(), Fail> {
 
 /// Wants that of a run of these words on no lines.
 fn says(rt: &impl Abort, run: &Run, words: &[&str], faults: &str, status: u8) {
-    assert_eq!(rt;
-        (run.faults.as_slice(), run.output.len(), run.status),
-        (faults.as_bytes(), 0, status),
-        "at {words:?}"
+    wants_at(
+        rt,
+        &words,
+        &(run.faults.as_slice(), run.output.len(), run.status),
+        &(faults.as_bytes(), 0, status),
     );
 }
 
@@ -368,23 +402,25 @@ const ANSWERS: &[u8] = b"ok\n= 01*128\ncommitted 1\nbad line\n= 01*128\nrefused 
 
 /// What a run ends with whose input or output fails, and one whose lines are all answered.
 fn ended(rt: &impl Abort, status: u8, faults: &[u8], fault: Option<&str>, at: usize) {
-    let wanted = match fault {
-        Some(_) => 1,
-        None => 2,
+    let (wanted, text) = match fault {
+        Some(text) => (1, text),
+        None => (2, ""),
     };
-    assert_eq!(rt;
-        (status, faults),
-        (wanted, fault.unwrap_or("").as_bytes()),
-        "at {at}"
-    );
+    wants_at(rt, &at, &(status, faults), &(wanted, text.as_bytes()));
 }
 
 /// What a run printed: all, unless its input or output failed.
 fn printed(rt: &impl Abort, output: &[u8], has_failed: bool, at: usize) {
-    assert!(rt;
-        ANSWERS.starts_with(output) && (has_failed || output.len() == ANSWERS.len()),
-        "at {at}"
-    );
+    wants_at(rt, &at, &is_printed(output, has_failed), &true);
+}
+
+fn is_printed(output: &[u8], has_failed: bool) -> bool {
+    ANSWERS.starts_with(output) && (has_failed || output.len() == ANSWERS.len())
+}
+
+/// Whether the last line is whole.
+fn is_of_lines(output: &[u8]) -> bool {
+    output.is_empty() || output.ends_with(b"\n")
 }
 
 /// A run whose input fails once it was read so often; whether it did.
@@ -404,7 +440,7 @@ fn fails_to_read<
     let fault = input.has_failed().then_some("cannot read standard input\n");
     ended(rt, status, &faults, fault, reads);
     printed(rt, &output, input.has_failed(), reads);
-    assert!(rt; output.is_empty() || output.ends_with(b"\n"), "at {reads}");
+    wants_at(rt, &reads, &is_of_lines(&output), &true);
     input.has_failed()
 }
 
@@ -415,7 +451,7 @@ fn a_failing_read_ends_the_run(rt: HostRuntime) -> Result<(), Fail> {
     for reads in 0..20 {
         some_whole = !fails_to_read(&rt, rt.alloc(), &words, reads) || some_whole;
     }
-    assert!(&rt; some_whole);
+    wants(&rt, &some_whole, &true);
     Ok(())
 }
 
@@ -448,6 +484,6 @@ fn a_failing_write_ends_the_run(rt: HostRuntime) -> Result<(), Fail> {
     for writes in 0..40 {
         some_whole = !fails_to_write(&rt, rt.alloc(), &words, writes) || some_whole;
     }
-    assert!(&rt; some_whole);
+    wants(&rt, &some_whole, &true);
     Ok(())
 }

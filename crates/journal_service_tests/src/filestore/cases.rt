@@ -1,5 +1,5 @@
 // Each case of each operation, on a disk with room for more than one file.
-use crate::stores::on_new_disk;
+use crate::asserts::tells;
 use crate::stories::{Errand, Story};
 use std::test::*;
 
@@ -53,6 +53,5 @@ COMMIT FILE 0 0 0 = DONE 0 1 0 3 9 0 9 0 1 LOOKS 0 3 USED AT_9 VERIFIER
 
 #[test]
 fn each_case_is_answered(rt: HostRuntime) {
-    let story = Story::Beside(Errand::Table(CASES));
-    assert_eq!(rt; on_new_disk(&rt, rt.alloc(), 600, &story), Ok(()));
+    tells(&rt, rt.alloc(), 600, &Story::Beside(Errand::Table(CASES)));
 }

@@ -2,6 +2,7 @@
 ghost use Rattle.std.specs.Prelude.{◌≡◌};
 ghost use Rattle.journal_disk.specs.Disks.{IsSettled};
 
+use crate::asserts::wants;
 use crate::stores::{Told, Wrong, on_formatted};
 use crate::stories::Story;
 use crate::watched_disk::{Watch, WatchedDisk};
@@ -50,5 +51,5 @@ fn a_mount_reads_each_block_once(rt: HostRuntime) {
         Err(wrong) => Err(wrong),
     };
     let reads = watch.reads.load(Ordering::SeqCst);
-    assert_eq!(rt; (told, reads), (Ok(()), 2 + 1 + 16 + 1));
+    wants(&rt, &(told, reads), &(Ok(()), 2 + 1 + 16 + 1));
 }

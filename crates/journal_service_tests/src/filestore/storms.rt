@@ -1,13 +1,14 @@
 // Threads with files of their own.
+use crate::asserts::wants;
 use crate::calls::{bytes_of, reply};
-use crate::stores::{Client, Files, Told, Wrong, in_turn};
+use crate::stores::{Client, Files, Told, Wrong, in_turn, session_of};
 use crate::stories::{Errand, Story};
 use journal_history::Naming;
 use journal_world::Moment;
-use std::alloc::Global;
+use std::alloc::{AllocError, Global};
 use std::sync::Wait;
 use std::test::*;
-use std::thread::{Threads, join, yield_now};
+use std::thread::{Threads, map_indices, yield_now};
 
 const AT: Moment = Moment { secs: 1, nanos: 0 };
 
@@ -26,14 +27,35 @@ fn status<'b, J: Naming, W: Wait>(
     n: u32,
 ) -> Result<u32, Wrong> {
     let record = bytes_of(alloc, call, n)?;
+    repeat(rt, alloc, files, session, &record)
+}
+
+fn repeat<'b, J: Naming, W: Wait>(
+    rt: &W,
+    alloc: Global,
+    files: &Files<'b, J>,
+    session: &mut Client<'b, J>,
+    record: &[u8],
+) -> Result<u32, Wrong> {
     for _ in 0..100_000 {
-        let told = status_of(&reply(rt, alloc, files, session, AT, &record)?);
+        let told = status_once(rt, alloc, files, session, record)?;
         if told != JUKEBOX {
             return Ok(told);
         }
         yield_now();
     }
     Ok(JUKEBOX)
+}
+
+fn status_once<'b, J: Naming, W: Wait>(
+    rt: &W,
+    alloc: Global,
+    files: &Files<'b, J>,
+    session: &mut Client<'b, J>,
+    record: &[u8],
+) -> Result<u32, Wrong> {
+    let reply = reply(rt, alloc, files, session, AT, record)?;
+    Ok(status_of(&reply))
 }
 
 // The first word of the results.
@@ -45,6 +67,8 @@ fn status_of(reply: &[u8]) -> u32 {
 }
 
 // Files that come and go: each is made, written and removed in its N-th life.
+const LIVES: [&str; 4] = [FIRST, SECOND, THIRD, FOURTH];
+
 const FIRST: &str = "CREATE ROOT 4 0x66303032 1 NOTHING
 WRITE 12 0x4a4e4c31 2 N 0 9 4 0 4 0x64617461
 REMOVE ROOT 4 0x66303032";
@@ -66,12 +90,11 @@ fn comes_and_goes<'b, J: Naming, W: Wait>(
     rt: &W,
     alloc: Global,
     files: &Files<'b, J>,
-    calls: &str,
+    number: usize,
 ) -> Told {
-    match files.journal().session(rt) {
-        Ok(mut session) => lives(rt, alloc, files, &mut session, calls),
-        Err(_) => Err(Wrong::Refused),
-    }
+    let calls = *LIVES.get(number).ok_or(Wrong::Table)?;
+    let mut session = session_of(rt, files)?;
+    lives(rt, alloc, files, &mut session, calls)
 }
 
 fn lives<'b, J: Naming, W: Wait>(
@@ -96,25 +119,9 @@ fn in_four_threads<'b, J: Naming + Send + Sync, H: Threads + Wait + Sync>(
     rt: &H,
     alloc: Global,
     files: &Files<'b, J>,
-) -> [Told; 4] {
-    let ((first, second), (third, fourth)) = join(
-        rt,
-        || {
-            join(
-                rt,
-                || comes_and_goes(rt, alloc, files, FIRST),
-                || comes_and_goes(rt, alloc, files, SECOND),
-            )
-        },
-        || {
-            join(
-                rt,
-                || comes_and_goes(rt, alloc, files, THIRD),
-                || comes_and_goes(rt, alloc, files, FOURTH),
-            )
-        },
-    );
-    [first, second, third, fourth]
+) -> Result<Vec<Told>, AllocError> {
+    let comes = |number: usize| -> Told { comes_and_goes(rt, alloc, files, number) };
+    map_indices(rt, alloc, LIVES.len(), &comes)
 }
 
 pub(crate) fn storm<'b, J: Naming + Send + Sync, H: Threads + Wait + Sync>(
@@ -122,8 +129,15 @@ pub(crate) fn storm<'b, J: Naming + Send + Sync, H: Threads + Wait + Sync>(
     alloc: Global,
     files: &Files<'b, J>,
 ) -> Told {
-    let [first, second, third, fourth] = in_four_threads(rt, alloc, files);
-    first.and(second).and(third).and(fourth)
+    let told = in_four_threads(rt, alloc, files)?;
+    first_wrong(&told)
+}
+
+fn first_wrong(told: &[Told]) -> Told {
+    for one in told {
+        (*one)?;
+    }
+    Ok(())
 }
 
 // Makes files, each under the name of the next number, until that is refused: how many there were, and the status. A file
@@ -150,10 +164,11 @@ pub(crate) fn fill_all<'b, J: Naming, W: Wait>(
     alloc: Global,
     files: &Files<'b, J>,
 ) -> Told {
-    let (made, status) = match files.journal().session(rt) {
-        Ok(mut session) => fill(rt, alloc, files, &mut session)?,
-        Err(_) => return Err(Wrong::Refused),
-    };
+    let mut session = session_of(rt, files)?;
+    judge(fill(rt, alloc, files, &mut session)?)
+}
+
+fn judge((made, status): (usize, u32)) -> Told {
     if made == 69 && status == NO_SPACE {
         Ok(())
     } else {
@@ -165,5 +180,6 @@ pub(crate) fn fill_all<'b, J: Naming, W: Wait>(
 #[test]
 fn four_threads_leave_no_file_and_no_block(rt: HostRuntime) {
     let (first, second) = (Story::Beside(Errand::Storm), Story::Beside(Errand::Fill));
-    assert_eq!(rt; in_turn(&rt, rt.alloc(), 600, &first, &second), Ok(()));
+    let told = in_turn(&rt, rt.alloc(), 600, &first, &second);
+    wants(&rt, &told, &Ok(()));
 }

@@ -3,8 +3,9 @@ ghost use Rattle.std.specs.Prelude.{◌≡◌, ◌≤◌};
 ghost use Rattle.journal_world.specs.declared.layout.TheConstants.{MIN_BLOCKS, MAX_BLOCKS};
 ghost use Rattle.journal_disk.specs.Disks.{IsSettled};
 
-use crate::calls::ask;
-use crate::stores::{Client, Told, Wrong, has_moved, keeps, on_formatted};
+use crate::asserts::wants;
+use crate::calls::ask_to_the_end;
+use crate::stores::{Client, Told, Wrong, has_moved, keeps, on_formatted, session_of};
 use crate::stories::{Errand, Story};
 use crate::watched_disk::{Watch, WatchedDisk, reaches};
 use journal_disk::MemDisk;
@@ -87,14 +88,25 @@ fn take_turns<'w, 'b, J: Naming, W: Wait>(
         if !reaches(&watch.taken_reads, turn) {
             return Err(Wrong::At(turn as usize));
         }
-        let mut txn = files.journal().begin(alloc, session);
-        let is_taken = takes(rt, &mut txn, watch, contest);
-        txn.abort(rt);
-        if !is_taken {
+        if !takes_turn(rt, alloc, files, session, watch, contest) {
             return Err(Wrong::Refused);
         }
     }
     Ok(())
+}
+
+fn takes_turn<'w, 'b, J: Naming, W: Wait>(
+    rt: &W,
+    alloc: Global,
+    files: &Watched<'w, 'b, J>,
+    session: &mut Client<'b, J>,
+    watch: &Watch,
+    contest: &Contest,
+) -> bool {
+    let mut txn = files.journal().begin(alloc, session);
+    let is_taken = takes(rt, &mut txn, watch, contest);
+    txn.abort(rt);
+    is_taken
 }
 
 // Takes the address, and holds it until the next attempt was given up, which until then holds the slot of `before`.
@@ -116,13 +128,22 @@ fn holds<'j, 'w, 'b, J: Naming, W: Wait>(
     addr: Addr,
 ) -> bool {
     match addr.block {
-        514 => txn.overwrite(rt, addr, &[0]).is_ok(),
-        515 => txn.overwrite(rt, addr, &[0; 128]).is_ok(),
-        _ => txn.overwrite(rt, addr, &[0; 4096]).is_ok(),
+        514 => overwrites(rt, txn, addr, &[0]),
+        515 => overwrites(rt, txn, addr, &[0; 128]),
+        _ => overwrites(rt, txn, addr, &[0; 4096]),
     }
 }
 
-// Makes the calls beside the other thread, and beside who keeps the log.
+fn overwrites<'j, 'w, 'b, J: Naming, W: Wait>(
+    rt: &W,
+    txn: &mut Txn<'j, 'b, WatchedDisk<'w>, SoundFiles, J>,
+    addr: Addr,
+    bytes: &[u8],
+) -> bool {
+    txn.overwrite(rt, addr, bytes).is_ok()
+}
+
+// Makes the calls beside the other thread, which keeps the log once it has taken the address in turns.
 fn compete<'w, 'b, J: Naming + Send + Sync, H: Threads + Wait + Sync>(
     rt: &H,
     alloc: Global,
@@ -132,20 +153,26 @@ fn compete<'w, 'b, J: Naming + Send + Sync, H: Threads + Wait + Sync>(
     contest: &Contest,
 ) -> Told {
     let done = AtomicBool::new(false);
-    let ((told, took), ()) = join(
+    let (told, took) = join(
         rt,
-        || {
-            let both = join(
-                rt,
-                || ask(rt, alloc, files, contest.calls),
-                || take_turns(rt, alloc, files, session, watch, contest),
-            );
-            done.store(true, Ordering::SeqCst);
-            both
-        },
-        || keeps(rt, files, &done),
+        || ask_to_the_end(rt, alloc, files, contest.calls, &done),
+        || take_turns_and_keep(rt, alloc, files, session, watch, contest, &done),
     );
     told.and(took)
+}
+
+fn take_turns_and_keep<'w, 'b, J: Naming, W: Wait>(
+    rt: &W,
+    alloc: Global,
+    files: &Watched<'w, 'b, J>,
+    session: &mut Client<'b, J>,
+    watch: &Watch,
+    contest: &Contest,
+    done: &AtomicBool,
+) -> Told {
+    let took = take_turns(rt, alloc, files, session, watch, contest);
+    keeps(rt, files, done);
+    took
 }
 
 // Brings home all that was logged, so that what is read comes from the disk, and then makes the calls. The other thread's
@@ -157,15 +184,17 @@ fn contend<'w, 'b, J: Naming + Send + Sync, H: Threads + Wait + Sync>(
     watch: &Watch,
     contest: &Contest,
 ) -> Told {
+    bring_home(rt, files);
+    watch.is_on.store(true, Ordering::SeqCst);
+    let mut session = session_of(rt, files)?;
+    compete(rt, alloc, files, &mut session, watch, contest)
+}
+
+fn bring_home<'w, 'b, J: Naming, W: Wait>(rt: &W, files: &Watched<'w, 'b, J>) {
     for _ in 0..1000 {
         if !has_moved(files.journal().install_step(rt)) {
-            break;
+            return;
         }
-    }
-    watch.is_on.store(true, Ordering::SeqCst);
-    match files.journal().session(rt) {
-        Ok(mut session) => compete(rt, alloc, files, &mut session, watch, contest),
-        Err(_) => Err(Wrong::Refused),
     }
 }
 
@@ -241,7 +270,8 @@ fn a_ninth_attempt_is_answered(rt: HostRuntime) {
         taken: SECOND_BLOCK,
         turns: 8,
     };
-    assert_eq!(rt; run(&rt, rt.alloc(), 600, &contest), (Ok(()), 9, 9));
+    let told = run(&rt, rt.alloc(), 600, &contest);
+    wants(&rt, &told, &(Ok(()), 9, 9));
 }
 
 // It is taken for nine, and there is no tenth.
@@ -254,7 +284,8 @@ fn nine_attempts_end_by_jukebox(rt: HostRuntime) {
         taken: SECOND_BLOCK,
         turns: 9,
     };
-    assert_eq!(rt; run(&rt, rt.alloc(), 600, &contest), (Ok(()), 9, 8));
+    let told = run(&rt, rt.alloc(), 600, &contest);
+    wants(&rt, &told, &(Ok(()), 9, 8));
 }
 
 // An attempt is handed the only block, and finds its bit taken. The next one is handed it again.
@@ -268,5 +299,5 @@ fn what_an_attempt_took_comes_back(rt: HostRuntime) {
         turns: 1,
     };
     let (told, ..) = run(&rt, rt.alloc(), 532, &contest);
-    assert_eq!(rt; told, Ok(()));
+    wants(&rt, &told, &Ok(()));
 }

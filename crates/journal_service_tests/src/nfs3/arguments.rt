@@ -1,5 +1,5 @@
 // What is read as a procedure's arguments, what it is answered by, and what is refused.
-use crate::stores::on_new_disk;
+use crate::asserts::tells;
 use crate::stories::{Errand, Story};
 use std::test::*;
 
@@ -28,14 +28,12 @@ REMOVE ROOT f002 = DONE 0 1 ROOT_WAS 1 ROOT_LOOKS
 
 #[test]
 fn each_procedure_has_its_reply(rt: HostRuntime) {
-    let story = Story::Beside(Errand::Table(CALLS));
-    assert_eq!(rt; on_new_disk(&rt, rt.alloc(), 532, &story), Ok(()));
+    tells(&rt, rt.alloc(), 532, &Story::Beside(Errand::Table(CALLS)));
 }
 
 #[test]
 fn arguments_cut_short_or_with_more_behind(rt: HostRuntime) {
-    let story = Story::Cut(CALLS);
-    assert_eq!(rt; on_new_disk(&rt, rt.alloc(), 532, &story), Ok(()));
+    tells(&rt, rt.alloc(), 532, &Story::Cut(CALLS));
 }
 
 // Padding that is no zero, of a name and of data; a boolean that is 2; numbers that are not listed, of how a time is set, how
@@ -54,8 +52,7 @@ REMOVE ROOT 5 0x66303032 = GARBAGE
 
 #[test]
 fn arguments_that_no_value_is_spelled_as(rt: HostRuntime) {
-    let story = Story::Table(NO_ARGUMENTS);
-    assert_eq!(rt; on_new_disk(&rt, rt.alloc(), 532, &story), Ok(()));
+    tells(&rt, rt.alloc(), 532, &Story::Table(NO_ARGUMENTS));
 }
 
 // An inode without a file is stale; what names no inode, begins with another mark or has another length is no handle.
@@ -74,6 +71,5 @@ GETATTR 0 = DONE 10001
 
 #[test]
 fn handles_that_name_no_inode(rt: HostRuntime) {
-    let story = Story::Table(HANDLES);
-    assert_eq!(rt; on_new_disk(&rt, rt.alloc(), 532, &story), Ok(()));
+    tells(&rt, rt.alloc(), 532, &Story::Table(HANDLES));
 }

@@ -1,5 +1,5 @@
 // Calls that are answered by their headers, as RFC 5531 says.
-use crate::stores::on_new_disk;
+use crate::asserts::tells;
 use crate::stories::Story;
 use std::test::*;
 
@@ -19,8 +19,7 @@ NULL = DONE
 
 #[test]
 fn the_answer_to_each_header(rt: HostRuntime) {
-    let story = Story::Table(HEADERS);
-    assert_eq!(rt; on_new_disk(&rt, rt.alloc(), 532, &story), Ok(()));
+    tells(&rt, rt.alloc(), 532, &Story::Table(HEADERS));
 }
 
 const NOT_SERVED: &str = "
@@ -37,6 +36,5 @@ const NOT_SERVED: &str = "
 
 #[test]
 fn procedures_that_are_not_served(rt: HostRuntime) {
-    let story = Story::Table(NOT_SERVED);
-    assert_eq!(rt; on_new_disk(&rt, rt.alloc(), 532, &story), Ok(()));
+    tells(&rt, rt.alloc(), 532, &Story::Table(NOT_SERVED));
 }

@@ -1,5 +1,5 @@
 // The life of a file, on a disk that has room for one.
-use crate::stores::on_new_disk;
+use crate::asserts::tells;
 use crate::stories::{Errand, Story};
 use std::test::*;
 
@@ -19,8 +19,7 @@ GETATTR FILE = DONE 70
 
 #[test]
 fn a_file_is_made_written_read_and_removed(rt: HostRuntime) {
-    let story = Story::Beside(Errand::Table(LIFE));
-    assert_eq!(rt; on_new_disk(&rt, rt.alloc(), 532, &story), Ok(()));
+    tells(&rt, rt.alloc(), 532, &Story::Beside(Errand::Table(LIFE)));
 }
 
 // Of two files of a number, the handle of the first names nothing, and the second has another one.
@@ -38,6 +37,5 @@ GETATTR AGAIN = DONE 0 LOOKS 0 0 USED AT_9
 
 #[test]
 fn a_number_comes_back_with_another_generation(rt: HostRuntime) {
-    let story = Story::Beside(Errand::Table(LIVES));
-    assert_eq!(rt; on_new_disk(&rt, rt.alloc(), 532, &story), Ok(()));
+    tells(&rt, rt.alloc(), 532, &Story::Beside(Errand::Table(LIVES)));
 }

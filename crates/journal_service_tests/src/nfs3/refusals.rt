@@ -1,6 +1,7 @@
 // What is answered where the journal refuses: nothing behind the status, one absent part, or two.
+use crate::asserts::tells;
 use crate::calls::ask;
-use crate::stores::{Client, Files, Told, Wrong, beside, on_new_disk};
+use crate::stores::{Client, Files, Told, Wrong, beside, session_of};
 use crate::stories::{Errand, Story};
 use journal_disk::MemDisk;
 use journal_history::Naming;
@@ -74,10 +75,8 @@ fn call_held<'b, J: Naming, W: Wait>(
     files: &Files<'b, J>,
     table: &str,
 ) -> Told {
-    match files.journal().session(rt) {
-        Ok(mut session) => hold(rt, alloc, files, &mut session, table),
-        Err(_) => Err(Wrong::Refused),
-    }
+    let mut session = session_of(rt, files)?;
+    hold(rt, alloc, files, &mut session, table)
 }
 
 fn hold<'b, J: Naming, W: Wait>(
@@ -104,8 +103,7 @@ fn takes<'j, 'b, J: Naming, W: Wait>(
 
 #[test]
 fn replies_of_what_is_refused(rt: HostRuntime) {
-    let held = on_new_disk(&rt, rt.alloc(), 532, &Story::While(Cause::Slot, HELD));
-    let failed = on_new_disk(&rt, rt.alloc(), 532, &Story::While(Cause::Device, FAILED));
-    let stopped = on_new_disk(&rt, rt.alloc(), 532, &Story::While(Cause::Stop, STOPPED));
-    assert_eq!(rt; (held, failed, stopped), (Ok(()), Ok(()), Ok(())));
+    tells(&rt, rt.alloc(), 532, &Story::While(Cause::Slot, HELD));
+    tells(&rt, rt.alloc(), 532, &Story::While(Cause::Device, FAILED));
+    tells(&rt, rt.alloc(), 532, &Story::While(Cause::Stop, STOPPED));
 }

@@ -1,5 +1,5 @@
 // Each status that a single caller can be answered, once for each procedure, on a disk with room for one file.
-use crate::stores::on_new_disk;
+use crate::asserts::tells;
 use crate::stories::{Errand, Story};
 use std::test::*;
 
@@ -61,6 +61,10 @@ GETATTR FILE = DONE 70
 
 #[test]
 fn each_procedure_has_each_status(rt: HostRuntime) {
-    let story = Story::Beside(Errand::Table(STATUSES));
-    assert_eq!(rt; on_new_disk(&rt, rt.alloc(), 532, &story), Ok(()));
+    tells(
+        &rt,
+        rt.alloc(),
+        532,
+        &Story::Beside(Errand::Table(STATUSES)),
+    );
 }

@@ -3,17 +3,18 @@ ghost use Rattle.std.specs.Prelude.{◌≡◌, ◌≤◌};
 ghost use Rattle.journal_world.specs.declared.layout.TheConstants.{MIN_BLOCKS, MAX_BLOCKS};
 ghost use Rattle.journal_disk.specs.Disks.{IsSettled};
 
-use crate::calls::ask;
-use crate::stores::{Told, Wrong, keeps};
+use crate::asserts::wants;
+use crate::calls::ask_to_the_end;
+use crate::stores::{Told, Wrong, formatted, keeps};
 use journal_disk::MemDisk;
 use journal_filestore::FileStore;
 use journal_history::{Book, Naming};
-use journal_inode::{FormatVersion, SoundFiles, VersionTwo, format};
+use journal_inode::{FormatVersion, SoundFiles, VersionTwo};
 use journal_world::Moment;
 use std::alloc::Global;
 use std::marker::Brand;
 use std::sync::Wait;
-use std::sync::atomic::{AtomicBool, Ordering};
+use std::sync::atomic::AtomicBool;
 use std::test::*;
 use std::thread::{Threads, join};
 
@@ -63,21 +64,9 @@ fn ask_beside<'b, J: Naming + Send + Sync, H: Threads + Wait + Sync>(
     let done = AtomicBool::new(false);
     let (told, ()) = join(
         rt,
-        || ask_to_the_end(rt, alloc, files, table, &done),
+        || ask_to_the_end(rt, alloc, files, table.lines(), &done),
         || keeps(rt, files, &done),
     );
-    told
-}
-
-fn ask_to_the_end<'b, J: Naming, W: Wait>(
-    rt: &W,
-    alloc: Global,
-    files: &Files<'b, J>,
-    table: Table,
-    done: &AtomicBool,
-) -> Told {
-    let told = ask(rt, alloc, files, table.lines());
-    done.store(true, Ordering::SeqCst);
     told
 }
 
@@ -85,13 +74,8 @@ fn ask_to_the_end<'b, J: Naming, W: Wait>(
 fn on_new_disk<H: Threads + Wait + Sync>(rt: &H, alloc: Global, blocks: u64, table: Table) -> Told
     requires { (MIN_BLOCKS ≤ blocks) × (blocks ≤ MAX_BLOCKS) }
 {
-    let Ok(disk) = MemDisk::new::<()>(alloc, blocks) else {
-        return Err(Wrong::Memory);
-    };
     let at = Moment { secs: 0, nanos: 0 };
-    let Ok(disk) = format(alloc, disk, at, FormatVersion::Two) else {
-        return Err(Wrong::Refused);
-    };
+    let disk = formatted(alloc, blocks, at, FormatVersion::Two)?;
     match Book::<SoundFiles<VersionTwo>>::open::<()>() {
         Ok(book) => tell::<Brand, _>(rt, alloc, &book, disk, table),
         Err(_) => Err(Wrong::Refused),
@@ -119,7 +103,8 @@ CREATE ROOT f511 0 0 0 0 1 0 8192 0 0 = DONE 0 1 12 0x4a4e4c31 511 1 1 LOOKS 0 8
 
 #[test]
 fn no_space_is_told_of_a_further_block(rt: HostRuntime) {
-    assert_eq!(rt; on_new_disk(&rt, rt.alloc(), 536, Table::Space), Ok(()));
+    let told = on_new_disk(&rt, rt.alloc(), 536, Table::Space);
+    wants(&rt, &told, &Ok(()));
 }
 
 // A file has twelve blocks, and no byte more. 8192 bytes are read of it at once.
@@ -136,5 +121,6 @@ READ FILE 0 49148 8192 = DONE 0 1 LOOKS 0 49152 0 49152 0 0 0 1 0 2 AT_6 4 1 4 0
 
 #[test]
 fn a_file_of_twelve_blocks_is_told_whole(rt: HostRuntime) {
-    assert_eq!(rt; on_new_disk(&rt, rt.alloc(), 543, Table::Most), Ok(()));
+    let told = on_new_disk(&rt, rt.alloc(), 543, Table::Most);
+    wants(&rt, &told, &Ok(()));
 }

@@ -1,12 +1,14 @@
 // Sessions that are fenced at the end of a connection.
 use super::peers::{Still, calls_of};
+use super::serving::serve_as;
 use super::streams::{Dripping, Narrow};
-use crate::calls::{VERIFIER, bytes_of};
-use crate::stores::{Client, Files, Told, Wrong, on_new_disk};
+use crate::asserts::tells;
+use crate::calls::bytes_of;
+use crate::stores::{Client, Files, Told, Wrong, commits, session_of};
 use crate::stories::Story;
 use journal_daemon::OpenGate;
 use journal_history::Naming;
-use journal_server::{ConnFault, End, Outcome, Served, serve};
+use journal_server::{ConnFault, End, Outcome, Served};
 use std::alloc::Global;
 use std::sync::Wait;
 use std::test::*;
@@ -33,13 +35,19 @@ pub(crate) fn create_behind<'b, J: Naming, W: Wait>(
     files: &Files<'b, J>,
     before: Before,
 ) -> Told {
-    match files.journal().session(rt) {
-        Ok(mut session) => {
-            let fenced = begin(rt, alloc, files, &mut session, before)?;
-            refuse(rt, alloc, files, &mut session, fenced)
-        }
-        Err(_) => Err(Wrong::Refused),
-    }
+    let mut session = session_of(rt, files)?;
+    create_in(rt, alloc, files, &mut session, before)
+}
+
+fn create_in<'b, J: Naming, W: Wait>(
+    rt: &W,
+    alloc: Global,
+    files: &Files<'b, J>,
+    session: &mut Client<'b, J>,
+    before: Before,
+) -> Told {
+    let fenced = begin(rt, alloc, files, session, before)?;
+    refuse(rt, alloc, files, session, fenced)
 }
 
 // Whether the session is fenced then.
@@ -51,21 +59,28 @@ fn begin<'b, J: Naming, W: Wait>(
     before: Before,
 ) -> Result<bool, Wrong> {
     match before {
-        Before::Connection { fails } => {
-            let call = calls_of(alloc, 1)?;
-            let mut reader = Dripping::new(&call, 9999, fails);
-            let mut writer = Narrow::new(alloc, 9999, 9999);
-            let outcome = serve_one(rt, alloc, files, session, &mut reader, &mut writer);
-            if outcome == ended(fails, true) {
-                Ok(true)
-            } else {
-                Err(Wrong::At(0))
-            }
-        }
+        Before::Connection { fails } => call_first(rt, alloc, files, session, fails),
         Before::Stop => {
             files.journal().stop(rt);
             Ok(false)
         }
+    }
+}
+
+fn call_first<'b, J: Naming, W: Wait>(
+    rt: &W,
+    alloc: Global,
+    files: &Files<'b, J>,
+    session: &mut Client<'b, J>,
+    fails: bool,
+) -> Result<bool, Wrong> {
+    let call = calls_of(alloc, 1)?;
+    let mut writer = Narrow::new(alloc, 9999, 9999);
+    let outcome = serve_one(rt, alloc, files, session, &call, fails, &mut writer);
+    if outcome == ended(fails, true) {
+        Ok(true)
+    } else {
+        Err(Wrong::At(0))
     }
 }
 
@@ -78,13 +93,16 @@ fn refuse<'b, J: Naming, W: Wait>(
 ) -> Told {
     let call = bytes_of(alloc, CREATE, 0)?;
     let wanted = bytes_of(alloc, REFUSED, 0)?;
-    let mut reader = Dripping::new(&call, 9999, false);
     let mut writer = Narrow::new(alloc, 9999, 9999);
-    let outcome = serve_one(rt, alloc, files, session, &mut reader, &mut writer);
-    if outcome != ended(false, fenced) {
-        return Err(Wrong::At(1));
-    }
-    if writer.taken.as_slice() == wanted.as_slice() && files.journal().stat(rt).commits == 0 {
+    let outcome = serve_one(rt, alloc, files, session, &call, false, &mut writer);
+    let is_refused = writer.taken.as_slice() == wanted.as_slice() && commits(rt, files) == 0;
+    judge(outcome == ended(false, fenced), is_refused)
+}
+
+fn judge(has_ended: bool, is_refused: bool) -> Told {
+    if !has_ended {
+        Err(Wrong::At(1))
+    } else if is_refused {
         Ok(())
     } else {
         Err(Wrong::Commits)
@@ -109,11 +127,21 @@ fn serve_one<'b, J: Naming, W: Wait>(
     alloc: Global,
     files: &Files<'b, J>,
     session: &mut Client<'b, J>,
-    reader: &mut Dripping<'_>,
+    input: &[u8],
+    fails: bool,
     writer: &mut Narrow,
 ) -> Outcome {
-    serve(
-        rt, alloc, reader, writer, files, session, &Still, VERIFIER, &OpenGate, 0,
+    let mut reader = Dripping::new(input, 9999, fails);
+    serve_as(
+        rt,
+        alloc,
+        &mut reader,
+        writer,
+        files,
+        session,
+        &Still,
+        &OpenGate,
+        0,
     )
 }
 
@@ -121,13 +149,16 @@ fn serve_one<'b, J: Naming, W: Wait>(
 #[test]
 fn a_session_ends_with_its_connection(rt: HostRuntime) {
     for fails in [false, true] {
-        let story = Story::Create(Before::Connection { fails });
-        assert_eq!(rt; on_new_disk(&rt, rt.alloc(), 532, &story), Ok(()));
+        tells(
+            &rt,
+            rt.alloc(),
+            532,
+            &Story::Create(Before::Connection { fails }),
+        );
     }
 }
 
 #[test]
 fn a_stopped_journal_fences_no_session(rt: HostRuntime) {
-    let story = Story::Create(Before::Stop);
-    assert_eq!(rt; on_new_disk(&rt, rt.alloc(), 532, &story), Ok(()));
+    tells(&rt, rt.alloc(), 532, &Story::Create(Before::Stop));
 }

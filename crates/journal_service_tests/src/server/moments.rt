@@ -1,11 +1,13 @@
 // Calls that come in one piece: each passes the gate under its number, and has a moment of its own.
 use super::peers::NotingGate;
+use super::serving::serve_as;
 use super::streams::{Dripping, Narrow};
-use crate::calls::{VERIFIER, ask, made_all, numbered};
-use crate::stores::{Client, Files, Told, Wrong, on_new_disk};
+use crate::asserts::tells;
+use crate::calls::{ask, made_all, numbered};
+use crate::stores::{Client, Files, Told, Wrong, commits, session_of};
 use crate::stories::{Errand, Story};
 use journal_history::Naming;
-use journal_server::{Clock, End, Outcome, Served, serve};
+use journal_server::{Clock, End, Outcome, Served};
 use journal_world::Moment;
 use std::alloc::Global;
 use std::sync::Wait;
@@ -34,6 +36,12 @@ const WROTE: [&str; 4] = [
     "0x800000a0 N 1 0 0 0 0 0 1 0 1 8 0 8 0 1 LOOKS 0 1 USED 9 0 9 0 9 0 1 0 VERIFIER",
 ];
 
+const ALL_ANSWERED: Outcome = Ok(Served {
+    answered: 4,
+    end: End::EndOfInput,
+    fenced: true,
+});
+
 // The number that the connection is served under.
 const NUMBER: u64 = 7;
 
@@ -59,17 +67,21 @@ pub(crate) fn write_in_one_piece<'b, J: Naming, W: Wait>(
     files: &Files<'b, J>,
 ) -> Told {
     ask(rt, alloc, files, MADE)?;
-    match files.journal().session(rt) {
-        Ok(mut session) => {
-            let before = files.journal().stat(rt).commits;
-            serve_writes(rt, alloc, files, &mut session)?;
-            made_all(before, &session, files.journal().stat(rt).commits)
-        }
-        Err(_) => Err(Wrong::Refused),
-    }
+    let mut session = session_of(rt, files)?;
+    write_alone(rt, alloc, files, &mut session)
 }
 
-// It goes wrong by the outcome, by the replies, or by who passed the gate.
+fn write_alone<'b, J: Naming, W: Wait>(
+    rt: &W,
+    alloc: Global,
+    files: &Files<'b, J>,
+    session: &mut Client<'b, J>,
+) -> Told {
+    let before = commits(rt, files);
+    serve_writes(rt, alloc, files, session)?;
+    made_all(before, session, commits(rt, files))
+}
+
 fn serve_writes<'b, J: Naming, W: Wait>(
     rt: &W,
     alloc: Global,
@@ -78,23 +90,33 @@ fn serve_writes<'b, J: Naming, W: Wait>(
 ) -> Told {
     let input = numbered(alloc, &WRITES)?;
     let wanted = numbered(alloc, &WROTE)?;
+    serve_bytes(rt, alloc, files, session, &input, &wanted)
+}
+
+// It goes wrong by the outcome, by the replies, or by who passed the gate.
+fn serve_bytes<'b, J: Naming, W: Wait>(
+    rt: &W,
+    alloc: Global,
+    files: &Files<'b, J>,
+    session: &mut Client<'b, J>,
+    input: &[u8],
+    wanted: &[u8],
+) -> Told {
     let mut writer = Narrow::new(alloc, 9999, 9999);
     let gate = NotingGate::new(alloc);
-    let outcome = serve_piece(rt, alloc, files, session, &input, &mut writer, &gate);
-    let (answered, end) = (4, End::EndOfInput);
-    if outcome
-        != Ok(Served {
-            answered,
-            end,
-            fenced: true,
-        })
-    {
+    let outcome = serve_piece(rt, alloc, files, session, input, &mut writer, &gate);
+    let has_passed = gate.has_noted(rt, &[(NUMBER, 0), (NUMBER, 1), (NUMBER, 2), (NUMBER, 3)]);
+    judge(outcome, writer.taken.as_slice() == wanted, has_passed)
+}
+
+fn judge(outcome: Outcome, has_written: bool, has_passed: bool) -> Told {
+    if outcome != ALL_ANSWERED {
         return Err(Wrong::At(0));
     }
-    if writer.taken.as_slice() != wanted.as_slice() {
+    if !has_written {
         return Err(Wrong::At(1));
     }
-    if gate.has_noted(rt, &[(NUMBER, 0), (NUMBER, 1), (NUMBER, 2), (NUMBER, 3)]) {
+    if has_passed {
         Ok(())
     } else {
         Err(Wrong::Passing)
@@ -114,7 +136,7 @@ fn serve_piece<'b, J: Naming, W: Wait>(
         secs: AtomicU32::new(6),
     };
     let mut reader = Dripping::new(input, 9999, false);
-    serve(
+    serve_as(
         rt,
         alloc,
         &mut reader,
@@ -122,7 +144,6 @@ fn serve_piece<'b, J: Naming, W: Wait>(
         files,
         session,
         &clock,
-        VERIFIER,
         gate,
         NUMBER,
     )
@@ -130,6 +151,5 @@ fn serve_piece<'b, J: Naming, W: Wait>(
 
 #[test]
 fn each_call_of_a_piece_has_its_moment(rt: HostRuntime) {
-    let story = Story::Beside(Errand::Moments);
-    assert_eq!(rt; on_new_disk(&rt, rt.alloc(), 532, &story), Ok(()));
+    tells(&rt, rt.alloc(), 532, &Story::Beside(Errand::Moments));
 }

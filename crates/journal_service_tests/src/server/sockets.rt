@@ -1,12 +1,12 @@
 // Connections over TCP on this machine.
 use super::peers::{CALL, HeldGate, Still, call_of, is_as, replies_of};
+use crate::asserts::tells;
 use crate::calls::{VERIFIER, bytes_of};
-use crate::stores::{Files, Told, Wrong, on_new_disk};
+use crate::stores::{Files, Told, Wrong};
 use crate::stories::Story;
 use journal_history::Naming;
 use journal_server::{Crowd, End, Listening, Outcome, run_workers};
-use std::alloc::Global;
-use std::io;
+use std::alloc::{AllocError, Global};
 use std::io::{Read, Write};
 use std::net::{Net, Shutdown, SocketAddr, TcpListener, TcpStream};
 use std::sync::Wait;
@@ -20,22 +20,55 @@ fn hear(mut stream: &TcpStream, alloc: Global) -> Vec<u8> {
     bytes
 }
 
+fn connect<H: Net<Listener = TcpListener, Stream = TcpStream>>(
+    rt: &H,
+    there: SocketAddr,
+) -> Result<TcpStream, Wrong> {
+    match TcpStream::connect(rt, there) {
+        Ok(stream) => Ok(stream),
+        Err(_) => Err(Wrong::Refused),
+    }
+}
+
+fn send(mut stream: &TcpStream, bytes: &[u8]) -> Told {
+    match stream.write_all(bytes) {
+        Ok(()) => Ok(()),
+        Err(_) => Err(Wrong::Refused),
+    }
+}
+
+// Says that no more is sent.
+fn end(stream: &TcpStream) -> Told {
+    match stream.shutdown(Shutdown::Write) {
+        Ok(()) => Ok(()),
+        Err(_) => Err(Wrong::Refused),
+    }
+}
+
 // Sends the bytes, and no more.
-fn say(mut stream: &TcpStream, bytes: &[u8]) -> io::Result<()> {
-    stream.write_all(bytes)?;
-    stream.shutdown(Shutdown::Write)
+fn say(stream: &TcpStream, bytes: &[u8]) -> Told {
+    send(stream, bytes)?;
+    end(stream)
 }
 
 // Sends the bytes one by one, and no more.
-fn spell(stream: &TcpStream, bytes: &[u8]) -> io::Result<()> {
+fn spell(stream: &TcpStream, bytes: &[u8]) -> Told {
     for byte in bytes.chunks(1) {
         send(stream, byte)?;
     }
-    say(stream, &[])
+    end(stream)
 }
 
-fn send(mut stream: &TcpStream, bytes: &[u8]) -> io::Result<()> {
-    stream.write_all(bytes)
+// What a peer hears that sends these bytes, and no more.
+fn call_once<H: Net<Listener = TcpListener, Stream = TcpStream>>(
+    rt: &H,
+    alloc: Global,
+    there: SocketAddr,
+    bytes: &[u8],
+) -> Result<Vec<u8>, Wrong> {
+    let stream = connect(rt, there)?;
+    say(&stream, bytes)?;
+    Ok(hear(&stream, alloc))
 }
 
 // What peers are told: the first of them, and the last.
@@ -49,12 +82,10 @@ fn call_twice<H: Net<Listener = TcpListener, Stream = TcpStream>>(
     call: &[u8],
     cut: &[u8],
     gate: &HeldGate,
-) -> io::Result<Replies> {
-    let first = TcpStream::connect(rt, there)?;
+) -> Result<Replies, Wrong> {
+    let first = connect(rt, there)?;
     spell(&first, call)?;
-    let second = TcpStream::connect(rt, there)?;
-    say(&second, cut)?;
-    let later = hear(&second, alloc);
+    let later = call_once(rt, alloc, there, cut)?;
     gate.open();
     Ok((hear(&first, alloc), later))
 }
@@ -67,14 +98,20 @@ fn leave_early<H: Net<Listener = TcpListener, Stream = TcpStream>>(
     there: SocketAddr,
     part: &[u8],
     bad: &[u8],
-) -> io::Result<Replies> {
-    drop(TcpStream::connect(rt, there)?);
-    let leaving = TcpStream::connect(rt, there)?;
-    send(&leaving, part)?;
-    drop(leaving);
-    let stranger = TcpStream::connect(rt, there)?;
-    say(&stranger, bad)?;
-    Ok((Vec::new(alloc), hear(&stranger, alloc)))
+) -> Result<Vec<u8>, Wrong> {
+    leave_within(rt, there, &[])?;
+    leave_within(rt, there, part)?;
+    call_once(rt, alloc, there, bad)
+}
+
+// A peer that sends these bytes, and leaves.
+fn leave_within<H: Net<Listener = TcpListener, Stream = TcpStream>>(
+    rt: &H,
+    there: SocketAddr,
+    part: &[u8],
+) -> Told {
+    let leaving = connect(rt, there)?;
+    send(&leaving, part)
 }
 
 // As many peers that send nothing and stay as there are workers, and one that calls.
@@ -83,31 +120,57 @@ fn stay_silent<H: Net<Listener = TcpListener, Stream = TcpStream>>(
     alloc: Global,
     there: SocketAddr,
     call: &[u8],
-) -> io::Result<Replies> {
-    let _first = TcpStream::connect(rt, there)?;
-    let _second = TcpStream::connect(rt, there)?;
-    let _third = TcpStream::connect(rt, there)?;
-    let _fourth = TcpStream::connect(rt, there)?;
-    let caller = TcpStream::connect(rt, there)?;
-    say(&caller, call)?;
-    Ok((Vec::new(alloc), hear(&caller, alloc)))
+) -> Result<Vec<u8>, Wrong> {
+    let _silent = silent_peers(rt, alloc, there, 4)?;
+    call_once(rt, alloc, there, call)
+}
+
+// So many peers that send nothing.
+fn silent_peers<H: Net<Listener = TcpListener, Stream = TcpStream>>(
+    rt: &H,
+    alloc: Global,
+    there: SocketAddr,
+    count: usize,
+) -> Result<Vec<TcpStream>, Wrong> {
+    let mut silent = Vec::new(alloc);
+    for _ in 0..count {
+        let peer = connect(rt, there)?;
+        if silent.push(peer).is_err() {
+            return Err(Wrong::Memory);
+        }
+    }
+    Ok(silent)
 }
 
 // How many peers call at once.
 const CALLERS: usize = 50;
 
-// Peers that call at once, each in a thread of its own: what they hear, in the order of their numbers.
+// Peers that call at once, each in a thread of its own: what they hear.
 fn call_at_once<H: Net<Listener = TcpListener, Stream = TcpStream> + Threads + Sync>(
     rt: &H,
     alloc: Global,
     there: SocketAddr,
-) -> io::Result<Replies> {
+) -> Result<Vec<Vec<u8>>, AllocError> {
     let calls = |n: usize| -> Vec<u8> { call_alone(rt, alloc, there, n) };
-    let mut replies = Vec::new(alloc);
-    for heard in &map_indices(rt, alloc, CALLERS, &calls)? {
-        replies.extend_from_slice(heard)?;
+    map_indices(rt, alloc, CALLERS, &calls)
+}
+
+// That, in the order of their numbers.
+fn hear_all<H: Net<Listener = TcpListener, Stream = TcpStream> + Threads + Sync>(
+    rt: &H,
+    alloc: Global,
+    there: SocketAddr,
+) -> Result<Vec<u8>, Wrong> {
+    let heard = call_at_once(rt, alloc, there)?;
+    joined(alloc, &heard)
+}
+
+fn joined(alloc: Global, pieces: &[Vec<u8>]) -> Result<Vec<u8>, Wrong> {
+    let mut whole = Vec::new(alloc);
+    for piece in pieces {
+        whole.extend_from_slice(piece)?;
     }
-    Ok((replies, Vec::new(alloc)))
+    Ok(whole)
 }
 
 // What a peer hears to the call with its number.
@@ -117,16 +180,20 @@ fn call_alone<H: Net<Listener = TcpListener, Stream = TcpStream>>(
     there: SocketAddr,
     number: usize,
 ) -> Vec<u8> {
-    let Ok(call) = call_of(alloc, number) else {
-        return Vec::new(alloc);
-    };
-    let Ok(stream) = TcpStream::connect(rt, there) else {
-        return Vec::new(alloc);
-    };
-    if say(&stream, &call).is_err() {
-        return Vec::new(alloc);
+    match call_numbered(rt, alloc, there, number) {
+        Ok(heard) => heard,
+        Err(_) => Vec::new(alloc),
     }
-    hear(&stream, alloc)
+}
+
+fn call_numbered<H: Net<Listener = TcpListener, Stream = TcpStream>>(
+    rt: &H,
+    alloc: Global,
+    there: SocketAddr,
+    number: usize,
+) -> Result<Vec<u8>, Wrong> {
+    let call = call_of(alloc, number)?;
+    call_once(rt, alloc, there, &call)
 }
 
 // How peers behave.
@@ -153,30 +220,43 @@ pub(crate) fn serve_visit<
     J: Naming + Send + Sync,
     H: Threads + Wait + Net<Listener = TcpListener, Stream = TcpStream> + Sync,
 >(rt: &H, alloc: Global, files: &Files<'b, J>, visit: Visit) -> Told {
+    let call = bytes_of(alloc, visit.sent.0, 0)?;
+    let other = bytes_of(alloc, visit.sent.1, 0)?;
+    serve_peers(rt, alloc, files, visit, &call, &other)
+}
+
+// A port of this machine, and where it is.
+fn listen<H: Net<Listener = TcpListener, Stream = TcpStream>>(
+    rt: &H,
+) -> Result<(TcpListener, SocketAddr), Wrong> {
     let Ok(listener) = TcpListener::bind(rt, "127.0.0.1:0") else {
         return Err(Wrong::Refused);
     };
-    let Ok(there) = listener.local_addr() else {
-        return Err(Wrong::Refused);
-    };
-    let call = bytes_of(alloc, visit.sent.0, 0)?;
-    let other = bytes_of(alloc, visit.sent.1, 0)?;
+    match listener.local_addr() {
+        Ok(there) => Ok((listener, there)),
+        Err(_) => Err(Wrong::Refused),
+    }
+}
+
+fn serve_peers<
+    'b,
+    J: Naming + Send + Sync,
+    H: Threads + Wait + Net<Listener = TcpListener, Stream = TcpStream> + Sync,
+>(rt: &H, alloc: Global, files: &Files<'b, J>, visit: Visit, call: &[u8], other: &[u8]) -> Told {
+    let (listener, there) = listen(rt)?;
     let gate = HeldGate::new(alloc, !matches!(visit.manner, Manner::CallTwice), false);
     let come = Coming {
         manner: visit.manner,
-        call: &call,
-        other: &other,
+        call,
+        other,
         there,
         count: visit.ends.len() as u64,
     };
     let (outcomes, replies) = meet(rt, alloc, files, listener, &come, &gate);
-    let Some(outcomes) = outcomes else {
-        return Err(Wrong::Refused);
-    };
-    let Some(replies) = replies else {
-        return Err(Wrong::Refused);
-    };
-    visit.judge(alloc, &outcomes, &replies, &gate)
+    match (&outcomes, &replies) {
+        (Some(outcomes), Ok(replies)) => visit.judge(alloc, outcomes, replies, &gate),
+        _ => Err(Wrong::Refused),
+    }
 }
 
 // Peers that come, what they send, where they come to, and how many they are.
@@ -201,11 +281,11 @@ fn meet<
     listener: TcpListener,
     come: &Coming<'_>,
     gate: &HeldGate,
-) -> (Option<Vec<(u64, Outcome)>>, Option<Replies>) {
+) -> (Option<Vec<(u64, Outcome)>>, Result<Replies, Wrong>) {
     join(
         rt,
         || serve_port(rt, alloc, files, listener, come.count, gate),
-        || come_to(rt, alloc, come, gate).ok(),
+        || come_to(rt, alloc, come, gate),
     )
 }
 
@@ -214,13 +294,23 @@ fn come_to<H: Net<Listener = TcpListener, Stream = TcpStream> + Threads + Sync>(
     alloc: Global,
     come: &Coming<'_>,
     gate: &HeldGate,
-) -> io::Result<Replies> {
-    let there = come.there;
+) -> Result<Replies, Wrong> {
     match come.manner {
-        Manner::CallTwice => call_twice(rt, alloc, there, come.call, come.other, gate),
-        Manner::LeaveEarly => leave_early(rt, alloc, there, come.call, come.other),
-        Manner::StaySilent => stay_silent(rt, alloc, there, come.other),
-        Manner::CallAtOnce => call_at_once(rt, alloc, there),
+        Manner::CallTwice => call_twice(rt, alloc, come.there, come.call, come.other, gate),
+        Manner::CallAtOnce => Ok((hear_all(rt, alloc, come.there)?, Vec::new(alloc))),
+        _ => Ok((Vec::new(alloc), come_last(rt, alloc, come)?)),
+    }
+}
+
+// What the last of peers hears that come one after another.
+fn come_last<H: Net<Listener = TcpListener, Stream = TcpStream>>(
+    rt: &H,
+    alloc: Global,
+    come: &Coming<'_>,
+) -> Result<Vec<u8>, Wrong> {
+    match come.manner {
+        Manner::LeaveEarly => leave_early(rt, alloc, come.there, come.call, come.other),
+        _ => stay_silent(rt, alloc, come.there, come.other),
     }
 }
 
@@ -251,21 +341,27 @@ fn are_as(outcomes: &[(u64, Outcome)], wanted: &[Option<(u64, End)>]) -> bool {
     outcomes.len() == wanted.len()
 }
 
+// Whether a peer heard so many replies.
+fn are_replies(alloc: Global, heard: &[u8], count: u32) -> Result<bool, Wrong> {
+    let wanted = replies_of(alloc, count)?;
+    Ok(heard == wanted.as_slice())
+}
+
 impl Visit {
     // What went wrong: the outcomes, the replies or the gate, which was not opened in time.
     fn judge(
         &self,
         alloc: Global,
         outcomes: &[(u64, Outcome)],
-        replies: &Replies,
+        (first, last): &Replies,
         gate: &HeldGate,
     ) -> Told {
-        let first = replies_of(alloc, self.replies.0)?;
-        let last = replies_of(alloc, self.replies.1)?;
         if !are_as(outcomes, self.ends) {
             return Err(Wrong::At(0));
         }
-        if replies.0.as_slice() != first.as_slice() || replies.1.as_slice() != last.as_slice() {
+        let is_first = are_replies(alloc, first, self.replies.0)?;
+        let is_last = are_replies(alloc, last, self.replies.1)?;
+        if !is_first || !is_last {
             return Err(Wrong::At(1));
         }
         if gate.has_given_up() {
@@ -285,10 +381,7 @@ fn two_sockets_are_served_at_once(rt: HostRuntime) {
         ends: &[Some((1, End::EndOfInput)), Some((1, End::EndOfInput))],
         replies: (1, 1),
     };
-    assert_eq!(rt;
-        on_new_disk(&rt, rt.alloc(), 532, &Story::Visit(visit)),
-        Ok(())
-    );
+    tells(&rt, rt.alloc(), 532, &Story::Visit(visit));
 }
 
 #[test]
@@ -306,10 +399,7 @@ fn connections_that_leave_early_are_counted(rt: HostRuntime) {
         ],
         replies: (0, 1),
     };
-    assert_eq!(rt;
-        on_new_disk(&rt, rt.alloc(), 532, &Story::Visit(visit)),
-        Ok(())
-    );
+    tells(&rt, rt.alloc(), 532, &Story::Visit(visit));
 }
 
 #[test]
@@ -320,10 +410,7 @@ fn silent_peers_make_room(rt: HostRuntime) {
         ends: &[None, None, None, None, Some((1, End::EndOfInput))],
         replies: (0, 1),
     };
-    assert_eq!(rt;
-        on_new_disk(&rt, rt.alloc(), 532, &Story::Visit(visit)),
-        Ok(())
-    );
+    tells(&rt, rt.alloc(), 532, &Story::Visit(visit));
 }
 
 // Each of fifty peers gets the reply to its own call.
@@ -335,8 +422,5 @@ fn fifty_sockets_get_their_own_replies(rt: HostRuntime) {
         ends: &[Some((1, End::EndOfInput)); CALLERS],
         replies: (50, 0),
     };
-    assert_eq!(rt;
-        on_new_disk(&rt, rt.alloc(), 532, &Story::Visit(visit)),
-        Ok(())
-    );
+    tells(&rt, rt.alloc(), 532, &Story::Visit(visit));
 }

@@ -3,9 +3,11 @@ ghost use Rattle.std.specs.Prelude.{◌≡◌};
 ghost use Rattle.journal_disk.specs.Disks.{IsSettled};
 
 use super::peers::Still;
+use super::serving::serve_as;
 use super::streams::Dripping;
-use crate::calls::{VERIFIER, numbered};
-use crate::stores::{Told, Wrong, has_moved, on_formatted};
+use crate::asserts::wants;
+use crate::calls::numbered;
+use crate::stores::{Told, Wrong, has_moved, on_formatted, session_of};
 use crate::stories::{Errand, Story};
 use journal_block::Block;
 use journal_daemon::{Gate, OpenGate};
@@ -13,7 +15,7 @@ use journal_disk::{BlockDisk, DiskFault, MemDisk};
 use journal_filestore::FileStore;
 use journal_history::{Book, Naming, Session};
 use journal_inode::SoundFiles;
-use journal_server::{End, Outcome, Served, serve};
+use journal_server::{End, Outcome, Served};
 use std::alloc::Global;
 use std::io;
 use std::io::Write;
@@ -144,15 +146,19 @@ impl<'f, 's, 'b, J: Naming> Drop for FailingGate<'f, 's, 'b, J> {
 impl<'f, 's, 'b, J: Naming> Gate for FailingGate<'f, 's, 'b, J> {
     fn pass<W: Wait>(&self, rt: &W, _who: u64, n: u64) {
         if n == self.at {
-            for _ in 0..1000 {
-                if !has_moved(self.files.journal().log_step(rt)) {
-                    break;
-                }
-            }
+            log_all(rt, self.files);
             self.signals.fails.store(true, Ordering::SeqCst);
         }
         if n == self.last {
             self.signals.is_kept.store(true, Ordering::SeqCst);
+        }
+    }
+}
+
+fn log_all<'s, 'b, J: Naming, W: Wait>(rt: &W, files: &Gated<'s, 'b, J>) {
+    for _ in 0..1000 {
+        if !has_moved(files.journal().log_step(rt)) {
+            return;
         }
     }
 }
@@ -212,7 +218,6 @@ fn serve_piece<'s, 'b, J: Naming, W: Wait>(
         Way::Cut(step) => step,
         _ => input.len(),
     };
-    let mut reader = Dripping::new(input, step, false);
     match piece.way {
         Way::Fails(at) => {
             let last = (piece.calls.len() as u64).saturating_sub(1);
@@ -222,32 +227,34 @@ fn serve_piece<'s, 'b, J: Naming, W: Wait>(
                 at,
                 last,
             };
-            serve(
-                rt,
-                alloc,
-                &mut reader,
-                writer,
-                files,
-                session,
-                &Still,
-                VERIFIER,
-                &gate,
-                0,
-            )
+            serve_behind(rt, alloc, files, session, (input, step), writer, &gate)
         }
-        _ => serve(
-            rt,
-            alloc,
-            &mut reader,
-            writer,
-            files,
-            session,
-            &Still,
-            VERIFIER,
-            &OpenGate,
-            0,
-        ),
+        _ => serve_behind(rt, alloc, files, session, (input, step), writer, &OpenGate),
     }
+}
+
+// Serves such bytes, so many at a time, behind a gate.
+fn serve_behind<'s, 'b, J: Naming, G: Gate, W: Wait>(
+    rt: &W,
+    alloc: Global,
+    files: &Gated<'s, 'b, J>,
+    session: &mut Session<'b, J, SoundFiles>,
+    (input, step): (&[u8], usize),
+    writer: &mut Opener<'s>,
+    gate: &G,
+) -> Outcome {
+    let mut reader = Dripping::new(input, step, false);
+    serve_as(
+        rt,
+        alloc,
+        &mut reader,
+        writer,
+        files,
+        session,
+        &Still,
+        gate,
+        0,
+    )
 }
 
 // Keeps the log while it is asked to, until all is done.
@@ -263,9 +270,62 @@ fn keeps_log<'s, 'b, J: Naming, W: Wait>(rt: &W, files: &Gated<'s, 'b, J>, signa
     }
 }
 
-// A device that failed leaves a journal that fences nobody.
-fn is_fenced(way: Way) -> bool {
-    !matches!(way, Way::Fails(_))
+// How a piece is to end. A device that failed leaves a journal that fences nobody.
+fn end_of(piece: Piece) -> Outcome {
+    Ok(Served {
+        answered: piece.calls.len() as u64,
+        end: End::EndOfInput,
+        fenced: !matches!(piece.way, Way::Fails(_)),
+    })
+}
+
+// Makes ready for a way. After how many bytes barriers go through.
+fn make_ready(signals: &Signals, way: Way) -> usize {
+    match way {
+        Way::Waits(bytes) => {
+            signals.is_open.store(false, Ordering::SeqCst);
+            bytes
+        }
+        Way::Fails(_) => {
+            signals.is_kept.store(false, Ordering::SeqCst);
+            0
+        }
+        Way::Cut(_) => 0,
+    }
+}
+
+fn serve_to_the_end<'s, 'b, J: Naming, W: Wait>(
+    rt: &W,
+    alloc: Global,
+    files: &Gated<'s, 'b, J>,
+    session: &mut Session<'b, J, SoundFiles>,
+    signals: &'s Signals,
+    piece: Piece,
+    input: &[u8],
+    writer: &mut Opener<'s>,
+) -> Outcome {
+    let outcome = serve_piece(rt, alloc, files, session, signals, piece, input, writer);
+    signals.is_done.store(true, Ordering::SeqCst);
+    outcome
+}
+
+// Serves a piece beside who keeps the log.
+fn serve_beside<'s, 'b, J: Naming + Send + Sync, H: Threads + Wait + Sync>(
+    rt: &H,
+    alloc: Global,
+    files: &Gated<'s, 'b, J>,
+    session: &mut Session<'b, J, SoundFiles>,
+    signals: &'s Signals,
+    piece: Piece,
+    input: &[u8],
+    writer: &mut Opener<'s>,
+) -> Outcome {
+    let (outcome, ()) = join(
+        rt,
+        || serve_to_the_end(rt, alloc, files, session, signals, piece, input, writer),
+        || keeps_log(rt, files, signals),
+    );
+    outcome
 }
 
 fn tell_piece<'s, 'b, J: Naming + Send + Sync, H: Threads + Wait + Sync>(
@@ -278,55 +338,47 @@ fn tell_piece<'s, 'b, J: Naming + Send + Sync, H: Threads + Wait + Sync>(
 ) -> Told {
     let input = numbered(alloc, piece.calls)?;
     let wanted = numbered(alloc, piece.replies)?;
-    let opens_at = match piece.way {
-        Way::Waits(bytes) => {
-            signals.is_open.store(false, Ordering::SeqCst);
-            bytes
-        }
-        Way::Fails(_) => {
-            signals.is_kept.store(false, Ordering::SeqCst);
-            0
-        }
-        Way::Cut(_) => 0,
-    };
+    tell_bytes(rt, alloc, files, session, signals, piece, &input, &wanted)
+}
+
+fn tell_bytes<'s, 'b, J: Naming + Send + Sync, H: Threads + Wait + Sync>(
+    rt: &H,
+    alloc: Global,
+    files: &Gated<'s, 'b, J>,
+    session: &mut Session<'b, J, SoundFiles>,
+    signals: &'s Signals,
+    piece: Piece,
+    input: &[u8],
+    wanted: &[u8],
+) -> Told {
     let mut writer = Opener {
         taken: Vec::new(alloc),
-        opens_at,
+        opens_at: make_ready(signals, piece.way),
         signals,
     };
-    let (outcome, ()) = join(
+    let outcome = serve_beside(
         rt,
-        || {
-            let outcome = serve_piece(
-                rt,
-                alloc,
-                files,
-                session,
-                signals,
-                piece,
-                &input,
-                &mut writer,
-            );
-            signals.is_done.store(true, Ordering::SeqCst);
-            outcome
-        },
-        || keeps_log(rt, files, signals),
+        alloc,
+        files,
+        session,
+        signals,
+        piece,
+        input,
+        &mut writer,
     );
-    let answered = piece.calls.len() as u64;
-    let end = End::EndOfInput;
-    let fenced = is_fenced(piece.way);
-    let is_as_wanted = outcome
-        == Ok(Served {
-            answered,
-            end,
-            fenced,
-        })
-        && writer.taken.as_slice() == wanted.as_slice()
-        && !signals.gave_up.load(Ordering::SeqCst);
-    if is_as_wanted {
+    let is_written = writer.taken.as_slice() == wanted;
+    judge(
+        outcome == end_of(piece) && is_written,
+        signals,
+        writer.taken.len(),
+    )
+}
+
+fn judge(is_as_wanted: bool, signals: &Signals, written: usize) -> Told {
+    if is_as_wanted && !signals.gave_up.load(Ordering::SeqCst) {
         Ok(())
     } else {
-        Err(Wrong::At(writer.taken.len()))
+        Err(Wrong::At(written))
     }
 }
 
@@ -344,12 +396,20 @@ fn over<'s, 'b, J: Naming + Send + Sync, H: Threads + Wait + Sync>(
 {
     let mounted: Result<Gated<'s, 'b, J>, _> = FileStore::mount(alloc, book, disk);
     match mounted {
-        Ok(files) => match files.journal().session(rt) {
-            Ok(mut session) => tell_piece(rt, alloc, &files, &mut session, signals, piece),
-            Err(_) => Err(Wrong::Refused),
-        },
+        Ok(files) => tell_over(rt, alloc, &files, signals, piece),
         Err(_) => Err(Wrong::Refused),
     }
+}
+
+fn tell_over<'s, 'b, J: Naming + Send + Sync, H: Threads + Wait + Sync>(
+    rt: &H,
+    alloc: Global,
+    files: &Gated<'s, 'b, J>,
+    signals: &'s Signals,
+    piece: Piece,
+) -> Told {
+    let mut session = session_of(rt, files)?;
+    tell_piece(rt, alloc, files, &mut session, signals, piece)
 }
 
 fn on_disk<H: Threads + Wait + Sync>(rt: &H, alloc: Global, disk: MemDisk, piece: Piece) -> Told
@@ -389,7 +449,7 @@ fn pieces_have_the_same_replies(rt: HostRuntime) {
             replies: &[WROTE_FIRST, GOT, WROTE, WROTE],
             way: Way::Cut(step),
         };
-        assert_eq!(rt; run(&rt, rt.alloc(), piece), Ok(()));
+        wants(&rt, &run(&rt, rt.alloc(), piece), &Ok(()));
     }
 }
 
@@ -401,7 +461,7 @@ fn what_is_not_stable_is_refused(rt: HostRuntime) {
         replies: &[WROTE_FIRST, WROTE, NOT_STABLE, NOT_STABLE],
         way: Way::Fails(2),
     };
-    assert_eq!(rt; run(&rt, rt.alloc(), piece), Ok(()));
+    wants(&rt, &run(&rt, rt.alloc(), piece), &Ok(()));
 }
 
 // The reply in front of the first that is owed goes out before the barrier.
@@ -412,5 +472,5 @@ fn what_need_not_wait_goes_out_first(rt: HostRuntime) {
         replies: &[GOT, WROTE_FIRST],
         way: Way::Waits(116),
     };
-    assert_eq!(rt; run(&rt, rt.alloc(), piece), Ok(()));
+    wants(&rt, &run(&rt, rt.alloc(), piece), &Ok(()));
 }

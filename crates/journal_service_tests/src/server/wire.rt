@@ -1,12 +1,14 @@
 // What is written for what is read.
 use super::peers::{Still, calls_of, replies_of};
+use super::serving::serve_as;
 use super::streams::{Dripping, Narrow};
-use crate::calls::{VERIFIER, push_text, read_numbers};
-use crate::stores::{Files, Told, Wrong, on_new_disk};
+use crate::asserts::tells;
+use crate::calls::{push_text, read_numbers};
+use crate::stores::{Files, Told, Wrong, session_of};
 use crate::stories::Story;
 use journal_daemon::OpenGate;
 use journal_history::Naming;
-use journal_server::{ConnFault, End, Outcome, serve};
+use journal_server::{ConnFault, End, Outcome};
 use std::alloc::Global;
 use std::sync::Wait;
 use std::test::*;
@@ -45,21 +47,76 @@ fn serve_one<'b, J: Naming, W: Wait>(
     reader: &mut Dripping<'_>,
     writer: &mut Narrow,
 ) -> Result<Outcome, Wrong> {
-    match files.journal().session(rt) {
-        Ok(mut session) => Ok(serve(
-            rt,
-            alloc,
-            reader,
-            writer,
-            files,
-            &mut session,
-            &Still,
-            VERIFIER,
-            &OpenGate,
-            0,
-        )),
-        Err(_) => Err(Wrong::Refused),
+    let mut session = session_of(rt, files)?;
+    Ok(serve_as(
+        rt,
+        alloc,
+        reader,
+        writer,
+        files,
+        &mut session,
+        &Still,
+        &OpenGate,
+        0,
+    ))
+}
+
+// What a line says.
+#[derive(Clone, Copy)]
+struct Line<'a> {
+    step: u32,
+    fails: bool,
+    written: u32,
+    room: u32,
+    calls: u32,
+    words: &'a str,
+    cut: u32,
+    end: &'a str,
+    replies: u32,
+    writes: u32,
+}
+
+fn line_of(text: &str) -> Option<Line<'_>> {
+    let (sent, wanted) = text.split_once(" = ")?;
+    let (numbers, words) = sent.split_once(" :")?;
+    let (end, counts) = wanted.split_once(' ')?;
+    let [step, fails, written, room, calls, cut] = six_of(numbers)?;
+    let (replies, writes) = two_of(counts)?;
+    Some(Line {
+        step,
+        fails: fails == 1,
+        written,
+        room,
+        calls,
+        words,
+        cut,
+        end,
+        replies,
+        writes,
+    })
+}
+
+fn six_of(text: &str) -> Option<[u32; 6]> {
+    let mut numbers = [0; 6];
+    match read_numbers(&mut numbers, text) {
+        Ok(()) => Some(numbers),
+        Err(_) => None,
     }
+}
+
+fn two_of(text: &str) -> Option<(u32, u32)> {
+    let mut numbers = [0; 2];
+    match read_numbers(&mut numbers, text) {
+        Ok(()) => Some((numbers[0], numbers[1])),
+        Err(_) => None,
+    }
+}
+
+// So many replies, as far as there is room for them.
+fn written_of(alloc: Global, replies: u32, room: u32) -> Result<Vec<u8>, Wrong> {
+    let mut text = replies_of(alloc, replies)?;
+    text.truncate(room as usize);
+    Ok(text)
 }
 
 // Whether a connection is served as a line says.
@@ -67,27 +124,34 @@ fn is_served<'b, J: Naming, W: Wait>(
     rt: &W,
     alloc: Global,
     files: &Files<'b, J>,
-    line: &str,
+    text: &str,
 ) -> Result<bool, Wrong> {
-    let (sent, wanted) = line.split_once(" = ").ok_or(Wrong::Table)?;
-    let (numbers, words) = sent.split_once(" :").ok_or(Wrong::Table)?;
-    let (end, counts) = wanted.split_once(' ').ok_or(Wrong::Table)?;
-    let mut given = [0; 6];
-    read_numbers(&mut given, numbers)?;
-    let [step, fails, written, room, calls, cut] = given;
-    let mut told = [0; 2];
-    read_numbers(&mut told, counts)?;
-    let [replies, writes] = told;
-    let input = input_of(alloc, calls, words, cut)?;
-    let mut text = replies_of(alloc, replies)?;
-    text.truncate(room as usize);
-    let mut reader = Dripping::new(&input, step as usize, fails == 1);
-    let mut writer = Narrow::new(alloc, written as usize, room as usize);
-    let (name, answered) = end_of(serve_one(rt, alloc, files, &mut reader, &mut writer)?);
-    Ok(
-        (name, writer.taken.as_slice(), writer.writes) == (end, text.as_slice(), u64::from(writes))
-            && answered.unwrap_or(u64::from(replies)) == u64::from(replies),
-    )
+    let line = line_of(text).ok_or(Wrong::Table)?;
+    let input = input_of(alloc, line.calls, line.words, line.cut)?;
+    let wanted = written_of(alloc, line.replies, line.room)?;
+    is_served_so(rt, alloc, files, line, &input, &wanted)
+}
+
+fn is_served_so<'b, J: Naming, W: Wait>(
+    rt: &W,
+    alloc: Global,
+    files: &Files<'b, J>,
+    line: Line<'_>,
+    input: &[u8],
+    wanted: &[u8],
+) -> Result<bool, Wrong> {
+    let mut reader = Dripping::new(input, line.step as usize, line.fails);
+    let mut writer = Narrow::new(alloc, line.written as usize, line.room as usize);
+    let outcome = serve_one(rt, alloc, files, &mut reader, &mut writer)?;
+    let is_written = writer.taken.as_slice() == wanted && writer.writes == u64::from(line.writes);
+    Ok(is_written && is_end(outcome, line))
+}
+
+// Whether a connection ended so, and told of so many replies where it told.
+fn is_end(outcome: Outcome, line: Line<'_>) -> bool {
+    let replies = u64::from(line.replies);
+    let (name, answered) = end_of(outcome);
+    name == line.end && answered.unwrap_or(replies) == replies
 }
 
 // Serves connections one after another. A line has numbers: how many bytes are read at once, whether reading fails at the
@@ -120,8 +184,7 @@ const CUTTINGS: &str = "
 
 #[test]
 fn a_call_is_answered_however_it_is_cut(rt: HostRuntime) {
-    let story = Story::Connections(CUTTINGS);
-    assert_eq!(rt; on_new_disk(&rt, rt.alloc(), 532, &story), Ok(()));
+    tells(&rt, rt.alloc(), 532, &Story::Connections(CUTTINGS));
 }
 
 // What stands behind a call decides how the connection ends. The call is answered each time, and nothing else.
@@ -135,8 +198,7 @@ const ENDS: &str = "
 
 #[test]
 fn each_end_comes_where_it_should(rt: HostRuntime) {
-    let story = Story::Connections(ENDS);
-    assert_eq!(rt; on_new_disk(&rt, rt.alloc(), 532, &story), Ok(()));
+    tells(&rt, rt.alloc(), 532, &Story::Connections(ENDS));
 }
 
 // A header above the limit alone, a credential above its limit, a reply, no input at all, and streams that fail: a reader
@@ -175,10 +237,8 @@ const GIVEN_UP_AT_EACH: &str = "
 
 #[test]
 fn a_connection_is_given_up(rt: HostRuntime) {
-    let story = Story::Connections(GIVEN_UP);
-    assert_eq!(rt; on_new_disk(&rt, rt.alloc(), 532, &story), Ok(()));
-    let story = Story::Connections(GIVEN_UP_AT_EACH);
-    assert_eq!(rt; on_new_disk(&rt, rt.alloc(), 532, &story), Ok(()));
+    tells(&rt, rt.alloc(), 532, &Story::Connections(GIVEN_UP));
+    tells(&rt, rt.alloc(), 532, &Story::Connections(GIVEN_UP_AT_EACH));
 }
 
 // A hundred calls that come together are answered in order, by one write; eleven hundred by two, since no more than 1024
@@ -190,8 +250,7 @@ const TOGETHER: &str = "
 
 #[test]
 fn replies_that_are_ready_go_out_together(rt: HostRuntime) {
-    let story = Story::Connections(TOGETHER);
-    assert_eq!(rt; on_new_disk(&rt, rt.alloc(), 532, &story), Ok(()));
+    tells(&rt, rt.alloc(), 532, &Story::Connections(TOGETHER));
 }
 
 // A call behind 5500 empty fragments comes in 22044 pieces of one byte, and the replies to a hundred calls go out byte by byte:
@@ -203,6 +262,5 @@ const SPELLED: &str = "
 
 #[test]
 fn many_small_pieces_are_served(rt: HostRuntime) {
-    let story = Story::Connections(SPELLED);
-    assert_eq!(rt; on_new_disk(&rt, rt.alloc(), 532, &story), Ok(()));
+    tells(&rt, rt.alloc(), 532, &Story::Connections(SPELLED));
 }

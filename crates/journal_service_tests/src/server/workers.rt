@@ -2,8 +2,9 @@
 ghost use Rattle.std.specs.Prelude.{◌≡◌, IsNone, IsSome};
 
 use super::peers::{HeldGate, Still, calls_of, is_as};
+use crate::asserts::tells;
 use crate::calls::VERIFIER;
-use crate::stores::{Files, Told, Wrong, on_new_disk};
+use crate::stores::{Files, Told, Wrong};
 use crate::stories::Story;
 use journal_history::Naming;
 use journal_server::{Connection, End, Outcome, Source, run_workers};
@@ -128,10 +129,7 @@ fn two_connections_are_served_at_once(rt: HostRuntime) {
         callers: 2,
         is_held: true,
     };
-    assert_eq!(rt;
-        on_new_disk(&rt, rt.alloc(), 532, &Story::Team(team)),
-        Ok(())
-    );
+    tells(&rt, rt.alloc(), 532, &Story::Team(team));
 }
 
 // More connections than the queue has room for, each served once.
@@ -141,8 +139,5 @@ fn each_connection_has_an_outcome(rt: HostRuntime) {
         callers: 50,
         is_held: false,
     };
-    assert_eq!(rt;
-        on_new_disk(&rt, rt.alloc(), 532, &Story::Team(team)),
-        Ok(())
-    );
+    tells(&rt, rt.alloc(), 532, &Story::Team(team));
 }

@@ -1,4 +1,5 @@
 // Inodes by hand: where the fields lie, and what is read of bytes that are no inode's.
+use crate::asserts::wants;
 use journal_inode::{
     FileNode, MORE_BLOCKS, NODE_BYTES, Node, Time, bit_addr, block_addr, inode_addr,
 };
@@ -47,9 +48,10 @@ fn is_inode(bytes: &[u8; NODE_BYTES]) -> bool {
 #[test]
 fn the_fields_of_a_file_lie_lowest_byte_first(rt: HostRuntime) {
     let bytes = filled_up(&FILE_FRONT);
-    assert_eq!(rt;
-        (Node::File(FILE).bytes(), Node::read(&bytes)),
-        (bytes, Node::File(FILE))
+    wants(
+        &rt,
+        &(Node::File(FILE).bytes(), Node::read(&bytes)),
+        &(bytes, Node::File(FILE)),
     );
 }
 
@@ -64,16 +66,17 @@ fn the_further_blocks_of_a_file_lie_behind_its_time(rt: HostRuntime) {
     let mut more = [0; MORE_BLOCKS];
     more[0] = 532;
     more[10] = 0x0100_0000_0000_0007;
-    assert_eq!(rt;
-        (found, found.bytes()),
-        (Node::File(FileNode { more, ..FILE }), bytes)
+    wants(
+        &rt,
+        &(found, found.bytes()),
+        &(Node::File(FileNode { more, ..FILE }), bytes),
     );
 }
 
 #[test]
 fn a_free_inode_and_the_root_have_no_size(rt: HostRuntime) {
     let wanted = (filled_up(&FREE_FRONT), filled_up(&ROOT_FRONT));
-    assert_eq!(rt; (Node::Free(7).bytes(), ROOT.bytes()), wanted);
+    wants(&rt, &(Node::Free(7).bytes(), ROOT.bytes()), &wanted);
 }
 
 #[test]
@@ -84,10 +87,15 @@ fn bytes_of_no_inode_are_read_as_one_of_other_bytes(rt: HostRuntime) {
     file[0] = 2;
     let mut longer = file;
     longer[127] = 1;
-    assert_eq!(rt;
-        (is_inode(&other_kind), is_inode(&file), is_inode(&longer)),
-        (false, true, false)
+    wants(
+        &rt,
+        &(is_inode(&other_kind), is_inode(&file), is_inode(&longer)),
+        &(false, true, false),
     );
+}
+
+fn at(block: u64, off: u32) -> Addr {
+    Addr { block, off }
 }
 
 #[test]
@@ -99,6 +107,12 @@ fn objects_lie_where_the_format_says(rt: HostRuntime) {
         bit_addr(540),
         block_addr(540),
     ];
-    let wanted = [(515, 1024), (516, 0), (530, 31744), (514, 9), (540, 0)];
-    assert_eq!(rt; found, wanted.map(|(block, off)| Addr { block, off }));
+    let wanted = [
+        at(515, 1024),
+        at(516, 0),
+        at(530, 31744),
+        at(514, 9),
+        at(540, 0),
+    ];
+    wants(&rt, &found, &wanted);
 }

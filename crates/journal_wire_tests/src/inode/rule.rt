@@ -1,4 +1,5 @@
 // A formatted disk, and what the rule admits once objects of it are overwritten.
+use crate::asserts::{wants, wants_at};
 use journal_block::Block;
 use journal_disk::{BlockDisk, MemDisk};
 use journal_inode::{
@@ -6,7 +7,7 @@ use journal_inode::{
     format,
 };
 use journal_object::{load, store};
-use journal_world::{Addr, Layout, MapRule, Moment, ObjectReader, Refusal, Value};
+use journal_world::{Addr, Layout, MapRule, Moment, ObjectReader, Refusal, Refused, Value};
 use std::alloc::Global;
 use std::test::*;
 
@@ -78,19 +79,25 @@ const MADE: Time = Time { secs: 5, nanos: 6 };
 const NOW: Moment = Moment { secs: 5, nanos: 6 };
 
 // A disk of 600 blocks of this version without files.
+fn formatted_disk(alloc: Global, version: FormatVersion) -> Result<MemDisk, Refusal<()>> {
+    let disk = MemDisk::new(alloc, 600)?;
+    match format(alloc, disk, NOW, version) {
+        Ok(disk) => Ok(disk),
+        Err(refused) => Err(refused.refusal),
+    }
+}
+
+// Its objects.
 fn formatted(alloc: Global, version: FormatVersion) -> Result<Objects, Fail> {
     let layout = Layout::new(600).ok_or("a disk may have 600 blocks")?;
     let block = Block::try_new::<()>(alloc)?;
-    let disk = MemDisk::new::<()>(alloc, 600)?;
-    match format(alloc, disk, NOW, version) {
-        Ok(disk) => Ok(Objects {
-            alloc,
-            layout,
-            disk,
-            block,
-        }),
-        Err(refused) => Err(Fail::from(refused.refusal)),
-    }
+    let disk = formatted_disk(alloc, version)?;
+    Ok(Objects {
+        alloc,
+        layout,
+        disk,
+        block,
+    })
 }
 
 // Overwrites an object: an inode, under its number; a file's, with its generation, size and block; file 2, with its size and
@@ -108,8 +115,8 @@ enum Put {
 // Where an inode lies.
 fn place_of(inode: u32) -> Addr {
     Addr {
-        block: 515 + u64::from(inode / 32),
-        off: inode % 32 * 1024,
+        block: u64::from(inode / 32).wrapping_add(515),
+        off: (inode % 32).wrapping_mul(1024),
     }
 }
 
@@ -148,13 +155,22 @@ fn overwrite(objects: &mut Objects, what: Put) -> Result<(), Fail> {
     }
 }
 
-// Whether the rule of a version admits the disk of that version without files, once these objects are overwritten.
-fn admits<V: Version>(alloc: Global, written: &[Put]) -> Result<bool, Fail> {
-    let mut objects = formatted(alloc, V::VERSION)?;
+// Whether the rule of a version admits a disk without files of this version, once these objects are overwritten.
+fn admits_of<V: Version>(
+    alloc: Global,
+    version: FormatVersion,
+    written: &[Put],
+) -> Result<bool, Fail> {
+    let mut objects = formatted(alloc, version)?;
     for what in written {
         overwrite(&mut objects, *what)?;
     }
     Ok(SoundFiles::<V>::new(alloc).admit(&mut objects)?)
+}
+
+// The same of its own version.
+fn admits<V: Version>(alloc: Global, written: &[Put]) -> Result<bool, Fail> {
+    admits_of::<V>(alloc, V::VERSION, written)
 }
 
 // The first case of which the rule of a version says something else.
@@ -174,19 +190,23 @@ fn a_formatted_disk_is_admitted(rt: HostRuntime) -> Result<(), Fail> {
     Ok(())
 }
 
+// Whether a disk of version 2 says so.
+fn says_two(alloc: Global) -> Result<bool, Fail> {
+    let mut two = formatted(alloc, FormatVersion::Two)?;
+    Ok(two.has(513, 8, &[2, 0, 0, 0, 0, 0, 0, 0, 0x58, 2]))
+}
+
 #[test]
 fn a_disk_of_another_version_is_not_admitted(rt: HostRuntime) -> Result<(), Fail> {
-    let mut one = formatted(rt.alloc(), FormatVersion::One)?;
-    let mut two = formatted(rt.alloc(), FormatVersion::Two)?;
-    assert!(rt; two.has(513, 8, &[2, 0, 0, 0, 0, 0, 0, 0, 0x58, 2]));
-    let first = SoundFiles::<VersionOne>::new(rt.alloc()).admit(&mut two)?;
-    let second = SoundFiles::<VersionTwo>::new(rt.alloc()).admit(&mut one)?;
-    assert_eq!(rt; (first, second), (false, false));
+    let says_two = says_two(rt.alloc())?;
+    let first = admits_of::<VersionOne>(rt.alloc(), FormatVersion::Two, &[])?;
+    let second = admits_of::<VersionTwo>(rt.alloc(), FormatVersion::One, &[])?;
+    wants(&rt, &(says_two, first, second), &(true, false, false));
     Ok(())
 }
 
 // What blocks of the formatted disk have from a place on.
-const PIECES: [(u64, usize, &[u8]); 7] = [
+static PIECES: [(u64, usize, &[u8]); 7] = [
     (0, 0, &[0; 24]),
     (1, 0, &[0; 24]),
     (
@@ -204,156 +224,188 @@ const PIECES: [(u64, usize, &[u8]); 7] = [
     (515, 151, &[0, 5, 0, 0, 0, 6, 0, 0, 0, 0]),
 ];
 
+// The first of these that the disk has not: its block and its place there.
+fn wrong_piece(objects: &mut Objects) -> Option<(u64, usize)> {
+    for (block, place, bytes) in &PIECES {
+        if !objects.has(*block, *place, bytes) {
+            return Some((*block, *place));
+        }
+    }
+    None
+}
+
 #[test]
 fn a_formatted_disk_has_its_superblock_and_its_bits(rt: HostRuntime) -> Result<(), Fail> {
     let mut objects = formatted(rt.alloc(), FormatVersion::One)?;
-    for (block, place, bytes) in PIECES {
-        assert!(rt; objects.has(block, place, bytes), "block {block}, {place}");
-    }
+    let wrong = wrong_piece(&mut objects);
+    wants(&rt, &wrong, &None);
     Ok(())
 }
+
+static BITS: [(&[Put], bool); 3] = [
+    (&[Put::File(2, 1, 4096, 531), Put::Bit(0)], true),
+    (&[Put::File(2, 1, 4096, 531)], false),
+    (&[Put::Bit(0)], false),
+];
 
 #[test]
 fn a_file_with_its_bit_is_admitted(rt: HostRuntime) -> Result<(), Fail> {
-    const CASES: [(&[Put], bool); 3] = [
-        (&[Put::File(2, 1, 4096, 531), Put::Bit(0)], true),
-        (&[Put::File(2, 1, 4096, 531)], false),
-        (&[Put::Bit(0)], false),
-    ];
-    assert_eq!(rt; first_wrong::<VersionOne>(rt.alloc(), &CASES)?, None);
+    wants(&rt, &first_wrong::<VersionOne>(rt.alloc(), &BITS)?, &None);
     Ok(())
 }
+
+const FIRST: Put = Put::File(2, 1, 0, 599);
+
+static SHARED: [(&[Put], bool); 2] = [
+    (
+        &[FIRST, Put::File(511, 1, 0, 599), Put::Bit(68), Put::Bit(67)],
+        false,
+    ),
+    (
+        &[FIRST, Put::File(511, 1, 0, 598), Put::Bit(68), Put::Bit(67)],
+        true,
+    ),
+];
 
 #[test]
 fn two_files_do_not_have_one_block(rt: HostRuntime) -> Result<(), Fail> {
-    const FIRST: Put = Put::File(2, 1, 0, 599);
-    const CASES: [(&[Put], bool); 2] = [
-        (
-            &[FIRST, Put::File(511, 1, 0, 599), Put::Bit(68), Put::Bit(67)],
-            false,
-        ),
-        (
-            &[FIRST, Put::File(511, 1, 0, 598), Put::Bit(68), Put::Bit(67)],
-            true,
-        ),
-    ];
-    assert_eq!(rt; first_wrong::<VersionOne>(rt.alloc(), &CASES)?, None);
+    wants(&rt, &first_wrong::<VersionOne>(rt.alloc(), &SHARED)?, &None);
     Ok(())
 }
+
+static TAILS: [(&[Put], bool); 2] = [
+    (
+        &[Put::File(2, 1, 9, 540), Put::Bit(9), Put::Ten(540)],
+        false,
+    ),
+    (
+        &[Put::File(2, 1, 10, 540), Put::Bit(9), Put::Ten(540)],
+        true,
+    ),
+];
 
 #[test]
 fn bytes_past_the_size_are_zero(rt: HostRuntime) -> Result<(), Fail> {
-    const CASES: [(&[Put], bool); 2] = [
-        (
-            &[Put::File(2, 1, 9, 540), Put::Bit(9), Put::Ten(540)],
-            false,
-        ),
-        (
-            &[Put::File(2, 1, 10, 540), Put::Bit(9), Put::Ten(540)],
-            true,
-        ),
-    ];
-    assert_eq!(rt; first_wrong::<VersionOne>(rt.alloc(), &CASES)?, None);
+    wants(&rt, &first_wrong::<VersionOne>(rt.alloc(), &TAILS)?, &None);
     Ok(())
 }
 
+const LONG: &[Put] = &[Put::Long(4097, 540, 0), Put::Bit(0), Put::Bit(9)];
+
+static LONG_FILES: [(&[Put], bool); 9] = [
+    (&[Put::Long(4097, 540, 0), Put::Bit(0), Put::Bit(9)], true),
+    (&[Put::Long(8192, 540, 0), Put::Bit(0), Put::Bit(9)], true),
+    // It has a block too few, or too many, or one that it does not need, or one twice, or one that is no data block.
+    (&[Put::Long(4097, 0, 0), Put::Bit(0)], false),
+    (&[Put::Long(4096, 540, 0), Put::Bit(0), Put::Bit(9)], false),
+    (&[Put::Long(8193, 540, 0), Put::Bit(0), Put::Bit(9)], false),
+    (
+        &[Put::Long(4097, 540, 541), Put::Bit(0), Put::Bit(9)],
+        false,
+    ),
+    (&[Put::Long(4097, 531, 0), Put::Bit(0)], false),
+    (&[Put::Long(4097, 600, 0), Put::Bit(0)], false),
+    (&[Put::Long(49153, 540, 0), Put::Bit(0), Put::Bit(9)], false),
+];
+
 #[test]
 fn a_file_of_more_blocks_is_of_version_2(rt: HostRuntime) -> Result<(), Fail> {
-    const LONG: &[Put] = &[Put::Long(4097, 540, 0), Put::Bit(0), Put::Bit(9)];
-    const CASES: [(&[Put], bool); 9] = [
-        (&[Put::Long(4097, 540, 0), Put::Bit(0), Put::Bit(9)], true),
-        (&[Put::Long(8192, 540, 0), Put::Bit(0), Put::Bit(9)], true),
-        // It has a block too few, or too many, or one that it does not need, or one twice, or one that is no data block.
-        (&[Put::Long(4097, 0, 0), Put::Bit(0)], false),
-        (&[Put::Long(4096, 540, 0), Put::Bit(0), Put::Bit(9)], false),
-        (&[Put::Long(8193, 540, 0), Put::Bit(0), Put::Bit(9)], false),
-        (
-            &[Put::Long(4097, 540, 541), Put::Bit(0), Put::Bit(9)],
-            false,
-        ),
-        (&[Put::Long(4097, 531, 0), Put::Bit(0)], false),
-        (&[Put::Long(4097, 600, 0), Put::Bit(0)], false),
-        (&[Put::Long(49153, 540, 0), Put::Bit(0), Put::Bit(9)], false),
-    ];
-    assert_eq!(rt; first_wrong::<VersionTwo>(rt.alloc(), &CASES)?, None);
+    wants(
+        &rt,
+        &first_wrong::<VersionTwo>(rt.alloc(), &LONG_FILES)?,
+        &None,
+    );
     assert!(rt; !admits::<VersionOne>(rt.alloc(), LONG)?);
     Ok(())
 }
 
+static LONG_TAILS: [(&[Put], bool); 3] = [
+    (
+        &[
+            Put::Long(4105, 540, 0),
+            Put::Bit(0),
+            Put::Bit(9),
+            Put::Ten(540),
+        ],
+        false,
+    ),
+    (
+        &[
+            Put::Long(4106, 540, 0),
+            Put::Bit(0),
+            Put::Bit(9),
+            Put::Ten(540),
+        ],
+        true,
+    ),
+    (
+        &[
+            Put::Long(4097, 540, 0),
+            Put::Bit(0),
+            Put::Bit(9),
+            Put::Ten(531),
+        ],
+        true,
+    ),
+];
+
 #[test]
 fn bytes_past_the_size_of_more_blocks_are_zero(rt: HostRuntime) -> Result<(), Fail> {
-    const CASES: [(&[Put], bool); 3] = [
-        (
-            &[
-                Put::Long(4105, 540, 0),
-                Put::Bit(0),
-                Put::Bit(9),
-                Put::Ten(540),
-            ],
-            false,
-        ),
-        (
-            &[
-                Put::Long(4106, 540, 0),
-                Put::Bit(0),
-                Put::Bit(9),
-                Put::Ten(540),
-            ],
-            true,
-        ),
-        (
-            &[
-                Put::Long(4097, 540, 0),
-                Put::Bit(0),
-                Put::Bit(9),
-                Put::Ten(531),
-            ],
-            true,
-        ),
-    ];
-    assert_eq!(rt; first_wrong::<VersionTwo>(rt.alloc(), &CASES)?, None);
+    wants(
+        &rt,
+        &first_wrong::<VersionTwo>(rt.alloc(), &LONG_TAILS)?,
+        &None,
+    );
     Ok(())
 }
+
+const LATE: Time = Time {
+    secs: 0,
+    nanos: 1_000_000_000,
+};
+
+static PLACES: [(&[Put], bool); 10] = [
+    (&[Put::Inode(0, Node::Free(1))], false),
+    (&[Put::Inode(1, Node::Free(0))], false),
+    (&[Put::Inode(1, Node::Root(LATE))], false),
+    (&[Put::Inode(2, Node::Root(MADE))], false),
+    (&[Put::Inode(2, Node::Free(7))], true),
+    (&[Put::File(511, 0, 0, 531), Put::Bit(0)], false),
+    (&[Put::File(511, 1, 4097, 531), Put::Bit(0)], false),
+    (&[Put::File(511, 1, 4096, 531), Put::Bit(0)], true),
+    (&[Put::File(511, 1, 0, 530)], false),
+    (&[Put::File(511, 1, 0, 600)], false),
+];
 
 #[test]
 fn inodes_out_of_place_are_not_admitted(rt: HostRuntime) -> Result<(), Fail> {
-    const LATE: Time = Time {
-        secs: 0,
-        nanos: 1_000_000_000,
-    };
-    const CASES: [(&[Put], bool); 10] = [
-        (&[Put::Inode(0, Node::Free(1))], false),
-        (&[Put::Inode(1, Node::Free(0))], false),
-        (&[Put::Inode(1, Node::Root(LATE))], false),
-        (&[Put::Inode(2, Node::Root(MADE))], false),
-        (&[Put::Inode(2, Node::Free(7))], true),
-        (&[Put::File(511, 0, 0, 531), Put::Bit(0)], false),
-        (&[Put::File(511, 1, 4097, 531), Put::Bit(0)], false),
-        (&[Put::File(511, 1, 4096, 531), Put::Bit(0)], true),
-        (&[Put::File(511, 1, 0, 530)], false),
-        (&[Put::File(511, 1, 0, 600)], false),
-    ];
-    assert_eq!(rt; first_wrong::<VersionOne>(rt.alloc(), &CASES)?, None);
+    wants(&rt, &first_wrong::<VersionOne>(rt.alloc(), &PLACES)?, &None);
     Ok(())
 }
 
-// Whether a format is refused by the failing of this device call, and how many blocks the disk has that comes back.
-fn refused(alloc: Global, call: u64) -> Result<(bool, u64), Fail> {
-    let mut disk = MemDisk::new::<()>(alloc, 532)?;
-    disk.fail_in(call);
-    Ok(match format(alloc, disk, NOW, FormatVersion::One) {
+// Whether a format is refused by the failing of a device call, and how many blocks the disk has that comes back.
+fn outcome(answer: Result<MemDisk, Refused<MemDisk, ()>>) -> (bool, u64) {
+    match answer {
         Ok(_) => (false, 0),
         Err(refused) => (
-            refused.refusal == Refusal::DeviceFailed(()),
+            matches!(refused.refusal, Refusal::DeviceFailed(())),
             refused.disk.size(),
         ),
-    })
+    }
+}
+
+// The same where this device call fails.
+fn refused(alloc: Global, call: u64) -> Result<(bool, u64), Refusal<()>> {
+    let mut disk = MemDisk::new(alloc, 532)?;
+    disk.fail_in(call);
+    Ok(outcome(format(alloc, disk, NOW, FormatVersion::One)))
 }
 
 #[test]
 fn a_refused_format_gives_the_disk_back(rt: HostRuntime) -> Result<(), Fail> {
     for call in 1..=4 {
-        assert_eq!(rt; refused(rt.alloc(), call)?, (true, 532), "call {call}");
+        let outcome = refused(rt.alloc(), call)?;
+        wants_at(&rt, &call, &outcome, &(true, 532));
     }
     Ok(())
 }

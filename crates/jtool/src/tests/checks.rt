@@ -1,7 +1,7 @@
 //! `check`: disks that are sound, and one change each to a disk that is.
 
-use super::services::{path_of, text_of};
-use super::{Run, begins, run_with};
+use super::steps::{Step, at_path, formats};
+use super::{run_with, told_so, wants};
 use std::alloc::Global;
 use std::fs::{File, Files, OpenFile, OpenOptions};
 use std::net::{Net, TcpListener, TcpStream};
@@ -105,14 +105,18 @@ pub(super) fn make<H: Files<File = File>>(
     changes: &[Change],
 ) -> io::Result<()> {
     let file = OpenOptions::new().write(true).open(rt, path)?;
+    write_all(&file, changes)
+}
+
+fn write_all(file: &File, changes: &[Change]) -> io::Result<()> {
     for (at, bytes) in changes {
         file.write_all_at(bytes, *at)?;
     }
     Ok(())
 }
 
-/// Wants of a check of the file that it prints this, and tells those faults.
-pub(super) fn is_told<
+/// Wants of a check of a new disk of 600 blocks with a file of one byte, these changes and one more, that it is refused.
+fn is_unsound<
     H: Abort
         + Files<File = File>
         + Net<Listener = TcpListener, Stream = TcpStream>
@@ -120,59 +124,27 @@ pub(super) fn is_told<
         + Threads
         + Wait
         + Sync,
->(rt: &H, alloc: Global, path: &str, told: (&str, &str, u8)) -> Result<(), Fail> {
-    are_told(rt, alloc, &["check", path], told)
-}
-
-/// The same of these words.
-fn are_told<
-    H: Abort
-        + Files<File = File>
-        + Net<Listener = TcpListener, Stream = TcpStream>
-        + Clock
-        + Threads
-        + Wait
-        + Sync,
->(rt: &H, alloc: Global, words: &[&str], told: (&str, &str, u8)) -> Result<(), Fail> {
-    let Run {
-        status,
-        output,
-        faults,
-    } = run_with(rt, alloc, words, b"")?;
-    let (line, refused, wanted) = told;
-    assert_eq!(rt;
-        (output.as_slice(), faults.as_slice(), status),
-        (line.as_bytes(), refused.as_bytes(), wanted)
-    );
+>(rt: &H, alloc: Global, path: &str, changes: &[Change], last: &[Change]) -> Result<(), Fail> {
+    formats(rt, alloc, path, "600")?;
+    make_all(rt, path, changes, last)?;
+    let run = run_with(rt, alloc, &["check", path], b"")?;
+    told_so(rt, &run, ("", "refused J8 BadSuper\n", 1));
     Ok(())
 }
 
-/// The same of a new disk of 600 blocks with a file of one byte, these changes and one more.
-fn changed_is_told<
-    H: Abort
-        + Files<File = File>
-        + Net<Listener = TcpListener, Stream = TcpStream>
-        + Clock
-        + Threads
-        + Wait
-        + Sync,
->(
+fn make_all<H: Files<File = File>>(
     rt: &H,
-    alloc: Global,
     path: &str,
     changes: &[Change],
-    last: Change,
-    told: (&str, &str, u8),
-) -> Result<(), Fail> {
-    begins(rt, alloc, &["format", path, "600"], "", 0)?;
+    last: &[Change],
+) -> io::Result<()> {
     make(rt, path, ONE_FILE)?;
     make(rt, path, changes)?;
-    make(rt, path, &[last])?;
-    is_told(rt, alloc, path, told)
+    make(rt, path, last)
 }
 
 /// Wants that no disk with these changes and one of the others is sound.
-fn none_is_sound<
+pub(super) fn none_is_sound<
     H: Abort
         + Files<File = File>
         + Net<Listener = TcpListener, Stream = TcpStream>
@@ -181,15 +153,14 @@ fn none_is_sound<
         + Wait
         + Sync,
 >(rt: &H, alloc: Global, path: &str, changes: &[Change], others: &[Change]) -> Result<(), Fail> {
-    let told = ("", "refused J8 BadSuper\n", 1);
-    for last in others {
-        changed_is_told(rt, alloc, path, changes, *last, told)?;
+    for last in others.chunks(1) {
+        is_unsound(rt, alloc, path, changes, last)?;
     }
     Ok(())
 }
 
 /// Wants that a check tells of a sound disk with one file, of either version, and changes nothing in the file.
-fn is_left<
+pub(super) fn is_left<
     H: Abort
         + AllocGlobal
         + Files<File = File>
@@ -200,94 +171,67 @@ fn is_left<
         + Sync,
 >(rt: &H, alloc: Global, path: &str, line: &str) -> Result<(), Fail> {
     let before = fs::read(rt, path)?;
-    is_told(rt, alloc, path, (line, "", 0))?;
+    let run = run_with(rt, alloc, &["check", path], b"")?;
+    told_so(rt, &run, (line, "", 0));
+    is_as_before(rt, path, &before)
+}
+
+fn is_as_before<H: Abort + AllocGlobal + Files<File = File>>(
+    rt: &H,
+    path: &str,
+    before: &[u8],
+) -> Result<(), Fail> {
     let after = fs::read(rt, path)?;
-    assert!(rt; before == after);
+    wants(rt, &are_same(before, &after), &true);
     Ok(())
 }
 
-/// Makes a disk, with a file of one byte, then of two blocks, and then in version 1. Wants what is told of each.
-fn sound_is_told<
-    H: Abort
-        + AllocGlobal
-        + Files<File = File>
-        + Net<Listener = TcpListener, Stream = TcpStream>
-        + Clock
-        + Threads
-        + Wait
-        + Sync,
->(rt: &H, alloc: Global, path: &str) -> Result<(), Fail> {
-    begins(rt, alloc, &["format", path, "600"], "", 0)?;
-    is_told(rt, alloc, path, ("sound version 2 files 0\n", "", 0))?;
-    make(rt, path, ONE_FILE)?;
-    is_left(rt, alloc, path, "sound version 2 files 1\n")?;
-    make(rt, path, TWO_BLOCKS)?;
-    is_left(rt, alloc, path, "sound version 2 files 1\n")?;
-    begins(rt, alloc, &["format", path, "600"], "", 0)?;
-    make(rt, path, ONE_FILE)?;
-    make(rt, path, &[OLDER])?;
-    is_left(rt, alloc, path, "sound version 1 files 1\n")
+fn are_same(before: &[u8], after: &[u8]) -> bool {
+    before == after
 }
 
-/// Wants what is told of disks that are sound, of each that is not, and of one whose log is none.
-fn each_is_told<
-    H: Abort
-        + AllocGlobal
-        + Files<File = File>
-        + Net<Listener = TcpListener, Stream = TcpStream>
-        + Clock
-        + Threads
-        + Wait
-        + Sync,
->(rt: &H, alloc: Global, path: &str) -> Result<(), Fail> {
-    sound_is_told(rt, alloc, path)?;
-    none_is_sound(rt, alloc, path, &[], UNSOUND)?;
-    none_is_sound(rt, alloc, path, &[OLDER], UNSOUND)?;
-    none_is_sound(rt, alloc, path, TWO_BLOCKS, UNSOUND_OF_TWO)?;
-    begins(rt, alloc, &["format", path, "600"], "", 0)?;
-    make(rt, path, BAD_LOG)?;
-    is_told(rt, alloc, path, ("", "refused J7 BadLog\n", 1))
-}
+/// A disk, with a file of one byte, then of two blocks, and then in version 1; each that is not sound; and one whose log is
+/// none.
+static CHECKED: [Step; 16] = [
+    Step::Format("600"),
+    Step::Check("sound version 2 files 0\n", "", 0),
+    Step::Make(ONE_FILE),
+    Step::Leave("sound version 2 files 1\n"),
+    Step::Make(TWO_BLOCKS),
+    Step::Leave("sound version 2 files 1\n"),
+    Step::Format("600"),
+    Step::Make(ONE_FILE),
+    Step::Make(&[OLDER]),
+    Step::Leave("sound version 1 files 1\n"),
+    Step::NoneIsSound(&[], UNSOUND),
+    Step::NoneIsSound(&[OLDER], UNSOUND),
+    Step::NoneIsSound(TWO_BLOCKS, UNSOUND_OF_TWO),
+    Step::Format("600"),
+    Step::Make(BAD_LOG),
+    Step::Check("", "refused J7 BadLog\n", 1),
+];
 
 #[test]
 fn a_check_tells_what_a_mount_answers(rt: HostRuntime) -> Result<(), Fail> {
-    let path = path_of(&rt, "palkhuveg-checked-disk")?;
-    let path = text_of(&path)?;
-    each_is_told(&rt, rt.alloc(), path)?;
-    fs::remove_file(&rt, path)?;
-    Ok(())
+    at_path(&rt, rt.alloc(), "palkhuveg-checked-disk", &CHECKED)
 }
 
-/// Wants that what is no disk of either version is refused. Makes a disk of version 1 with a file, migrates it twice, and wants
-/// the same file in version 2.
-fn is_migrated<
-    H: Abort
-        + AllocGlobal
-        + Files<File = File>
-        + Net<Listener = TcpListener, Stream = TcpStream>
-        + Clock
-        + Threads
-        + Wait
-        + Sync,
->(rt: &H, alloc: Global, path: &str) -> Result<(), Fail> {
-    begins(rt, alloc, &["format", path, "600"], "", 0)?;
-    make(rt, path, &[(SUPERBLOCK + 8, &[3])])?;
-    let refused = ("", "refused J8 BadSuper\n", 1);
-    are_told(rt, alloc, &["migrate", path], refused)?;
-    begins(rt, alloc, &["format", path, "600"], "", 0)?;
-    make(rt, path, ONE_FILE)?;
-    make(rt, path, &[OLDER])?;
-    is_told(rt, alloc, path, ("sound version 1 files 1\n", "", 0))?;
-    are_told(rt, alloc, &["migrate", path], ("version 2\n", "", 0))?;
-    is_told(rt, alloc, path, ("sound version 2 files 1\n", "", 0))?;
-    are_told(rt, alloc, &["migrate", path], ("version 2\n", "", 0))
-}
+/// What is no disk of either version is refused. A disk of version 1 with a file is migrated twice, and has the same file in
+/// version 2.
+static MIGRATED: [Step; 10] = [
+    Step::Format("600"),
+    Step::Make(&[(SUPERBLOCK + 8, &[3])]),
+    Step::Migrate("", "refused J8 BadSuper\n", 1),
+    Step::Format("600"),
+    Step::Make(ONE_FILE),
+    Step::Make(&[OLDER]),
+    Step::Check("sound version 1 files 1\n", "", 0),
+    Step::Migrate("version 2\n", "", 0),
+    Step::Check("sound version 2 files 1\n", "", 0),
+    Step::Migrate("version 2\n", "", 0),
+];
 
 #[test]
 fn a_disk_is_migrated(rt: HostRuntime) -> Result<(), Fail> {
-    let path = path_of(&rt, "palkhuveg-migrated-disk")?;
-    let path = text_of(&path)?;
-    is_migrated(&rt, rt.alloc(), path)?;
-    fs::remove_file(&rt, path)?;
-    Ok(())
+    at_path(&rt, rt.alloc(), "palkhuveg-migrated-disk", &MIGRATED)
 }

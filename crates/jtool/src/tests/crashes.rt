@@ -1,6 +1,6 @@
 // A device that fails at each of its calls, and a crash there.
 
-use super::{Run, run_with};
+use super::{Run, run_with, wants};
 use std::alloc::{AllocError, Global};
 use std::fs::{File, Files};
 use std::io;
@@ -67,14 +67,18 @@ fn count_fault(answer: &[u8], whole: &[u8], faults: u64) -> Option<u64> {
     }
     let may_be = match faults {
         0 => answer == whole,
-        _ => WITHOUT_DEVICE.iter().any(|other| answer == *other),
+        _ => WITHOUT_DEVICE.contains(&answer),
     };
     may_be.then_some(faults)
 }
 
+fn is_newline(byte: &u8) -> bool {
+    *byte == b'\n'
+}
+
 /// How many lines have another answer, or `None` where one has an answer that it may not have.
 fn count_faults(run: &Run) -> Option<u64> {
-    let mut answers = run.output.split(|byte| *byte == b'\n').skip(1);
+    let mut answers = run.output.split(is_newline).skip(1);
     let mut faults: u64 = 0;
     for (_, whole) in LINES {
         faults = count_fault(answers.next()?, whole, faults)?;
@@ -106,7 +110,7 @@ fn each_failing_call_is_told_from_then_on(rt: HostRuntime) -> Result<(), Fail> {
     }
     // A read for the get, and one for the first commit; the logger's 5 and 4, the installer's 5; a read for
     // the last get, whose block was never fetched, so that it has no copy in memory.
-    assert_eq!(rt; failing, 17);
+    wants(&rt, &failing, &17);
     Ok(())
 }
 
@@ -140,16 +144,26 @@ const IMAGES: &[usize] = &[1, 2, 4, 8, 16];
 
 /// The line that begins so.
 fn line_of<'a>(output: &'a [u8], verb: &[u8]) -> Option<&'a [u8]> {
-    output
-        .split(|byte| *byte == b'\n')
-        .find(|line| line.starts_with(verb))
+    for line in output.split(is_newline) {
+        if line.starts_with(verb) {
+            return Some(line);
+        }
+    }
+    None
 }
 
 /// How many images the disk had, where at most four blocks were pending.
 fn images_of(output: &[u8]) -> Option<usize> {
     let pending = line_of(output, b"pending ")?;
-    let blocks = pending.iter().filter(|byte| **byte == b':').count();
-    IMAGES.get(blocks).copied()
+    IMAGES.get(colons_in(pending)).copied()
+}
+
+fn colons_in(line: &[u8]) -> usize {
+    let mut colons: usize = 0;
+    for byte in line {
+        colons = colons.saturating_add(usize::from(*byte == b':'));
+    }
+    colons
 }
 
 /// What is read after each number of commits.
@@ -167,7 +181,17 @@ fn is_after_front(output: &[u8]) -> bool {
     let (Some(commits), Some(floor)) = (stat.get(8), stat.get(16)) else {
         return false;
     };
-    STATES.iter().any(|(n, state)| output.ends_with(state) && floor <= n && n <= commits)
+    ends_after(output, *floor, *commits)
+}
+
+/// Whether it ends with the state after such a number of commits.
+fn ends_after(output: &[u8], least: u8, most: u8) -> bool {
+    for (n, state) in STATES {
+        if output.ends_with(state) && least <= *n && *n <= most {
+            return true;
+        }
+    }
+    false
 }
 
 /// Whether the disk had such an image after that call. Wants that it is one of those states.

@@ -1,16 +1,15 @@
 // Disks in files, and the service of their files, with both ends of each connection in one process.
 
-use super::checks::{OLDER, is_told, make};
-use super::{Run, begins, run_with, words_of};
+use super::checks::OLDER;
+use super::steps::{Step, at_path, path_of, text_of};
+use super::{Run, begins, run_with, wants, words_of};
 use crate::run;
 use std::alloc::{AllocError, Global};
 use std::fs::{File, Files, OpenFile, OpenOptions};
-use std::io::{ErrorKind, Read, Write};
+use std::io::{Read, Write};
 use std::net::{Ipv4Addr, Net, Shutdown, TcpListener, TcpStream};
 use std::os::fd::AsRawFd;
-use std::path::PathBuf;
 use std::process::Abort;
-use std::rt::Env;
 use std::sync::Wait;
 use std::sync::atomic::{AtomicU32, Ordering};
 use std::test::Fail;
@@ -138,21 +137,15 @@ const READ_REPLY_BYTES: usize = 4 * (7 + 1 + 1 + 21 + 4);
 
 fn bytes_of(alloc: Global, words: &[u32]) -> Result<Vec<u8>, AllocError> {
     let mut bytes = Vec::new(alloc);
-    for word in words {
-        bytes.extend_from_slice(&word.to_be_bytes())?;
-    }
+    push_words(&mut bytes, words)?;
     Ok(bytes)
 }
 
-/// A path in the folder for temporary files.
-pub(super) fn path_of(rt: &(impl Env + AllocGlobal), name: &str) -> Result<PathBuf, Fail> {
-    let mut path = env::temp_dir(rt)?;
-    path.push(name)?;
-    Ok(path)
-}
-
-pub(super) fn text_of(path: &PathBuf) -> Result<&str, Fail> {
-    Ok(path.as_path().to_str().ok_or("the path is text")?)
+fn push_words(bytes: &mut Vec<u8>, words: &[u32]) -> Result<(), AllocError> {
+    for word in words {
+        bytes.extend_from_slice(&word.to_be_bytes())?;
+    }
+    Ok(())
 }
 
 /// What a service prints. Its port is told as soon as that is written out.
@@ -219,33 +212,55 @@ fn serve<
 fn connect<R: Net<Listener = TcpListener, Stream = TcpStream> + Clock>(
     rt: &R,
     port: &AtomicU32,
-) -> io::Result<TcpStream> {
+) -> Option<TcpStream> {
     for _ in 0..10_000 {
         match u16::try_from(port.load(Ordering::SeqCst)) {
-            Ok(port) if port > 0 => return TcpStream::connect(rt, (Ipv4Addr::LOCALHOST, port)),
+            Ok(port) if port > 0 => return connect_to(rt, port),
             _ => thread::sleep(rt, Duration::from_millis(1)),
         }
     }
-    Err(ErrorKind::TimedOut.into())
+    None
 }
 
-/// Sends the bytes and no more, and takes all that comes back.
-fn exchange(mut stream: &TcpStream, alloc: Global, bytes: &[u8]) -> io::Result<Vec<u8>> {
-    stream.write_all(bytes)?;
-    stream.shutdown(Shutdown::Write)?;
+fn connect_to<R: Net<Listener = TcpListener, Stream = TcpStream>>(
+    rt: &R,
+    port: u16,
+) -> Option<TcpStream> {
+    match TcpStream::connect(rt, (Ipv4Addr::LOCALHOST, port)) {
+        Ok(stream) => Some(stream),
+        Err(_) => None,
+    }
+}
+
+/// Sends the bytes. Says whether it could.
+fn sends(mut stream: &TcpStream, bytes: &[u8]) -> bool {
+    stream.write_all(bytes).is_ok()
+}
+
+/// Sends no more, and takes all that comes back.
+fn hear(mut stream: &TcpStream, alloc: Global) -> Option<Vec<u8>> {
     let mut heard = Vec::new(alloc);
-    stream.read_to_end(&mut heard)?;
-    Ok(heard)
+    let has_ended = stream.shutdown(Shutdown::Write).is_ok();
+    if has_ended && stream.read_to_end(&mut heard).is_ok() {
+        Some(heard)
+    } else {
+        None
+    }
 }
 
-/// Connects, and exchanges the bytes.
+/// Connects, sends the bytes and no more, and takes all that comes back.
 fn call_once<R: Net<Listener = TcpListener, Stream = TcpStream> + Clock>(
     rt: &R,
     alloc: Global,
     port: &AtomicU32,
     bytes: &[u8],
-) -> io::Result<Vec<u8>> {
-    exchange(&connect(rt, port)?, alloc, bytes)
+) -> Option<Vec<u8>> {
+    let stream = connect(rt, port)?;
+    if sends(&stream, bytes) {
+        hear(&stream, alloc)
+    } else {
+        None
+    }
 }
 
 /// Sends nothing to one connection, part of a record to the next, and calls whose replies it does not hear to a third, which
@@ -255,28 +270,52 @@ fn leave_early<R: Net<Listener = TcpListener, Stream = TcpStream> + Clock>(
     alloc: Global,
     port: &AtomicU32,
     call: &[u8],
-) -> io::Result<Vec<u8>> {
-    drop(connect(rt, port)?);
-    cut_short(&connect(rt, port)?, call)?;
-    stay_deaf(&connect(rt, port)?, call)?;
-    call_once(rt, alloc, port, call)
+) -> Option<Vec<u8>> {
+    let part = &call[..call.len().min(30)];
+    let have_left = leaves_behind(rt, port, &[]) && leaves_behind(rt, port, part);
+    if have_left && leaves_deaf(rt, port, call) {
+        call_once(rt, alloc, port, call)
+    } else {
+        None
+    }
 }
 
-fn cut_short(mut stream: &TcpStream, call: &[u8]) -> io::Result<()> {
-    stream.write_all(&call[..call.len().min(30)])
+/// Leaves once these bytes are sent.
+fn leaves_behind<R: Net<Listener = TcpListener, Stream = TcpStream> + Clock>(
+    rt: &R,
+    port: &AtomicU32,
+    bytes: &[u8],
+) -> bool {
+    match connect(rt, port) {
+        Some(stream) => sends(&stream, bytes),
+        None => false,
+    }
 }
 
-fn stay_deaf(mut stream: &TcpStream, call: &[u8]) -> io::Result<()> {
+fn leaves_deaf<R: Net<Listener = TcpListener, Stream = TcpStream> + Clock>(
+    rt: &R,
+    port: &AtomicU32,
+    call: &[u8],
+) -> bool {
+    match connect(rt, port) {
+        Some(stream) => stays_deaf(&stream, call),
+        None => false,
+    }
+}
+
+fn stays_deaf(mut stream: &TcpStream, call: &[u8]) -> bool {
     for _ in 0..100 {
-        stream.write_all(call)?;
+        if !sends(stream, call) {
+            return false;
+        }
     }
     let mut first = [0u8; 1];
-    stream.read_exact(&mut first)
+    stream.read_exact(&mut first).is_ok()
 }
 
 /// The peers of a service.
 #[derive(Clone, Copy)]
-struct Peers {
+pub(super) struct Peers {
     /// How many connections they make, as the words say it, and as the last line does.
     count: &'static str,
     last_line: &'static [u8],
@@ -303,7 +342,7 @@ fn visit<R: Net<Listener = TcpListener, Stream = TcpStream> + Clock>(
     port: &AtomicU32,
     peers: Peers,
     bytes: &[u8],
-) -> io::Result<Vec<u8>> {
+) -> Option<Vec<u8>> {
     if peers.leave_early {
         leave_early(rt, alloc, port, bytes)
     } else {
@@ -322,7 +361,7 @@ fn run_beside_peers<
 >(rt: &H, alloc: Global, words: &[String], peers: Peers, bytes: &[u8]) -> (Run, Option<Vec<u8>>) {
     let port = AtomicU32::new(0);
     thread::scope(thread::scope_env(), rt, |scope| {
-        let heard = scope.spawn(|| visit(rt, alloc, &port, peers, bytes).ok());
+        let heard = scope.spawn(|| visit(rt, alloc, &port, peers, bytes));
         let run = serve(rt, alloc, words, &port);
         (run, heard.ok().and_then(|heard| heard.join(rt)))
     })
@@ -330,15 +369,16 @@ fn run_beside_peers<
 
 /// Wants of a service that it ended well, with this last line.
 fn has_served(rt: &impl Abort, run: &Run, line: &[u8]) {
-    assert_eq!(rt;
-        (run.status, run.faults.len(), run.output.ends_with(line)),
-        (0, 0, true)
+    wants(
+        rt,
+        &(run.status, run.faults.len(), run.output.ends_with(line)),
+        &(0, 0, true),
     );
 }
 
 /// The words that ask for a service at a free port.
-fn words_to_serve<'a>(path: &'a str, connections: &'a str) -> [&'a str; 4] {
-    ["serve", path, "0", connections]
+fn words_to_serve(alloc: Global, path: &str, connections: &str) -> Result<Vec<String>, AllocError> {
+    words_of(alloc, &["serve", path, "0", connections])
 }
 
 /// Serves these peers, of which the last sends these bytes. Wants that all are served, and answers what came back.
@@ -351,15 +391,24 @@ fn calls<
         + Wait
         + Sync,
 >(rt: &H, alloc: Global, path: &str, peers: Peers, bytes: &[u8]) -> Result<Vec<u8>, Fail> {
-    let words = words_of(alloc, &words_to_serve(path, peers.count))?;
+    let words = words_to_serve(alloc, path, peers.count)?;
     let (run, heard) = run_beside_peers(rt, alloc, &words, peers, bytes);
     has_served(rt, &run, peers.last_line);
     Ok(heard.ok_or("a reply")?)
 }
 
+/// A call, what its reply begins with, and whether that is the whole of it.
+#[derive(Clone, Copy)]
+pub(super) struct Exchange {
+    peers: Peers,
+    call: &'static [u32],
+    reply: &'static [u32],
+    is_whole: bool,
+}
+
 /// Serves these peers, of which the last sends this call. Wants a reply that begins so, and has no more bytes exactly where
 /// that is the whole.
-fn is_answered<
+pub(super) fn is_answered<
     H: Abort
         + Files<File = File>
         + Net<Listener = TcpListener, Stream = TcpStream>
@@ -367,20 +416,18 @@ fn is_answered<
         + Threads
         + Wait
         + Sync,
->(
-    rt: &H,
-    alloc: Global,
-    path: &str,
-    peers: Peers,
-    call: &[u32],
-    (reply, is_whole): (&[u32], bool),
-) -> Result<(), Fail> {
-    let call = bytes_of(alloc, call)?;
-    let reply = bytes_of(alloc, reply)?;
-    let heard = calls(rt, alloc, path, peers, &call)?;
-    assert_eq!(rt;
-        (heard.starts_with(&reply), heard.len() == reply.len()),
-        (true, is_whole)
+>(rt: &H, alloc: Global, path: &str, exchange: Exchange) -> Result<(), Fail> {
+    let call = bytes_of(alloc, exchange.call)?;
+    let heard = calls(rt, alloc, path, exchange.peers, &call)?;
+    is_reply(rt, alloc, &heard, exchange)
+}
+
+fn is_reply(rt: &impl Abort, alloc: Global, heard: &[u8], exchange: Exchange) -> Result<(), Fail> {
+    let reply = bytes_of(alloc, exchange.reply)?;
+    wants(
+        rt,
+        &(heard.starts_with(&reply), heard.len() == reply.len()),
+        &(true, exchange.is_whole),
     );
     Ok(())
 }
@@ -397,12 +444,12 @@ fn serves_none<
 >(rt: &H, alloc: Global, path: &str) -> Result<(), Fail> {
     let run = run_with(rt, alloc, &["serve", path, "0", "0"], b"")?;
     has_served(rt, &run, b"\nserved 0\n");
-    assert!(rt; port_in(&run.output).is_some());
+    wants(rt, &port_in(&run.output).is_some(), &true);
     Ok(())
 }
 
 /// Makes a disk of 532 blocks, which has room for one file of the root's, and looks at it.
-fn makes_disk<
+pub(super) fn makes_disk<
     H: Abort
         + Files<File = File>
         + Net<Listener = TcpListener, Stream = TcpStream>
@@ -412,67 +459,67 @@ fn makes_disk<
         + Sync,
 >(rt: &H, alloc: Global, path: &str) -> Result<(), Fail> {
     begins(rt, alloc, &["format", path, "532"], "", 0)?;
-    assert_eq!(rt; fs::metadata(rt, path)?.len(), 532 * 4096);
+    let length = fs::metadata(rt, path)?.len();
+    wants(rt, &length, &(532 * 4096));
     serves_none(rt, alloc, path)
 }
 
-/// Makes a disk, and two files in two services, of which there is room for one.
-fn serves_twice<
-    H: Abort
-        + Files<File = File>
-        + Net<Listener = TcpListener, Stream = TcpStream>
-        + Clock
-        + Threads
-        + Wait
-        + Sync,
->(rt: &H, alloc: Global, path: &str) -> Result<(), Fail> {
-    makes_disk(rt, alloc, path)?;
-    is_answered(rt, alloc, path, ONE_PEER, CREATE_F002, (MADE, false))?;
-    is_told(rt, alloc, path, ("sound version 2 files 1\n", "", 0))?;
-    is_answered(rt, alloc, path, ONE_PEER, CREATE_F003, (NO_SPACE, true))
-}
+/// CREATE of a file, and of one more, for which there is no space.
+const CREATES: Exchange = Exchange {
+    peers: ONE_PEER,
+    call: CREATE_F002,
+    reply: MADE,
+    is_whole: false,
+};
+
+const CREATES_NO_MORE: Exchange = Exchange {
+    peers: ONE_PEER,
+    call: CREATE_F003,
+    reply: NO_SPACE,
+    is_whole: true,
+};
+
+/// A disk, and two files in two services, of which there is room for one.
+static SERVED_TWICE: [Step; 4] = [
+    Step::MakeDisk,
+    Step::Answer(CREATES),
+    Step::Check("sound version 2 files 1\n", "", 0),
+    Step::Answer(CREATES_NO_MORE),
+];
 
 #[test]
 fn what_was_served_is_there_again(rt: HostRuntime) -> Result<(), Fail> {
-    let path = path_of(&rt, "palkhuveg-served-disk")?;
-    let path = text_of(&path)?;
-    serves_twice(&rt, rt.alloc(), path)?;
-    fs::remove_file(&rt, path)?;
-    Ok(())
+    at_path(&rt, rt.alloc(), "palkhuveg-served-disk", &SERVED_TWICE)
 }
 
 /// The same of a disk that is made one of version 1. It stays one.
-fn serves_older<
-    H: Abort
-        + Files<File = File>
-        + Net<Listener = TcpListener, Stream = TcpStream>
-        + Clock
-        + Threads
-        + Wait
-        + Sync,
->(rt: &H, alloc: Global, path: &str) -> Result<(), Fail> {
-    makes_disk(rt, alloc, path)?;
-    make(rt, path, &[OLDER])?;
-    is_answered(rt, alloc, path, ONE_PEER, CREATE_F002, (MADE, false))?;
-    is_told(rt, alloc, path, ("sound version 1 files 1\n", "", 0))?;
-    is_answered(rt, alloc, path, ONE_PEER, CREATE_F003, (NO_SPACE, true))
-}
+static SERVED_OLDER: [Step; 5] = [
+    Step::MakeDisk,
+    Step::Make(&[OLDER]),
+    Step::Answer(CREATES),
+    Step::Check("sound version 1 files 1\n", "", 0),
+    Step::Answer(CREATES_NO_MORE),
+];
 
 #[test]
 fn a_disk_of_version_1_is_served(rt: HostRuntime) -> Result<(), Fail> {
-    let path = path_of(&rt, "palkhuveg-older-disk")?;
-    let path = text_of(&path)?;
-    serves_older(&rt, rt.alloc(), path)?;
-    fs::remove_file(&rt, path)?;
-    Ok(())
+    at_path(&rt, rt.alloc(), "palkhuveg-older-disk", &SERVED_OLDER)
 }
 
 /// The verifier at the end of what is heard, where the reply to a WRITE comes last. Wants that it is not zero.
 fn verifier_in(rt: &impl Abort, heard: &[u8]) -> Result<u64, Fail> {
     let (_, last) = heard.split_last_chunk::<8>().ok_or("a verifier")?;
     let verifier = u64::from_be_bytes(*last);
-    assert!(rt; verifier != 0);
+    wants(rt, &(verifier != 0), &true);
     Ok(verifier)
+}
+
+/// The bytes of these words, and of those.
+fn joined(alloc: Global, first: &[u32], second: &[u32]) -> Result<Vec<u8>, AllocError> {
+    let mut bytes = Vec::new(alloc);
+    push_words(&mut bytes, first)?;
+    push_words(&mut bytes, second)?;
+    Ok(bytes)
 }
 
 /// Makes a file and writes it, by calls that come together, and ends the service at once. The verifier that it told.
@@ -485,9 +532,9 @@ fn serves_write<
         + Wait
         + Sync,
 >(rt: &H, alloc: Global, path: &str) -> Result<u64, Fail> {
-    let mut sent = bytes_of(alloc, CREATE_F002)?;
-    sent.extend_from_slice(&bytes_of(alloc, WRITE)?)?;
-    verifier_in(rt, &calls(rt, alloc, path, ONE_PEER, &sent)?)
+    let sent = joined(alloc, CREATE_F002, WRITE)?;
+    let heard = calls(rt, alloc, path, ONE_PEER, &sent)?;
+    verifier_in(rt, &heard)
 }
 
 /// Reads and writes it in a service. Wants that what was written is read, and answers the verifier.
@@ -500,19 +547,28 @@ fn serves_read<
         + Wait
         + Sync,
 >(rt: &H, alloc: Global, path: &str) -> Result<u64, Fail> {
-    let mut sent = bytes_of(alloc, READ)?;
-    sent.extend_from_slice(&bytes_of(alloc, WRITE)?)?;
-    let wanted = bytes_of(alloc, READ_BYTE)?;
+    let sent = joined(alloc, READ, WRITE)?;
     let heard = calls(rt, alloc, path, ONE_PEER, &sent)?;
-    let (read, _) = heard
-        .split_at_checked(READ_REPLY_BYTES)
-        .ok_or("a reply to READ")?;
-    assert!(rt; read.ends_with(&wanted));
+    has_read(rt, alloc, &heard)?;
     verifier_in(rt, &heard)
 }
 
+/// Wants that the byte that was written is what the reply to READ ends with.
+fn has_read(rt: &impl Abort, alloc: Global, heard: &[u8]) -> Result<(), Fail> {
+    let wanted = bytes_of(alloc, READ_BYTE)?;
+    wants(rt, &is_read(heard, &wanted), &true);
+    Ok(())
+}
+
+fn is_read(heard: &[u8], wanted: &[u8]) -> bool {
+    match heard.split_at_checked(READ_REPLY_BYTES) {
+        Some((read, _)) => read.ends_with(wanted),
+        None => false,
+    }
+}
+
 /// Writes in one service of a new disk, and reads in the next one, which tells another verifier.
-fn writes_and_reads<
+pub(super) fn writes_and_reads<
     H: Abort
         + Files<File = File>
         + Net<Listener = TcpListener, Stream = TcpStream>
@@ -521,49 +577,56 @@ fn writes_and_reads<
         + Wait
         + Sync,
 >(rt: &H, alloc: Global, path: &str) -> Result<(), Fail> {
-    makes_disk(rt, alloc, path)?;
     let first = serves_write(rt, alloc, path)?;
-    assert!(rt; serves_read(rt, alloc, path)? != first);
+    let second = serves_read(rt, alloc, path)?;
+    wants(rt, &(first != second), &true);
     Ok(())
 }
+
+static WRITTEN: [Step; 2] = [Step::MakeDisk, Step::WriteAndRead];
 
 // Of what was written and need not be stable nothing is lost where the service ends well.
 #[test]
 fn what_was_written_is_there_after_a_clean_end(rt: HostRuntime) -> Result<(), Fail> {
-    let path = path_of(&rt, "palkhuveg-written-disk")?;
-    let path = text_of(&path)?;
-    writes_and_reads(&rt, rt.alloc(), path)?;
-    fs::remove_file(&rt, path)?;
-    Ok(())
+    at_path(&rt, rt.alloc(), "palkhuveg-written-disk", &WRITTEN)
 }
 
 /// Wants the bits of a disk of 532 blocks from byte 514 * 4096 of its file on: one of a block that is free, and then those of
 /// no block.
-fn has_bits<R: Abort + Files<File = File> + AllocGlobal>(rt: &R, path: &str) -> Result<(), Fail> {
+pub(super) fn has_bits<R: Abort + Files<File = File> + AllocGlobal>(
+    rt: &R,
+    path: &str,
+) -> Result<(), Fail> {
     let bytes = fs::read(rt, path)?;
-    let bits = bytes
-        .get(514 * 4096..515 * 4096)
-        .ok_or("the block of the bits")?;
-    let (first, others) = bits.split_first().ok_or("bits")?;
-    assert_eq!(rt;
-        (*first, others.iter().all(|byte| *byte == 0xff)),
-        (0xfe, true)
-    );
+    wants(rt, &bits_in(&bytes), &Some((0xfe, true)));
     Ok(())
 }
+
+/// The first byte of the block of the bits, and whether the others are ones.
+fn bits_in(bytes: &[u8]) -> Option<(u8, bool)> {
+    let bits = bytes.get(514 * 4096..515 * 4096)?;
+    let (first, others) = bits.split_first()?;
+    Some((*first, are_ones(others)))
+}
+
+fn are_ones(bytes: &[u8]) -> bool {
+    for byte in bytes {
+        if *byte != 0xff {
+            return false;
+        }
+    }
+    true
+}
+
+static PLACED: [Step; 2] = [Step::Format("532"), Step::Bits];
 
 #[test]
 fn each_block_stands_at_its_place(rt: HostRuntime) -> Result<(), Fail> {
-    let path = path_of(&rt, "palkhuveg-placed-disk")?;
-    let path = text_of(&path)?;
-    begins(&rt, rt.alloc(), &["format", path, "532"], "", 0)?;
-    has_bits(&rt, path)?;
-    fs::remove_file(&rt, path)?;
-    Ok(())
+    at_path(&rt, rt.alloc(), "palkhuveg-placed-disk", &PLACED)
 }
 
 /// Locks the disk, as who serves it does, and wants that it is refused to who serves it too and to who formats it.
-fn is_refused_to_others<
+pub(super) fn is_refused_to_others<
     H: Abort
         + Files<File = File>
         + Net<Listener = TcpListener, Stream = TcpStream>
@@ -574,15 +637,11 @@ fn is_refused_to_others<
 >(rt: &H, alloc: Global, path: &str) -> Result<(), Fail> {
     let file = OpenOptions::new().read(true).write(true).open(rt, path)?;
     let locked = os::try_lock_range(file.as_raw_fd(), os::RangeLock::Exclusive, 0, 4096);
-    assert_eq!(rt; locked, 0);
-    let faults = format!(in alloc; "cannot use {path}\n")?;
-    begins(rt, alloc, &["serve", path, "0", "0"], &faults, 1)?;
-    begins(rt, alloc, &["check", path], &faults, 1)?;
-    begins(rt, alloc, &["format", path, "533"], &faults, 1)
+    wants(rt, &locked, &0);
+    is_refused(rt, alloc, path)
 }
 
-/// Makes a disk and a file on it, which is there after it was refused to others, so that there is no room for a second one.
-fn is_used_by_one<
+fn is_refused<
     H: Abort
         + Files<File = File>
         + Net<Listener = TcpListener, Stream = TcpStream>
@@ -591,23 +650,11 @@ fn is_used_by_one<
         + Wait
         + Sync,
 >(rt: &H, alloc: Global, path: &str) -> Result<(), Fail> {
-    makes_disk(rt, alloc, path)?;
-    is_answered(rt, alloc, path, ONE_PEER, CREATE_F002, (MADE, false))?;
-    is_refused_to_others(rt, alloc, path)?;
-    is_answered(rt, alloc, path, ONE_PEER, CREATE_F003, (NO_SPACE, true))
+    let faults = format!(in alloc; "cannot use {path}\n")?;
+    are_refused(rt, alloc, path, &faults)
 }
 
-#[test]
-fn a_disk_in_use_is_refused(rt: HostRuntime) -> Result<(), Fail> {
-    let path = path_of(&rt, "palkhuveg-disk-in-use")?;
-    let path = text_of(&path)?;
-    is_used_by_one(&rt, rt.alloc(), path)?;
-    fs::remove_file(&rt, path)?;
-    Ok(())
-}
-
-/// Makes a file of so many bytes, of which the first 532 blocks are a disk where they are there.
-fn makes_file<
+fn are_refused<
     H: Abort
         + Files<File = File>
         + Net<Listener = TcpListener, Stream = TcpStream>
@@ -615,25 +662,51 @@ fn makes_file<
         + Threads
         + Wait
         + Sync,
->(rt: &H, alloc: Global, path: &str, bytes: u64) -> Result<(), Fail> {
-    makes_disk(rt, alloc, path)?;
+>(rt: &H, alloc: Global, path: &str, faults: &str) -> Result<(), Fail> {
+    begins(rt, alloc, &["serve", path, "0", "0"], faults, 1)?;
+    begins(rt, alloc, &["check", path], faults, 1)?;
+    begins(rt, alloc, &["format", path, "533"], faults, 1)
+}
+
+/// A disk and a file on it, which is there after it was refused to others, so that there is no room for a second one.
+static IN_USE: [Step; 4] = [
+    Step::MakeDisk,
+    Step::Answer(CREATES),
+    Step::RefuseToOthers,
+    Step::Answer(CREATES_NO_MORE),
+];
+
+#[test]
+fn a_disk_in_use_is_refused(rt: HostRuntime) -> Result<(), Fail> {
+    at_path(&rt, rt.alloc(), "palkhuveg-disk-in-use", &IN_USE)
+}
+
+/// Gives the file so many bytes.
+pub(super) fn set_length<H: Files<File = File>>(rt: &H, path: &str, bytes: u64) -> io::Result<()> {
     let file = OpenOptions::new().write(true).open(rt, path)?;
-    file.set_len(bytes)?;
-    Ok(())
+    file.set_len(bytes)
 }
 
 /// Lengths of a file that was a disk of 532 blocks, what a service of it is told, and its status.
-const LENGTHS: &[(u64, &str, u8)] = &[
+static LENGTHS: [Step; 12] = [
     // Bytes behind the last whole block are none of the disk's.
-    (532 * 4096 + 10, "", 0),
+    Step::MakeDisk,
+    Step::SetLength(532 * 4096 + 10),
+    Step::End("", 0),
     // The superblock has another number of blocks.
-    (533 * 4096, "refused J8 BadSuper\n", 1),
-    (532 * 4096 - 1, "refused J8 BadSuper\n", 1),
-    (0, "refused J8 BadSuper\n", 1),
+    Step::MakeDisk,
+    Step::SetLength(533 * 4096),
+    Step::End("refused J8 BadSuper\n", 1),
+    Step::MakeDisk,
+    Step::SetLength(532 * 4096 - 1),
+    Step::End("refused J8 BadSuper\n", 1),
+    Step::MakeDisk,
+    Step::SetLength(0),
+    Step::End("refused J8 BadSuper\n", 1),
 ];
 
 /// Wants that of a service of the file to no connection. It prints lines exactly where it ends well.
-fn ends<
+pub(super) fn ends<
     H: Abort
         + Files<File = File>
         + Net<Listener = TcpListener, Stream = TcpStream>
@@ -643,28 +716,11 @@ fn ends<
         + Sync,
 >(rt: &H, alloc: Global, path: &str, faults: &str, status: u8) -> Result<(), Fail> {
     let run = run_with(rt, alloc, &["serve", path, "0", "0"], b"")?;
-    assert_eq!(rt;
-        (run.faults.as_slice(), run.output.is_empty(), run.status),
-        (faults.as_bytes(), status != 0, status),
-        "at {path}"
+    wants(
+        rt,
+        &(run.faults.as_slice(), run.output.is_empty(), run.status),
+        &(faults.as_bytes(), status != 0, status),
     );
-    Ok(())
-}
-
-/// Makes a file of each length, and serves it.
-fn ends_by_length<
-    H: Abort
-        + Files<File = File>
-        + Net<Listener = TcpListener, Stream = TcpStream>
-        + Clock
-        + Threads
-        + Wait
-        + Sync,
->(rt: &H, alloc: Global, path: &str) -> Result<(), Fail> {
-    for (bytes, faults, status) in LENGTHS {
-        makes_file(rt, alloc, path, *bytes)?;
-        ends(rt, alloc, path, faults, *status)?;
-    }
     Ok(())
 }
 
@@ -679,33 +735,36 @@ fn has_no_file<
         + Sync,
 >(rt: &H, alloc: Global, path: &str) -> Result<(), Fail> {
     let run = run_with(rt, alloc, &["serve", path, "0", "0"], b"")?;
-    assert_eq!(rt;
-        (
-            run.faults.starts_with(b"cannot use "),
-            run.output.len(),
-            run.status
-        ),
-        (true, 0, 1)
-    );
+    let is_told = run.faults.starts_with(b"cannot use ");
+    wants(rt, &(is_told, run.output.len(), run.status), &(true, 0, 1));
     Ok(())
 }
 
 #[test]
 fn a_file_that_is_no_disk_is_refused(rt: HostRuntime) -> Result<(), Fail> {
+    at_path(&rt, rt.alloc(), "palkhuveg-other-disk", &LENGTHS)?;
     let path = path_of(&rt, "palkhuveg-other-disk")?;
-    let path = text_of(&path)?;
-    ends_by_length(&rt, rt.alloc(), path)?;
-    fs::remove_file(&rt, path)?;
-    has_no_file(&rt, rt.alloc(), path)
+    has_no_file(&rt, rt.alloc(), text_of(&path)?)
 }
 
 #[test]
 fn a_folder_is_no_disk(rt: HostRuntime) -> Result<(), Fail> {
     let folder = env::temp_dir(&rt)?;
-    let folder = text_of(&folder)?;
-    has_no_file(&rt, rt.alloc(), folder)?;
-    let faults = format!(in rt.alloc(); "cannot use {folder}\n")?;
-    begins(&rt, rt.alloc(), &["format", folder, "532"], &faults, 1)
+    is_no_disk(&rt, rt.alloc(), text_of(&folder)?)
+}
+
+fn is_no_disk<
+    H: Abort
+        + Files<File = File>
+        + Net<Listener = TcpListener, Stream = TcpStream>
+        + Clock
+        + Threads
+        + Wait
+        + Sync,
+>(rt: &H, alloc: Global, folder: &str) -> Result<(), Fail> {
+    has_no_file(rt, alloc, folder)?;
+    let faults = format!(in alloc; "cannot use {folder}\n")?;
+    begins(rt, alloc, &["format", folder, "532"], &faults, 1)
 }
 
 /// Wants that no service of the file takes this port.
@@ -728,8 +787,8 @@ fn cannot_listen<
     )
 }
 
-/// Makes a disk, and serves it at a port that is in use, and then at another.
-fn finds_port_in_use<
+/// Serves it at a port that is in use.
+pub(super) fn finds_port_in_use<
     H: Abort
         + Files<File = File>
         + Net<Listener = TcpListener, Stream = TcpStream>
@@ -738,40 +797,35 @@ fn finds_port_in_use<
         + Wait
         + Sync,
 >(rt: &H, alloc: Global, path: &str) -> Result<(), Fail> {
-    makes_disk(rt, alloc, path)?;
     let listener = TcpListener::bind(rt, (Ipv4Addr::LOCALHOST, 0))?;
-    cannot_listen(rt, alloc, path, listener.local_addr()?.port())?;
-    ends(rt, alloc, path, "", 0)
+    let port = port_of(&listener)?;
+    cannot_listen(rt, alloc, path, port)
 }
+
+fn port_of(listener: &TcpListener) -> io::Result<u16> {
+    Ok(listener.local_addr()?.port())
+}
+
+/// A disk that is served at a port that is in use, and then at another.
+static UNHEARD: [Step; 3] = [Step::MakeDisk, Step::FindPortInUse, Step::End("", 0)];
 
 #[test]
 fn a_port_in_use_is_told(rt: HostRuntime) -> Result<(), Fail> {
-    let path = path_of(&rt, "palkhuveg-unheard-disk")?;
-    let path = text_of(&path)?;
-    finds_port_in_use(&rt, rt.alloc(), path)?;
-    fs::remove_file(&rt, path)?;
-    Ok(())
+    at_path(&rt, rt.alloc(), "palkhuveg-unheard-disk", &UNHEARD)
 }
 
-/// Makes a disk, and serves it to four peers.
-fn serves_four<
-    H: Abort
-        + Files<File = File>
-        + Net<Listener = TcpListener, Stream = TcpStream>
-        + Clock
-        + Threads
-        + Wait
-        + Sync,
->(rt: &H, alloc: Global, path: &str) -> Result<(), Fail> {
-    makes_disk(rt, alloc, path)?;
-    is_answered(rt, alloc, path, FOUR_PEERS, NULL, (NULL_REPLY, true))
-}
+/// A disk that is served to four peers.
+static LEFT: [Step; 2] = [
+    Step::MakeDisk,
+    Step::Answer(Exchange {
+        peers: FOUR_PEERS,
+        call: NULL,
+        reply: NULL_REPLY,
+        is_whole: true,
+    }),
+];
 
 #[test]
 fn connections_count_however_they_end(rt: HostRuntime) -> Result<(), Fail> {
-    let path = path_of(&rt, "palkhuveg-left-disk")?;
-    let path = text_of(&path)?;
-    serves_four(&rt, rt.alloc(), path)?;
-    fs::remove_file(&rt, path)?;
-    Ok(())
+    at_path(&rt, rt.alloc(), "palkhuveg-left-disk", &LEFT)
 }
