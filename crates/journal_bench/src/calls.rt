@@ -9,6 +9,7 @@ use journal_disk::{BlockDisk, MemDisk};
 use journal_filestore::{FileStore, Found, Handle, How, NewTime, Settings};
 use journal_history::{Book, Naming, Session};
 use journal_inode::{FormatVersion, SoundFiles, format};
+use journal_lockmap::SlotCell;
 use journal_nfs3::{Verifier, answer};
 use journal_rpc::read_call;
 use journal_world::{Moment, Refused};
@@ -51,7 +52,8 @@ pub fn measure<R: Threads + Wait + Clock + Sync>(
         Err(Refused { refusal, disk: _ }) => return Err(refused(refusal)),
     };
     let book: Book<SoundFiles> = Book::open::<()>().unwrap();
-    measure_on::<Brand, R>(rt, alloc, &book, disk, calls)
+    let cell = SlotCell::open(alloc)?;
+    measure_on::<Brand, R>(rt, alloc, &book, cell, disk, calls)
 }
 
 // The same, over a disk without files.
@@ -59,14 +61,16 @@ fn measure_on<J: Naming + Send + Sync, R: Threads + Wait + Clock + Sync>(
     rt: &R,
     alloc: Global,
     book: &Book<SoundFiles>,
+    cell: SlotCell,
     disk: MemDisk,
     calls: u32,
 ) -> Result<CallFigures>
     requires book { book.now ≡ J.book }
+    requires cell { cell ≡ J.cell }
     requires blocks { disk.past.size ≡ J.blocks }
     requires settled { IsSettled disk.past }
 {
-    let files: FileStore<MemDisk, J> = match FileStore::mount(alloc, book, disk) {
+    let files: FileStore<MemDisk, J> = match FileStore::mount(alloc, book, cell, disk) {
         Ok(files) => files,
         Err(Refused { refusal, disk: _ }) => return Err(refused(refusal)),
     };

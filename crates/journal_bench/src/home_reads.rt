@@ -9,6 +9,7 @@ use anyhow::{Result, bail};
 use journal_disk::{BlockDisk, FileDisk, MemDisk};
 use journal_history::{Book, Naming};
 use journal_inode::block_addr;
+use journal_lockmap::SlotCell;
 use journal_twophase::{CACHED_BLOCKS, Journal, MAX_CACHED_BLOCKS};
 use journal_world::{AnyMap, FIRST_DATA, Refused};
 use rand_core::Rng;
@@ -82,23 +83,26 @@ fn measure_on<D: BlockDisk + Drop, R: Wait + Clock + Alloc<A = Global>>(
     requires most { cached ≤ MAX_CACHED_BLOCKS }
 {
     let book: Book<AnyMap> = Book::open::<()>().unwrap();
-    time_opened::<D, Brand, R>(rt, &book, disk, reads, cached)
+    let cell = SlotCell::open(rt.alloc())?;
+    time_opened::<D, Brand, R>(rt, &book, cell, disk, reads, cached)
 }
 
 fn time_opened<D: BlockDisk + Drop, J: Naming, R: Wait + Clock + Alloc<A = Global>>(
     rt: &R,
     book: &Book<AnyMap>,
+    cell: SlotCell,
     disk: D,
     reads: u32,
     cached: usize,
 ) -> Result<Duration>
     requires book { book.now ≡ J.book }
+    requires cell { cell ≡ J.cell }
     requires blocks { (D.state disk).past.size ≡ J.blocks }
     requires settled { IsTrue (D.state disk).honest → IsSettled (D.state disk).past }
     requires some { 1 ≤ cached }
     requires most { cached ≤ MAX_CACHED_BLOCKS }
 {
-    let opened = Journal::open_with_cache(rt.alloc(), book, disk, &AnyMap, cached);
+    let opened = Journal::open_with_cache(rt.alloc(), book, cell, disk, &AnyMap, cached);
     let journal: Journal<D, AnyMap, J> = match opened {
         Ok(journal) => journal,
         Err(Refused { refusal, disk: _ }) => return Err(refused(refusal)),

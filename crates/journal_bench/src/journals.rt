@@ -11,6 +11,7 @@ use crate::{clients, memory};
 use anyhow::Result;
 use journal_disk::{BlockDisk, FileDisk, MemDisk};
 use journal_history::{Book, Naming};
+use journal_lockmap::SlotCell;
 use journal_twophase::Journal;
 use journal_world::{AnyMap, Refused};
 use std::alloc::Global;
@@ -72,7 +73,8 @@ fn measure_on<
     requires settled { IsTrue (D.state disk.disk).honest → IsSettled (D.state disk.disk).past }
 {
     let book: Book<AnyMap> = Book::open::<()>().unwrap();
-    let (took, disk) = time_load::<D, Brand, R>(rt, &book, disk, load)?;
+    let cell = SlotCell::open(rt.alloc())?;
+    let (took, disk) = time_load::<D, Brand, R>(rt, &book, cell, disk, load)?;
     let CountingDisk { mut disk, counts } = disk;
     let peak = memory::peak(rt);
     let device = time_device(rt, &mut disk, counts)?;
@@ -93,16 +95,19 @@ fn time_load<
 >(
     rt: &R,
     book: &Book<AnyMap>,
+    cell: SlotCell,
     disk: CountingDisk<D>,
     load: Load,
 ) -> Result<(Duration, CountingDisk<D>)>
     requires book { book.now ≡ J.book }
+    requires cell { cell ≡ J.cell }
     requires blocks { (D.state disk.disk).past.size ≡ J.blocks }
     requires settled { IsTrue (D.state disk.disk).honest → IsSettled (D.state disk.disk).past }
 {
     let journal: Journal<CountingDisk<D>, AnyMap, J> = match Journal::open(
         rt.alloc(),
         book,
+        cell,
         disk,
         &AnyMap,
     ) {

@@ -10,6 +10,7 @@ use journal_daemon::{OpenGate, start};
 use journal_disk::{BlockDisk, FileDisk, MemDisk};
 use journal_history::{Book, Naming, Session};
 use journal_inode::INODES;
+use journal_lockmap::SlotCell;
 use journal_twophase::{Journal, Why};
 use journal_world::{AnyMap, Refused};
 use rand_core::Rng;
@@ -92,19 +93,29 @@ fn measure_on<D: BlockDisk + Send + Drop, R: Threads + Wait + Clock + Alloc<A = 
     requires settled { IsTrue (D.state disk).honest → IsSettled (D.state disk).past }
 {
     let book: Book<AnyMap> = Book::open::<()>().unwrap();
-    time_load::<D, Brand, R>(rt, &book, disk, load, is_beside)
+    let cell = SlotCell::open(rt.alloc())?;
+    time_load::<D, Brand, R>(rt, &book, cell, disk, load, is_beside)
 }
 
 fn time_load<
     D: BlockDisk + Send + Drop,
     J: Naming + Send + Sync,
     R: Threads + Wait + Clock + Alloc<A = Global> + Sync,
->(rt: &R, book: &Book<AnyMap>, disk: D, load: ReadLoad, is_beside: bool) -> Result<(Duration, u64)>
+>(
+    rt: &R,
+    book: &Book<AnyMap>,
+    cell: SlotCell,
+    disk: D,
+    load: ReadLoad,
+    is_beside: bool,
+) -> Result<(Duration, u64)>
     requires book { book.now ≡ J.book }
+    requires cell { cell ≡ J.cell }
     requires blocks { (D.state disk).past.size ≡ J.blocks }
     requires settled { IsTrue (D.state disk).honest → IsSettled (D.state disk).past }
 {
-    let journal: Journal<D, AnyMap, J> = match Journal::open(rt.alloc(), book, disk, &AnyMap) {
+    let opened = Journal::open(rt.alloc(), book, cell, disk, &AnyMap);
+    let journal: Journal<D, AnyMap, J> = match opened {
         Ok(journal) => journal,
         Err(Refused { refusal, disk: _ }) => return Err(refused(refusal)),
     };

@@ -100,13 +100,10 @@ refused_first c now o s t why judged same it = refused_as c now s t why same (su
 
 -- why it is refused at another try, where nothing but memory and the device could: the session has only seen more
 module _ (c now : CoreState) (s mid : SessionState) (t : TransactionState) (extends : OnlyExtends s mid) (can : CanCommit (outset c) s t) where
-  unknown_not : (cause : Told) → IsUnknown c.history mid t cause → ⊥
+  unknown_not : (cause : Told) → IsUnknown c.history mid cause → ⊥
   unknown_not cause it =
       let same : made mid ≡ made s = λ i. length (commits_of (extends.number i) (extends.mine i)) in
-      ⊎_elim
-      (λ strange. omega (arith, strange.1, can.may.own, ap (λ (n : ℕ). length (commits_of n c.history)) extends.number, same))
-      (λ moved. moved.2 can.may.unmoved)
-      it
+      omega (arith, it.1, can.may.own, ap (λ (n : ℕ). length (commits_of n c.history)) extends.number, same)
 
   pub refused_again : (why : Refusal Told) → IsRefusedFrom (outset c) mid t why → IsCommitRefusal c s t now why
   refused_again (Stale cause) it = it

@@ -1,38 +1,40 @@
 -- What the core counts beside its history stays that of the history.
-use Rattle.std.proofs.Common.{◌≡◌, ◌<◌, ◌==◌, max, ◌+◌, ◌^◌, ◌++◌, ℕ, Bool, true, false, cond, List, [], ◌∷◌, length, length-append, refl, sym, ap, subst, ◌∙◌, arith}
+use Rattle.std.proofs.Common.{◌≡◌, ◌==◌, max, ◌+◌, ◌++◌, ℕ, Bool, true, false, cond, List, [], ◌∷◌, length, length-append, get_or, replicate, refl, sym, ap, subst, ◌∙◌, arith}
 use Rattle.std.specs.List.{filter}
+use Rattle.std.proofs.lemmas.List.{length-replicate, get_or-replicate}
 use Rattle.std.proofs.lemmas.List.Elements.{filter-append}
+use Rattle.journal_world.specs.declared.address.TheConstants.{SLOTS}
 use Rattle.journal_world.specs.Maps.{Transaction}
 use Rattle.journal_world.specs.Histories.{Entry, commits, commits_of, count, floor, is_fenced, writes_slot, touched}
 use Rattle.journal_world.specs.Histories.Entry.{commit, stable}
 use Rattle.journal_world.proofs.LongerHistories.{commits-commit}
 use Rattle.journal_world.proofs.Marks.{commits-mark}
 use Rattle.journal_world.proofs.Fences.{is_fenced-commit, is_fenced-mark}
-use Rattle.journal_world.proofs.SessionCommits.{length-commits-le}
 use Rattle.journal_core.specs.Tallies.{Pairs, SameTally, CountsOne}
 use Rattle.journal_core.specs.declared.covered.Covered.{Covered}
 use Rattle.journal_core.specs.Covers.{KeepsCovered}
-use Rattle.journal_core.specs.SlotCounts.{Counts, AreCounts, CountsNothing, CountsWrites, KeepsCounts}
+use Rattle.journal_lockmap.specs.Numbers.{HeldState, Agree, CountsWrites}
+use Rattle.journal_core.specs.SlotCounts.{AreCounts, KeepsCounts, AgreeWith}
 use Rattle.journal_core.specs.Memories.{MemoryState, IsMemory}
 use Rattle.journal_core.proofs.Covering.{keeps_commit as covers_commit, keeps_cut as covers_cut, keeps_none as covers_none}
 use Rattle.journal_core.proofs.Committing.{commits_of-other, tallied_mark, tallied_commit}
 
 -- nothing is counted yet
-counts_none : (c : Counts) (history : List Entry) → commits history ≡ [] → CountsNothing c → AreCounts c history
-counts_none c history no_commits none = record {
-  slots = none.slots;
-  commits = none.commits ∙ sym (ap length no_commits);
-  touched = λ slot lt. none.touched slot lt ∙ sym (ap (λ (ts : List Transaction). length (filter (writes_slot slot) ts)) no_commits);
+counts_none : (counts : List ℕ) (history : List Entry) → commits history ≡ [] → counts ≡ replicate SLOTS 0 → AreCounts counts history
+counts_none counts history no_commits none = record {
+  slots = ap length none ∙ length-replicate {A = ℕ} SLOTS 0;
+  touched = λ slot lt.
+      ap (λ (c : List ℕ). get_or c slot 0) none ∙ get_or-replicate {A = ℕ} SLOTS slot 0 0 lt
+      ∙ sym (ap (λ (ts : List Transaction). length (filter (writes_slot slot) ts)) no_commits);
 }
 
 no_session : (history : List Entry) → commits history ≡ [] → (s : ℕ) → commits_of s history ≡ []
 no_session history no_commits s = ap (λ (ts : List Transaction). filter (λ (t : Transaction). t.session == s) ts) no_commits
 
 -- a mark is no commit
-counts_mark : (c : Counts) (history : List Entry) (n : ℕ) → AreCounts c history → AreCounts c (history ++ stable n ∷ [])
+counts_mark : (c : List ℕ) (history : List Entry) (n : ℕ) → AreCounts c history → AreCounts c (history ++ stable n ∷ [])
 counts_mark c history n counts = record {
   slots = counts.slots;
-  commits = counts.commits ∙ sym (ap length (commits-mark history n));
   touched = λ slot lt. counts.touched slot lt ∙ sym (ap (λ (ts : List Transaction). length (filter (writes_slot slot) ts)) (commits-mark history n));
 }
 
@@ -49,12 +51,10 @@ touched_commit history t slot =
     by true = refl
     by false = omega arith
 
-counts_commit : (old new : Counts) (history : List Entry) (t : Transaction) → CountsWrites t.writes old new → AreCounts old history
+counts_commit : (old new : List ℕ) (history : List Entry) (t : Transaction) → CountsWrites t.writes old new → AreCounts old history
     → AreCounts new (history ++ commit t ∷ [])
 counts_commit old new history t more counts = record {
   slots = more.slots ∙ counts.slots;
-  commits = more.commits ∙ ap (λ (n : ℕ). n + 1) counts.commits
-      ∙ sym (ap length (commits-commit history t) ∙ length-append (commits history) (t ∷ []));
   touched = λ slot lt.
       more.touched slot lt
       ∙ ap (λ (n : ℕ). cond (writes_slot slot t) (n + 1) n) (counts.touched slot lt)
@@ -62,8 +62,8 @@ counts_commit old new history t more counts = record {
 }
 
 -- what the memory part keeps at first
-pub memory_begun : (slots : Counts) (covered : Covered) (history : List Entry) → commits history ≡ [] → floor history ≡ 0
-    → ((s : ℕ) → is_fenced s history ≡ false) → CountsNothing slots
+pub memory_begun : (slots : List ℕ) (covered : Covered) (history : List Entry) → commits history ≡ [] → floor history ≡ 0
+    → ((s : ℕ) → is_fenced s history ≡ false) → slots ≡ replicate SLOTS 0
     → covered.marked ≡ length history → covered.cut ≡ length history
     → IsMemory [] slots covered (record { history = history; cut = 0; next = 0; closed = false })
 memory_begun slots covered history no_commits unmarked free none marked cut = record {
@@ -77,7 +77,7 @@ memory_begun slots covered history no_commits unmarked free none marked cut = re
   unfenced = λ s le. free s;
 }
 
-keeps_mark : (tally : Pairs) (slots : Counts) (history : List Entry) (n : ℕ) → KeepsCounts tally slots history
+keeps_mark : (tally : Pairs) (slots : List ℕ) (history : List Entry) (n : ℕ) → KeepsCounts tally slots history
     → KeepsCounts tally slots (history ++ stable n ∷ [])
 keeps_mark tally slots history n kept = record {
   tallied = tallied_mark tally history n kept.tallied;
@@ -85,7 +85,7 @@ keeps_mark tally slots history n kept = record {
   touched = counts_mark slots history n kept.touched;
 }
 
-keeps_commit : (old mid new : Pairs) (slots more : Counts) (history later : List Entry) (t : Transaction) (session : ℕ) → later ≡ history ++ commit t ∷ []
+keeps_commit : (old mid new : Pairs) (slots more : List ℕ) (history later : List Entry) (t : Transaction) (session : ℕ) → later ≡ history ++ commit t ∷ []
     → session ≡ t.session → SameTally old mid → CountsOne session mid new → CountsWrites t.writes slots more → KeepsCounts old slots history
     → KeepsCounts new more later
 keeps_commit old mid new slots more history later t session added is same counts writes kept = record {
@@ -94,12 +94,14 @@ keeps_commit old mid new slots more history later t session added is same counts
   touched = subst (AreCounts more) (sym added) (counts_commit slots more history t writes kept.touched);
 }
 
--- commits are fewer than the history's limit
-pub few_counted : (tally : Pairs) (slots : Counts) (history : List Entry) → KeepsCounts tally slots history → length history + 1 < 2 ^ 62
-    → slots.commits < 2 ^ 62
-few_counted tally slots history kept room = omega (arith, kept.touched.commits, length-commits-le history, room)
+-- what is held agrees with the history where it agrees with what is counted
+pub agree_with : (tally : Pairs) (slots : List ℕ) (history : List Entry) (held : List HeldState) → KeepsCounts tally slots history → Agree slots held
+    → AgreeWith history held
+agree_with tally slots history held kept agree = λ k d lt.
+    let here = agree k d lt in
+    here.1 ∙ kept.touched.touched (get_or held k d).slot (omega (arith, here.0, kept.touched.slots))
 
-module _ (tally : Pairs) (slots : Counts) (covered : Covered) (m : MemoryState) (kept : IsMemory tally slots covered m) where
+module _ (tally : Pairs) (slots : List ℕ) (covered : Covered) (m : MemoryState) (kept : IsMemory tally slots covered m) where
   -- a place was made for a session, and the history may be told otherwise
   pub memory_reserved : (mid : Pairs) (history : List Entry) → SameTally tally mid → history ≡ m.history → IsMemory mid slots covered (record m { history = history })
   memory_reserved mid history same is = subst (λ (h : List Entry). IsMemory mid slots covered (record m { history = h })) (sym is) (record {
@@ -143,7 +145,7 @@ module _ (tally : Pairs) (slots : Counts) (covered : Covered) (m : MemoryState) 
   }
 
   -- a commit
-  pub memory_committed : (mid new : Pairs) (more : Counts) (history : List Entry) (next : ℕ) (t : Transaction) (session : ℕ)
+  pub memory_committed : (mid new : Pairs) (more : List ℕ) (history : List Entry) (next : ℕ) (t : Transaction) (session : ℕ)
       → history ≡ m.history ++ commit t ∷ [] → next ≡ max m.next (session + 1) → session ≡ t.session
       → SameTally tally mid → CountsOne session mid new → CountsWrites t.writes slots more
       → IsMemory new more covered (record m { history = history; next = next })

@@ -16,7 +16,7 @@ use Rattle.journal_core.specs.declared.covered.Covered.{Covered}
 use Rattle.journal_core.specs.Causes.{Told}
 use Rattle.journal_core.specs.Covers.{Covers, KeepsCovered, with_quiet}
 use Rattle.journal_core.specs.Tallies.{Pairs, SameTally, NotesFence, fenced_among}
-use Rattle.journal_core.specs.SlotCounts.{Counts, KeepsCounts}
+use Rattle.journal_core.specs.SlotCounts.{KeepsCounts}
 use Rattle.journal_core.specs.Memories.{MemoryState, IsMemory}
 use Rattle.journal_core.specs.Updates.{AreObjectsOf}
 use Rattle.journal_core.specs.Fences.{AddsFence, HasFence, SetsFence}
@@ -44,7 +44,7 @@ fenced_so old mid new history session s same notes was = notes.fenced s ∙ by (
         ∙ sym (ap (λ (b : Bool). is_fenced s history || b) (ne_eqb session s (λ e. eqb-false s session is (sym e))) ∙ or-false (is_fenced s history))
 
 -- a fence is no commit
-keeps_fence : (old mid new : Pairs) (slots : Counts) (history : List Entry) (session : ℕ) → SameTally old mid → NotesFence session mid new → KeepsCounts old slots history
+keeps_fence : (old mid new : Pairs) (slots : List ℕ) (history : List Entry) (session : ℕ) → SameTally old mid → NotesFence session mid new → KeepsCounts old slots history
     → KeepsCounts new slots (history ++ fence session ∷ [])
 keeps_fence old mid new slots history session same notes kept = record {
   tallied = λ s. notes.made s ∙ same.made s ∙ kept.tallied s
@@ -52,7 +52,6 @@ keeps_fence old mid new slots history session same notes kept = record {
   fenced = λ s. fenced_so old mid new history session s same notes (kept.fenced s);
   touched = record {
     slots = kept.touched.slots;
-    commits = kept.touched.commits ∙ sym (ap length (commits-fence history session));
     touched = λ slot lt. kept.touched.touched slot lt ∙ sym (ap (λ (ts : List Transaction). length (filter (writes_slot slot) ts)) (commits-fence history session));
   };
 }
@@ -72,7 +71,7 @@ covers_fence covered now history cut len session is longer kept =
     })
 
 -- what the memory part keeps
-pub memory_fenced : (tally mid new : Pairs) (slots : Counts) (covered now : Covered) (m : MemoryState) (history : List Entry) (len next session : ℕ)
+pub memory_fenced : (tally mid new : Pairs) (slots : List ℕ) (covered now : Covered) (m : MemoryState) (history : List Entry) (len next session : ℕ)
     → IsMemory tally slots covered m → history ≡ m.history ++ fence session ∷ [] → len ≡ length m.history → next ≡ max m.next (session + 1)
     → SameTally tally mid → NotesFence session mid new → now ≡ record { marked = with_quiet len covered.marked; cut = with_quiet len covered.cut }
     → IsMemory new slots now (record m { history = history; next = next })

@@ -1,8 +1,8 @@
 pub mod Stepping
 pub mod Committing
 pub mod Opening
-pub mod SlotCounting
 pub mod Remembering
+pub mod Looking
 pub mod Reading
 pub mod Covering
 pub mod Counting

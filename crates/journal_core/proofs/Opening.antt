@@ -31,10 +31,28 @@ use Rattle.journal_core.specs.Pairs.{Tied}
 use Rattle.journal_core.specs.Cores.{IsPair}
 use Rattle.journal_core.specs.Openings.{HoldsMap, Begins, IsInRange, IsBeginRefusal, IsOpenRefusal, OnlyReadsDisk}
 use Rattle.journal_objlog.specs.ObjectLogs.{is_faulted as is_log_faulted, disk_of as log_disk}
+use Rattle.journal_circ.specs.Ring.{IsOpenRefusal as IsLogRefusal}
 
 -- what holds of a good answer
 pub on_ok : {T E P : Type 0} (r : Result T E) (value : T) → r ≡ Ok value → OnOk r P → P
 on_ok {T} {E} {P} r value is holds = subst (λ (x : Result T E). OnOk x P) is holds
+
+-- why the log is not opened, as the core's
+pub refuses_log : (rule : Map → Type 0) (old new : DiskState) (why : Refusal Unit) → IsInRange old → IsLogRefusal old new why → IsOpenRefusal rule old new (raised_of why)
+refuses_log rule old new NoMemory range is = range
+refuses_log rule old new (DeviceFailed cause) range is = (range, is, refl)
+refuses_log rule old new BadLog range is = (range, is)
+refuses_log rule old new BadAddress range is = absurd is
+refuses_log rule old new BadSize range is = absurd is
+refuses_log rule old new TooLarge range is = absurd is
+refuses_log rule old new Busy range is = absurd is
+refuses_log rule old new BadSuper range is = absurd is
+refuses_log rule old new (Stale cause) range is = absurd is
+refuses_log rule old new (Stranger cause) range is = absurd is
+refuses_log rule old new (Worn cause) range is = absurd is
+refuses_log rule old new (Full cause) range is = absurd is
+refuses_log rule old new (Closed cause) range is = absurd is
+refuses_log rule old new Fenced range is = absurd is
 
 -- nothing is in flight still, where the log was only read
 pub rests_still : (old new : WalState) → OnlyReads old new → is_log_faulted new ≡ false → AtRest old → AtRest new

@@ -19,7 +19,7 @@ use Rattle.journal_core.proofs.Pairing.{begins_not}
 look_refused : (blocks : ℕ) (c : CoreState) (t : TransactionState) (a : Addr) (why : Refusal Told) → IsLookRefusal blocks (outset c) t a why → IsReadRefusal blocks c t a c why
 look_refused blocks c t a BadAddress it = it
 look_refused blocks c t a (Stale cause) it = (it.0, it.1, it.2, refl)
-look_refused blocks c t a (Stranger cause) it = (it.0, it.1, it.2, refl)
+look_refused blocks c t a (Stranger cause) it = absurd it
 look_refused blocks c t a (Closed cause) it = record { unexplained = it.0; closed = it.1; same = refl }
 look_refused blocks c t a (DeviceFailed cause) it = record { unexplained = it.0; not_closed = it.1; fault = inl it.2; faulted = it.2; others = refl }
 look_refused blocks c t a NoMemory it = absurd it
@@ -49,7 +49,7 @@ reads_not blocks v c t a f why same begins it = ⊎_elim
 may_look : (blocks : ℕ) (o : Outset) (t : TransactionState) (a : Addr) (why : Refusal Told) → MayRead blocks o t a → IsLookRefusal blocks o t a why → ⊥
 may_look blocks o t a BadAddress may it = false≢true (sym it.1 ∙ may.valid)
 may_look blocks o t a (Stale cause) may it = omega (arith, it.2.1.1, IsPrefix-length t.seen o.history may.later)
-may_look blocks o t a (Stranger cause) may it = it.2.2 may.unmoved
+may_look blocks o t a (Stranger cause) may it = it
 may_look blocks o t a (Closed cause) may it = false≢true (sym may.running.0 ∙ it.1)
 may_look blocks o t a (DeviceFailed cause) may it = false≢true (sym may.running.1 ∙ it.2)
 may_look blocks o t a NoMemory may it = it

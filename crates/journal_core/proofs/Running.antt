@@ -567,7 +567,6 @@ undisturbed c holders actor t sound = record {
   unmoved = sound.unmoved;
   agrees = sound.agrees;
   never_behind = λ cause behind. let fewer : length t.seen ≤ length c.history = IsPrefix-length t.seen c.history sound.later in omega (arith, fewer, behind.1.1);
-  never_moved = λ cause moved. moved.2 sound.unmoved;
 }
 
 -- what was fetched is what the first commits left, in every later history

@@ -22,7 +22,7 @@ use Rattle.journal_core.specs.Causes.{Told}
 use Rattle.journal_core.specs.Cores.{CoreState, Crashes, IsRunning, OnlyReads, disk_of}
 use Rattle.journal_core.specs.Transactions.{TransactionState, FoundState, begun, AreUnmoved, Remembers, Overwrites}
 use Rattle.journal_core.specs.Steps.{LogAnswers, IsLogRefusal, InstallAnswers, IsInstallRefusal, MayRead, IsReadRefusal, BeginsSession, IsSessionRefusal, Stops, IsFetchRefusal}
-use Rattle.journal_core.specs.Memories.{IsBehind, IsMoved}
+use Rattle.journal_core.specs.Memories.{IsBehind}
 use Rattle.journal_core.specs.Durables.{FetchedState, IsFetched, IsBlockAfter}
 use Rattle.journal_core.specs.Volatiles.{IsFrontRefusal}
 use Rattle.journal_core.specs.Commits.{IsCommitted, CanCommit, IsCommitRefusal}
@@ -396,7 +396,6 @@ pub record IsUndisturbed (c : CoreState) (t : TransactionState) : Type 0 where
   pub unmoved : AreUnmoved c.history t
   pub agrees : Agrees (latest c.history) t.reads
   pub never_behind : (cause : Told) → IsBehind c.history t cause → ⊥
-  pub never_moved : (cause : Told) → IsMoved c.history t cause → ⊥
 
 -- What was fetched, however long ago, is what the first commits of the history left: it goes from a hold of one lock to a later hold
 -- of another. No step is refused since the fetch had seen more of the history

@@ -1,5 +1,5 @@
 -- What contracts see of the core's memory part, what its type keeps, and why it refuses. No device is asked for any of it.
-use Rattle.std.specs.Prelude.{ℕ, ◌≡◌, ◌⊎◌, ◌<◌, ◌≤◌, ◌+◌, ◌^◌, Bool, true, false, List, [], length}
+use Rattle.std.specs.Prelude.{ℕ, ◌≡◌, ◌<◌, ◌≤◌, ◌+◌, ◌^◌, Bool, true, false, List, [], length}
 use mathlib.Core.List.{IsPrefix}
 use Rattle.journal_world.specs.declared.refusal.Refusal.{Refusal}
 use Rattle.journal_world.specs.declared.refusal.Refusal.TheVariants.{NoMemory, Stale, Stranger, Worn, Fenced}
@@ -11,7 +11,7 @@ use Rattle.journal_core.specs.declared.covered.Covered.{Covered}
 use Rattle.journal_core.specs.Causes.{Told, IsUnexplained, IsExplained}
 use Rattle.journal_core.specs.Tallies.{Pairs}
 use Rattle.journal_core.specs.Covers.{KeepsCovered}
-use Rattle.journal_core.specs.SlotCounts.{Counts, KeepsCounts}
+use Rattle.journal_core.specs.SlotCounts.{KeepsCounts}
 use Rattle.journal_core.specs.Transactions.{TransactionState, AreUnmoved}
 
 pub record MemoryState : Type 0 where
@@ -26,7 +26,7 @@ pub record MemoryState : Type 0 where
 
 -- What it keeps: it counts the commits of each session and slot, knows which sessions are fenced and which fronts have only
 -- marked commits, and no session of a later number has committed or is fenced
-pub record IsMemory (tally : Pairs) (slots : Counts) (covered : Covered) (m : MemoryState) : Type 0 where
+pub record IsMemory (tally : Pairs) (slots : List ℕ) (covered : Covered) (m : MemoryState) : Type 0 where
   pub counts : KeepsCounts tally slots m.history
   pub fronts : KeepsCovered covered m.history m.cut
   pub fresh : (s : ℕ) → m.next ≤ s → commits_of s m.history ≡ []
@@ -44,18 +44,14 @@ IsStrange history s = made s < length (commits_of s.number history)
 abbrev pub IsBehind : List Entry → TransactionState → Told → Type 0
 IsBehind history t cause = IsExplained J9 t.seen cause × IsLonger history t.seen
 
--- A commit touched a slot under which the transaction had read
-abbrev pub IsMoved : List Entry → TransactionState → Told → Type 0
-IsMoved history t cause = IsExplained J10 history cause × IsPrefix t.seen history × (AreUnmoved history t → ⊥)
-
 -- Neither the session nor the transaction has seen more of the history than the core
 pub record HasSeen (history : List Entry) (s : SessionState) (t : TransactionState) : Type 0 where
   pub shown : IsPrefix s.seen history
   pub later : IsPrefix t.seen history
 
--- The history has a commit that the session or the transaction does not know to be there
-abbrev pub IsUnknown : List Entry → SessionState → TransactionState → Told → Type 0
-IsUnknown history s t cause = (IsExplained J10 history cause × IsStrange history s) ⊎ IsMoved history t cause
+-- The history has a commit under the session's number that the session did not make, as this cause has it
+abbrev pub IsUnknown : List Entry → SessionState → Told → Type 0
+IsUnknown history s cause = IsExplained J10 history cause × IsStrange history s
 
 -- The session is fenced, and nothing that is looked at before refuses its commit
 pub record MeetsFence (history : List Entry) (s : SessionState) (t : TransactionState) : Type 0 where
@@ -86,21 +82,15 @@ abbrev pub IsNumberRefusal : ℕ → Refusal Told → Type 0
 IsNumberRefusal next (Worn cause) = (2 ^ 62 ≤ next) × IsUnexplained J11 cause
 IsNumberRefusal next other = ⊥
 
--- why what a transaction has read is not admitted, which has seen no more of the history than the core
-abbrev pub IsMovedRefusal : List Entry → TransactionState → Refusal Told → Type 0
-IsMovedRefusal history t (Stranger cause) = IsMoved history t cause
-IsMovedRefusal history t other = ⊥
-
 -- why a transaction may not read
 abbrev pub IsLookRefusal : List Entry → TransactionState → Refusal Told → Type 0
 IsLookRefusal history t (Stale cause) = IsBehind history t cause
-IsLookRefusal history t (Stranger cause) = IsMoved history t cause
 IsLookRefusal history t other = ⊥
 
 -- why a session's commit is not admitted
 abbrev pub IsAdmissionRefusal : List Entry → SessionState → TransactionState → Refusal Told → Type 0
 IsAdmissionRefusal history s t (Stale cause) = IsStale history cause
-IsAdmissionRefusal history s t (Stranger cause) = HasSeen history s t × IsUnknown history s t cause
+IsAdmissionRefusal history s t (Stranger cause) = HasSeen history s t × IsUnknown history s cause
 IsAdmissionRefusal history s t Fenced = MeetsFence history s t
 IsAdmissionRefusal history s t other = ⊥
 

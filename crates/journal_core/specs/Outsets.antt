@@ -13,7 +13,7 @@ use Rattle.journal_objlog.specs.Writes.{written_blocks, fresh_among}
 use Rattle.journal_history.specs.Tokens.{SessionState, made}
 use Rattle.journal_core.specs.declared.refusal_number.RefusalNumber.TheVariants.{J6, J11, J12, J13}
 use Rattle.journal_core.specs.Causes.{Told, IsUnexplained}
-use Rattle.journal_core.specs.Memories.{HasSeen, IsBehind, IsMoved, IsStale, IsUnknown, MeetsFence}
+use Rattle.journal_core.specs.Memories.{HasSeen, IsBehind, IsStale, IsUnknown, MeetsFence}
 use Rattle.journal_core.specs.Transactions.{TransactionState, AreUnmoved}
 
 pub record Outset : Type 0 where
@@ -46,7 +46,6 @@ pub record MayRead (blocks : ℕ) (o : Outset) (t : TransactionState) (a : Addr)
 abbrev pub IsLookRefusal : ℕ → Outset → TransactionState → Addr → Refusal Told → Type 0
 IsLookRefusal blocks o t a BadAddress = GoesOn o × (is_valid blocks a ≡ false)
 IsLookRefusal blocks o t a (Stale cause) = GoesOn o × IsTrue (is_valid blocks a) × IsBehind o.history t cause
-IsLookRefusal blocks o t a (Stranger cause) = GoesOn o × IsTrue (is_valid blocks a) × IsMoved o.history t cause
 IsLookRefusal blocks o t a other = IsEndRefusal o other
 
 -- The history's length, the session's number or a position of the log would reach 2^62
@@ -87,7 +86,7 @@ IsPreparingRefusal o s writes other = ⊥
 -- why a commit is refused: the first of these that holds, then J1
 abbrev pub IsCommitRefusal : Outset → SessionState → TransactionState → Refusal Told → Type 0
 IsCommitRefusal o s t (Stale cause) = GoesOn o × IsStale o.history cause
-IsCommitRefusal o s t (Stranger cause) = GoesOn o × HasSeen o.history s t × IsUnknown o.history s t cause
+IsCommitRefusal o s t (Stranger cause) = GoesOn o × HasSeen o.history s t × IsUnknown o.history s cause
 IsCommitRefusal o s t Fenced = GoesOn o × MeetsFence o.history s t
 IsCommitRefusal o s t TooLarge = MayCommit o s t × (MAX_UPDATES < written_blocks t.writes)
 IsCommitRefusal o s t (Worn cause) = MayCommit o s t × (written_blocks t.writes ≤ MAX_UPDATES) × IsWorn o s t.writes × IsUnexplained J11 cause

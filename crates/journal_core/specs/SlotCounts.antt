@@ -1,45 +1,31 @@
--- How many commits touched each slot, and what the core counts beside its history.
-use Rattle.std.specs.Prelude.{ℕ, ◌≡◌, ◌<◌, ◌≤◌, ◌+◌, ◌==◌, if◌then◌else◌, List, length, slice_index, All}
-use Rattle.std.specs.List.{list_any}
+-- How many commits touched each slot, what the core counts beside its history, and what is held under the slots.
+use Rattle.std.specs.Prelude.{ℕ, ◌≡◌, ◌<◌, List, length, slice_index, slice_get, Some, All}
 use Rattle.journal_world.specs.declared.address.TheConstants.{SLOTS}
 use Rattle.journal_world.specs.Addresses.{slot_of}
 use Rattle.journal_world.specs.Maps.{Pair}
-use Rattle.journal_world.specs.Histories.{Entry, count, touched}
-use Rattle.journal_core.specs.declared.slot_counts.Slot.{Slot}
+use Rattle.journal_world.specs.Histories.{Entry, touched}
+use Rattle.journal_lockmap.specs.Numbers.{HeldState}
 use Rattle.journal_core.specs.Tallies.{Pairs, IsTallied, AreFences}
 
--- The numbers of commits that touched each slot, of so many in all
-pub record Counts : Type 0 where
-  pub slots : List ℕ
-  pub commits : ℕ
-
--- they are those of the history
-pub record AreCounts (c : Counts) (history : List Entry) : Type 0 where
-  pub slots : length c.slots ≡ SLOTS
-  pub commits : c.commits ≡ count history
-  pub touched : (slot : ℕ) → slot < SLOTS → slice_index c.slots slot ≡ touched history slot
+-- The numbers of commits that touched each slot are those of the history
+pub record AreCounts (counts : List ℕ) (history : List Entry) : Type 0 where
+  pub slots : length counts ≡ SLOTS
+  pub touched : (slot : ℕ) → slot < SLOTS → slice_index counts slot ≡ touched history slot
 
 -- What is kept beside the history: each session's number of commits, whether it is fenced, and each slot's number of commits
-pub record KeepsCounts (tally : Pairs) (slots : Counts) (history : List Entry) : Type 0 where
+pub record KeepsCounts (tally : Pairs) (counts : List ℕ) (history : List Entry) : Type 0 where
   pub tallied : IsTallied tally history
   pub fenced : AreFences tally history
-  pub touched : AreCounts slots history
+  pub touched : AreCounts counts history
 
--- No commit is counted
-pub record CountsNothing (c : Counts) : Type 0 where
-  pub slots : length c.slots ≡ SLOTS
-  pub commits : c.commits ≡ 0
-  pub touched : (slot : ℕ) → slot < SLOTS → slice_index c.slots slot ≡ 0
+-- what is held agrees with the history: each slot was touched by as many commits as its token says
+abbrev pub AgreeWith : List Entry → List HeldState → Type 0
+AgreeWith history held = All (λ h. h.count ≡ touched history h.slot) held
 
--- One commit more is counted, which writes these
-pub record CountsWrites (writes : List Pair) (old new : Counts) : Type 0 where
-  pub slots : length new.slots ≡ length old.slots
-  pub commits : new.commits ≡ old.commits + 1
-  pub touched : (slot : ℕ) → slot < SLOTS → slice_index new.slots slot
-      ≡ (if list_any (λ p. slot_of p.0 == slot) writes then slice_index old.slots slot + 1 else slice_index old.slots slot)
+-- the address's slot is held, and as many commits of the history touched it as its token says
+abbrev pub IsUnder : List HeldState → List Entry → Pair → Type 0
+IsUnder held history p = (k : ℕ) × (h : HeldState) × (slice_get held k ≡ Some h) × (h.slot ≡ slot_of p.0) × (h.count ≡ touched history (slot_of p.0))
 
--- What is kept of each slot, after so many commits
-pub record IsCounting (slots : List Slot) (commits : ℕ) : Type 0 where
-  pub all : length slots ≡ SLOTS
-  pub touched : All (λ s. s.touched ≤ commits) slots
-  pub last : All (λ s. s.last ≤ commits) slots
+-- what was read lies under slots that are held, which no commit touched since
+abbrev pub AreUnder : List HeldState → List Entry → List Pair → Type 0
+AreUnder held seen reads = All (IsUnder held seen) reads

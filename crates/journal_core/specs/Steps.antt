@@ -2,7 +2,7 @@
 use Rattle.std.specs.Prelude.{ℕ, ◌≡◌, ◌⊎◌, ◌<◌, ◌≤◌, ◌+◌, ◌++◌, ◌∷◌, [], IsTrue, true, false}
 use Rattle.journal_world.specs.declared.address.Addr.{Addr}
 use Rattle.journal_world.specs.declared.refusal.Refusal.{Refusal}
-use Rattle.journal_world.specs.declared.refusal.Refusal.TheVariants.{NoMemory, BadAddress, DeviceFailed, Stale, Stranger, Closed}
+use Rattle.journal_world.specs.declared.refusal.Refusal.TheVariants.{NoMemory, BadAddress, DeviceFailed, Stale, Closed}
 use Rattle.journal_world.specs.Addresses.{is_valid}
 use Rattle.journal_disk.specs.Disks.{HasFailed}
 use Rattle.journal_world.specs.Histories.{count, floor, commits_of, is_fenced}
@@ -17,7 +17,7 @@ use Rattle.journal_core.specs.declared.step.LogStep.TheVariants.{Idle, Cut, Put,
 use Rattle.journal_core.specs.declared.refusal_number.RefusalNumber.TheVariants.{J6, J13}
 use Rattle.journal_core.specs.Causes.{Told, IsUnexplained}
 use Rattle.journal_core.specs.Transactions.{TransactionState}
-use Rattle.journal_core.specs.Memories.{IsBehind, IsMoved, IsNumberRefusal, IsStaleRefusal, IsMarkRefusal}
+use Rattle.journal_core.specs.Memories.{IsBehind, IsNumberRefusal, IsStaleRefusal, IsMarkRefusal}
 use Rattle.journal_core.specs.Outsets.{IsEndRefusal as IsEndOf, MayRead as MayReadFrom}
 use Rattle.journal_core.specs.Cores.{CoreState, is_faulted, IsRunning, disk_of, Crashes, tail_length, start_of, end_of, with_wal, outset}
 
@@ -150,8 +150,6 @@ IsReadRefusal blocks old t addr new (DeviceFailed cause) = IsDeviceRefusal (MayR
 IsReadRefusal blocks old t addr new BadAddress = IsRunning old × (is_valid blocks addr ≡ false)
 IsReadRefusal blocks old t addr new (Stale cause) =
     IsRunning old × IsTrue (is_valid blocks addr) × IsBehind old.history t cause × (new ≡ old)
-IsReadRefusal blocks old t addr new (Stranger cause) =
-    IsRunning old × IsTrue (is_valid blocks addr) × IsMoved old.history t cause × (new ≡ old)
 IsReadRefusal blocks old t addr new other = ⊥
 
 -- A session of a number that no session had before, and that the history has no commit and no fence of. It has seen the whole

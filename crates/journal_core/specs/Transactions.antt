@@ -1,7 +1,6 @@
 -- What contracts see of an open transaction, and what its type keeps.
-use Rattle.std.specs.Prelude.{ℕ, ◌≡◌, ◌≢◌, ◌<◌, ◌↔◌, IsTrue, List, [], ◌∷◌, All}
+use Rattle.std.specs.Prelude.{ℕ, ◌≡◌, ◌≢◌, IsTrue, List, [], ◌∷◌, All}
 use Rattle.journal_world.specs.declared.address.Addr.{Addr}
-use Rattle.journal_world.specs.declared.address.TheConstants.{SLOTS}
 use Rattle.journal_world.specs.Addresses.{Value, slot_of}
 use Rattle.journal_world.specs.Maps.{Map, Pair, value_at, SamePairs, Agrees, is_object, are_objects}
 use Rattle.journal_world.specs.Histories.{Entry, opened, is_trusted, latest, touched}
@@ -16,27 +15,17 @@ pub record TransactionState : Type 0 where
 abbrev pub begun : List Entry → TransactionState
 begun seen = record { reads = []; writes = []; seen = seen }
 
--- a slot, and how many commits had touched it
-abbrev pub SlotCount : Type 0
-SlotCount = ℕ × ℕ
-
--- the slot's number of commits is the history's
-abbrev pub IsCount : List Entry → SlotCount → Type 0
-IsCount history c = (c.0 < SLOTS) × (c.1 ≡ touched history c.0)
-
 -- no slot was touched since, under which the transaction read
 abbrev pub AreUnmoved : List Entry → TransactionState → Type 0
 AreUnmoved history t = All (λ p. touched history (slot_of p.0) ≡ touched t.seen (slot_of p.0)) t.reads
 
--- What a transaction keeps, on a disk of so many blocks, with the counts of the slots under which it read
-pub record IsTransaction (blocks : ℕ) (slots : List SlotCount) (t : TransactionState) : Type 0 where
+-- What a transaction keeps, on a disk of so many blocks
+pub record IsTransaction (blocks : ℕ) (t : TransactionState) : Type 0 where
   pub begun : t.seen ≢ []
   pub on_disk : (opened t.seen).blocks ≡ blocks
   pub reads : IsTrue (are_objects blocks t.reads)
   pub writes : IsTrue (are_objects blocks t.writes)
   pub agrees : IsTrue (is_trusted t.seen) → Agrees (latest t.seen) t.reads
-  -- the counts are a history's exactly where no slot was touched since, under which it read
-  pub counts : (history : List Entry) → All (IsCount history) slots ↔ AreUnmoved history t
 
 -- What was read is remembered, as it is at the end of the history
 pub record Remembers (old : TransactionState) (a : Addr) (v : Value) (history : List Entry) (new : TransactionState) : Type 0 where

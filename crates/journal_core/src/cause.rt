@@ -14,8 +14,7 @@ use std::marker::Model;
 pub struct Cause<'b, J: Naming, R: MapRule> {
     // Which refusal it was made for. Contracts alone ask for it.
     number: RefusalNumber,
-    // At J9 the history that is longer than the core's, at J10 the one that has the strange entry, or in which a
-    // slot has moved.
+    // At J9 the history that is longer than the core's, at J10 the one that has the strange entry.
     front: Option<Front<'b, J, R>>,
 }
 

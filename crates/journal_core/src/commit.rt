@@ -3,6 +3,9 @@ ghost use Rattle.std.specs.Prelude.{◌≡◌, length, IsTrue, IfOk, IfErr, OnOk
 ghost use Rattle.journal_world.specs.Maps.{Map, Agrees, overwritten};
 ghost use Rattle.journal_world.specs.Histories.{is_trusted, latest};
 ghost use Rattle.journal_history.specs.Tokens.{next_transaction, OnlyExtends, IsReceiptFor};
+ghost use Rattle.journal_lockmap.specs.Numbers.{AreApart, AreCovered, slots_of};
+ghost use Rattle.journal_core.specs.SlotCounts.{AgreeWith, AreUnder};
+ghost use Rattle.journal_core.specs.Transactions.{AreUnmoved};
 ghost use Rattle.journal_core.specs.Cores.{Crashes, IsRunning, OnlyReads};
 ghost use Rattle.journal_core.specs.Memories.{ShowsLonger};
 ghost use Rattle.journal_core.specs.Commits.{IsCommitted, CanCommit, IsCommitRefusal};
@@ -13,30 +16,78 @@ use crate::state::Core;
 use crate::transaction::Transaction;
 use journal_disk::BlockDisk;
 use journal_history::{Naming, Receipt, Session};
+use journal_lockmap::Held;
 use journal_objlog::Spares;
 use journal_world::{MapRule, Refusal};
+use std::sync::Wait;
 
 impl<'b, D: BlockDisk, R: MapRule, J: Naming> Core<'b, D, R, J> {
     /// Commits the session's next transaction: adds it to the history, which the session has then seen, and
     /// overwrites the map by its writes, in memory. The receipt says where it stands. All memory and all reads
     /// from the device come before the history grows; it takes what memory the spares have first.
     ///
+    /// What it reads and writes lies under slots that are held, each once. A look at these, which is made first and waits
+    /// for nobody, shows that no other commit touched one since it was read: nothing is compared. What is held agrees
+    /// with the history then too, and a refusal leaves it as it was.
+    ///
     /// The first that applies of these refuses it: J13 `Closed` where the core was stopped, J6 `DeviceFailed` where
     /// the device failed before, J9 `Stale` where the session or the transaction has seen more of the history than the
     /// core, or the history is longer, J10 `Stranger` where the history has a commit under the session's number that the
-    /// session did not make, or a commit touched a slot under which the transaction had read, J14 `Fenced` where the
-    /// session is fenced, J4 `TooLarge` where more than 128 distinct blocks are written, J11 `Worn` where the history's
-    /// length, the session's number or a position of the log would reach 2^62, J12 `Full` where the log's tail cannot
-    /// take the blocks that do not stand in it, then J1 `NoMemory` where memory is refused, or J6 where the device fails
-    /// in this call. The history, the map and the pending writes are then as they were.
-    pub fn commit_step(
+    /// session did not make, J14 `Fenced` where the session is fenced, J4 `TooLarge` where more than 128 distinct blocks
+    /// are written, J11 `Worn` where the history's length, the session's number or a position of the log would reach
+    /// 2^62, J12 `Full` where the log's tail cannot take the blocks that do not stand in it, then J1 `NoMemory` where
+    /// memory is refused, or J6 where the device fails in this call. The history, the map and the pending writes are
+    /// then as they were.
+    pub fn commit_step<W: Wait>(
         &mut self,
+        rt: &W,
         session: &mut Session<'b, J, R>,
         transaction: &Transaction<'b, J, R>,
+        held: &mut [Held<J>],
         spares: &mut Spares,
     ) -> Result<Receipt<'b, J, R>, Refusal<Cause<'b, J, R>>>
         requires rule { (m : Map) → m.blocks ≡ J.blocks → R.statement m → Agrees m transaction.now.reads
             → R.statement (overwritten m transaction.now.writes) }
+        requires under { AreUnder held.old transaction.now.seen transaction.now.reads }
+        requires covered { AreCovered held.old transaction.now.writes }
+        requires apart { AreApart held.old }
+        ensures agree { AgreeWith self.new.history held.new }
+        ensures slots { slots_of held.new ≡ slots_of held.old }
+        ensures held { OnErr result (held.new ≡ held.old) }
+        ensures committed { OnOk result (IsCommitted transaction.now.reads transaction.now.writes session.old session.new self.old self.new) }
+        ensures receipt { IfOk result (IsReceiptFor (next_transaction session.old transaction.now.reads transaction.now.writes) self.new.history (length self.old.history)) }
+        ensures can { OnOk result (CanCommit self.old session.old transaction.now) }
+        ensures agrees { OnOk result (IsTrue (is_trusted self.old.history) → Agrees (latest self.old.history) transaction.now.reads) }
+        ensures running { OnOk result (IsRunning self.new) }
+        ensures refusal { IfErr result (IsCommitRefusal self.old session.old transaction.now self.new) }
+        ensures same { OnErr result (self.new ≡ record self.old { objects = self.new.objects }) }
+        ensures left { OnErr result (OnlyReads self.old.objects self.new.objects) }
+        ensures session { OnErr result (OnlyExtends session.old session.new) }
+        ensures longer { IfErr result (ShowsLonger self.old.history session.new) }
+        ensures crash { Crashes self.old self.new }
+        ensures event { AnswersCommit self.old session.old transaction.now result self.new session.new }
+    {
+        self.look(rt, held);
+        self.commit_unmoved(rt, session, transaction, held, spares)
+    }
+
+    // Commits as `commit_step` does, once a look has shown that what was read has not moved.
+    fn commit_unmoved<W: Wait>(
+        &mut self,
+        rt: &W,
+        session: &mut Session<'b, J, R>,
+        transaction: &Transaction<'b, J, R>,
+        held: &mut [Held<J>],
+        spares: &mut Spares,
+    ) -> Result<Receipt<'b, J, R>, Refusal<Cause<'b, J, R>>>
+        requires rule { (m : Map) → m.blocks ≡ J.blocks → R.statement m → Agrees m transaction.now.reads
+            → R.statement (overwritten m transaction.now.writes) }
+        requires unmoved { AreUnmoved self.old.history transaction.now }
+        requires covered { AreCovered held.old transaction.now.writes }
+        requires apart { AreApart held.old }
+        ensures agree { OnOk result (AgreeWith self.new.history held.new) }
+        ensures slots { slots_of held.new ≡ slots_of held.old }
+        ensures held { OnErr result (held.new ≡ held.old) }
         ensures committed { OnOk result (IsCommitted transaction.now.reads transaction.now.writes session.old session.new self.old self.new) }
         ensures receipt { IfOk result (IsReceiptFor (next_transaction session.old transaction.now.reads transaction.now.writes) self.new.history (length self.old.history)) }
         ensures can { OnOk result (CanCommit self.old session.old transaction.now) }
@@ -56,6 +107,6 @@ impl<'b, D: BlockDisk, R: MapRule, J: Naming> Core<'b, D, R, J> {
             volatile,
             ..
         } = self;
-        durable.commit_step(alloc, volatile, session, transaction, spares)
+        durable.commit_step(rt, alloc, volatile, session, transaction, held, spares)
     }
 }

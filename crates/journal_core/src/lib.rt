@@ -31,7 +31,6 @@ mod parts;
 mod read;
 mod refusal_number;
 mod session;
-mod slot_counts;
 mod state;
 mod step;
 mod tally;

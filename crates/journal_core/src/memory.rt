@@ -1,24 +1,23 @@
 // The core's memory part, and what it tells without a step.
-ghost use Rattle.std.specs.Prelude.{ℕ, ◌≡◌, ◌≢◌, ◌<◌, ◌↔◌, [], false, length, IsTrue, IfErr, OnOk, All};
+ghost use Rattle.std.specs.Prelude.{ℕ, ◌≡◌, ◌≢◌, [], false, length, replicate, IfErr, OnOk};
 ghost use mathlib.Core.List.{IsPrefix};
 ghost use Rattle.journal_world.specs.declared.address.TheConstants.{SLOTS as SLOT_COUNT};
-ghost use Rattle.journal_world.specs.Maps.{Agrees};
-ghost use Rattle.journal_world.specs.Histories.{opened, is_trusted, is_fenced, commits, count, floor, latest, touched};
+ghost use Rattle.journal_world.specs.Histories.{opened, is_fenced, commits, count, floor};
 ghost use Rattle.journal_history.specs.Soundness.{IsSound};
-ghost use Rattle.journal_core.specs.Memories.{IsLookRefusal, IsMovedRefusal};
-ghost use Rattle.journal_core.specs.SlotCounts.{CountsNothing};
-ghost use Rattle.journal_core.specs.Transactions.{IsCount, AreUnmoved};
+ghost use Rattle.journal_core.specs.Memories.{IsLookRefusal};
+ghost use Rattle.journal_core.specs.SlotCounts.{AgreeWith};
 
 use crate::cause::Cause;
 use crate::covered::Covered;
 use crate::refusal_number::RefusalNumber;
-use crate::slot_counts::SlotCounts;
 use crate::tally::Tally;
 use crate::transaction::Transaction;
 use journal_history::{Front, Naming, Writer};
+use journal_lockmap::{Held, SlotCounts};
 use journal_world::{MapRule, Refusal};
 use std::alloc::Global;
 use std::marker::Model;
+use std::sync::Wait;
 
 /// What the core knows without its disk: the history, with what is counted beside it, and who may go on.
 ///
@@ -35,7 +34,7 @@ pub(crate) struct Memory<'b, R: MapRule, J: Naming> {
     // It was stopped.
     pub(crate) closed: bool,
     // How many commits touched each slot.
-    pub(crate) slots: SlotCounts,
+    pub(crate) slots: SlotCounts<J>,
 }
 
 impl<'b, R: MapRule, J: Naming> Model for Memory<'b, R, J> {
@@ -53,12 +52,12 @@ impl<'b, R: MapRule, J: Naming> Memory<'b, R, J> {
     pub(crate) fn new(
         alloc: Global,
         writer: Writer<'b, J, R>,
-        slots: SlotCounts,
+        slots: SlotCounts<J>,
     ) -> Memory<'b, R, J>
         requires none { commits writer ≡ [] }
         requires unmarked { floor writer ≡ 0 }
         requires unfenced { (s : ℕ) → is_fenced s writer ≡ false }
-        requires slots { CountsNothing slots }
+        requires slots { slots ≡ replicate SLOT_COUNT 0 }
         ensures { result ≡ record { history = writer.entry; cut = 0; next = 0; closed = false } }
     {
         let len = writer.len();
@@ -116,54 +115,28 @@ impl<'b, R: MapRule, J: Naming> Memory<'b, R, J> {
         self.writer.front()
     }
 
-    /// How many commits touched the slot.
-    pub(crate) fn touched(&self, slot: u16) -> u64
-        requires slot { slot < SLOT_COUNT }
-        ensures { result ≡ touched self.now.history slot }
+    /// Shows that what is held agrees with the history: as many commits touched each slot as its token says. Nothing
+    /// changes.
+    pub(crate) fn look<W: Wait>(&mut self, rt: &W, held: &mut [Held<J>])
+        ensures same { self.new ≡ self.old }
+        ensures held { held.new ≡ held.old }
+        ensures agree { AgreeWith self.old.history held.old }
     {
-        self.slots.touched(slot)
+        self.slots.look_all(rt, held);
     }
 
-    /// Whether each of these slots has been touched by as many commits as stand beside it.
-    pub(crate) fn unmoved(&self, counts: &[(u16, u64)]) -> bool
-        requires slots { All (λ c. c.0 < SLOT_COUNT) counts.now }
-        ensures { IsTrue result ↔ All (IsCount self.now.history) counts.now }
-    {
-        counts
-            .iter()
-            .all(|(slot, count)| self.touched(*slot) == *count)
-    }
-
-    /// Refuses by J9 a transaction that has seen more of the history, and by J10 one that read under a slot that a
-    /// commit touched since.
+    /// Refuses by J9 a transaction that has seen more of the history.
     pub(crate) fn check_transaction(
         &self,
         transaction: &Transaction<'b, J, R>,
     ) -> Result<(), Refusal<Cause<'b, J, R>>>
         ensures later { OnOk result (IsPrefix transaction.now.seen self.now.history) }
-        ensures unmoved { OnOk result (AreUnmoved self.now.history transaction.now) }
         ensures refusal { IfErr result (IsLookRefusal self.now.history transaction.now) }
     {
         let mut front = self.writer.front();
         front.see(&transaction.front);
         if front.len() > self.writer.len() {
             return Err(Refusal::Stale(Cause::of(RefusalNumber::J9, front)));
-        }
-        self.admit_reads(transaction)
-    }
-
-    /// Refuses by J10 what a transaction has read that has seen no more of the history.
-    pub(crate) fn admit_reads(
-        &self,
-        transaction: &Transaction<'b, J, R>,
-    ) -> Result<(), Refusal<Cause<'b, J, R>>>
-        requires later { IsPrefix transaction.now.seen self.now.history }
-        ensures unmoved { OnOk result (AreUnmoved self.now.history transaction.now) }
-        ensures agrees { OnOk result (IsTrue (is_trusted self.now.history) → Agrees (latest self.now.history) transaction.now.reads) }
-        ensures refusal { IfErr result (IsMovedRefusal self.now.history transaction.now) }
-    {
-        if !self.unmoved(&transaction.counts) {
-            return Err(Refusal::Stranger(Cause::of(RefusalNumber::J10, self.writer.front())));
         }
         Ok(())
     }

@@ -5,6 +5,8 @@ ghost use Rattle.journal_world.specs.Histories.{is_trusted, is_fenced, commits_o
 ghost use Rattle.journal_world.specs.Histories.Entry.{stable};
 ghost use Rattle.journal_history.specs.Tokens.{made, next_transaction, OnlyExtends, Commits, IsReceiptFor};
 ghost use Rattle.journal_core.specs.Memories.{HasSeen, ShowsLonger, IsStaleRefusal, IsAdmissionRefusal, IsAddingRefusal, IsMarkRefusal};
+ghost use Rattle.journal_lockmap.specs.Numbers.{AreApart, AreCovered, slots_of};
+ghost use Rattle.journal_core.specs.SlotCounts.{AgreeWith};
 ghost use Rattle.journal_core.specs.Transactions.{AreUnmoved};
 
 use crate::cause::Cause;
@@ -13,19 +15,21 @@ use crate::refusal_number::RefusalNumber;
 use crate::state::LIMIT;
 use crate::transaction::Transaction;
 use journal_history::{Naming, Receipt, Session};
+use journal_lockmap::Held;
 use journal_world::{MapRule, Refusal};
+use std::sync::Wait;
 
 impl<'b, R: MapRule, J: Naming> Memory<'b, R, J> {
-    /// Refuses a commit by what is known of the session and of what the transaction has read: J9, J10 and J14. The
+    /// Refuses a commit by what is known of the session and of what the transaction has seen: J9, J10 and J14. The
     /// session has then seen the history as it is, or the longer one.
     pub(crate) fn admit(
         &self,
         session: &mut Session<'b, J, R>,
         transaction: &Transaction<'b, J, R>,
     ) -> Result<(), Refusal<Cause<'b, J, R>>>
+        requires unmoved { AreUnmoved self.now.history transaction.now }
         ensures own { OnOk result (length (commits_of session.old.number self.now.history) ≡ made session.old) }
         ensures seen { OnOk result (HasSeen self.now.history session.old transaction.now) }
-        ensures unmoved { OnOk result (AreUnmoved self.now.history transaction.now) }
         ensures unfenced { OnOk result (is_fenced session.old.number self.now.history ≡ false) }
         ensures agrees { OnOk result (IsTrue (is_trusted self.now.history) → Agrees (latest self.now.history) transaction.now.reads) }
         ensures session { OnlyExtends session.old session.new }
@@ -33,7 +37,8 @@ impl<'b, R: MapRule, J: Naming> Memory<'b, R, J> {
         ensures longer { IfErr result (ShowsLonger self.now.history session.new) }
     {
         self.catch_up(session, transaction)?;
-        self.admit_reads(transaction)?;
+        // Called for its contract: what it has read.
+        let _front = transaction.front();
         if self.tally.made(session.number()) != session.made() {
             return Err(Refusal::Stranger(Cause::of(RefusalNumber::J10, self.writer.front())));
         }
@@ -61,10 +66,12 @@ impl<'b, R: MapRule, J: Naming> Memory<'b, R, J> {
     }
 
     /// Adds the session's next transaction to the history. Refuses by J1 and J9, and is then as it was.
-    pub(crate) fn commit(
+    pub(crate) fn commit<W: Wait>(
         &mut self,
+        rt: &W,
         session: &mut Session<'b, J, R>,
         transaction: &Transaction<'b, J, R>,
+        held: &mut [Held<J>],
     ) -> Result<Receipt<'b, J, R>, Refusal<Cause<'b, J, R>>>
         requires reads { IsTrue (are_objects J.blocks transaction.now.reads) }
         requires writes { IsTrue (are_objects J.blocks transaction.now.writes) }
@@ -75,6 +82,11 @@ impl<'b, R: MapRule, J: Naming> Memory<'b, R, J> {
         requires unfenced { is_fenced session.old.number self.old.history ≡ false }
         requires room { length self.old.history + 1 < 2 ^ 62 }
         requires small { session.old.number < 2 ^ 62 }
+        requires apart { AreApart held.old }
+        requires covered { AreCovered held.old transaction.now.writes }
+        ensures agree { OnOk result (AgreeWith self.new.history held.new) }
+        ensures slots { slots_of held.new ≡ slots_of held.old }
+        ensures held { OnErr result (held.new ≡ held.old) }
         ensures committed { OnOk result (Commits (next_transaction session.old transaction.now.reads transaction.now.writes) session.old session.new self.old.history self.new.history) }
         ensures others { OnOk result (self.new ≡ record self.old { history = self.new.history; next = max self.old.next (session.old.number + 1) }) }
         ensures begun { self.old.history ≢ [] }
@@ -98,7 +110,7 @@ impl<'b, R: MapRule, J: Naming> Memory<'b, R, J> {
         };
         // Nothing fails from here on.
         self.tally.count_one(number);
-        self.slots.count_writes(&transaction.writes);
+        self.slots.count_writes(rt, held, &transaction.writes);
         self.next = self.next.max(number + 1);
         Ok(receipt)
     }

@@ -1,5 +1,6 @@
 // The opening of a mount.
-ghost use Rattle.std.specs.Prelude.{◌≡◌, ◌<◌, ◌↔◌, ◌∷◌, [], false, true, length, IsTrue, OnOk, IfOk, IfErr, IfSome};
+ghost use Rattle.std.specs.Prelude.{◌≡◌, ◌<◌, ◌↔◌, ◌∷◌, [], false, true, length, replicate, IsTrue, OnOk, IfOk, IfErr, IfSome};
+ghost use Rattle.journal_world.specs.declared.address.TheConstants.{SLOTS as SLOT_COUNT};
 ghost use Rattle.journal_world.specs.Histories.Entry.{opening};
 ghost use Rattle.journal_wal.specs.Wal.{size_of, IsAtRest};
 ghost use Rattle.journal_wal.specs.Tails.{empty_tail};
@@ -7,19 +8,18 @@ ghost use Rattle.journal_objlog.specs.Maps.{OpensAs};
 ghost use Rattle.journal_objlog.specs.ObjectLogs.{map_now, disk_of, end_of};
 ghost use Rattle.journal_disk.specs.Disks.{IsSettled};
 ghost use Rattle.journal_disk.specs.Images.{EveryImage};
-ghost use Rattle.journal_core.specs.SlotCounts.{CountsNothing};
 ghost use Rattle.journal_core.specs.Openings.{HasWellFormedLog, HasBoundsOf, Begins, IsBeginRefusal, IsOpenRefusal, OnlyReadsDisk};
 
 use crate::cause::{Cause, raise, raised};
 use crate::durable::Durable;
 use crate::memory::Memory;
 use crate::refusal_number::RefusalNumber;
-use crate::slot_counts::SlotCounts;
 use crate::state::Core;
 use crate::volatile::Volatile;
 use journal_block::{Block, Update};
 use journal_disk::BlockDisk;
 use journal_history::{Book, Naming, Opened, Writer};
+use journal_lockmap::{SlotCell, SlotCounts, Slots};
 use journal_objlog::{ObjectLog, ObjectTail};
 use journal_world::{Layout, MapRule, Refusal, Refused};
 use std::alloc::Global;
@@ -41,7 +41,8 @@ impl<'a, D: BlockDisk> Opened for MapNow<'a, D> {
 impl<'b, D: BlockDisk, R: MapRule, J: Naming> Core<'b, D, R, J> {
     /// Opens a disk on which nothing is pending: begins the book's history with the map that the disk holds,
     /// where the rule admits it. What lies in the disk's log is read into memory, and nothing is written. Copies of no more
-    /// than so many blocks that are at home will be kept in memory.
+    /// than so many blocks that are at home will be kept in memory. The slots of the journal, by whose cell it is named, come
+    /// with it: all are free, and no commit touched any.
     ///
     /// The first that applies of these refuses it: J8 `BadSuper` where the number of blocks is out of range, J7
     /// `BadLog` where the disk's log is not well formed, J8 where the rule does not hold of the map, J9 `Stale`
@@ -50,17 +51,20 @@ impl<'b, D: BlockDisk, R: MapRule, J: Naming> Core<'b, D, R, J> {
     pub fn open_step(
         alloc: Global,
         book: &'b Book<R>,
+        cell: SlotCell,
         disk: D,
         rule: &R,
         copies: usize,
-    ) -> Result<Core<'b, D, R, J>, Refused<D, Cause<'b, J, R>>>
+    ) -> Result<(Core<'b, D, R, J>, Slots<J>), Refused<D, Cause<'b, J, R>>>
         requires some { 0 < copies }
         requires book { book.now ≡ J.book }
+        requires cell { cell ≡ J.cell }
         requires blocks { (D.state disk).past.size ≡ J.blocks }
         requires settled { IsTrue (D.state disk).honest → IsSettled (D.state disk).past }
-        ensures begun { IfOk result (Begins R.statement (D.state disk)) }
+        ensures begun { IfOk result (λ opened. Begins R.statement (D.state disk) opened.0) }
+        ensures free { IfOk result (λ opened. opened.1 ≡ replicate SLOT_COUNT false) }
         ensures well_formed { IsTrue (D.state disk).honest → OnOk result (HasWellFormedLog (D.state disk)) }
-        ensures bounds { IsTrue (D.state disk).honest → IfOk result (HasBoundsOf (D.state disk)) }
+        ensures bounds { IsTrue (D.state disk).honest → IfOk result (λ opened. HasBoundsOf (D.state disk) opened.0) }
         ensures refusal { IfErr result (λ refused. IsOpenRefusal R.statement (D.state disk) (D.state refused.disk) refused.refusal) }
         ensures left { IfErr result (λ refused. OnlyReadsDisk (D.state disk) (D.state refused.disk)) }
     {
@@ -70,7 +74,7 @@ impl<'b, D: BlockDisk, R: MapRule, J: Naming> Core<'b, D, R, J> {
                 disk,
             });
         };
-        let Some((slots, spare)) = memory_of(alloc) else {
+        let Some((counts, slots, spare)) = memory_of(alloc, cell) else {
             return Err(Refused {
                 refusal: Refusal::NoMemory,
                 disk,
@@ -97,8 +101,8 @@ impl<'b, D: BlockDisk, R: MapRule, J: Naming> Core<'b, D, R, J> {
         let (objects, admitted) = objects.admitted_by(rule);
         match begin(book, &objects, admitted) {
             Ok(writer) => {
-                let memory = Memory::new(alloc, writer, slots);
-                Ok(Core::begun(alloc, objects, memory, tail, spare))
+                let memory = Memory::new(alloc, writer, counts);
+                Ok((Core::begun(alloc, objects, memory, tail, spare), slots))
             }
             Err(refusal) => Err(Refused {
                 refusal,
@@ -143,16 +147,21 @@ impl<'b, D: BlockDisk, R: MapRule, J: Naming> Core<'b, D, R, J> {
     }
 }
 
-// The counts of a history without commits, and memory for one block, where there is memory.
-fn memory_of(alloc: Global) -> Option<(SlotCounts, Vec<Update>)>
-    ensures slots { IfSome result (λ memory. CountsNothing memory.0) }
-    ensures spare { IfSome result (λ memory. length memory.1.items ≡ 1) }
+// The slots of a history without commits, their numbers, and memory for one block, where there is memory.
+fn memory_of<J: Naming>(
+    alloc: Global,
+    cell: SlotCell,
+) -> Option<(SlotCounts<J>, Slots<J>, Vec<Update>)>
+    requires cell { cell ≡ J.cell }
+    ensures counts { IfSome result (λ memory. memory.0 ≡ replicate SLOT_COUNT 0) }
+    ensures free { IfSome result (λ memory. memory.1 ≡ replicate SLOT_COUNT false) }
+    ensures spare { IfSome result (λ memory. length memory.2.items ≡ 1) }
 {
-    let slots = SlotCounts::new(alloc).ok()?;
+    let (counts, slots) = SlotCounts::begin(alloc, cell).ok()?;
     let bytes = Block::try_new::<()>(alloc).ok()?;
     let mut spare = Vec::new(alloc);
     spare.push(Update { block: 0, bytes }).ok()?;
-    Some((slots, spare))
+    Some((counts, slots, spare))
 }
 
 // Begins the book's history with the map now, where the rule admitted it.

@@ -4,9 +4,12 @@ ghost use Rattle.journal_world.specs.Maps.{Map, Agrees, overwritten};
 ghost use Rattle.journal_world.specs.Histories.{is_trusted, latest};
 ghost use Rattle.journal_objlog.specs.ObjectTails.{known_updates, missing_blocks};
 ghost use Rattle.journal_history.specs.Tokens.{next_transaction, OnlyExtends, IsReceiptFor};
+ghost use Rattle.journal_lockmap.specs.Numbers.{AreApart, AreCovered, slots_of};
+ghost use Rattle.journal_core.specs.SlotCounts.{AgreeWith};
 ghost use Rattle.journal_core.specs.Cores.{Crashes, IsPair, IsRunning, OnlyReads, core_of};
 ghost use Rattle.journal_core.specs.Durables.{IsCallRefusal};
 ghost use Rattle.journal_core.specs.Memories.{ShowsLonger};
+ghost use Rattle.journal_core.specs.Transactions.{AreUnmoved};
 ghost use Rattle.journal_core.specs.Outsets.{IsCommitRefusal as IsRefusedFrom};
 ghost use Rattle.journal_core.specs.Volatiles.{outset_of};
 ghost use Rattle.journal_core.specs.Commits.{IsCommitted, CanCommit, IsCommitRefusal};
@@ -20,23 +23,33 @@ use crate::volatile_commit::CommitStep;
 use journal_block::Update;
 use journal_disk::BlockDisk;
 use journal_history::{Naming, Receipt, Session};
+use journal_lockmap::Held;
 use journal_objlog::Spares;
 use journal_world::{MapRule, Refusal};
 use std::alloc::Global;
+use std::sync::Wait;
 
 impl<'b, D: BlockDisk, R: MapRule, J: Naming> Durable<'b, D, R, J> {
     /// Commits in memory, where the blocks that memory lacks are fetched first.
-    pub(crate) fn commit_step(
+    pub(crate) fn commit_step<W: Wait>(
         &mut self,
+        rt: &W,
         alloc: Global,
         memory: &mut Volatile<'b, R, J>,
         session: &mut Session<'b, J, R>,
         transaction: &Transaction<'b, J, R>,
+        held: &mut [Held<J>],
         spares: &mut Spares,
     ) -> Result<Receipt<'b, J, R>, Refusal<Cause<'b, J, R>>>
         requires rule { (m : Map) → m.blocks ≡ J.blocks → R.statement m → Agrees m transaction.now.reads
             → R.statement (overwritten m transaction.now.writes) }
+        requires unmoved { AreUnmoved memory.old.memory.history transaction.now }
+        requires covered { AreCovered held.old transaction.now.writes }
+        requires apart { AreApart held.old }
         requires pair { IsPair J.blocks memory.old self.old }
+        ensures agree { OnOk result (AgreeWith memory.new.memory.history held.new) }
+        ensures slots { slots_of held.new ≡ slots_of held.old }
+        ensures held { OnErr result (held.new ≡ held.old) }
         ensures committed { OnOk result (IsCommitted transaction.now.reads transaction.now.writes session.old session.new (core_of memory.old self.old) (core_of memory.new self.new)) }
         ensures receipt { IfOk result (IsReceiptFor (next_transaction session.old transaction.now.reads transaction.now.writes) memory.new.memory.history (length memory.old.memory.history)) }
         ensures can { OnOk result (CanCommit (core_of memory.old self.old) session.old transaction.now) }
@@ -51,34 +64,42 @@ impl<'b, D: BlockDisk, R: MapRule, J: Naming> Durable<'b, D, R, J> {
         ensures crash { Crashes (core_of memory.old self.old) (core_of memory.new self.new) }
     {
         let nothing = Fetched::nothing(alloc, memory.memory.front());
-        let answer = memory.commit(session, transaction, spares, &nothing);
+        let answer = memory.commit_unmoved(rt, session, transaction, held, spares, &nothing);
         // Called for its contract: what memory keeps by itself.
         memory.keeps();
         match answer {
             Ok(CommitStep::Done(receipt)) => Ok(receipt),
             Ok(CommitStep::Missing(blocks)) => {
                 let rooms = rooms_of(alloc, &blocks)?;
-                self.commit_fetched(memory, session, transaction, spares, rooms)
+                self.commit_fetched(rt, memory, session, transaction, held, spares, rooms)
             }
             Err(why) => Err(why),
         }
     }
 
     /// Commits once the blocks are fetched that memory lacks, for which this is the memory.
-    pub(crate) fn commit_fetched(
+    pub(crate) fn commit_fetched<W: Wait>(
         &mut self,
+        rt: &W,
         memory: &mut Volatile<'b, R, J>,
         session: &mut Session<'b, J, R>,
         transaction: &Transaction<'b, J, R>,
+        held: &mut [Held<J>],
         spares: &mut Spares,
         rooms: Vec<Update>,
     ) -> Result<Receipt<'b, J, R>, Refusal<Cause<'b, J, R>>>
         requires rule { (m : Map) → m.blocks ≡ J.blocks → R.statement m → Agrees m transaction.now.reads
             → R.statement (overwritten m transaction.now.writes) }
+        requires unmoved { AreUnmoved memory.old.memory.history transaction.now }
+        requires covered { AreCovered held.old transaction.now.writes }
+        requires apart { AreApart held.old }
         requires blocks { All (λ u. u.block < J.blocks) rooms.items }
         requires named { map (λ u. u.block) rooms.items ≡ missing_blocks J.blocks (known_updates [] memory.old.tail) transaction.now.writes }
         requires pair { IsPair J.blocks memory.old self.old }
         requires running { IsRunning (core_of memory.old self.old) }
+        ensures agree { OnOk result (AgreeWith memory.new.memory.history held.new) }
+        ensures slots { slots_of held.new ≡ slots_of held.old }
+        ensures held { OnErr result (held.new ≡ held.old) }
         ensures committed { OnOk result (IsCommitted transaction.now.reads transaction.now.writes session.old session.new (core_of memory.old self.old) (core_of memory.new self.new)) }
         ensures receipt { IfOk result (IsReceiptFor (next_transaction session.old transaction.now.reads transaction.now.writes) memory.new.memory.history (length memory.old.memory.history)) }
         ensures agrees { OnOk result (IsTrue (is_trusted memory.old.memory.history) → Agrees (latest memory.old.memory.history) transaction.now.reads) }
@@ -93,7 +114,7 @@ impl<'b, D: BlockDisk, R: MapRule, J: Naming> Durable<'b, D, R, J> {
         ensures crash { Crashes (core_of memory.old self.old) (core_of memory.new self.new) }
     {
         let fetched = self.fetch_step(memory, rooms)?;
-        let answer = memory.commit(session, transaction, spares, &fetched);
+        let answer = memory.commit_unmoved(rt, session, transaction, held, spares, &fetched);
         memory.keeps();
         match answer {
             Ok(CommitStep::Done(receipt)) => Ok(receipt),

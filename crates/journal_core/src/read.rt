@@ -4,6 +4,8 @@ ghost use Rattle.journal_world.specs.Addresses.{is_valid};
 ghost use Rattle.journal_world.specs.Maps.{value_at, is_object};
 ghost use Rattle.journal_world.specs.Histories.{is_trusted, latest};
 ghost use Rattle.journal_object.specs.Objects.{size_at};
+ghost use Rattle.journal_core.specs.SlotCounts.{AgreeWith, AreUnder};
+ghost use Rattle.journal_core.specs.Transactions.{AreUnmoved};
 ghost use Rattle.journal_core.specs.Cores.{Crashes, IsRunning, OnlyReads};
 ghost use Rattle.journal_core.specs.Steps.{MayRead, IsReadRefusal};
 ghost use Rattle.journal_core.specs.Interleavings.{AnswersRead};
@@ -15,25 +17,58 @@ use crate::transaction::{Found, Transaction};
 use journal_block::Update;
 use journal_disk::BlockDisk;
 use journal_history::Naming;
+use journal_lockmap::Held;
 use journal_world::{Addr, MapRule, Refusal};
 use std::mem;
+use std::sync::Wait;
 
 impl<'b, D: BlockDisk, R: MapRule, J: Naming> Core<'b, D, R, J> {
     /// Reads what the map after the history gives the address, into bytes that are as many as its object has. What
     /// it found is for the transaction to remember, once the core is let go. The history stays. It takes no memory,
     /// and the address's block is read from the device only where it is not in memory.
     ///
+    /// What the transaction read before lies under slots that are held. A look at these, which is made first and waits
+    /// for nobody, shows that no commit touched one since: nothing is compared.
+    ///
     /// The first that applies of these refuses it: J13 `Closed` where the core was stopped, J6 `DeviceFailed` where
     /// the device failed before, J2 `BadAddress` where the address is not valid, J9 `Stale` where the transaction
-    /// has seen more of the history than the core, J10 `Stranger` where a commit touched a slot under which the
-    /// transaction had read, then J6 where the device fails in this call.
-    pub fn read_step(
+    /// has seen more of the history than the core, then J6 where the device fails in this call.
+    pub fn read_step<W: Wait>(
+        &mut self,
+        rt: &W,
+        transaction: &Transaction<'b, J, R>,
+        held: &mut [Held<J>],
+        addr: Addr,
+        into: &mut [u8],
+    ) -> Result<Found<'b, J, R>, Refusal<Cause<'b, J, R>>>
+        requires size { IsTrue (is_valid J.blocks addr) → length into.old ≡ size_at J.blocks addr }
+        requires under { AreUnder held.old transaction.now.seen transaction.now.reads }
+        ensures agree { AgreeWith self.new.history held.new }
+        ensures held { held.new ≡ held.old }
+        ensures value { IsTrue (is_trusted self.old.history) → OnOk result (into.new ≡ value_at (latest self.old.history) addr) }
+        ensures object { OnOk result (IsTrue (is_object J.blocks (addr, into.new))) }
+        ensures found { IfOk result (λ found. found ≡ record { addr = addr; seen = self.old.history }) }
+        ensures may { OnOk result (MayRead J.blocks self.old transaction.now addr) }
+        ensures running { OnOk result (IsRunning self.new) }
+        ensures refusal { IfErr result (IsReadRefusal J.blocks self.old transaction.now addr self.new) }
+        ensures reads { OnlyReads self.old.objects self.new.objects }
+        ensures others { self.new ≡ record self.old { objects = self.new.objects } }
+        ensures crash { Crashes self.old self.new }
+        ensures event { AnswersRead J.blocks self.old transaction.now addr result into.new self.new }
+    {
+        self.look(rt, held);
+        self.read_unmoved(transaction, addr, into)
+    }
+
+    // Reads as `read_step` does, once a look has shown that what was read has not moved.
+    fn read_unmoved(
         &mut self,
         transaction: &Transaction<'b, J, R>,
         addr: Addr,
         into: &mut [u8],
     ) -> Result<Found<'b, J, R>, Refusal<Cause<'b, J, R>>>
         requires size { IsTrue (is_valid J.blocks addr) → length into.old ≡ size_at J.blocks addr }
+        requires unmoved { AreUnmoved self.old.history transaction.now }
         ensures value { IsTrue (is_trusted self.old.history) → OnOk result (into.new ≡ value_at (latest self.old.history) addr) }
         ensures object { OnOk result (IsTrue (is_object J.blocks (addr, into.new))) }
         ensures found { IfOk result (λ found. found ≡ record { addr = addr; seen = self.old.history }) }
@@ -48,7 +83,10 @@ impl<'b, D: BlockDisk, R: MapRule, J: Naming> Core<'b, D, R, J> {
         let nothing = Fetched::nothing(self.alloc, self.volatile.memory.front());
         // Called for its contract: how many blocks there are at least.
         let _layout = self.volatile.tail.layout();
-        if let Some(found) = self.volatile.read(transaction, addr, &nothing, into)? {
+        if let Some(found) = self
+            .volatile
+            .read_unmoved(transaction, addr, &nothing, into)?
+        {
             return Ok(found);
         }
         let room = mem::replace(&mut self.spare, Vec::new(self.alloc));
@@ -58,7 +96,9 @@ impl<'b, D: BlockDisk, R: MapRule, J: Naming> Core<'b, D, R, J> {
             ..
         } = self;
         let fetched = durable.fetch_step(volatile, room_of(room, addr.block))?;
-        let answer = self.volatile.read(transaction, addr, &fetched, into);
+        let answer = self
+            .volatile
+            .read_unmoved(transaction, addr, &fetched, into);
         let Fetched { updates, .. } = fetched;
         self.spare = updates;
         match answer {
@@ -69,18 +109,39 @@ impl<'b, D: BlockDisk, R: MapRule, J: Naming> Core<'b, D, R, J> {
         }
     }
 
-    /// Refuses a read as `read_step` does, by what is known before the value is looked for: J13, J6 of an earlier
-    /// fault, J2, J9 and J10. It is no device call.
-    pub fn check_read(
+    /// Looks and refuses a read as `read_step` does, by what is known before the value is looked for: J13, J6 of an
+    /// earlier fault, J2 and J9. Nothing changes. It is no device call.
+    pub fn check_read<W: Wait>(
+        &mut self,
+        rt: &W,
+        transaction: &Transaction<'b, J, R>,
+        held: &mut [Held<J>],
+        addr: Addr,
+    ) -> Result<(), Refusal<Cause<'b, J, R>>>
+        requires under { AreUnder held.old transaction.now.seen transaction.now.reads }
+        ensures agree { AgreeWith self.new.history held.new }
+        ensures held { held.new ≡ held.old }
+        ensures same { self.new ≡ self.old }
+        ensures may { OnOk result (MayRead J.blocks self.old transaction.now addr) }
+        ensures refusal { IfErr result (IsReadRefusal J.blocks self.old transaction.now addr self.old) }
+        ensures crash { Crashes self.old self.old }
+    {
+        self.look(rt, held);
+        self.check_unmoved(transaction, addr)
+    }
+
+    // Refuses a read as `check_read` does, once a look has shown that what was read has not moved.
+    fn check_unmoved(
         &self,
         transaction: &Transaction<'b, J, R>,
         addr: Addr,
     ) -> Result<(), Refusal<Cause<'b, J, R>>>
+        requires unmoved { AreUnmoved self.now.history transaction.now }
         ensures may { OnOk result (MayRead J.blocks self.now transaction.now addr) }
         ensures refusal { IfErr result (IsReadRefusal J.blocks self.now transaction.now addr self.now) }
         ensures crash { Crashes self.now self.now }
     {
-        self.volatile.check_read(transaction, addr)
+        self.volatile.check_unmoved(transaction, addr)
     }
 }
 

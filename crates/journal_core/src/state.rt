@@ -1,12 +1,11 @@
 // The core, and what it tells without a step.
-ghost use Rattle.std.specs.Prelude.{ℕ, ◌≡◌, ◌<◌, ◌↔◌, IsTrue, IfErr, OnOk, All};
-ghost use Rattle.journal_world.specs.declared.address.TheConstants.{SLOTS as SLOT_COUNT};
-ghost use Rattle.journal_world.specs.Histories.{opened, is_trusted, count, floor, touched};
+ghost use Rattle.std.specs.Prelude.{ℕ, ◌≡◌, ◌↔◌, IsTrue, IfErr, OnOk};
+ghost use Rattle.journal_world.specs.Histories.{opened, is_trusted, count, floor};
 ghost use Rattle.journal_disk.specs.Images.{EveryImage};
 ghost use Rattle.journal_history.specs.Soundness.{IsSound};
+ghost use Rattle.journal_core.specs.SlotCounts.{AgreeWith};
 ghost use Rattle.journal_core.specs.Cores.{Leaves, Crashes, IsRunning, disk_of, tail_length, start_of, end_of};
 ghost use Rattle.journal_core.specs.Steps.{IsLogIdle, IsEndRefusal};
-ghost use Rattle.journal_core.specs.Transactions.{IsCount};
 
 use crate::cause::Cause;
 use crate::durable::Durable;
@@ -15,9 +14,11 @@ use journal_block::Update;
 use journal_circ::LOG_POSITIONS;
 use journal_disk::{BlockDisk, MemDisk};
 use journal_history::{Front, Naming};
+use journal_lockmap::Held;
 use journal_world::{MapRule, Refusal};
 use std::alloc::Global;
 use std::marker::Model;
+use std::sync::Wait;
 
 /// The history's length and the sessions' numbers stay below this.
 pub(crate) const LIMIT: u64 = 1 << 62;
@@ -108,20 +109,14 @@ impl<'b, D: BlockDisk, R: MapRule, J: Naming> Core<'b, D, R, J> {
         self.volatile.tail.tail_len()
     }
 
-    /// How many commits touched the slot: while this stays, so do the values of the slot's addresses.
-    pub fn touched(&self, slot: u16) -> u64
-        requires slot { slot < SLOT_COUNT }
-        ensures { result ≡ touched self.now.history slot }
+    /// Shows that what is held agrees with the history: as many commits touched each slot as its token says. Nothing
+    /// changes, and it waits for nobody.
+    pub(crate) fn look<W: Wait>(&mut self, rt: &W, held: &mut [Held<J>])
+        ensures same { self.new ≡ self.old }
+        ensures held { held.new ≡ held.old }
+        ensures agree { AgreeWith self.old.history held.old }
     {
-        self.volatile.memory.touched(slot)
-    }
-
-    /// Whether each of these slots has been touched by as many commits as stand beside it.
-    pub fn unmoved(&self, counts: &[(u16, u64)]) -> bool
-        requires slots { All (λ c. c.0 < SLOT_COUNT) counts.now }
-        ensures { IsTrue result ↔ All (IsCount self.now.history) counts.now }
-    {
-        self.volatile.memory.unmoved(counts)
+        self.volatile.look(rt, held);
     }
 
     /// The whole history. It is sound, its map has the journal's number of blocks, and it is trusted where the

@@ -1,28 +1,23 @@
 // What an open transaction has done.
-ghost use Rattle.std.specs.Prelude.{◌≡◌, ◌≢◌, ◌↔◌, [], IsTrue, All, OnOk, OnErr};
+ghost use Rattle.std.specs.Prelude.{◌≡◌, ◌≢◌, [], IsTrue, OnOk, OnErr};
 ghost use mathlib.Core.List.{IsPrefix};
 ghost use Rattle.std.specs.Option.{option_copied};
-ghost use Rattle.journal_world.specs.Addresses.{slot_of as slot_number};
 ghost use Rattle.journal_world.specs.Maps.{is_object, are_objects, value_among, value_at, Agrees};
-ghost use Rattle.journal_world.specs.Histories.{is_trusted, latest, touched as count_touched};
+ghost use Rattle.journal_world.specs.Histories.{is_trusted, latest};
 ghost use Rattle.journal_core.specs.Transactions.{begun, AreUnmoved, Remembers, Overwrites};
 
 use journal_history::{Front, Naming, Recorded, Session};
 use journal_objlog::Spares;
-use journal_world::{Addr, MapRule, Objects, Value, slot_of};
+use journal_world::{Addr, MapRule, Objects, Value};
 use std::alloc::{AllocError, Global};
 use std::marker::Model;
 
 /// What an open transaction has read and overwritten. Contracts see both, by address, and a history at whose end
 /// all that it read is what the map gives: a transaction sees one map, whether it is committed or not.
-///
-/// It keeps, for each slot under which it read, how many commits had touched the slot then. While these numbers
-/// stay, so does all that it read.
 #[derive(Drop)]
 pub struct Transaction<'b, J: Naming, R: MapRule> {
     pub(crate) reads: Objects,
     pub(crate) writes: Objects,
-    pub(crate) counts: Vec<(u16, u64)>,
     pub(crate) front: Front<'b, J, R>,
 }
 
@@ -33,7 +28,7 @@ impl<'b, J: Naming, R: MapRule> Model for Transaction<'b, J, R> {
 
     ghost view = { λ t. record { reads = t.reads; writes = t.writes; seen = t.front } };
 
-    ghost invariant = { λ t. IsTransaction J.blocks t.counts.items (record { reads = t.reads; writes = t.writes; seen = t.front }) };
+    ghost invariant = { λ t. IsTransaction J.blocks (record { reads = t.reads; writes = t.writes; seen = t.front }) };
 }
 
 /// What a read found, until its transaction remembers it: the address, and the history at whose end its value was
@@ -41,22 +36,15 @@ impl<'b, J: Naming, R: MapRule> Model for Transaction<'b, J, R> {
 #[derive(Drop)]
 pub struct Found<'b, J: Naming, R: MapRule> {
     pub(crate) addr: Addr,
-    // How many commits had touched the address's slot.
-    pub(crate) touched: u64,
     pub(crate) front: Front<'b, J, R>,
 }
 
 impl<'b, J: Naming, R: MapRule> Model for Found<'b, J, R> {
-    ghost use Rattle.std.specs.Prelude.{◌≡◌};
-    ghost use Rattle.journal_world.specs.Addresses.{slot_of};
-    ghost use Rattle.journal_world.specs.Histories.{touched as count_touched};
     ghost use Rattle.journal_core.specs.Transactions.{FoundState};
 
     ghost Value = { FoundState };
 
     ghost view = { λ f. record { addr = f.addr; seen = f.front } };
-
-    ghost invariant = { λ f. f.touched ≡ count_touched f.front (slot_of f.addr) };
 }
 
 impl<'b, J: Naming, R: MapRule> Recorded for Transaction<'b, J, R> {
@@ -75,7 +63,6 @@ impl<'b, J: Naming, R: MapRule> Transaction<'b, J, R> {
         Transaction {
             reads: Objects::new(alloc),
             writes: Objects::new(alloc),
-            counts: Vec::new(alloc),
             front: session.front(),
         }
     }
@@ -121,46 +108,9 @@ impl<'b, J: Naming, R: MapRule> Transaction<'b, J, R> {
         ensures ok { OnOk result (Remembers self.old found.entry.addr value.now found.entry.seen self.new) }
         ensures err { OnErr result (self.new ≡ self.old) }
     {
-        let Found {
-            addr,
-            touched,
-            front,
-        } = found;
-        self.remember_at(addr, value, touched, front)
-    }
-
-    // Remembers what was read of the address at the end of the front, and how many commits had touched its slot.
-    // After an `Err` all is as before.
-    fn remember_at(
-        &mut self,
-        addr: Addr,
-        value: &Value,
-        touched: u64,
-        front: Front<'b, J, R>,
-    ) -> Result<(), AllocError>
-        requires object { IsTrue (is_object J.blocks (addr, value.now)) }
-        requires value { IsTrue (is_trusted front) → value.now ≡ value_at (latest front) addr }
-        requires touched { touched ≡ count_touched front (slot_number addr) }
-        requires later { IsPrefix self.old.seen front }
-        requires unmoved { AreUnmoved front self.old }
-        ensures ok { OnOk result (Remembers self.old addr value.now front.entry self.new) }
-        ensures err { OnErr result (self.new ≡ self.old) }
-    {
-        // Room for the count comes first, so that nothing fails once the value stands.
-        let slot = slot_of(addr);
-        self.counts.reserve(1)?;
+        let Found { addr, front } = found;
         self.reads.insert(addr, value.clone()?)?;
-        if lacks(&self.counts, slot) {
-            self.counts.push_reserved((slot, touched));
-        }
         self.front = front;
         Ok(())
     }
-}
-
-// Whether none of the counts is the slot's.
-fn lacks(counts: &[(u16, u64)], slot: u16) -> bool
-    ensures { IsTrue result ↔ All (λ c. c.0 ≢ slot) counts.now }
-{
-    counts.iter().all(|count| count.0 != slot)
 }

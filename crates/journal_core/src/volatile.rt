@@ -4,6 +4,7 @@ ghost use mathlib.Core.List.{IsPrefix};
 ghost use Rattle.journal_world.specs.Histories.{opened, commits_of, is_fenced, count};
 ghost use Rattle.journal_wal.specs.Tails.{empty_tail};
 ghost use Rattle.journal_core.specs.Memories.{IsNumberRefusal};
+ghost use Rattle.journal_core.specs.SlotCounts.{AgreeWith};
 ghost use Rattle.journal_core.specs.Outsets.{GoesOn, IsEndRefusal};
 ghost use Rattle.journal_core.specs.Volatiles.{IsVolatile, IsFrontRefusal, outset_of};
 
@@ -11,9 +12,11 @@ use crate::cause::Cause;
 use crate::memory::Memory;
 use crate::refusal_number::RefusalNumber;
 use journal_history::{Front, Naming, Session};
+use journal_lockmap::Held;
 use journal_objlog::ObjectTail;
 use journal_world::{Layout, MapRule, Refusal};
 use std::marker::Model;
+use std::sync::Wait;
 
 /// What the core has in memory alone, for a lock of its own: the history, with what is counted beside it, the objects
 /// that commits wrote and that are not at home yet, and copies of blocks that are at home.
@@ -113,6 +116,16 @@ impl<'b, R: MapRule, J: Naming> Volatile<'b, R, J> {
         ensures same { OnErr result (self.new ≡ self.old) }
     {
         self.memory.session()
+    }
+
+    /// Shows that what is held agrees with the history: as many commits touched each slot as its token says. Nothing
+    /// changes, and it waits for nobody.
+    pub(crate) fn look<W: Wait>(&mut self, rt: &W, held: &mut [Held<J>])
+        ensures same { self.new ≡ self.old }
+        ensures held { held.new ≡ held.old }
+        ensures agree { AgreeWith self.old.memory.history held.old }
+    {
+        self.memory.look(rt, held);
     }
 
     /// Notes that a device call failed.

@@ -7,7 +7,10 @@ ghost use Rattle.journal_block.specs.Updates.{updates_block};
 ghost use Rattle.journal_objlog.specs.ObjectTails.{blocks_of, known_updates, tail_base, missing_blocks, TakesPrepared, IfReady, IfMissing as IfUnready};
 ghost use Rattle.journal_objlog.specs.Writes.{writes_block, written_blocks, IsPrepared};
 ghost use Rattle.journal_history.specs.Tokens.{made, next_transaction, OnlyExtends, IsReceiptFor};
+ghost use Rattle.journal_lockmap.specs.Numbers.{AreApart, AreCovered, slots_of};
 ghost use Rattle.journal_core.specs.Memories.{ShowsLonger, IsAddingRefusal};
+ghost use Rattle.journal_core.specs.SlotCounts.{AgreeWith, AreUnder};
+ghost use Rattle.journal_core.specs.Transactions.{AreUnmoved};
 ghost use Rattle.journal_core.specs.Updates.{AreObjectsOf};
 ghost use Rattle.journal_core.specs.Durables.{DurableState};
 ghost use Rattle.journal_core.specs.Cores.{IsPair, core_of};
@@ -24,8 +27,10 @@ use crate::transaction::Transaction;
 use crate::volatile::Volatile;
 use journal_block::Update;
 use journal_history::{Naming, Receipt, Session};
+use journal_lockmap::Held;
 use journal_objlog::{Preparation, Prepared, Spares};
 use journal_world::{MapRule, Objects, Refusal};
+use std::sync::Wait;
 
 /// What a commit in memory answers.
 #[derive(Drop)]
@@ -41,22 +46,34 @@ impl<'b, R: MapRule, J: Naming> Volatile<'b, R, J> {
     /// the map by its writes, in memory. A block that is written, but not as a whole, has to be in memory, or fetched and
     /// still usable: where some are not, nothing is committed, and the answer is these.
     ///
+    /// What it reads and writes lies under slots that are held, each once. A look at these, which is made first and waits
+    /// for nobody, shows that no other commit touched one since it was read: nothing is compared. What is held agrees
+    /// with the history then too.
+    ///
     /// The first that applies of these refuses it: J13 `Closed` where it was stopped, J6 `DeviceFailed` where the device
     /// failed before, J9 `Stale` where the session, the transaction or the fetch has seen more of the history, or it is
     /// longer, J10 `Stranger` where the history has a commit under the session's number that the session did not make,
-    /// or a commit touched a slot under which the transaction had read, J14 `Fenced` where the session is fenced, J4
-    /// `TooLarge` where more than 128 distinct blocks are written, J11 `Worn` where the history's length, the session's
-    /// number or a position of the log would reach 2^62, J12 `Full` where the tail cannot take the blocks that do not
-    /// stand in it, then J1 `NoMemory` where memory is refused. The history and the objects are then as they were.
-    pub fn commit(
+    /// J14 `Fenced` where the session is fenced, J4 `TooLarge` where more than 128 distinct blocks are written, J11
+    /// `Worn` where the history's length, the session's number or a position of the log would reach 2^62, J12 `Full`
+    /// where the tail cannot take the blocks that do not stand in it, then J1 `NoMemory` where memory is refused. The
+    /// history and the objects are then as they were.
+    pub fn commit<W: Wait>(
         &mut self,
+        rt: &W,
         session: &mut Session<'b, J, R>,
         transaction: &Transaction<'b, J, R>,
+        held: &mut [Held<J>],
         spares: &mut Spares,
         fetched: &Fetched<'b, J, R>,
     ) -> Result<CommitStep<Receipt<'b, J, R>>, Refusal<Cause<'b, J, R>>>
         requires rule { (m : Map) → m.blocks ≡ J.blocks → R.statement m → Agrees m transaction.now.reads
             → R.statement (overwritten m transaction.now.writes) }
+        requires under { AreUnder held.old transaction.now.seen transaction.now.reads }
+        requires covered { AreCovered held.old transaction.now.writes }
+        requires apart { AreApart held.old }
+        ensures agree { AgreeWith self.new.memory.history held.new }
+        ensures slots { slots_of held.new ≡ slots_of held.old }
+        ensures held { OnErr result (held.new ≡ held.old) }
         ensures committed { IfOk result (IfDone (λ _. IsCommitted transaction.now.reads transaction.now.writes session.old session.new self.old self.new)) }
         ensures receipt { IfOk result (IfDone (IsReceiptFor (next_transaction session.old transaction.now.reads transaction.now.writes) self.new.memory.history (length self.old.memory.history))) }
         ensures can { OnOk result (CanCommit (outset_of self.old) session.old transaction.now) }
@@ -66,6 +83,46 @@ impl<'b, R: MapRule, J: Naming> Volatile<'b, R, J> {
         ensures below { IfOk result (IfMissing (λ blocks. All (λ b. b < J.blocks) blocks)) }
         ensures some { IfOk result (IfMissing (λ blocks. blocks ≢ [])) }
         ensures waits { IfOk result (IfMissing (λ _. (self.new ≡ with_room self.old self.new.tail.log.room) × OnlyExtends session.old session.new)) }
+        ensures stays { IfOk result (IfMissing (λ _. held.new ≡ held.old)) }
+        ensures refusal { IfErr result (IsCommitRefusal (outset_of self.old) session.old transaction.now) }
+        ensures same { OnErr result (self.new ≡ with_room self.old self.new.tail.log.room) }
+        ensures session { OnErr result (OnlyExtends session.old session.new) }
+        ensures longer { IfErr result (ShowsLonger self.old.memory.history session.new) }
+        ensures event { (d : DurableState) → IsPair J.blocks self.old d → IfOk result (IfDone (λ _.
+            CommitsTransaction (core_of self.old d) session.old transaction.now (core_of self.new d) session.new)) }
+    {
+        self.look(rt, held);
+        self.commit_unmoved(rt, session, transaction, held, spares, fetched)
+    }
+
+    // Commits as `commit` does, once a look has shown that what was read has not moved.
+    pub(crate) fn commit_unmoved<W: Wait>(
+        &mut self,
+        rt: &W,
+        session: &mut Session<'b, J, R>,
+        transaction: &Transaction<'b, J, R>,
+        held: &mut [Held<J>],
+        spares: &mut Spares,
+        fetched: &Fetched<'b, J, R>,
+    ) -> Result<CommitStep<Receipt<'b, J, R>>, Refusal<Cause<'b, J, R>>>
+        requires rule { (m : Map) → m.blocks ≡ J.blocks → R.statement m → Agrees m transaction.now.reads
+            → R.statement (overwritten m transaction.now.writes) }
+        requires unmoved { AreUnmoved self.old.memory.history transaction.now }
+        requires covered { AreCovered held.old transaction.now.writes }
+        requires apart { AreApart held.old }
+        ensures agree { IfOk result (IfDone (λ _. AgreeWith self.new.memory.history held.new)) }
+        ensures slots { slots_of held.new ≡ slots_of held.old }
+        ensures held { OnErr result (held.new ≡ held.old) }
+        ensures committed { IfOk result (IfDone (λ _. IsCommitted transaction.now.reads transaction.now.writes session.old session.new self.old self.new)) }
+        ensures receipt { IfOk result (IfDone (IsReceiptFor (next_transaction session.old transaction.now.reads transaction.now.writes) self.new.memory.history (length self.old.memory.history))) }
+        ensures can { OnOk result (CanCommit (outset_of self.old) session.old transaction.now) }
+        ensures agrees { OnOk result (IsTrue (is_trusted self.old.memory.history) → Agrees (latest self.old.memory.history) transaction.now.reads) }
+        ensures missing { IfOk result (IfMissing (λ blocks.
+            blocks ≡ missing_blocks J.blocks (known_updates (usable self.old fetched.now) self.old.tail) transaction.now.writes)) }
+        ensures below { IfOk result (IfMissing (λ blocks. All (λ b. b < J.blocks) blocks)) }
+        ensures some { IfOk result (IfMissing (λ blocks. blocks ≢ [])) }
+        ensures waits { IfOk result (IfMissing (λ _. (self.new ≡ with_room self.old self.new.tail.log.room) × OnlyExtends session.old session.new)) }
+        ensures stays { IfOk result (IfMissing (λ _. held.new ≡ held.old)) }
         ensures refusal { IfErr result (IsCommitRefusal (outset_of self.old) session.old transaction.now) }
         ensures same { OnErr result (self.new ≡ with_room self.old self.new.tail.log.room) }
         ensures session { OnErr result (OnlyExtends session.old session.new) }
@@ -84,7 +141,7 @@ impl<'b, R: MapRule, J: Naming> Volatile<'b, R, J> {
         };
         match self.prepare(session, &transaction.writes, spares, blocks)? {
             Preparation::Ready(prepared) => {
-                let receipt = self.add(session, transaction, prepared)?;
+                let receipt = self.add(rt, session, transaction, held, prepared)?;
                 self.keeps();
                 Ok(CommitStep::Done(receipt))
             }
@@ -128,10 +185,12 @@ impl<'b, R: MapRule, J: Naming> Volatile<'b, R, J> {
     }
 
     // Adds the transaction to the history, and overwrites the objects.
-    fn add(
+    fn add<W: Wait>(
         &mut self,
+        rt: &W,
         session: &mut Session<'b, J, R>,
         transaction: &Transaction<'b, J, R>,
+        held: &mut [Held<J>],
         prepared: Prepared,
     ) -> Result<Receipt<'b, J, R>, Refusal<Cause<'b, J, R>>>
         requires reads { IsTrue (are_objects J.blocks transaction.now.reads) }
@@ -146,6 +205,11 @@ impl<'b, R: MapRule, J: Naming> Volatile<'b, R, J> {
         requires ready { TakesPrepared self.old.tail prepared }
         requires named { (b : ℕ) → updates_block prepared b ≡ writes_block transaction.now.writes b }
         requires written { IsTrue (is_trusted self.old.memory.history) → AreObjectsOf J.blocks (overwritten (latest self.old.memory.history) transaction.now.writes) prepared }
+        requires covered { AreCovered held.old transaction.now.writes }
+        requires apart { AreApart held.old }
+        ensures agree { OnOk result (AgreeWith self.new.memory.history held.new) }
+        ensures slots { slots_of held.new ≡ slots_of held.old }
+        ensures held { OnErr result (held.new ≡ held.old) }
         ensures added { OnOk result (IsAdded (next_transaction session.old transaction.now.reads transaction.now.writes) prepared session.old session.new self.old self.new) }
         ensures receipt { IfOk result (IsReceiptFor (next_transaction session.old transaction.now.reads transaction.now.writes) self.new.memory.history (length self.old.memory.history)) }
         ensures refusal { IfErr result (IsAddingRefusal self.old.memory.history) }
@@ -153,7 +217,7 @@ impl<'b, R: MapRule, J: Naming> Volatile<'b, R, J> {
         ensures session { OnErr result (OnlyExtends session.old session.new) }
         ensures longer { IfErr result (ShowsLonger self.old.memory.history session.new) }
     {
-        let receipt = self.memory.commit(session, transaction)?;
+        let receipt = self.memory.commit(rt, session, transaction, held)?;
         // Nothing fails from here on.
         self.tail.apply(prepared);
         Ok(receipt)

@@ -6,6 +6,8 @@ ghost use Rattle.journal_world.specs.Maps.{value_at, is_object};
 ghost use Rattle.journal_world.specs.Histories.{is_trusted, latest};
 ghost use Rattle.journal_object.specs.Objects.{size_at};
 ghost use Rattle.journal_objlog.specs.ObjectTails.{known_at, known_updates};
+ghost use Rattle.journal_core.specs.SlotCounts.{AgreeWith, AreUnder};
+ghost use Rattle.journal_core.specs.Transactions.{AreUnmoved};
 ghost use Rattle.journal_core.specs.Updates.{AreObjectsOf};
 ghost use Rattle.journal_core.specs.Durables.{DurableState};
 ghost use Rattle.journal_core.specs.Cores.{IsPair, core_of};
@@ -19,17 +21,71 @@ use crate::transaction::{Found, Transaction};
 use crate::volatile::Volatile;
 use journal_block::Update;
 use journal_history::Naming;
-use journal_world::{Addr, MapRule, Refusal, slot_of};
+use journal_lockmap::Held;
+use journal_world::{Addr, MapRule, Refusal};
+use std::sync::Wait;
 
 impl<'b, R: MapRule, J: Naming> Volatile<'b, R, J> {
     /// Reads what the map after the history gives the address, into bytes that are as many as its object has: as memory
     /// has it, or where memory has no update of its block, as it was fetched. Answers none where the block is to be
     /// fetched: it was not, or what commits wrote after the fetch is not in memory any more. It takes no memory.
     ///
+    /// What was read before lies under slots that are held. A look at these, which is made first and waits for nobody,
+    /// shows that no commit touched one since: nothing is compared. Nothing changes.
+    ///
     /// The first that applies of these refuses it: J13 `Closed` where it was stopped, J6 `DeviceFailed` where the device
     /// failed before, J2 `BadAddress` where the address is not valid, J9 `Stale` where the transaction or the fetch
-    /// has seen more of the history, J10 `Stranger` where a commit touched a slot under which the transaction had read.
-    pub fn read(
+    /// has seen more of the history.
+    pub fn read<W: Wait>(
+        &mut self,
+        rt: &W,
+        transaction: &Transaction<'b, J, R>,
+        held: &mut [Held<J>],
+        addr: Addr,
+        fetched: &Fetched<'b, J, R>,
+        into: &mut [u8],
+    ) -> Result<Option<Found<'b, J, R>>, Refusal<Cause<'b, J, R>>>
+        requires size { IsTrue (is_valid J.blocks addr) → length into.old ≡ size_at J.blocks addr }
+        requires under { AreUnder held.old transaction.now.seen transaction.now.reads }
+        ensures agree { AgreeWith self.new.memory.history held.new }
+        ensures held { held.new ≡ held.old }
+        ensures same { self.new ≡ self.old }
+        ensures value { IsTrue (is_trusted self.old.memory.history) → IfOk result (λ found. IsSome found → into.new ≡ value_at (latest self.old.memory.history) addr) }
+        ensures object { IfOk result (λ found. IsSome found → IsTrue (is_object J.blocks (addr, into.new))) }
+        ensures found { IfOk result (λ found. IfSome found (λ found. found ≡ record { addr = addr; seen = self.old.memory.history })) }
+        ensures stays { IfOk result (λ found. found ≡ None → into.new ≡ into.old) }
+        ensures lacks { IfOk result (λ found. found ≡ None → known_at (usable self.old fetched.now) self.old.tail addr ≡ None) }
+        ensures may { OnOk result (MayRead J.blocks (outset_of self.old) transaction.now addr) }
+        ensures refusal { IfErr result (IsReadRefusal J.blocks self.old transaction.now addr fetched.now) }
+        ensures event { (d : DurableState) → IsPair J.blocks self.old d → IfOk result (λ found. IsSome found →
+            FindsValue J.blocks (core_of self.old d) transaction.now addr into.new (core_of self.old d)) }
+    {
+        self.look(rt, held);
+        self.read_unmoved(transaction, addr, fetched, into)
+    }
+
+    /// Looks and refuses a read as `read` does, by what is known before the value is looked for: J13, J6, J2, and by what
+    /// the transaction has seen J9. Nothing changes.
+    pub fn check_read<W: Wait>(
+        &mut self,
+        rt: &W,
+        transaction: &Transaction<'b, J, R>,
+        held: &mut [Held<J>],
+        addr: Addr,
+    ) -> Result<(), Refusal<Cause<'b, J, R>>>
+        requires under { AreUnder held.old transaction.now.seen transaction.now.reads }
+        ensures agree { AgreeWith self.new.memory.history held.new }
+        ensures held { held.new ≡ held.old }
+        ensures same { self.new ≡ self.old }
+        ensures may { OnOk result (MayRead J.blocks (outset_of self.old) transaction.now addr) }
+        ensures refusal { IfErr result (IsLookRefusal J.blocks (outset_of self.old) transaction.now addr) }
+    {
+        self.look(rt, held);
+        self.check_unmoved(transaction, addr)
+    }
+
+    // Reads as `read` does, once a look has shown that what was read has not moved.
+    pub(crate) fn read_unmoved(
         &self,
         transaction: &Transaction<'b, J, R>,
         addr: Addr,
@@ -37,6 +93,7 @@ impl<'b, R: MapRule, J: Naming> Volatile<'b, R, J> {
         into: &mut [u8],
     ) -> Result<Option<Found<'b, J, R>>, Refusal<Cause<'b, J, R>>>
         requires size { IsTrue (is_valid J.blocks addr) → length into.old ≡ size_at J.blocks addr }
+        requires unmoved { AreUnmoved self.now.memory.history transaction.now }
         ensures value { IsTrue (is_trusted self.now.memory.history) → IfOk result (λ found. IsSome found → into.new ≡ value_at (latest self.now.memory.history) addr) }
         ensures object { IfOk result (λ found. IsSome found → IsTrue (is_object J.blocks (addr, into.new))) }
         ensures found { IfOk result (λ found. IfSome found (λ found. found ≡ record { addr = addr; seen = self.now.memory.history })) }
@@ -47,25 +104,24 @@ impl<'b, R: MapRule, J: Naming> Volatile<'b, R, J> {
         ensures event { (d : DurableState) → IsPair J.blocks self.now d → IfOk result (λ found. IsSome found →
             FindsValue J.blocks (core_of self.now d) transaction.now addr into.new (core_of self.now d)) }
     {
-        self.check_read(transaction, addr)?;
+        self.check_unmoved(transaction, addr)?;
         let blocks = self.usable(fetched)?;
         if !raise(self.tail.read(addr, blocks, into))? {
             return Ok(None);
         }
         Ok(Some(Found {
             addr,
-            touched: self.memory.touched(slot_of(addr)),
             front: self.memory.front(),
         }))
     }
 
-    /// Refuses a read as `read` does, by what is known before the value is looked for: J13, J6, J2, and by what the
-    /// transaction has seen and read J9 and J10.
-    pub fn check_read(
+    // Refuses a read as `check_read` does, once a look has shown that what was read has not moved.
+    pub(crate) fn check_unmoved(
         &self,
         transaction: &Transaction<'b, J, R>,
         addr: Addr,
     ) -> Result<(), Refusal<Cause<'b, J, R>>>
+        requires unmoved { AreUnmoved self.now.memory.history transaction.now }
         ensures may { OnOk result (MayRead J.blocks (outset_of self.now) transaction.now addr) }
         ensures refusal { IfErr result (IsLookRefusal J.blocks (outset_of self.now) transaction.now addr) }
     {

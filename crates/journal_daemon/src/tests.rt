@@ -18,6 +18,7 @@ ghost use Rattle.journal_disk.specs.Disks.{IsSettled};
 
 use journal_disk::{BlockDisk, MemDisk};
 use journal_history::{Book, Naming, Receipt, Session};
+use journal_lockmap::SlotCell;
 use journal_twophase::{Journal, Txn, WaitFault, Waited, Why};
 use journal_world::{Addr, AnyMap, Refusal, Step};
 use std::alloc::Global;
@@ -92,7 +93,8 @@ fn wants_at<T: PartialEq + Debug>(rt: &impl Abort, call: u64, found: &T, wanted:
 /// Opens a journal over a new disk, and makes the trial.
 fn try_out<H: Abort + Threads + Wait + Clock + Sync>(rt: &H, alloc: Global, trial: Trial) {
     let book: Book<AnyMap> = Book::open::<()>().ok().expect(rt, "a book");
-    try_in_book::<Brand, _>(rt, alloc, &book, trial);
+    let cell = SlotCell::open(alloc).ok().expect(rt, "a cell");
+    try_in_book::<Brand, _>(rt, alloc, &book, cell, trial);
 }
 
 // It owns the journal for all trials, and takes it apart at its end: both are dear to prove, and are proved once.
@@ -100,12 +102,14 @@ fn try_in_book<J: Naming + Send + Sync, H: Abort + Threads + Wait + Clock + Sync
     rt: &H,
     alloc: Global,
     book: &Book<AnyMap>,
+    cell: SlotCell,
     trial: Trial,
 )
     requires book { book.now ≡ J.book }
+    requires cell { cell ≡ J.cell }
     requires blocks { J.blocks ≡ 800 }
 {
-    let journal = opened::<J, _>(rt, alloc, book);
+    let journal = opened::<J, _>(rt, alloc, book, cell);
     try_on(rt, alloc, &journal, trial);
     let _disk = journal.into_disk();
 }
@@ -146,12 +150,14 @@ fn opened<'b, J: Naming, H: Abort>(
     rt: &H,
     alloc: Global,
     book: &'b Book<AnyMap>,
+    cell: SlotCell,
 ) -> Open<'b, MemDisk, J>
     requires book { book.now ≡ J.book }
+    requires cell { cell ≡ J.cell }
     requires blocks { J.blocks ≡ 800 }
 {
     let disk = MemDisk::new::<()>(alloc, BLOCKS).expect(rt, "a disk");
-    opened_on(rt, alloc, book, disk)
+    opened_on(rt, alloc, book, cell, disk)
 }
 
 /// A journal over this disk.
@@ -159,13 +165,15 @@ fn opened_on<'b, D: BlockDisk + Drop, J: Naming, H: Abort>(
     rt: &H,
     alloc: Global,
     book: &'b Book<AnyMap>,
+    cell: SlotCell,
     disk: D,
 ) -> Open<'b, D, J>
     requires book { book.now ≡ J.book }
+    requires cell { cell ≡ J.cell }
     requires blocks { (D.state disk).past.size ≡ J.blocks }
     requires settled { IsTrue (D.state disk).honest → IsSettled (D.state disk).past }
 {
-    let journal = Journal::open(alloc, book, disk, &AnyMap);
+    let journal = Journal::open(alloc, book, cell, disk, &AnyMap);
     journal.ok().expect(rt, "a journal")
 }
 
@@ -360,7 +368,8 @@ fn image_bytes<'b, J: Naming, H: Abort + Wait>(
 ) -> [u8; 4] {
     let image = journal.image(rt, session, choice);
     let book: Book<AnyMap> = Book::open::<()>().ok().expect(rt, "a book");
-    first_bytes::<Brand, _>(rt, alloc, &book, image.ok().expect(rt, "an image"))
+    let cell = SlotCell::open(alloc).ok().expect(rt, "a cell");
+    first_bytes::<Brand, _>(rt, alloc, &book, cell, image.ok().expect(rt, "an image"))
 }
 
 /// The same in the map that a disk opens with.
@@ -368,13 +377,15 @@ fn first_bytes<J: Naming, H: Abort + Wait>(
     rt: &H,
     alloc: Global,
     book: &Book<AnyMap>,
+    cell: SlotCell,
     disk: MemDisk,
 ) -> [u8; 4]
     requires book { book.now ≡ J.book }
+    requires cell { cell ≡ J.cell }
     requires blocks { disk.past.size ≡ J.blocks }
     requires settled { IsSettled disk.past }
 {
-    let journal: Open<MemDisk, J> = opened_on(rt, alloc, book, disk);
+    let journal: Open<MemDisk, J> = opened_on(rt, alloc, book, cell, disk);
     let bytes = read_four(rt, alloc, &journal);
     let _disk = journal.into_disk();
     bytes

@@ -5,6 +5,7 @@ use crate::counter::{add_one, look};
 use journal_daemon::{OpenGate, start};
 use journal_disk::FileDisk;
 use journal_history::{Book, Naming, Session};
+use journal_lockmap::SlotCell;
 use journal_twophase::{Journal, Why};
 use journal_world::AnyMap;
 use std::alloc::Global;
@@ -27,24 +28,30 @@ pub fn count_in<R: Threads + Wait + Clock + Sync>(
     disk: FileDisk,
     times: u32,
 ) -> Result<(u64, u64), Refused> {
-    // The book has the history of one journal. The brand names both, so that no receipt of another is taken for one of its.
-    match Book::<AnyMap>::open::<()>() {
-        Ok(book) => count_in_book::<Brand, _>(rt, alloc, &book, disk, times),
-        Err(_) => Err(Refused),
-    }
+    // The book has the history of one journal, and the cell its slots. The brand names all three, so that no receipt and no
+    // slot of another is taken for one of its.
+    let Ok(book) = Book::<AnyMap>::open::<()>() else {
+        return Err(Refused);
+    };
+    let Ok(cell) = SlotCell::open(alloc) else {
+        return Err(Refused);
+    };
+    count_in_book::<Brand, _>(rt, alloc, &book, cell, disk, times)
 }
 
 fn count_in_book<J: Naming + Send + Sync, R: Threads + Wait + Clock + Sync>(
     rt: &R,
     alloc: Global,
     book: &Book<AnyMap>,
+    cell: SlotCell,
     disk: FileDisk,
     times: u32,
 ) -> Result<(u64, u64), Refused>
     requires book { book.now ≡ J.book }
+    requires cell { cell ≡ J.cell }
     requires blocks { disk.size ≡ J.blocks }
 {
-    let journal: Counters<J> = match Journal::open(alloc, book, disk, &AnyMap) {
+    let journal: Counters<J> = match Journal::open(alloc, book, cell, disk, &AnyMap) {
         Ok(journal) => journal,
         Err(_) => return Err(Refused),
     };

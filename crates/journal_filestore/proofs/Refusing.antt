@@ -1,5 +1,5 @@
 -- What refuses a transaction on files.
-use Rattle.std.proofs.Common.{ℕ, suc, ◌≡◌, ◌<◌, ◌≤◌, ◌+◌, inl, inr, Bool, true, false, cond, ◌==◌, nat_lt, ◌/◌, get_or, Fits, w8, ◌||◌, IsTrue, List, [], ◌∷◌, length, Some, None, refl, sym, ap, subst, ◌∙◌, arith}
+use Rattle.std.proofs.Common.{ℕ, suc, ◌≡◌, ◌<◌, ◌≤◌, ◌+◌, Bool, true, false, cond, ◌==◌, nat_lt, ◌/◌, get_or, Fits, w8, ◌||◌, IsTrue, List, [], ◌∷◌, length, Some, None, refl, sym, ap, subst, ◌∙◌, arith}
 use Rattle.std.proofs.lemmas.Bool.{false≢true, eqb-true, eq-eqb}
 use Rattle.std.proofs.lemmas.Bool.Decides.{nat_tests}
 use Rattle.std.proofs.lemmas.List.{length-replicate}
@@ -34,7 +34,7 @@ read_given_up blocks t a (DeviceFailed cause) is = is
 read_given_up blocks t a BadLog is = absurd is.1
 read_given_up blocks t a BadSuper is = absurd is.1
 read_given_up blocks t a (Stale cause) is = (t.seen, is.1)
-read_given_up blocks t a (Stranger cause) is = (is.1.0, is.1.1)
+read_given_up blocks t a (Stranger cause) is = absurd is.1
 read_given_up blocks t a (Worn cause) is = absurd is.1
 read_given_up blocks t a (Full cause) is = absurd is.1
 read_given_up blocks t a (Closed cause) is = is
@@ -98,8 +98,7 @@ commit_refused t s (DeviceFailed cause) few is = is
 commit_refused t s BadLog few is = is
 commit_refused t s BadSuper few is = is
 commit_refused t s (Stale cause) few is = is
-commit_refused t s (Stranger cause) few (inl strange) = (strange.0, strange.1)
-commit_refused t s (Stranger cause) few (inr moved) = (moved.0, moved.1)
+commit_refused t s (Stranger cause) few strange = (strange.0, strange.1)
 commit_refused t s (Worn cause) few is = is.1
 commit_refused t s (Full cause) few is = is
 commit_refused t s (Closed cause) few is = is

@@ -24,6 +24,7 @@ use journal_core::Cause;
 use journal_disk::BlockDisk;
 use journal_history::{Book, Naming, Receipt, Session};
 use journal_inode::{FormatVersion, SoundFiles, Version, VersionOne};
+use journal_lockmap::SlotCell;
 use journal_twophase::{CACHED_BLOCKS, Journal, MAX_CACHED_BLOCKS, Txn};
 use journal_world::{Addr, FIRST_DATA, Refusal, Refused};
 use std::alloc::Global;
@@ -71,9 +72,11 @@ impl<'b, D: BlockDisk, J: Naming, V: Version> FileStore<'b, D, J, V> {
     pub fn mount(
         alloc: Global,
         book: &'b Book<SoundFiles<V>>,
+        cell: SlotCell,
         disk: D,
     ) -> Result<FileStore<'b, D, J, V>, Refused<D, Cause<'b, J, SoundFiles<V>>>>
         requires book { book.now ≡ J.book }
+        requires cell { cell ≡ J.cell }
         requires blocks { (D.state disk).past.size ≡ J.blocks }
         requires settled { IsTrue (D.state disk).honest → IsSettled (D.state disk).past }
         ensures begun { IfOk result (λ store. BeginsWith (HasSoundFiles V.VERSION) (D.state disk) store.start) }
@@ -81,7 +84,7 @@ impl<'b, D: BlockDisk, J: Naming, V: Version> FileStore<'b, D, J, V> {
         ensures refusal { IfErr result (λ refused. IsOpenRefusal (HasSoundFiles V.VERSION) (D.state disk) (D.state refused.disk) refused.refusal) }
         ensures left { IfErr result (λ refused. OnlyReadsDisk (D.state disk) (D.state refused.disk)) }
     {
-        FileStore::mount_with_cache(alloc, book, disk, CACHED_BLOCKS)
+        FileStore::mount_with_cache(alloc, book, cell, disk, CACHED_BLOCKS)
     }
 
     /// Mounts a disk as `mount` does, and is refused as it is. Copies of no more than so many blocks that are at home are
@@ -89,12 +92,14 @@ impl<'b, D: BlockDisk, J: Naming, V: Version> FileStore<'b, D, J, V> {
     pub fn mount_with_cache(
         alloc: Global,
         book: &'b Book<SoundFiles<V>>,
+        cell: SlotCell,
         disk: D,
         cached: usize,
     ) -> Result<FileStore<'b, D, J, V>, Refused<D, Cause<'b, J, SoundFiles<V>>>>
         requires some { 1 ≤ cached }
         requires most { cached ≤ MAX_CACHED_BLOCKS }
         requires book { book.now ≡ J.book }
+        requires cell { cell ≡ J.cell }
         requires blocks { (D.state disk).past.size ≡ J.blocks }
         requires settled { IsTrue (D.state disk).honest → IsSettled (D.state disk).past }
         ensures begun { IfOk result (λ store. BeginsWith (HasSoundFiles V.VERSION) (D.state disk) store.start) }
@@ -103,7 +108,7 @@ impl<'b, D: BlockDisk, J: Naming, V: Version> FileStore<'b, D, J, V> {
         ensures left { IfErr result (λ refused. OnlyReadsDisk (D.state disk) (D.state refused.disk)) }
     {
         let rule = SoundFiles::new(alloc);
-        let journal = Journal::open_with_cache(alloc, book, disk, &rule, cached)?;
+        let journal = Journal::open_with_cache(alloc, book, cell, disk, &rule, cached)?;
         let out = match rule.into_owners() {
             Some(owners) => owners,
             None => Vec::new(alloc),

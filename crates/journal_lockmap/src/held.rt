@@ -4,57 +4,73 @@ ghost use Rattle.journal_world.specs.declared.address.TheConstants.{SLOTS};
 ghost use Rattle.journal_lockmap.specs.Tables.{is_taken, ChangesOnlySlot};
 
 use crate::slots::Slots;
+use crate::token::Token;
+use journal_history::Naming;
+use std::fmt;
+use std::fmt::Debug;
 use std::marker::Model;
 
-/// A slot that its holder took. Contracts see which.
+/// A slot that its holder took, with the slot's token. Contracts see which slot, and how many commits touched it.
 ///
-/// A `LockMap` makes it, and `LockMap::release` alone spends it: a `Held` that is let go does not compile.
-#[derive(Debug)]
-pub struct Held {
-    slot: u16,
+/// A `LockMap` gives it, and `LockMap::release` alone spends it: a `Held` that is let go does not compile. The
+/// token takes no memory.
+pub struct Held<J: Naming> {
+    pub(crate) token: Token<J>,
 }
 
-impl Model for Held {
-    ghost use Rattle.std.specs.Prelude.{◌<◌, ℕ};
+impl<J: Naming> Model for Held<J> {
+    ghost use Rattle.std.specs.Prelude.{◌<◌};
     ghost use Rattle.journal_world.specs.declared.address.TheConstants.{SLOTS};
+    ghost use Rattle.journal_lockmap.specs.Numbers.{HeldState};
 
-    ghost Value = { ℕ };
+    ghost Value = { HeldState };
 
-    ghost view = { λ held. held.slot };
+    ghost view = { λ held. held.token };
 
-    ghost invariant = { λ held. held.slot < SLOTS };
+    ghost invariant = { λ held. held.token.slot < SLOTS };
 }
 
-impl Held {
+impl<J: Naming> Held<J> {
     /// Which slot it is, below `SLOTS`.
     pub fn slot(&self) -> u16
-        ensures slot { result ≡ self.now }
+        ensures slot { result ≡ self.now.slot }
         ensures in_range { result < SLOTS }
     {
-        self.slot
+        self.token.slot()
     }
 
     // Takes the slot if it is free in the table.
-    pub(crate) fn take(slots: &mut Slots, slot: u16) -> Option<Held>
+    pub(crate) fn take(slots: &mut Slots<J>, slot: u16) -> Option<Held<J>>
         requires in_range { slot < SLOTS }
         ensures free { IsSome result ↔ (is_taken slots.old slot ≡ false) }
-        ensures held { IfSome result (λ held. held ≡ slot) }
+        ensures held { IfSome result (λ held. held.slot ≡ slot) }
         ensures taken { IsTrue (is_taken slots.new slot) }
         ensures others { ChangesOnlySlot slots.old slots.new slot }
     {
-        if slots.mark(slot) {
-            Some(Held { slot })
-        } else {
-            None
+        match slots.mark(slot) {
+            Some(token) => {
+                // Called for its contract: the slot is in range.
+                let _slot = token.slot();
+                Some(Held { token })
+            }
+            None => None,
         }
     }
 
     // Frees the slot in the table.
-    pub(crate) fn give_back(self, slots: &mut Slots)
-        ensures free { is_taken slots.new self ≡ false }
-        ensures others { ChangesOnlySlot slots.old slots.new self }
+    pub(crate) fn give_back(self, slots: &mut Slots<J>)
+        ensures free { is_taken slots.new self.slot ≡ false }
+        ensures others { ChangesOnlySlot slots.old slots.new self.slot }
     {
-        let Held { slot } = self;
-        slots.unmark(slot);
+        let Held { token } = self;
+        slots.unmark(token);
+    }
+}
+
+impl<J: Naming> Debug for Held<J> {
+    fn fmt<W: fmt::Write>(&self, f: &mut fmt::Formatter<W>) -> fmt::Result {
+        f.debug_struct("Held")
+            .field("slot", &self.slot())
+            .finish_non_exhaustive()
     }
 }

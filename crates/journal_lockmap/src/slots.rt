@@ -1,66 +1,65 @@
 // Which slots are taken.
-ghost use Rattle.std.specs.Prelude.{◌≡◌, ◌<◌, ◌↔◌, false, IsTrue, IfOk, replicate};
+ghost use Rattle.std.specs.Prelude.{◌≡◌, ◌<◌, ◌↔◌, false, IsTrue, IsSome, IfSome};
 ghost use Rattle.journal_world.specs.declared.address.TheConstants.{SLOTS};
 ghost use Rattle.journal_lockmap.specs.Tables.{is_taken, ChangesOnlySlot};
 
-use journal_world::SLOTS;
-use std::alloc::{AllocError, Global};
+use crate::token::Token;
+use journal_history::Naming;
+use std::fmt;
+use std::fmt::Debug;
 use std::marker::Model;
 
-/// The table of slots. Contracts see a list that says of each slot whether it is taken.
-#[derive(Debug, Drop)]
-pub struct Slots {
-    taken: Vec<bool>,
+/// The table of slots, in which the token of each that is free lies. Contracts see a list that says of each slot
+/// whether it is taken.
+///
+/// `SlotCounts::begin` makes the table of a journal, with the tokens of all its slots.
+#[derive(Drop)]
+pub struct Slots<J: Naming> {
+    pub(crate) free: Vec<Option<Token<J>>>,
 }
 
-impl Model for Slots {
-    ghost use Rattle.std.specs.Prelude.{◌≡◌, vec_len};
-    ghost use Rattle.journal_world.specs.declared.address.TheConstants.{SLOTS};
-    ghost use Rattle.journal_lockmap.specs.Tables.{Table};
+impl<J: Naming> Model for Slots<J> {
+    ghost use Rattle.journal_lockmap.specs.Tables.{Table, taken_of, IsTable};
 
     ghost Value = { Table };
 
-    ghost view = { λ slots. slots.taken.items };
+    ghost view = { λ slots. taken_of slots.free.items };
 
-    ghost invariant = { λ slots. vec_len slots.taken ≡ SLOTS };
+    ghost invariant = { λ slots. IsTable slots.free.items };
 }
 
-impl Slots {
-    /// A table of free slots.
-    pub fn new(alloc: Global) -> Result<Slots, AllocError>
-        ensures { IfOk result (λ slots. slots ≡ replicate SLOTS false) }
-    {
-        Ok(Slots {
-            taken: vec![in alloc; false; SLOTS as usize]?,
-        })
-    }
-
+impl<J: Naming> Slots<J> {
     /// Whether the slot is taken.
     pub fn is_taken(&self, slot: u16) -> bool
         requires in_range { slot < SLOTS }
         ensures { result ≡ is_taken self.now slot }
     {
-        self.taken[usize::from(slot)]
+        self.free[usize::from(slot)].is_none()
     }
 
-    /// Takes the slot, and says whether it was free. Where it was not, nothing changes.
-    pub fn mark(&mut self, slot: u16) -> bool
+    // Takes the slot's token, if it is free. Where it is not, nothing changes.
+    pub(crate) fn mark(&mut self, slot: u16) -> Option<Token<J>>
         requires in_range { slot < SLOTS }
-        ensures free { IsTrue result ↔ (is_taken self.old slot ≡ false) }
+        ensures free { IsSome result ↔ (is_taken self.old slot ≡ false) }
+        ensures token { IfSome result (λ token. token.slot ≡ slot) }
         ensures taken { IsTrue (is_taken self.new slot) }
         ensures others { ChangesOnlySlot self.old self.new slot }
     {
-        let free = !self.is_taken(slot);
-        self.taken[usize::from(slot)] = true;
-        free
+        self.free[usize::from(slot)].take()
     }
 
-    /// Frees the slot. Where it was free, nothing changes.
-    pub fn unmark(&mut self, slot: u16)
-        requires in_range { slot < SLOTS }
-        ensures free { is_taken self.new slot ≡ false }
-        ensures others { ChangesOnlySlot self.old self.new slot }
+    // Frees the slot of the token.
+    pub(crate) fn unmark(&mut self, token: Token<J>)
+        ensures free { is_taken self.new token.slot ≡ false }
+        ensures others { ChangesOnlySlot self.old self.new token.slot }
     {
-        self.taken[usize::from(slot)] = false;
+        let slot = usize::from(token.slot());
+        self.free[slot] = Some(token);
+    }
+}
+
+impl<J: Naming> Debug for Slots<J> {
+    fn fmt<W: fmt::Write>(&self, f: &mut fmt::Formatter<W>) -> fmt::Result {
+        f.debug_struct("Slots").finish_non_exhaustive()
     }
 }

@@ -1,10 +1,10 @@
 -- A mount from its beginning to the commit of its superblock.
-use Rattle.std.proofs.Common.{ℕ, zero, suc, ◌≡◌, ◌≢◌, ◌⊎◌, inl, inr, ◌<◌, ◌≤◌, ◌+◌, ◌^◌, Bool, IsTrue, All, List, [], ◌∷◌, ◌++◌, length, refl, sym, ap, subst, ◌∙◌, arith}
+use Rattle.std.proofs.Common.{ℕ, zero, suc, ◌≡◌, ◌≢◌, ◌⊎◌, inl, inr, ◌<◌, ◌≤◌, ◌+◌, ◌^◌, ◌==◌, ◌||◌, Bool, false, IsTrue, List, [], ◌∷◌, ◌++◌, length, slice_get, eq-eqb, refl, sym, ap, subst, ◌∙◌, arith}
 use Rattle.std.proofs.lemmas.Bool.{false≢true}
-use Rattle.std.proofs.lemmas.List.Elements.{All-nil, All-cons}
+use Rattle.std.proofs.lemmas.List.Elements.{All-nil, All-head}
 use Rattle.journal_world.specs.declared.address.Addr.{Addr}
 use Rattle.journal_world.specs.Addresses.{slot_of, is_valid}
-use Rattle.journal_world.specs.Maps.{Map, Agrees, overwritten}
+use Rattle.journal_world.specs.Maps.{Pair, Map, Agrees, overwritten}
 use Rattle.journal_world.specs.Histories.{Entry, opened, is_trusted, latest, count, floor, touched, commits_of, is_fenced}
 use Rattle.journal_world.specs.Histories.Entry.{opening, commit}
 use Rattle.journal_world.specs.declared.refusal.Refusal.{Refusal}
@@ -14,24 +14,27 @@ use Rattle.journal_memlog.specs.Logs.{next_position}
 use Rattle.journal_wal.specs.Wal.{WalState, Installing, install_none, install_homes, install_start, install_sync, install_spent, log_steps, install_steps_by}
 use Rattle.journal_objlog.specs.Writes.{fresh_among, written_blocks}
 use Rattle.journal_inode.specs.declared.version.FormatVersion.TheVariants.{Two}
-use Rattle.journal_inode.specs.Places.{object}
+use Rattle.journal_inode.specs.Places.{addr_of, object}
 use Rattle.journal_inode.specs.Places.Object.{superblock}
 use Rattle.journal_inode.specs.Sound.{HasSoundFiles}
 use Rattle.journal_inode.proofs.Upgrading.{Sound-upgraded}
+use Rattle.journal_lockmap.specs.Numbers.{HeldState, slots_of, is_held, AreCovered, AreApart}
 use Rattle.journal_history.specs.Tokens.{SessionState, next_transaction}
 use Rattle.journal_core.specs.declared.refusal_number.RefusalNumber.TheVariants.{J9}
 use Rattle.journal_core.specs.Causes.{Told, IsExplained}
-use Rattle.journal_core.specs.Memories.{IsUnknown, IsStale, IsBehind, IsMoved, IsNumberRefusal}
+use Rattle.journal_core.specs.Memories.{IsUnknown, IsStale, IsBehind, IsNumberRefusal}
 use Rattle.journal_core.specs.Outsets.{IsWorn, IsFull}
 use Rattle.journal_core.specs.Cores.{CoreState, IsRunning, OnlyReads, disk_of, is_faulted, next_of, outset, tail_length}
-use Rattle.journal_core.specs.Transactions.{TransactionState, AreUnmoved}
+use Rattle.journal_core.specs.SlotCounts.{AgreeWith, IsUnder, AreUnder}
+use Rattle.journal_core.specs.Transactions.{TransactionState}
+use Rattle.journal_core.proofs.Remembering.{of_both}
 use Rattle.journal_core.specs.Steps.{BeginsSession, MayRead, IsReadRefusal}
 use Rattle.journal_core.specs.Openings.{Begins}
 use Rattle.journal_core.specs.Commits.{IsCommitted, CanCommit, IsCommitRefusal}
 use Rattle.journal_filestore.specs.Files.{Files}
 use Rattle.journal_migrate.specs.Either.{HasEitherFiles}
 use Rattle.journal_migrate.specs.Holding.{HasFiles, HasFilesOfEither}
-use Rattle.journal_migrate.specs.Superblocks.{DraftsUpgrade}
+use Rattle.journal_migrate.specs.Superblocks.{in_version_two, DraftsUpgrade}
 use Rattle.journal_migrate.specs.Marking.{upto_of, AwaitsCut, AwaitsMark, IsRunningRefusal}
 use Rattle.journal_migrate.specs.Migrations.{IsUpgradeRefusal}
 use Rattle.journal_migrate.proofs.FilesOfMaps.{HasFiles-upgraded}
@@ -63,6 +66,35 @@ keeps_files history t files trusted drafts has = by has
     by (inl one) = HasFiles-upgraded files (latest history) (overwritten (latest history) t.writes)
         (upgraded-overwritten (latest history) t.writes drafts.found drafts.writes (drafts.agrees trusted) one.sound) one
     by (inr two) = absurd (not_one (latest history) drafts.found drafts.of_version_one (drafts.agrees trusted) two.sound)
+
+-- What it read and overwrites lies under the one slot that is held
+
+module _ (held : List HeldState) (one : slots_of held ≡ slot_of (addr_of superblock) ∷ []) where
+  only : (h : HeldState) × (held ≡ h ∷ []) × (h.slot ≡ slot_of (addr_of superblock))
+  only = by held one
+    where
+      by : (hs : List HeldState) → slots_of hs ≡ slot_of (addr_of superblock) ∷ [] → (h : HeldState) × (hs ≡ h ∷ []) × (h.slot ≡ slot_of (addr_of superblock))
+      by [] is = absurd (cc is)
+      by (h ∷ []) is = (h, refl, cc is)
+      by (h ∷ g ∷ hs) is = absurd (cc is)
+
+  pub under : (history : List Entry) (t : TransactionState) → DraftsUpgrade history t → AgreeWith history held → AreUnder held t.seen t.reads
+  under history t drafts agree = subst (λ h. AreUnder held h t.reads) (sym drafts.seen)
+      (of_both (λ a. IsUnder held history (a, drafts.found)) (addr_of superblock) drafts.found [] t.reads drafts.reads
+      (0, only.0, ap (λ hs. slice_get hs 0) only.1, only.2, at) (All-nil (IsUnder held history)))
+    where
+      at : only.0.count ≡ touched history (slot_of (addr_of superblock))
+      at = All-head (λ (h : HeldState). h.count ≡ touched history h.slot) only.0 [] (subst (AgreeWith history) only.1 agree) ∙ ap (touched history) only.2
+
+  pub covered : (history : List Entry) (t : TransactionState) → DraftsUpgrade history t → AreCovered held t.writes
+  covered history t drafts =
+      of_both (λ a. IsTrue (is_held held (slot_of a))) (addr_of superblock) (in_version_two drafts.found) [] t.writes drafts.writes
+      (ap (λ hs. is_held hs (slot_of (addr_of superblock))) only.1 ∙ ap (λ (n : ℕ). (n == slot_of (addr_of superblock)) || false) only.2
+      ∙ ap (λ b. b || false) (eq-eqb (slot_of (addr_of superblock)) (slot_of (addr_of superblock)) refl))
+      (All-nil (λ (p : Pair). IsTrue (is_held held (slot_of p.0))))
+
+  pub apart : AreApart held
+  apart = λ i j lt_i lt_j same. omega (arith, lt_i, lt_j, ap length only.1)
 
 -- so where the files are of version 2 already nothing is drafted
 pub not_drafted : (history : List Entry) (t : TransactionState) → IsTrue (is_trusted history) → DraftsUpgrade history t → HasSoundFiles Two (latest history) → ⊥
@@ -173,14 +205,6 @@ awaits first old new session after t m trusted begun at drafts committed running
 
 -- Refusals
 
-All-of : {A : Type 0} (P : A → Type 0) (xs : List A) → ((x : A) → P x) → All P xs
-All-of P [] each = All-nil P
-All-of P (x ∷ xs) each = All-cons P x xs (each x) (All-of P xs each)
-
--- nothing has moved since the transaction began
-pub unmoved : (history : List Entry) (t : TransactionState) → t.seen ≡ history → AreUnmoved history t
-unmoved history t seen = All-of (λ p. touched history (slot_of p.0) ≡ touched t.seen (slot_of p.0)) t.reads (λ p. ap (λ h. touched h (slot_of p.0)) (sym seen))
-
 module _ (first old new : CoreState) (keeps : Keeps (disk_of first) (disk_of old)) where
   pub failed_since : HasFailed (disk_of old) (disk_of new) → HasFailed (disk_of first) (disk_of new)
   failed_since (inl more) = inl (omega (arith, more, keeps.failures))
@@ -233,9 +257,8 @@ module _ (first old new : CoreState) (session : SessionState) (t : TransactionSt
   worn (inr (inl many)) = absurd (omega (arith, many, number))
   worn (inr (inr far)) = omega (arith, far, fresh, at.position)
 
-  known : (cause : Told) → IsUnknown old.history session t cause → ⊥
-  known cause (inl strange) = omega (arith, strange.1, ap (λ h. length (commits_of session.number h)) mine)
-  known cause (inr later) = later.2 (unmoved old.history t drafts.seen)
+  known : (cause : Told) → IsUnknown old.history session cause → ⊥
+  known cause strange = omega (arith, strange.1, ap (λ h. length (commits_of session.number h)) mine)
 
   full : IsFull (outset old) t.writes → ⊥
   full over = omega (arith, over, fresh, ap length at.tail)
@@ -270,9 +293,6 @@ module _ (first old new : CoreState) (session : SessionState) (t : TransactionSt
 behind : (history : List Entry) (t : TransactionState) (cause : Told) → IsBehind history t cause → length history < length t.seen
 behind history t cause is = is.1.1
 
-moved : (history : List Entry) (t : TransactionState) (cause : Told) → IsMoved history t cause → AreUnmoved history t → ⊥
-moved history t cause is = is.2
-
 -- a read of a transaction that begins now is refused by the device alone
 pub read_refused : (blocks : ℕ) (old new : CoreState) (t : TransactionState) (a : Addr) (why : Refusal Told) → IsRunning old → t.seen ≡ old.history → IsTrue (is_valid blocks a)
     → IsReadRefusal blocks old t a new why → IsRunningRefusal old new why
@@ -289,7 +309,7 @@ read_refused blocks old new t a (DeviceFailed cause) running seen valid is = (by
 read_refused blocks old new t a BadLog running seen valid is = is
 read_refused blocks old new t a BadSuper running seen valid is = is
 read_refused blocks old new t a (Stale cause) running seen valid is = absurd (omega (arith, behind old.history t cause is.2, ap length seen))
-read_refused blocks old new t a (Stranger cause) running seen valid is = absurd (moved old.history t cause is.2 (unmoved old.history t seen))
+read_refused blocks old new t a (Stranger cause) running seen valid is = is
 read_refused blocks old new t a (Worn cause) running seen valid is = is
 read_refused blocks old new t a (Full cause) running seen valid is = is
 read_refused blocks old new t a (Closed cause) running seen valid is = absurd (false≢true (sym (sym is.closed ∙ running.0)))

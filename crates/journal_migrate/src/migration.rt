@@ -1,5 +1,6 @@
 // A disk becomes one of version 2.
-ghost use Rattle.std.specs.Prelude.{ℕ, ◌≡◌, ◌⊎◌, IsTrue, false, IfOk, IfErr, OnOk, OnErr};
+ghost use Rattle.std.specs.Prelude.{ℕ, ◌≡◌, ◌⊎◌, [], ◌∷◌, IsTrue, false, IfOk, IfErr, OnOk, OnErr};
+ghost use Rattle.journal_world.specs.Addresses.{slot_of as slot_number};
 ghost use Rattle.journal_world.specs.Histories.{opened, is_trusted, latest};
 ghost use Rattle.journal_world.specs.Maps.{is_object};
 ghost use Rattle.journal_disk.specs.Disks.{DiskState, Keeps, IsSettled};
@@ -7,8 +8,10 @@ ghost use Rattle.journal_inode.specs.Places.{addr_of, object};
 ghost use Rattle.journal_inode.specs.Places.Object.{superblock};
 ghost use Rattle.journal_inode.specs.declared.version.FormatVersion.TheVariants.{One, Two};
 ghost use Rattle.journal_inode.specs.Sound.{HasSoundFiles};
+ghost use Rattle.journal_lockmap.specs.Numbers.{slots_of};
 ghost use Rattle.journal_core.specs.Cores.{IsRunning, OnlyReads, disk_of, next_of};
 ghost use Rattle.journal_core.specs.Openings.{Begins};
+ghost use Rattle.journal_core.specs.SlotCounts.{AgreeWith};
 ghost use Rattle.journal_core.specs.Transactions.{begun};
 ghost use Rattle.journal_filestore.specs.Files.{Files};
 ghost use Rattle.journal_migrate.specs.Either.{HasEitherFiles};
@@ -23,8 +26,11 @@ use crate::superblock::{SUPERBLOCK_ADDR, is_of_version_one, upgraded};
 use journal_core::{Cause, Core, Found, Transaction};
 use journal_disk::BlockDisk;
 use journal_history::{Book, Naming};
-use journal_world::{BLOCK_BYTES, Refusal, Refused, Value};
+use journal_lockmap::{Bells, Held, LockMap, SlotCell};
+use journal_world::{BLOCK_BYTES, Layout, Refusal, Refused, Value, slot_of};
 use std::alloc::{AllocError, Global};
+use std::array;
+use std::sync::Wait;
 
 // Of how many blocks that are at home copies are kept in memory: of one, since one is read, once.
 const COPIES: usize = 1;
@@ -41,12 +47,15 @@ type Why<'b, J> = Refusal<Cause<'b, J, EitherVersion>>;
 /// has a history already, J1 `NoMemory` where memory is refused, and J6 `DeviceFailed` where the device fails. Once it is
 /// opened, it is refused by J11 `Worn` where the log's positions are used up, by J1, J6 and J9. Whatever a crash leaves is then
 /// the disk with the same files, in version 1 or in version 2.
-pub fn migrate<'b, D: BlockDisk, J: Naming>(
+pub fn migrate<'b, D: BlockDisk, J: Naming, W: Wait>(
+    rt: &W,
     alloc: Global,
     book: &'b Book<EitherVersion>,
+    cell: SlotCell,
     disk: D,
 ) -> Result<D, Refused<D, Cause<'b, J, EitherVersion>>>
     requires book { book.now ≡ J.book }
+    requires cell { cell ≡ J.cell }
     requires blocks { (D.state disk).past.size ≡ J.blocks }
     requires settled { IsTrue (D.state disk).honest → IsSettled (D.state disk).past }
     ensures migrated { IsTrue (D.state disk).honest → IfOk result (λ migrated. IsMigrated (D.state disk) (D.state migrated)) }
@@ -58,8 +67,25 @@ pub fn migrate<'b, D: BlockDisk, J: Naming>(
     ensures handed_back { IfErr result (λ refused. Keeps (D.state disk) (D.state refused.disk)) }
 {
     let rule = EitherVersion::new(alloc);
-    let mut core = Core::open_step(alloc, book, disk, &rule, COPIES)?;
-    match upgrade(alloc, &mut core) {
+    if Layout::new(disk.size()).is_none() {
+        return Err(Refused {
+            refusal: Refusal::BadSuper,
+            disk,
+        });
+    }
+    let Ok(bells) = Bells::new(alloc) else {
+        return Err(Refused {
+            refusal: Refusal::NoMemory,
+            disk,
+        });
+    };
+    let (mut core, slots) = Core::open_step(alloc, book, cell, disk, &rule, COPIES)?;
+    let slots = LockMap::new(bells, slots);
+    // Nobody else takes one of these slots, so this waits for nobody.
+    let mut held = slots.acquire(rt, slot_of(SUPERBLOCK_ADDR));
+    let answer = upgrade(rt, alloc, &mut core, array::from_mut(&mut held));
+    slots.release(rt, held);
+    match answer {
         Ok(()) => Ok(core.into_disk()),
         Err(refusal) => Err(Refused {
             refusal,
@@ -68,12 +94,15 @@ pub fn migrate<'b, D: BlockDisk, J: Naming>(
     }
 }
 
-// Brings the map of a mount that begins to version 2, and makes that stable.
-fn upgrade<'b, D: BlockDisk, J: Naming>(
+// Brings the map of a mount that begins to version 2, under the superblock's slot, and makes that stable.
+fn upgrade<'b, D: BlockDisk, J: Naming, W: Wait>(
+    rt: &W,
     alloc: Global,
     core: &mut Core<'b, D, EitherVersion, J>,
+    held: &mut [Held<J>],
 ) -> Result<(), Why<'b, J>>
     requires begins { (disk : DiskState) × Begins HasEitherFiles disk core.old }
+    requires held { slots_of held.old ≡ slot_number (addr_of superblock) ∷ [] }
     ensures upgraded { IsTrue (is_trusted core.old.history) → OnOk result ((files : Files)
         → HasFilesOfEither files (opened core.old.history) → LeavesMaps (HasFiles Two files) core.new.history) }
     ensures left { IsTrue (is_trusted core.old.history) → OnErr result ((files : Files)
@@ -85,23 +114,27 @@ fn upgrade<'b, D: BlockDisk, J: Naming>(
 {
     let mut session = core.session_step()?;
     let mut transaction = Transaction::begin(alloc, &session);
-    if !draft(alloc, core, &mut transaction)? {
+    if !draft(rt, alloc, core, &mut transaction, held)? {
         return Ok(());
     }
     let mut spares = transaction.spares(alloc);
-    core.commit_step(&mut session, &transaction, &mut spares)?;
+    core.commit_step(rt, &mut session, &transaction, held, &mut spares)?;
     make_stable(core)
 }
 
 // Reads the superblock, and where it is of version 1 overwrites it by that of version 2. Whether it is.
-fn draft<'b, D: BlockDisk, J: Naming>(
+fn draft<'b, D: BlockDisk, J: Naming, W: Wait>(
+    rt: &W,
     alloc: Global,
     core: &mut Core<'b, D, EitherVersion, J>,
     transaction: &mut Transaction<'b, J, EitherVersion>,
+    held: &mut [Held<J>],
 ) -> Result<bool, Why<'b, J>>
     requires begun { transaction.old ≡ begun core.old.history }
     requires running { IsRunning core.old }
     ensures drafted { IfOk result (λ of_one. IsTrue of_one → DraftsUpgrade core.old.history transaction.new) }
+    ensures agree { OnOk result (AgreeWith core.new.history held.new) }
+    ensures held { held.new ≡ held.old }
     ensures other { IfOk result (λ of_one. of_one ≡ false → IsTrue (is_trusted core.old.history)
         → HasSoundFiles One (latest core.old.history) → ⊥) }
     ensures refusal { IfErr result (IsRunningRefusal core.old core.new) }
@@ -110,7 +143,7 @@ fn draft<'b, D: BlockDisk, J: Naming>(
     ensures others { core.new ≡ record core.old { objects = core.new.objects } }
 {
     let mut bytes = vec![in alloc; 0u8; BLOCK_BYTES]?;
-    let found = core.read_step(transaction, SUPERBLOCK_ADDR, &mut bytes)?;
+    let found = core.read_step(rt, transaction, held, SUPERBLOCK_ADDR, &mut bytes)?;
     if !is_of_version_one(&bytes) {
         return Ok(false);
     }

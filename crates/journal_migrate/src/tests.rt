@@ -8,6 +8,7 @@ use journal_disk::{BlockDisk, MemDisk};
 use journal_filestore::{FileStore, Handle, How, NewTime, Settings, Stability};
 use journal_history::{Book, Naming, Session};
 use journal_inode::{FormatVersion, SoundFiles, Version, VersionOne, VersionTwo, format};
+use journal_lockmap::SlotCell;
 use journal_world::{Moment, Refused, Step};
 use std::alloc::Global;
 use std::marker::Brand;
@@ -135,29 +136,39 @@ fn fill<'b, J: Naming, W: Wait>(
     (stat.end.saturating_sub(stat.start) == 511).then_some(())
 }
 
+/// A disk of version 1 without a file.
+fn formatted(alloc: Global) -> Option<MemDisk>
+    ensures { IfSome result (λ disk. IsSettled disk.past) }
+{
+    let disk = MemDisk::new::<()>(alloc, BLOCKS).ok()?;
+    format(alloc, disk, AT, FormatVersion::One).ok()
+}
+
 /// A disk of version 1 with the file, left so.
 fn disk_of<W: Wait>(rt: &W, alloc: Global, left: Left) -> Option<MemDisk>
     ensures { IfSome result (λ disk. IsSettled disk.past) }
 {
-    let disk = MemDisk::new::<()>(alloc, BLOCKS).ok()?;
-    let disk = format(alloc, disk, AT, FormatVersion::One).ok()?;
+    let disk = formatted(alloc)?;
     let book: Book<SoundFiles> = Book::open::<()>().ok()?;
-    used::<Brand, _>(rt, alloc, &book, disk, left)
+    let cell = SlotCell::open(alloc).ok()?;
+    used::<Brand, _>(rt, alloc, &book, cell, disk, left)
 }
 
 fn used<J: Naming, W: Wait>(
     rt: &W,
     alloc: Global,
     book: &Book<SoundFiles>,
+    cell: SlotCell,
     disk: MemDisk,
     left: Left,
 ) -> Option<MemDisk>
     requires book { book.now ≡ J.book }
+    requires cell { cell ≡ J.cell }
     requires blocks { disk.past.size ≡ J.blocks }
     requires settled { IsSettled disk.past }
     ensures { IfSome result (λ disk. IsSettled disk.past) }
 {
-    let files: FileStore<MemDisk, J> = FileStore::mount(alloc, book, disk).ok()?;
+    let files: FileStore<MemDisk, J> = FileStore::mount(alloc, book, cell, disk).ok()?;
     let mut session = files.journal().session(rt).ok()?;
     use_files(rt, &files, &mut session, left)?;
     files.journal().image(rt, &mut session, ALL).ok()
@@ -167,9 +178,9 @@ fn used<J: Naming, W: Wait>(
 fn is_of<V: Version, W: Wait>(rt: &W, alloc: Global, disk: MemDisk) -> bool
     requires { IsSettled disk.past }
 {
-    match Book::<SoundFiles<V>>::open::<()>() {
-        Ok(book) => holds::<V, Brand, _>(rt, alloc, &book, disk),
-        Err(_) => false,
+    match (Book::<SoundFiles<V>>::open::<()>(), SlotCell::open(alloc)) {
+        (Ok(book), Ok(cell)) => holds::<V, Brand, _>(rt, alloc, &book, cell, disk),
+        _ => false,
     }
 }
 
@@ -177,13 +188,15 @@ fn holds<V: Version, J: Naming, W: Wait>(
     rt: &W,
     alloc: Global,
     book: &Book<SoundFiles<V>>,
+    cell: SlotCell,
     disk: MemDisk,
 ) -> bool
     requires book { book.now ≡ J.book }
+    requires cell { cell ≡ J.cell }
     requires blocks { disk.past.size ≡ J.blocks }
     requires settled { IsSettled disk.past }
 {
-    let mounted: Result<FileStore<MemDisk, J, V>, _> = FileStore::mount(alloc, book, disk);
+    let mounted: Result<FileStore<MemDisk, J, V>, _> = FileStore::mount(alloc, book, cell, disk);
     let Ok(files) = mounted else {
         return false;
     };
@@ -228,7 +241,7 @@ fn fail_at<W: Wait>(
 ) -> Option<Outcome> {
     let mut disk = disk.image::<()>(&[]).ok()?;
     disk.fail_in(k);
-    let (is_migrated, disk) = migrated_once(alloc, disk)?;
+    let (is_migrated, disk) = migrated_once(rt, alloc, disk)?;
     let has_failed = disk.failures() > 0;
     let disk = disk.crash(choice);
     Some(Outcome {
@@ -239,19 +252,27 @@ fn fail_at<W: Wait>(
 }
 
 // Migrates it with a book of its own. Whether it was migrated, and the disk.
-fn migrated_once(alloc: Global, disk: MemDisk) -> Option<(bool, MemDisk)>
+fn migrated_once<W: Wait>(rt: &W, alloc: Global, disk: MemDisk) -> Option<(bool, MemDisk)>
     requires settled { IsSettled disk.past }
 {
     let book: Book<EitherVersion> = Book::open::<()>().ok()?;
-    Some(migrated::<Brand>(alloc, &book, disk))
+    let cell = SlotCell::open(alloc).ok()?;
+    Some(migrated::<Brand, _>(rt, alloc, &book, cell, disk))
 }
 
-fn migrated<J: Naming>(alloc: Global, book: &Book<EitherVersion>, disk: MemDisk) -> (bool, MemDisk)
+fn migrated<J: Naming, W: Wait>(
+    rt: &W,
+    alloc: Global,
+    book: &Book<EitherVersion>,
+    cell: SlotCell,
+    disk: MemDisk,
+) -> (bool, MemDisk)
     requires book { book.now ≡ J.book }
+    requires cell { cell ≡ J.cell }
     requires blocks { disk.past.size ≡ J.blocks }
     requires settled { IsSettled disk.past }
 {
-    match migrate::<MemDisk, J>(alloc, book, disk) {
+    match migrate::<MemDisk, J, W>(rt, alloc, book, cell, disk) {
         Ok(disk) => (true, disk),
         Err(Refused { disk, .. }) => (false, disk),
     }
@@ -343,8 +364,8 @@ fn a_disk_of_version_two_stays(rt: HostRuntime) {
 /// A disk that is migrated twice: its version, and whether the second time makes no write.
 fn twice<W: Wait>(rt: &W, alloc: Global) -> Option<(u64, bool)> {
     let disk = disk_of(rt, alloc, Left::Logged)?;
-    let (_, first) = migrated_once(alloc, disk)?;
-    let (_, second) = migrated_once(alloc, first.crash(ALL))?;
+    let (_, first) = migrated_once(rt, alloc, disk)?;
+    let (_, second) = migrated_once(rt, alloc, first.crash(ALL))?;
     let is_unwritten = second.pending::<()>().ok()?.is_empty();
     Some((version_of(rt, alloc, &second), is_unwritten))
 }

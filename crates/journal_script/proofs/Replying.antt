@@ -1,9 +1,11 @@
 -- Replies to commands and lines, from what the calls behind them answer.
-use Rattle.std.proofs.Common.{◌≡◌, ◌⊎◌, inl, inr, ℕ, true, false, List, Option, Some, None, Result, Ok, Err, refl, sym, subst}
+use Rattle.std.proofs.Common.{◌≡◌, ◌⊎◌, inl, inr, ℕ, true, false, List, [], Option, Some, None, Result, Ok, Err, refl, sym, subst}
 use Rattle.std.specs.Prelude.{IfOk, IfErr}
+use native.Mathlib.Omega.{arith}
 use Rattle.std.specs.declared.ops.ControlFlow.{ControlFlow}
 use Rattle.std.specs.declared.ops.ControlFlow.TheVariants.{Continue, Break}
 use Rattle.journal_world.specs.declared.refusal.Refusal.{Refusal}
+use Rattle.journal_world.specs.declared.refusal.Refusal.TheVariants.{NoMemory}
 use Rattle.journal_command.specs.declared.command.Command.{Command}
 use Rattle.journal_command.specs.declared.command.Command.TheVariants as commands
 use Rattle.journal_script.specs.declared.answer.Answer.{Answer}
@@ -11,7 +13,7 @@ use Rattle.journal_script.specs.declared.answer.Answer.TheVariants as answers
 use Rattle.journal_script.specs.declared.client.Crash.{Crash}
 use Rattle.journal_disk.specs.Disks.{IsSettled, Past, DiskState}
 use Rattle.journal_core.specs.Openings.{IsOpenRefusal}
-use Rattle.journal_disk.specs.MemDisks.{MemState}
+use Rattle.journal_disk.specs.MemDisks.{MemState, state_of, disk_from}
 use Rattle.journal_script.specs.declared.script.Next.{Next}
 use Rattle.journal_script.specs.declared.script.Next.TheVariants as nexts
 use Rattle.journal_script.specs.declared.up.Opening.{Opening}
@@ -60,20 +62,32 @@ told_refused : (line : List ℕ) (before after : DiskState) (why : Refusal Told)
 told_refused line before after why (answers.Refused told) refusal refuses = (before, after, (why, refusal, refuses))
 told_refused line before after why answer refusal refuses = absurd refuses
 
+-- some disk is opened no further where memory is refused
+told_no_memory : (C : Type 0) (answer : Answer) → Refuses {C = C} NoMemory answer → IsOpened answer
+told_no_memory C (answers.Refused told) refuses = (state_of (disk_from 532 []), state_of (disk_from 532 []), (NoMemory, (omega arith, omega arith), refuses))
+told_no_memory C answer refuses = absurd refuses
+
 -- it was refused
-opens_refused : (opening : Opening) (a b : Streams) (next : Next) (disk : MemState) (before after : DiskState) (why : Refusal Told) → RefusesOpening opening why disk a b next
-    → IsOpenRefusal (λ _. Unit {0}) before after why → IsSettled disk.past → Opens opening a b next
-opens_refused openings.First a b next disk before after why refused refusal settled = absurd refused
-opens_refused openings.Asked a b next disk before after why (is, (answer, refuses, prints)) refusal settled = λ opens. (
+opens_refused : {C : Type 0} (opening : Opening) (a b : Streams) (next : Next) (disk : MemState) (why : Refusal C) → RefusesOpening opening why disk a b next
+    → ((answer : Answer) → Refuses why answer → IsOpened answer) → IsSettled disk.past → Opens opening a b next
+opens_refused openings.First a b next disk why refused told settled = absurd refused
+opens_refused openings.Asked a b next disk why (is, (answer, refuses, prints)) told settled = λ opens. (
   b,
-  record { answer = answer; answered = inr (inr (inr (opens, told_refused a.line before after why answer refusal refuses))); prints = prints },
+  record { answer = answer; answered = inr (inr (inr (opens, told answer refuses))); prints = prints },
   subst (λ (n : Next). ComesTo n b b) (sym is) (settled, talks_none b),
 )
 
 pub opens_refused_ok : {E : Type 0} (r : Result Next E) (opening : Opening) (a b : Streams) (disk : MemState) (before after : DiskState) (why : Refusal Told) → IfOk r (RefusesOpening opening why disk a b)
     → IsOpenRefusal (λ _. Unit {0}) before after why → IsSettled disk.past → IfOk r (Opens opening a b)
-opens_refused_ok (Ok next) opening a b disk before after why refused refusal settled = opens_refused opening a b next disk before after why refused refusal settled
+opens_refused_ok (Ok next) opening a b disk before after why refused refusal settled =
+    opens_refused opening a b next disk why refused (λ answer refuses. told_refused a.line before after why answer refusal refuses) settled
 opens_refused_ok (Err stop) opening a b disk before after why refused refusal settled = tt
+
+-- memory was refused before it was opened
+pub opens_without_memory_ok : {E : Type 0} (C : Type 0) (r : Result Next E) (opening : Opening) (a b : Streams) (disk : MemState) → IfOk r (RefusesOpening {C = C} opening NoMemory disk a b) → IsSettled disk.past
+    → IfOk r (Opens opening a b)
+opens_without_memory_ok C (Ok next) opening a b disk refused settled = opens_refused opening a b next disk NoMemory refused (told_no_memory C) settled
+opens_without_memory_ok C (Err stop) opening a b disk refused settled = tt
 
 -- ---- from a reply to the streams, where the console's room was used in between
 

@@ -10,6 +10,7 @@ use crate::script::Next;
 use crate::stop::Stop;
 use journal_disk::{BlockDisk, MemDisk};
 use journal_history::{Book, Naming, Session};
+use journal_lockmap::SlotCell;
 use journal_twophase::Journal;
 use journal_world::{AnyMap, Refusal, Refused};
 use std::alloc::Global;
@@ -40,7 +41,10 @@ pub fn run<W: Wait, I: Read + Drop, O: Write>(
     ensures { IfOk result (Opens opening (streams console.old (O.contents output.old)) (streams console.new (O.contents output.new))) }
 {
     let book: Book<AnyMap> = Book::open::<()>().unwrap();
-    mount::<Brand, W, I, O>(rt, alloc, &book, disk, opening, console, output)
+    let Ok(cell) = SlotCell::open(alloc) else {
+        return refuse(Refusal::<()>::NoMemory, disk, opening, console, output);
+    };
+    mount::<Brand, W, I, O>(rt, alloc, &book, cell, disk, opening, console, output)
 }
 
 // The same, with the book of the history.
@@ -48,18 +52,20 @@ fn mount<J: Naming, W: Wait, I: Read + Drop, O: Write>(
     rt: &W,
     alloc: Global,
     book: &Book<AnyMap>,
+    cell: SlotCell,
     disk: MemDisk,
     opening: Opening,
     console: &mut Console<I>,
     output: &mut O,
 ) -> Result<Next, Stop>
     requires book { book.now ≡ J.book }
+    requires cell { cell ≡ J.cell }
     requires blocks { disk.past.size ≡ J.blocks }
     requires settled { IsSettled disk.past }
     ensures { IfOk result (Opens opening (streams console.old (O.contents output.old)) (streams console.new (O.contents output.new))) }
 {
     let blocks = disk.size();
-    match Journal::open(alloc, book, disk, &AnyMap) {
+    match Journal::open(alloc, book, cell, disk, &AnyMap) {
         Ok(journal) => { serve::<J, W, I, O>(rt, alloc, blocks, journal, opening, console, output) }
         Err(Refused { refusal, disk }) => refuse(refusal, disk, opening, console, output),
     }

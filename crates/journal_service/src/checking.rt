@@ -3,12 +3,13 @@ ghost use Rattle.std.specs.Prelude.{◌≡◌};
 
 use crate::fault::ServiceFault;
 use crate::file;
-use crate::mounting::{Tried, mount};
+use crate::mounting::{Tried, mount, slot_cell};
 use crate::serving::{close, print_line};
 use journal_disk::FileDisk;
 use journal_filestore::{Fault, FileStore, Handle};
 use journal_history::{Book, Naming, Session};
 use journal_inode::{INODES, SoundFiles, Version, VersionOne, VersionTwo};
+use journal_lockmap::SlotCell;
 use std::alloc::Global;
 use std::fs::{File, Files};
 use std::io::Write;
@@ -45,7 +46,8 @@ fn count_in<V: Version, W: Wait>(
     disk: FileDisk,
 ) -> Result<Tried<u64>, ServiceFault> {
     let book: Book<SoundFiles<V>> = Book::open::<()>().unwrap();
-    files_of::<Brand, V, W>(rt, alloc, &book, disk)
+    let cell = slot_cell(alloc)?;
+    files_of::<Brand, V, W>(rt, alloc, &book, cell, disk)
 }
 
 // Mounts the disk, and answers how many files it has.
@@ -53,12 +55,14 @@ fn files_of<J: Naming, V: Version, W: Wait>(
     rt: &W,
     alloc: Global,
     book: &Book<SoundFiles<V>>,
+    cell: SlotCell,
     disk: FileDisk,
 ) -> Result<Tried<u64>, ServiceFault>
     requires book { book.now ≡ J.book }
+    requires cell { cell ≡ J.cell }
     requires blocks { disk.size ≡ J.blocks }
 {
-    let files: FileStore<FileDisk, J, V> = match mount(alloc, book, disk)? {
+    let files: FileStore<FileDisk, J, V> = match mount(alloc, book, cell, disk)? {
         Tried::Sound(files) => files,
         Tried::Other(disk) => return Ok(Tried::Other(disk)),
     };

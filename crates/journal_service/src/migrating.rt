@@ -3,23 +3,26 @@ ghost use Rattle.std.specs.Prelude.{◌≡◌};
 
 use crate::fault::ServiceFault;
 use crate::file;
+use crate::mounting::slot_cell;
 use crate::serving::print_line;
 use journal_disk::FileDisk;
 use journal_history::{Book, Naming};
 use journal_inode::FormatVersion;
+use journal_lockmap::SlotCell;
 use journal_migrate::EitherVersion;
 use journal_world::Refused;
 use std::alloc::Global;
 use std::fs::{File, Files};
 use std::io::Write;
 use std::marker::Brand;
+use std::sync::Wait;
 
 /// Makes the disk in the file one of version 2, with the same files, and prints its version then. To a disk of version 2
 /// nothing is done.
 ///
 /// Refused as `check` is, and by J11 `Worn` where the positions of its log are used up. Whatever the refusal, and whenever
 /// the system stops, the file has the same files, in version 1 or in version 2.
-pub fn migrate<R: Files<File = File>, O: Write>(
+pub fn migrate<R: Files<File = File> + Wait, O: Write>(
     rt: &R,
     alloc: Global,
     path: &str,
@@ -27,7 +30,8 @@ pub fn migrate<R: Files<File = File>, O: Write>(
 ) -> Result<(), ServiceFault> {
     let disk = file::open(rt, path)?;
     let book: Book<EitherVersion> = Book::open::<()>().unwrap();
-    let mut disk = migrated::<Brand>(alloc, &book, disk)?;
+    let cell = slot_cell(alloc)?;
+    let mut disk = migrated::<Brand, R>(rt, alloc, &book, cell, disk)?;
     file::sync(&mut disk)?;
     // Whoever reads the line may use the file at once.
     drop(disk);
@@ -35,15 +39,18 @@ pub fn migrate<R: Files<File = File>, O: Write>(
 }
 
 // The disk, as one of version 2.
-fn migrated<J: Naming>(
+fn migrated<J: Naming, W: Wait>(
+    rt: &W,
     alloc: Global,
     book: &Book<EitherVersion>,
+    cell: SlotCell,
     disk: FileDisk,
 ) -> Result<FileDisk, ServiceFault>
     requires book { book.now ≡ J.book }
+    requires cell { cell ≡ J.cell }
     requires blocks { disk.size ≡ J.blocks }
 {
-    match journal_migrate::migrate::<FileDisk, J>(alloc, book, disk) {
+    match journal_migrate::migrate::<FileDisk, J, W>(rt, alloc, book, cell, disk) {
         Ok(disk) => Ok(disk),
         Err(Refused { refusal, .. }) => Err(ServiceFault::refused(refusal)),
     }

@@ -6,6 +6,7 @@ use journal_disk::FileDisk;
 use journal_filestore::FileStore;
 use journal_history::{Book, Naming};
 use journal_inode::{SoundFiles, Version};
+use journal_lockmap::SlotCell;
 use journal_world::{Refusal, Refused};
 use std::alloc::Global;
 
@@ -28,16 +29,26 @@ impl<T: Drop> Tried<T> {
     }
 }
 
+/// The cell of a mount's slots. Refused by J1.
+pub(crate) fn slot_cell(alloc: Global) -> Result<SlotCell, ServiceFault> {
+    match SlotCell::open(alloc) {
+        Ok(cell) => Ok(cell),
+        Err(_) => Err(ServiceFault::Refused(Refusal::NoMemory)),
+    }
+}
+
 /// Mounts the disk under the rule of a version. Refused as a mount is, but for J8, which hands the disk back.
 pub(crate) fn mount<'b, J: Naming, V: Version>(
     alloc: Global,
     book: &'b Book<SoundFiles<V>>,
+    cell: SlotCell,
     disk: FileDisk,
 ) -> Result<Tried<FileStore<'b, FileDisk, J, V>>, ServiceFault>
     requires book { book.now ≡ J.book }
+    requires cell { cell ≡ J.cell }
     requires blocks { disk.size ≡ J.blocks }
 {
-    match FileStore::mount(alloc, book, disk) {
+    match FileStore::mount(alloc, book, cell, disk) {
         Ok(files) => Ok(Tried::Sound(files)),
         Err(
             Refused {

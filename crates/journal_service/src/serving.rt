@@ -4,13 +4,14 @@ ghost use Rattle.std.specs.Prelude.{◌≡◌};
 use crate::clock::{WallClock, verifier_of};
 use crate::daemon::Daemon;
 use crate::fault::ServiceFault;
-use crate::mounting::{Tried, mount};
+use crate::mounting::{Tried, mount, slot_cell};
 use crate::{clock, file};
 use journal_daemon::OpenGate;
 use journal_disk::FileDisk;
 use journal_filestore::FileStore;
 use journal_history::{Book, Naming};
 use journal_inode::{SoundFiles, Version, VersionOne, VersionTwo};
+use journal_lockmap::SlotCell;
 use journal_nfs3::Verifier;
 use journal_server::{Crowd, Listening, serve_all};
 use journal_world::{Refusal, Refused};
@@ -74,7 +75,8 @@ fn serve_in<
     output: &mut O,
 ) -> Result<Tried<FileDisk>, ServiceFault> {
     let book: Book<SoundFiles<V>> = Book::open::<()>().unwrap();
-    serve_mounted::<Brand, V, R, O>(rt, alloc, &book, disk, service, output)
+    let cell = slot_cell(alloc)?;
+    serve_mounted::<Brand, V, R, O>(rt, alloc, &book, cell, disk, service, output)
 }
 
 // Mounts the disk, serves its files, and gives it up, with all commits stable. Of two faults the first is told.
@@ -87,15 +89,17 @@ fn serve_mounted<
     rt: &R,
     alloc: Global,
     book: &Book<SoundFiles<V>>,
+    cell: SlotCell,
     disk: FileDisk,
     service: Service<'_>,
     output: &mut O,
 ) -> Result<Tried<FileDisk>, ServiceFault>
     requires book { book.now ≡ J.book }
+    requires cell { cell ≡ J.cell }
     requires blocks { disk.size ≡ J.blocks }
 {
     let moment = clock::now(rt);
-    let files: FileStore<FileDisk, J, V> = match mount(alloc, book, disk)? {
+    let files: FileStore<FileDisk, J, V> = match mount(alloc, book, cell, disk)? {
         Tried::Sound(files) => files,
         Tried::Other(disk) => return Ok(Tried::Other(disk)),
     };

@@ -8,6 +8,7 @@ use journal_disk::{BlockDisk, MemDisk};
 use journal_filestore::FileStore;
 use journal_history::{Book, Naming, Session};
 use journal_inode::{FormatVersion, SoundFiles, Version, VersionOne, format};
+use journal_lockmap::SlotCell;
 use journal_world::{Moment, Refusal, Step};
 use std::alloc::{AllocError, Global};
 use std::marker::Brand;
@@ -76,15 +77,17 @@ fn over<
     rt: &H,
     alloc: Global,
     book: &'b Book<SoundFiles>,
+    cell: SlotCell,
     disk: MemDisk,
     story: &Story,
 ) -> Result<MemDisk, Wrong>
     requires book { book.now ≡ J.book }
+    requires cell { cell ≡ J.cell }
     requires blocks { disk.past.size ≡ J.blocks }
     requires settled { IsSettled disk.past }
     ensures settled { IfOk result (λ left. IsSettled left.past) }
 {
-    let mounted: Result<Files<'b, J>, _> = FileStore::mount(alloc, book, disk);
+    let mounted: Result<Files<'b, J>, _> = FileStore::mount(alloc, book, cell, disk);
     match mounted {
         Ok(files) => {
             let told = tell(rt, alloc, &files, story);
@@ -122,9 +125,9 @@ pub(crate) fn on_disk<H: Threads + Wait + Net<Listener = TcpListener, Stream = T
     requires settled { IsSettled disk.past }
     ensures settled { IfOk result (λ left. IsSettled left.past) }
 {
-    match Book::<SoundFiles>::open::<()>() {
-        Ok(book) => over::<Brand, _>(rt, alloc, &book, disk, story),
-        Err(_) => Err(Wrong::Refused),
+    match (Book::<SoundFiles>::open::<()>(), SlotCell::open(alloc)) {
+        (Ok(book), Ok(cell)) => over::<Brand, _>(rt, alloc, &book, cell, disk, story),
+        _ => Err(Wrong::Refused),
     }
 }
 

@@ -2,3 +2,4 @@ pub mod Knowing
 pub mod Looking
 pub mod Committing
 pub mod Fencing
+pub mod Holding

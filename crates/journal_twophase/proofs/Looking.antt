@@ -12,7 +12,9 @@ use Rattle.journal_world.specs.Maps.{Pair, SamePairs, value_among, value_at, is_
 use Rattle.journal_world.specs.Histories.{Entry, is_trusted, latest}
 use Rattle.journal_world.proofs.Prefixes.{IsPrefix-trans}
 use Rattle.journal_world.proofs.Lookups.{same_addr}
+use Rattle.journal_lockmap.specs.Numbers.{HeldState}
 use Rattle.journal_core.specs.Causes.{Told}
+use Rattle.journal_core.specs.SlotCounts.{AgreeWith}
 use Rattle.journal_core.specs.Outsets.{Outset, MayRead}
 use Rattle.journal_core.specs.Transactions.{TransactionState, FoundState, Remembers}
 use Rattle.journal_twophase.specs.Transactions.{TxnState, core_of, holding, Finds, Learns, IsLookRefusal, IsReadRefusal}
@@ -49,7 +51,7 @@ read_refusal blocks t a (DeviceFailed cause) valid look = look
 read_refusal blocks t a BadLog valid look = absurd look
 read_refusal blocks t a BadSuper valid look = absurd look
 read_refusal blocks t a (Stale cause) valid look = (valid, look)
-read_refusal blocks t a (Stranger cause) valid look = (valid, look)
+read_refusal blocks t a (Stranger cause) valid look = absurd look
 read_refusal blocks t a (Worn cause) valid look = absurd look
 read_refusal blocks t a (Full cause) valid look = absurd look
 read_refusal blocks t a (Closed cause) valid look = look
@@ -88,6 +90,15 @@ pub finds : (o : Outset) (a : Addr) (blocks : ℕ) (t : TransactionState) (answe
 finds o a blocks t (Err why) is may = tt
 finds o a blocks t (Ok None) is may = tt
 finds o a blocks t (Ok (Some found)) is may = subst (Finds t a) (sym is) (record { addr = refl; later = may.later; unmoved = may.unmoved })
+
+-- what is held agrees with the history that was found
+pub agrees_found : (answer : Result (Option FoundState) (Refusal Told)) (a : Addr) (old new : List Entry) (held : List HeldState)
+    → IfOk answer (λ found. IfSome found (λ f. f ≡ record { addr = a; seen = old })) → new ≡ old → AgreeWith new held
+    → IfOk answer (λ found. IfSome found (λ f. AgreeWith f.seen held))
+agrees_found (Err why) a old new held is same agree = tt
+agrees_found (Ok None) a old new held is same agree = tt
+agrees_found (Ok (Some found)) a old new held is same agree =
+    subst (λ (h : List Entry). AgreeWith h held) (same ∙ sym (ap (λ (f : FoundState). f.seen) is)) agree
 
 -- memory for blocks of the disk is of blocks of the disk
 pub rooms_below : (n : ℕ) (rooms : List Update) → All (λ b. b < n) (map (λ u. u.block) rooms) → All (λ u. u.block < n) rooms

@@ -1,5 +1,5 @@
 -- What a commit is, and why one is refused.
-use Rattle.std.specs.Prelude.{ℕ, true, ◌≡◌, ◌⊎◌, ◌<◌, ◌≤◌, IsTrue, List, length}
+use Rattle.std.specs.Prelude.{ℕ, true, ◌≡◌, ◌<◌, ◌≤◌, IsTrue, List, length}
 use mathlib.Core.List.{IsPrefix}
 use Rattle.journal_world.specs.declared.refusal.Refusal.{Refusal}
 use Rattle.journal_world.specs.declared.refusal.Refusal.TheVariants.{NoMemory, TooLarge, DeviceFailed, Stale, Stranger, Worn, Full, Closed, Fenced}
@@ -11,7 +11,6 @@ use Rattle.journal_core.specs.declared.refusal_number.RefusalNumber.TheVariants.
 use Rattle.journal_core.specs.Causes.{Told, IsUnexplained, IsExplained}
 use Rattle.journal_core.specs.Transactions.{TransactionState}
 use Rattle.journal_twophase.specs.Journals.{IsKnown, IsShown}
-use Rattle.journal_twophase.specs.Transactions.{ShowsMoved}
 use Rattle.journal_wal.specs.declared.append.TheConstants.{MAX_UPDATES}
 
 -- The transaction was committed as the session's next one, with exactly what it read and overwrote
@@ -45,7 +44,7 @@ abbrev pub IsTryRefusal : TransactionState → SessionState → Refusal Told →
 IsTryRefusal t s (Closed cause) = IsUnexplained J13 cause
 IsTryRefusal t s (DeviceFailed cause) = IsUnexplained J6 cause
 IsTryRefusal t s (Stale cause) = IsShown J9 cause
-IsTryRefusal t s (Stranger cause) = ShowsStrange s cause ⊎ ShowsMoved t cause
+IsTryRefusal t s (Stranger cause) = ShowsStrange s cause
 IsTryRefusal t s TooLarge = MAX_UPDATES < written_blocks t.writes
 IsTryRefusal t s (Worn cause) = (written_blocks t.writes ≤ MAX_UPDATES) × IsUnexplained J11 cause
 IsTryRefusal t s (Full cause) = (written_blocks t.writes ≤ MAX_UPDATES) × IsUnexplained J12 cause

@@ -1,15 +1,17 @@
 -- What contracts see of an open transaction, what its calls do, and why they are refused.
-use Rattle.std.specs.Prelude.{ℕ, ◌≡◌, ◌==◌, nat_lt, Bool, false, if◌then◌else◌, IsTrue, List, [], ◌∷◌, ◌++◌, MatchOption}
+use Rattle.std.specs.Prelude.{ℕ, ◌≡◌, ◌≢◌, ◌==◌, All, nat_lt, Bool, false, if◌then◌else◌, IsTrue, List, [], ◌∷◌, ◌++◌, MatchOption}
 use Rattle.std.specs.List.{list_any}
 use mathlib.Core.List.{IsPrefix}
 use Rattle.journal_world.specs.declared.address.Addr.{Addr}
 use Rattle.journal_world.specs.declared.refusal.Refusal.{Refusal}
-use Rattle.journal_world.specs.declared.refusal.Refusal.TheVariants.{NoMemory, BadAddress, BadSize, Busy, DeviceFailed, Stale, Stranger, Closed}
+use Rattle.journal_world.specs.declared.refusal.Refusal.TheVariants.{NoMemory, BadAddress, BadSize, Busy, DeviceFailed, Stale, Closed}
 use Rattle.journal_world.specs.Addresses.{Value, kind_of, is_valid, slot_of}
 use Rattle.journal_world.specs.Maps.{Pair, SamePairs, value_among, value_at, is_value_at, is_object}
 use Rattle.journal_world.specs.Histories.{Entry, is_trusted, latest}
-use Rattle.journal_core.specs.declared.refusal_number.RefusalNumber.TheVariants.{J6, J9, J10, J13}
+use Rattle.journal_core.specs.declared.refusal_number.RefusalNumber.TheVariants.{J6, J9, J13}
 use Rattle.journal_core.specs.Causes.{Told, IsUnexplained, IsExplained}
+use Rattle.journal_lockmap.specs.Numbers.{HeldState, AreCovered, AreApart}
+use Rattle.journal_core.specs.SlotCounts.{AreUnder}
 use Rattle.journal_core.specs.Transactions.{TransactionState, FoundState, AreUnmoved}
 
 pub record TxnState : Type 0 where
@@ -66,9 +68,16 @@ pub record Overwrites (old : TxnState) (a : Addr) (v : Value) (new : TxnState) :
   pub writes : SamePairs new.writes ((a, v) ∷ old.writes)
   pub others : new ≡ record old { writes = new.writes }
 
--- The cause shows a history in which a commit touched a slot under which the transaction had read
-abbrev pub ShowsMoved : TransactionState → Told → Type 0
-ShowsMoved t cause = (history : List Entry) × IsExplained J10 history cause × IsPrefix t.seen history × (AreUnmoved history t → ⊥)
+-- What an open transaction keeps of the slots that it holds, none of which it holds twice: all that it read lies under them,
+-- and no commit touched one since, and all that it overwrote lies under them
+pub record KeepsHeld (held : List HeldState) (t : TransactionState) : Type 0 where
+  pub reads : AreUnder held t.seen t.reads
+  pub writes : AreCovered held t.writes
+  pub apart : AreApart held
+
+-- nothing of these lies under the slot
+abbrev pub IsClearOf : ℕ → List Pair → Type 0
+IsClearOf slot ps = All (λ p. slot_of p.0 ≢ slot) ps
 
 -- What a read found for the transaction: the address's value at the end of a history that goes on from what it has seen,
 -- in which no commit touched a slot under which it read
@@ -94,7 +103,6 @@ abbrev pub IsLookRefusal : TransactionState → Refusal Told → Type 0
 IsLookRefusal t (Closed cause) = IsUnexplained J13 cause
 IsLookRefusal t (DeviceFailed cause) = IsUnexplained J6 cause
 IsLookRefusal t (Stale cause) = IsExplained J9 t.seen cause
-IsLookRefusal t (Stranger cause) = ShowsMoved t cause
 IsLookRefusal t NoMemory = Unit {0}
 IsLookRefusal t other = ⊥
 

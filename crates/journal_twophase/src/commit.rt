@@ -7,7 +7,7 @@ ghost use Rattle.journal_twophase.specs.Commits.{IsCommitted, ShowsFence, IsTryR
 ghost use Rattle.journal_twophase.specs.Waits.{IsStable, CommitsAndWaits, IsWaitFault};
 
 use crate::shared::Why;
-use crate::txn::Txn;
+use crate::txn::{Txn, release_all};
 use crate::waiting::Waited;
 use journal_disk::BlockDisk;
 use journal_history::{Naming, Receipt, Session};
@@ -22,11 +22,11 @@ impl<'j, 'b, D: BlockDisk, R: MapRule, J: Naming> Txn<'j, 'b, D, R, J> {
     ///
     /// The first that applies of these refuses it: J13 `Closed` where the journal was stopped, J6 `DeviceFailed` where
     /// the device failed before, J9 `Stale` where the history is longer than the core's, J10 `Stranger` where the
-    /// history has a commit under the session's number that the session did not make, or a commit touched a slot under
-    /// which the transaction had read, J14 `Fenced` where the session is fenced, J4 `TooLarge` where more than 128
-    /// distinct blocks are written, J11 `Worn` where the history's length, the session's number or a position of the log
-    /// would reach 2^62, then J1 `NoMemory` where memory is refused, or J6 where the device fails in this call. The
-    /// history then lacks the transaction. At J14 the session has seen its fence: reads and aborts go on, commits do not.
+    /// history has a commit under the session's number that the session did not make, J14 `Fenced` where the session is
+    /// fenced, J4 `TooLarge` where more than 128 distinct blocks are written, J11 `Worn` where the history's length, the
+    /// session's number or a position of the log would reach 2^62, then J1 `NoMemory` where memory is refused, or J6
+    /// where the device fails in this call. The history then lacks the transaction. At J14 the session has seen its
+    /// fence: reads and aborts go on, commits do not.
     pub fn commit<W: Wait>(
         self,
         rt: &W,
@@ -39,12 +39,19 @@ impl<'j, 'b, D: BlockDisk, R: MapRule, J: Naming> Txn<'j, 'b, D, R, J> {
         ensures fenced { IfErr result (ShowsFence session.new) }
         ensures session { OnErr result (OnlyExtends session.old session.new) }
     {
-        let journal = self.journal;
-        let mut spares = self.transaction.spares(self.alloc);
+        let Txn {
+            journal,
+            alloc,
+            began: _,
+            transaction,
+            held,
+        } = self;
+        let mut held = held;
+        let mut spares = transaction.spares(alloc);
         let answer = journal
             .core
-            .commit(rt, session, &self.transaction, &mut spares);
-        self.abort(rt);
+            .commit(rt, session, &transaction, &mut held, &mut spares);
+        release_all(rt, &journal.slots, held);
         answer
     }
 
@@ -64,12 +71,19 @@ impl<'j, 'b, D: BlockDisk, R: MapRule, J: Naming> Txn<'j, 'b, D, R, J> {
         ensures fenced { IfErr result (ShowsFence session.new) }
         ensures session { OnErr result (OnlyExtends session.old session.new) }
     {
-        let journal = self.journal;
-        let mut spares = self.transaction.spares(self.alloc);
+        let Txn {
+            journal,
+            alloc,
+            began: _,
+            transaction,
+            held,
+        } = self;
+        let mut held = held;
+        let mut spares = transaction.spares(alloc);
         let answer = journal
             .core
-            .try_commit(rt, session, &self.transaction, &mut spares);
-        self.abort(rt);
+            .try_commit(rt, session, &transaction, &mut held, &mut spares);
+        release_all(rt, &journal.slots, held);
         answer
     }
 

@@ -12,8 +12,9 @@ ghost use Rattle.journal_disk.specs.Images.{EveryImage};
 ghost use Rattle.journal_history.specs.Tokens.{OnlyExtends};
 ghost use Rattle.journal_core.specs.Cores.{Leaves};
 ghost use Rattle.journal_core.specs.Durables.{disk_of};
+ghost use Rattle.journal_core.specs.SlotCounts.{AgreeWith, AreUnder};
 ghost use Rattle.journal_twophase.specs.Journals.{IsLogRefusal, IsInstallRefusal, IsFetchRefusal, IsCloseRefusal, IsImageRefusal};
-ghost use Rattle.journal_twophase.specs.Transactions.{Finds, IsLookRefusal};
+ghost use Rattle.journal_twophase.specs.Transactions.{Finds, KeepsHeld, IsLookRefusal};
 ghost use Rattle.journal_twophase.specs.Commits.{IsCommitted, ShowsFence, IsTryRefusal};
 
 use crate::shared::{Shared, SharedCore, Why, commit_in, is_crowded};
@@ -24,6 +25,7 @@ use journal_core::{
 };
 use journal_disk::{BlockDisk, MemDisk};
 use journal_history::{Naming, Receipt, Session};
+use journal_lockmap::Held;
 use journal_world::{Addr, MapRule, Refusal, Refused};
 use std::rt::Clock;
 use std::sync::{MutexGuard, Wait};
@@ -150,13 +152,17 @@ impl<'b, D: BlockDisk, R: MapRule, J: Naming> SharedCore<'b, D, R, J> {
         &self,
         rt: &W,
         transaction: &Transaction<'b, J, R>,
+        held: &mut [Held<J>],
         addr: Addr,
         nothing: Fetched<'b, J, R>,
         into: &mut Vec<u8>,
     ) -> Result<Found<'b, J, R>, Why<'b, J, R>>
         requires valid { IsTrue (is_valid J.blocks addr) }
         requires below { addr.block < J.blocks }
+        requires under { AreUnder held.old transaction.now.seen transaction.now.reads }
         requires size { length into.old.items ≡ size_at J.blocks addr }
+        ensures agree { IfOk result (λ found. AgreeWith found.seen held.new) }
+        ensures held { held.new ≡ held.old }
         ensures value { IfOk result (λ found. IsTrue (is_trusted found.seen) → into.new.items ≡ value_at (latest found.seen) addr) }
         ensures object { OnOk result (IsTrue (is_object J.blocks (addr, into.new.items))) }
         ensures found { IfOk result (Finds transaction.now addr) }
@@ -165,7 +171,7 @@ impl<'b, D: BlockDisk, R: MapRule, J: Naming> SharedCore<'b, D, R, J> {
         let mut fetched = nothing;
         let mut durable = self.durable.lock(rt);
         for _ in rt.forever() {
-            if let Some(found) = self.read_with(rt, transaction, addr, fetched, into)? {
+            if let Some(found) = self.read_with(rt, transaction, held, addr, fetched, into)? {
                 return Ok(found);
             }
             fetched = self.fetch(rt, &mut durable, &[addr.block])?;
@@ -179,6 +185,7 @@ impl<'b, D: BlockDisk, R: MapRule, J: Naming> SharedCore<'b, D, R, J> {
         rt: &W,
         session: &mut Session<'b, J, R>,
         transaction: &Transaction<'b, J, R>,
+        held: &mut [Held<J>],
         spares: &mut Spares,
         nothing: Fetched<'b, J, R>,
     ) -> (
@@ -187,19 +194,23 @@ impl<'b, D: BlockDisk, R: MapRule, J: Naming> SharedCore<'b, D, R, J> {
     )
         requires rule { (m : Map) → m.blocks ≡ J.blocks → R.statement m → Agrees m transaction.now.reads
             → R.statement (overwritten m transaction.now.writes) }
+        requires held { KeepsHeld held.old transaction.now }
         ensures committed { IfOk result.1 (IsCommitted R.statement J.blocks transaction.now.seen transaction.now session.old session.new) }
         ensures refusal { IfErr result.1 (IsTryRefusal transaction.now session.old) }
         ensures fenced { IfErr result.1 (ShowsFence session.new) }
         ensures session { OnErr result.1 (OnlyExtends session.old session.new) }
+        ensures held { OnErr result.1 (held.new ≡ held.old) }
     {
         let mut fetched = nothing;
         let mut durable = self.durable.lock(rt);
         for _ in rt.forever() {
             let mut shared = self.shared.lock(rt);
             let missing = match commit_in(
+                rt,
                 &mut shared.volatile,
                 session,
                 transaction,
+                held,
                 spares,
                 &fetched,
             ) {

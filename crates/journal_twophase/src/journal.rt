@@ -12,13 +12,13 @@ ghost use Rattle.journal_twophase.specs.Waits.{IsStable, IsWaitRefusal, IsEndedU
 ghost use Rattle.journal_twophase.specs.Transactions.{begun};
 ghost use Rattle.journal_twophase.specs.declared.journal.TheConstants.{MAX_CACHED_BLOCKS};
 
-use crate::shared::{SharedCore, Why};
+use crate::shared::{OpenedCore, SharedCore, Why};
 use crate::txn::Txn;
 use journal_block::Block;
 use journal_core::{Cause, InstallStep, LogStep, Stat};
 use journal_disk::{BlockDisk, MemDisk};
 use journal_history::{Book, Front, Naming, Receipt, Session, StableNote};
-use journal_lockmap::LockMap;
+use journal_lockmap::{Bells, LockMap, SlotCell};
 use journal_world::{Layout, MapRule, Refusal, Refused, Step};
 use std::alloc::Global;
 use std::marker::Model;
@@ -36,7 +36,7 @@ pub const MAX_CACHED_BLOCKS: usize = 4096;
 #[derive(Drop)]
 pub struct Journal<'b, D: BlockDisk, R: MapRule, J: Naming> {
     pub(crate) layout: Layout,
-    pub(crate) slots: LockMap,
+    pub(crate) slots: LockMap<J>,
     pub(crate) core: SharedCore<'b, D, R, J>,
     start: Front<'b, J, R>,
 }
@@ -60,16 +60,18 @@ impl<'b, D: BlockDisk, R: MapRule, J: Naming> Journal<'b, D, R, J> {
     /// `BadLog` where the disk's log is not well formed, J8 where the rule does not hold of the map, J9 `Stale`
     /// where the book has a history already. J1 `NoMemory` where memory is refused, and J6 `DeviceFailed` where
     /// the device fails or the rule says so, come where they are met. A refusal hands the disk back, with nothing
-    /// written, and leaves the book as it was.
+    /// written, and leaves the book as it was; the cell is spent.
     ///
     /// Copies of no more than 64 blocks that are at home are kept in memory.
     pub fn open(
         alloc: Global,
         book: &'b Book<R>,
+        cell: SlotCell,
         disk: D,
         rule: &R,
     ) -> Result<Journal<'b, D, R, J>, Refused<D, Cause<'b, J, R>>>
         requires book { book.now ≡ J.book }
+        requires cell { cell ≡ J.cell }
         requires blocks { (D.state disk).past.size ≡ J.blocks }
         requires settled { IsTrue (D.state disk).honest → IsSettled (D.state disk).past }
         ensures begun { IfOk result (λ journal. BeginsWith R.statement (D.state disk) journal.start) }
@@ -77,7 +79,7 @@ impl<'b, D: BlockDisk, R: MapRule, J: Naming> Journal<'b, D, R, J> {
         ensures refusal { IfErr result (λ refused. IsOpenRefusal R.statement (D.state disk) (D.state refused.disk) refused.refusal) }
         ensures left { IfErr result (λ refused. OnlyReadsDisk (D.state disk) (D.state refused.disk)) }
     {
-        Journal::open_with_cache(alloc, book, disk, rule, CACHED_BLOCKS)
+        Journal::open_with_cache(alloc, book, cell, disk, rule, CACHED_BLOCKS)
     }
 
     /// Opens a disk as `open` does, and is refused as it is. Copies of no more than so many blocks that are at home are kept
@@ -86,6 +88,7 @@ impl<'b, D: BlockDisk, R: MapRule, J: Naming> Journal<'b, D, R, J> {
     pub fn open_with_cache(
         alloc: Global,
         book: &'b Book<R>,
+        cell: SlotCell,
         disk: D,
         rule: &R,
         cached: usize,
@@ -93,6 +96,7 @@ impl<'b, D: BlockDisk, R: MapRule, J: Naming> Journal<'b, D, R, J> {
         requires some { 1 ≤ cached }
         requires most { cached ≤ MAX_CACHED_BLOCKS }
         requires book { book.now ≡ J.book }
+        requires cell { cell ≡ J.cell }
         requires blocks { (D.state disk).past.size ≡ J.blocks }
         requires settled { IsTrue (D.state disk).honest → IsSettled (D.state disk).past }
         ensures begun { IfOk result (λ journal. BeginsWith R.statement (D.state disk) journal.start) }
@@ -106,15 +110,19 @@ impl<'b, D: BlockDisk, R: MapRule, J: Naming> Journal<'b, D, R, J> {
                 disk,
             });
         };
-        let slots = match LockMap::new(alloc) {
-            Ok(slots) => slots,
-            Err(refusal) => return Err(Refused { refusal, disk }),
+        let Ok(bells) = Bells::new(alloc) else {
+            return Err(Refused {
+                refusal: Refusal::NoMemory,
+                disk,
+            });
         };
         // Nothing but the core's opening can be refused from here on, so a refusal leaves the book as it was.
-        let (core, start) = SharedCore::open(alloc, book, disk, rule, cached)?;
+        let OpenedCore { core, start, slots } = SharedCore::open(
+            alloc, book, cell, disk, rule, cached,
+        )?;
         Ok(Journal {
             layout,
-            slots,
+            slots: LockMap::new(bells, slots),
             core,
             start,
         })

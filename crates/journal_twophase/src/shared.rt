@@ -10,10 +10,11 @@ ghost use Rattle.journal_object.specs.Objects.{size_at};
 ghost use Rattle.journal_world.specs.Histories.{is_trusted, is_fenced, latest};
 ghost use Rattle.journal_disk.specs.Disks.{IsSettled};
 ghost use Rattle.journal_history.specs.Tokens.{made, IsExact, OnlyExtends};
+ghost use Rattle.journal_core.specs.SlotCounts.{AgreeWith, AreUnder};
 ghost use Rattle.journal_core.specs.VolatileCommits.{IfDone, IfMissing};
 ghost use Rattle.journal_core.specs.Openings.{HasWellFormedLog, IsOpenRefusal, OnlyReadsDisk};
 ghost use Rattle.journal_twophase.specs.Journals.{BeginsWith, IsSessionRefusal, IsFenceRefusal};
-ghost use Rattle.journal_twophase.specs.Transactions.{Finds, IsLookRefusal, IsEndRefusal};
+ghost use Rattle.journal_twophase.specs.Transactions.{Finds, KeepsHeld, IsLookRefusal, IsEndRefusal};
 ghost use Rattle.journal_twophase.specs.Commits.{IsCommitted, ShowsFence, IsTryRefusal, IsCommitRefusal};
 
 use crate::sleepers::Sleepers;
@@ -22,6 +23,7 @@ use journal_core::{
 };
 use journal_disk::BlockDisk;
 use journal_history::{Book, Front, Naming, Receipt, Session};
+use journal_lockmap::{Held, SlotCell, Slots};
 use journal_world::{Addr, MapRule, Refusal, Refused};
 use std::alloc::Global;
 use std::rt::Clock;
@@ -66,29 +68,39 @@ pub(crate) struct SharedCore<'b, D: BlockDisk, R: MapRule, J: Naming> {
     pub(crate) installing: Condvar,
 }
 
+// What an opening gives: the core, the history that it begins with, and the slots, all free.
+#[derive(Drop)]
+pub(crate) struct OpenedCore<'b, D: BlockDisk, R: MapRule, J: Naming> {
+    pub(crate) core: SharedCore<'b, D, R, J>,
+    pub(crate) start: Front<'b, J, R>,
+    pub(crate) slots: Slots<J>,
+}
+
 impl<'b, D: BlockDisk, R: MapRule, J: Naming> SharedCore<'b, D, R, J> {
-    // Opens a disk as `Core::open_step` does. The front is the history that it begins with.
+    // Opens a disk as `Core::open_step` does.
     pub(crate) fn open(
         alloc: Global,
         book: &'b Book<R>,
+        cell: SlotCell,
         disk: D,
         rule: &R,
         copies: usize,
-    ) -> Result<(SharedCore<'b, D, R, J>, Front<'b, J, R>), Refused<D, Cause<'b, J, R>>>
+    ) -> Result<OpenedCore<'b, D, R, J>, Refused<D, Cause<'b, J, R>>>
         requires some { 0 < copies }
         requires book { book.now ≡ J.book }
+        requires cell { cell ≡ J.cell }
         requires blocks { (D.state disk).past.size ≡ J.blocks }
         requires settled { IsTrue (D.state disk).honest → IsSettled (D.state disk).past }
-        ensures begun { IfOk result (λ opened. BeginsWith R.statement (D.state disk) opened.1) }
+        ensures begun { IfOk result (λ opened. BeginsWith R.statement (D.state disk) opened.start) }
         ensures well_formed { IsTrue (D.state disk).honest → OnOk result (HasWellFormedLog (D.state disk)) }
         ensures refusal { IfErr result (λ refused. IsOpenRefusal R.statement (D.state disk) (D.state refused.disk) refused.refusal) }
         ensures left { IfErr result (λ refused. OnlyReadsDisk (D.state disk) (D.state refused.disk)) }
     {
-        let core = Core::open_step(alloc, book, disk, rule, copies)?;
+        let (core, slots) = Core::open_step(alloc, book, cell, disk, rule, copies)?;
         let start = core.front();
         let (durable, volatile) = core.into_parts();
         let (log_start, _) = durable.log_range();
-        let shared = SharedCore {
+        let core = SharedCore {
             alloc,
             durable: Mutex::new(durable),
             shared: Mutex::new(Shared {
@@ -103,7 +115,7 @@ impl<'b, D: BlockDisk, R: MapRule, J: Naming> SharedCore<'b, D, R, J> {
             gathered: Condvar::new(),
             installing: Condvar::new(),
         };
-        Ok((shared, start))
+        Ok(OpenedCore { core, start, slots })
     }
 
     // A further session, which has seen the whole history. Answers J11.
@@ -139,36 +151,44 @@ impl<'b, D: BlockDisk, R: MapRule, J: Naming> SharedCore<'b, D, R, J> {
         self.shared.lock(rt).volatile.check_running()
     }
 
-    // Refuses a read as `read` does, but for a new J6: J13, J6 of an earlier fault, J9 and J10.
+    // Refuses a read as `read` does, but for a new J6: J13, J6 of an earlier fault, and J9.
     pub(crate) fn check_read<W: Wait>(
         &self,
         rt: &W,
         transaction: &Transaction<'b, J, R>,
+        held: &mut [Held<J>],
         addr: Addr,
     ) -> Result<(), Why<'b, J, R>>
         requires valid { IsTrue (is_valid J.blocks addr) }
+        requires under { AreUnder held.old transaction.now.seen transaction.now.reads }
+        ensures held { held.new ≡ held.old }
         ensures refusal { IfErr result (IsLookRefusal transaction.now) }
     {
-        self.shared.lock(rt).volatile.check_read(transaction, addr)
+        let mut shared = self.shared.lock(rt);
+        shared.volatile.check_read(rt, transaction, held, addr)
     }
 
-    // Reads what the map gives the address, for the transaction to remember. It answers J13, J6 of an earlier fault,
-    // J9 and J10, then a new J6.
+    // Reads what the map gives the address, for the transaction to remember. What is held agrees with the history that it
+    // found. It answers J13, J6 of an earlier fault, and J9, then a new J6.
     pub(crate) fn read<W: Wait>(
         &self,
         rt: &W,
         transaction: &Transaction<'b, J, R>,
+        held: &mut [Held<J>],
         addr: Addr,
         into: &mut Vec<u8>,
     ) -> Result<Found<'b, J, R>, Why<'b, J, R>>
         requires valid { IsTrue (is_valid J.blocks addr) }
+        requires under { AreUnder held.old transaction.now.seen transaction.now.reads }
         requires size { length into.old.items ≡ size_at J.blocks addr }
+        ensures agree { IfOk result (λ found. AgreeWith found.seen held.new) }
+        ensures held { held.new ≡ held.old }
         ensures value { IfOk result (λ found. IsTrue (is_trusted found.seen) → into.new.items ≡ value_at (latest found.seen) addr) }
         ensures object { OnOk result (IsTrue (is_object J.blocks (addr, into.new.items))) }
         ensures found { IfOk result (Finds transaction.now addr) }
         ensures refusal { IfErr result (IsLookRefusal transaction.now) }
     {
-        let answer = self.read_or_fetch(rt, transaction, addr, into);
+        let answer = self.read_or_fetch(rt, transaction, held, addr, into);
         self.tell_of_fault(&answer);
         answer
     }
@@ -178,20 +198,24 @@ impl<'b, D: BlockDisk, R: MapRule, J: Naming> SharedCore<'b, D, R, J> {
         &self,
         rt: &W,
         transaction: &Transaction<'b, J, R>,
+        held: &mut [Held<J>],
         addr: Addr,
         into: &mut Vec<u8>,
     ) -> Result<Found<'b, J, R>, Why<'b, J, R>>
         requires valid { IsTrue (is_valid J.blocks addr) }
+        requires under { AreUnder held.old transaction.now.seen transaction.now.reads }
         requires size { length into.old.items ≡ size_at J.blocks addr }
+        ensures agree { IfOk result (λ found. AgreeWith found.seen held.new) }
+        ensures held { held.new ≡ held.old }
         ensures value { IfOk result (λ found. IsTrue (is_trusted found.seen) → into.new.items ≡ value_at (latest found.seen) addr) }
         ensures object { OnOk result (IsTrue (is_object J.blocks (addr, into.new.items))) }
         ensures found { IfOk result (Finds transaction.now addr) }
         ensures refusal { IfErr result (IsLookRefusal transaction.now) }
     {
         let nothing = self.nothing_for(transaction);
-        match self.read_in(rt, transaction, addr, &nothing, into)? {
+        match self.read_in(rt, transaction, held, addr, &nothing, into)? {
             Some(found) => Ok(found),
-            None => self.read_fetched(rt, transaction, addr, nothing, into),
+            None => self.read_fetched(rt, transaction, held, addr, nothing, into),
         }
     }
 
@@ -200,13 +224,17 @@ impl<'b, D: BlockDisk, R: MapRule, J: Naming> SharedCore<'b, D, R, J> {
         &self,
         rt: &W,
         transaction: &Transaction<'b, J, R>,
+        held: &mut [Held<J>],
         addr: Addr,
         fetched: &Fetched<'b, J, R>,
         into: &mut Vec<u8>,
     ) -> Result<Option<Found<'b, J, R>>, Why<'b, J, R>>
         requires valid { IsTrue (is_valid J.blocks addr) }
+        requires under { AreUnder held.old transaction.now.seen transaction.now.reads }
         requires size { length into.old.items ≡ size_at J.blocks addr }
         requires front { fetched.now.front ≡ transaction.now.seen }
+        ensures agree { IfOk result (λ found. IfSome found (λ found. AgreeWith found.seen held.new)) }
+        ensures held { held.new ≡ held.old }
         ensures value { IfOk result (λ found. IfSome found (λ found. IsTrue (is_trusted found.seen) → into.new.items ≡ value_at (latest found.seen) addr)) }
         ensures object { IfOk result (λ found. IsSome found → IsTrue (is_object J.blocks (addr, into.new.items))) }
         ensures found { IfOk result (λ found. IfSome found (Finds transaction.now addr)) }
@@ -217,7 +245,9 @@ impl<'b, D: BlockDisk, R: MapRule, J: Naming> SharedCore<'b, D, R, J> {
         let mut shared = self.shared.lock(rt);
         // Called for its contract: how many blocks there are at least.
         let _layout = shared.volatile.layout();
-        let answer = shared.volatile.read(transaction, addr, fetched, into);
+        let answer = shared
+            .volatile
+            .read(rt, transaction, held, addr, fetched, into);
         shared.volatile.touch(addr.block);
         answer
     }
@@ -228,12 +258,16 @@ impl<'b, D: BlockDisk, R: MapRule, J: Naming> SharedCore<'b, D, R, J> {
         &self,
         rt: &W,
         transaction: &Transaction<'b, J, R>,
+        held: &mut [Held<J>],
         addr: Addr,
         fetched: Fetched<'b, J, R>,
         into: &mut Vec<u8>,
     ) -> Result<Option<Found<'b, J, R>>, Why<'b, J, R>>
         requires valid { IsTrue (is_valid J.blocks addr) }
+        requires under { AreUnder held.old transaction.now.seen transaction.now.reads }
         requires size { length into.old.items ≡ size_at J.blocks addr }
+        ensures agree { IfOk result (λ found. IfSome found (λ found. AgreeWith found.seen held.new)) }
+        ensures held { held.new ≡ held.old }
         ensures value { IfOk result (λ found. IfSome found (λ found. IsTrue (is_trusted found.seen) → into.new.items ≡ value_at (latest found.seen) addr)) }
         ensures object { IfOk result (λ found. IsSome found → IsTrue (is_object J.blocks (addr, into.new.items))) }
         ensures found { IfOk result (λ found. IfSome found (Finds transaction.now addr)) }
@@ -241,8 +275,11 @@ impl<'b, D: BlockDisk, R: MapRule, J: Naming> SharedCore<'b, D, R, J> {
         ensures refusal { IfErr result (IsLookRefusal transaction.now) }
     {
         let mut shared = self.shared.lock(rt);
-        shared.volatile.check_read(transaction, addr)?;
-        match shared.volatile.read(transaction, addr, &fetched, into) {
+        shared.volatile.check_read(rt, transaction, held, addr)?;
+        match shared
+            .volatile
+            .read(rt, transaction, held, addr, &fetched, into)
+        {
             Ok(Some(found)) => {
                 shared.volatile.keep(fetched);
                 Ok(Some(found))
@@ -265,17 +302,19 @@ impl<'b, D: BlockDisk, R: MapRule, J: Naming> SharedCore<'b, D, R, J> {
         rt: &W,
         session: &mut Session<'b, J, R>,
         transaction: &Transaction<'b, J, R>,
+        held: &mut [Held<J>],
         spares: &mut Spares,
     ) -> Result<Receipt<'b, J, R>, Why<'b, J, R>>
         requires rule { (m : Map) → m.blocks ≡ J.blocks → R.statement m → Agrees m transaction.now.reads
             → R.statement (overwritten m transaction.now.writes) }
+        requires held { KeepsHeld held.old transaction.now }
         ensures committed { IfOk result (IsCommitted R.statement J.blocks transaction.now.seen transaction.now session.old session.new) }
         ensures refusal { IfErr result (IsCommitRefusal transaction.now session.old) }
         ensures fenced { IfErr result (ShowsFence session.new) }
         ensures session { OnErr result (OnlyExtends session.old session.new) }
     {
         let (answer, sleeps) = {
-            let (shared, answer) = self.commit_with_room(rt, session, transaction, spares);
+            let (shared, answer) = self.commit_with_room(rt, session, transaction, held, spares);
             (answer, shared.logger_sleeps)
         };
         self.tell_of_commit(&answer, sleeps);
@@ -288,20 +327,21 @@ impl<'b, D: BlockDisk, R: MapRule, J: Naming> SharedCore<'b, D, R, J> {
         rt: &W,
         session: &mut Session<'b, J, R>,
         transaction: &Transaction<'b, J, R>,
+        held: &mut [Held<J>],
         spares: &mut Spares,
     ) -> Result<Receipt<'b, J, R>, Why<'b, J, R>>
         requires rule { (m : Map) → m.blocks ≡ J.blocks → R.statement m → Agrees m transaction.now.reads
             → R.statement (overwritten m transaction.now.writes) }
+        requires held { KeepsHeld held.old transaction.now }
         ensures committed { IfOk result (IsCommitted R.statement J.blocks transaction.now.seen transaction.now session.old session.new) }
         ensures refusal { IfErr result (IsTryRefusal transaction.now session.old) }
         ensures fenced { IfErr result (ShowsFence session.new) }
         ensures session { OnErr result (OnlyExtends session.old session.new) }
     {
-        let (answer, sleeps) = {
-            let shared = self.shared.lock(rt);
-            let (shared, answer) = self.commit_or_fetch(rt, shared, session, transaction, spares);
-            (answer, shared.logger_sleeps)
-        };
+        let shared = self.shared.lock(rt);
+        let (shared, answer) = self.commit_or_fetch(rt, shared, session, transaction, held, spares);
+        let sleeps = shared.logger_sleeps;
+        drop(shared);
         self.tell_of_commit(&answer, sleeps);
         answer
     }
@@ -312,6 +352,7 @@ impl<'b, D: BlockDisk, R: MapRule, J: Naming> SharedCore<'b, D, R, J> {
         rt: &W,
         session: &mut Session<'b, J, R>,
         transaction: &Transaction<'b, J, R>,
+        held: &mut [Held<J>],
         spares: &mut Spares,
     ) -> (
         MutexGuard<'s, Shared<'b, R, J>>,
@@ -319,17 +360,26 @@ impl<'b, D: BlockDisk, R: MapRule, J: Naming> SharedCore<'b, D, R, J> {
     )
         requires rule { (m : Map) → m.blocks ≡ J.blocks → R.statement m → Agrees m transaction.now.reads
             → R.statement (overwritten m transaction.now.writes) }
+        requires held { KeepsHeld held.old transaction.now }
         ensures committed { IfOk result.1 (IsCommitted R.statement J.blocks transaction.now.seen transaction.now session.old session.new) }
         ensures refusal { IfErr result.1 (IsCommitRefusal transaction.now session.old) }
         ensures fenced { IfErr result.1 (ShowsFence session.new) }
         ensures session { OnErr result.1 (OnlyExtends session.old session.new) }
+        ensures held { OnErr result.1 (held.new ≡ held.old) }
     {
         let mut shared = self.shared.lock(rt);
         for _ in rt.forever() {
-            let (held, answer) = self.commit_or_fetch(rt, shared, session, transaction, spares);
+            let (guard, answer) = self.commit_or_fetch(
+                rt,
+                shared,
+                session,
+                transaction,
+                held,
+                spares,
+            );
             match answer {
-                Err(Refusal::Full(_)) => shared = self.room.wait(rt, held),
-                answer => return (held, answer),
+                Err(Refusal::Full(_)) => shared = self.room.wait(rt, guard),
+                answer => return (guard, answer),
             }
         }
         unreachable!()
@@ -342,6 +392,7 @@ impl<'b, D: BlockDisk, R: MapRule, J: Naming> SharedCore<'b, D, R, J> {
         shared: MutexGuard<'s, Shared<'b, R, J>>,
         session: &mut Session<'b, J, R>,
         transaction: &Transaction<'b, J, R>,
+        held: &mut [Held<J>],
         spares: &mut Spares,
     ) -> (
         MutexGuard<'s, Shared<'b, R, J>>,
@@ -349,18 +400,28 @@ impl<'b, D: BlockDisk, R: MapRule, J: Naming> SharedCore<'b, D, R, J> {
     )
         requires rule { (m : Map) → m.blocks ≡ J.blocks → R.statement m → Agrees m transaction.now.reads
             → R.statement (overwritten m transaction.now.writes) }
+        requires held { KeepsHeld held.old transaction.now }
         ensures committed { IfOk result.1 (IsCommitted R.statement J.blocks transaction.now.seen transaction.now session.old session.new) }
         ensures refusal { IfErr result.1 (IsTryRefusal transaction.now session.old) }
         ensures fenced { IfErr result.1 (ShowsFence session.new) }
         ensures session { OnErr result.1 (OnlyExtends session.old session.new) }
+        ensures held { OnErr result.1 (held.new ≡ held.old) }
     {
         let mut shared = shared;
         let nothing = self.nothing_for(transaction);
-        match commit_in(&mut shared.volatile, session, transaction, spares, &nothing) {
+        match commit_in(
+            rt,
+            &mut shared.volatile,
+            session,
+            transaction,
+            held,
+            spares,
+            &nothing,
+        ) {
             Ok(CommitStep::Done(receipt)) => (shared, Ok(receipt)),
             Ok(CommitStep::Missing(_)) => {
                 drop(shared);
-                self.commit_fetched(rt, session, transaction, spares, nothing)
+                self.commit_fetched(rt, session, transaction, held, spares, nothing)
             }
             Err(why) => (shared, Err(why)),
         }
@@ -477,23 +538,28 @@ fn may_install<'b, R: MapRule, J: Naming>(shared: &Shared<'b, R, J>) -> bool {
 }
 
 // Commits in memory, in one hold of its lock.
-pub(crate) fn commit_in<'b, R: MapRule, J: Naming>(
+pub(crate) fn commit_in<'b, R: MapRule, J: Naming, W: Wait>(
+    rt: &W,
     volatile: &mut Volatile<'b, R, J>,
     session: &mut Session<'b, J, R>,
     transaction: &Transaction<'b, J, R>,
+    held: &mut [Held<J>],
     spares: &mut Spares,
     fetched: &Fetched<'b, J, R>,
 ) -> Result<CommitStep<Receipt<'b, J, R>>, Why<'b, J, R>>
     requires rule { (m : Map) → m.blocks ≡ J.blocks → R.statement m → Agrees m transaction.now.reads
         → R.statement (overwritten m transaction.now.writes) }
+    requires held { KeepsHeld held.old transaction.now }
     ensures committed { IfOk result (IfDone (IsCommitted R.statement J.blocks transaction.now.seen transaction.now session.old session.new)) }
     ensures waits { IfOk result (IfMissing (λ _. OnlyExtends session.old session.new)) }
     ensures below { IfOk result (IfMissing (All (λ b. b < J.blocks))) }
     ensures refusal { IfErr result (IsTryRefusal transaction.now session.old) }
     ensures fenced { IfErr result (ShowsFence session.new) }
     ensures session { OnErr result (OnlyExtends session.old session.new) }
+    ensures held { OnErr result (held.new ≡ held.old) }
+    ensures stays { IfOk result (IfMissing (λ _. held.new ≡ held.old)) }
 {
-    let answer = volatile.commit(session, transaction, spares, fetched);
+    let answer = volatile.commit(rt, session, transaction, held, spares, fetched);
     // Called for its contract: what the session has then seen is sound.
     let _seen = session.seen();
     answer

@@ -2,11 +2,11 @@
 ghost use Rattle.std.specs.Prelude.{◌≡◌, ◌⊎◌, ◌<◌, [], ◌∷◌, ◌++◌, ℕ, List, length, IsTrue, IfSome, IfOk, IfErr, OnOk, OnErr, IsOkUnless, option_copied, if◌then◌else◌};
 ghost use mathlib.Core.List.{IsPrefix};
 ghost use Rattle.journal_world.specs.declared.address.TheConstants.{SLOTS as SLOT_COUNT};
-ghost use Rattle.journal_world.specs.Addresses.{is_valid};
+ghost use Rattle.journal_world.specs.Addresses.{is_valid, slot_of as slot_number};
 ghost use Rattle.journal_world.specs.Maps.{is_object, value_among, Agrees};
 ghost use Rattle.journal_object.specs.Objects.{size_at};
 ghost use Rattle.journal_world.specs.Histories.{is_trusted, latest};
-ghost use Rattle.journal_twophase.specs.Transactions.{TxnState, core_of, begun, holding, holds, holds_above, with_slot, Learns, ReadsValue, Overwrites, IsSlotRefusal, IsLookRefusal, IsEndRefusal, IsReadRefusal, IsOverwriteRefusal};
+ghost use Rattle.journal_twophase.specs.Transactions.{TxnState, core_of, begun, holding, holds, holds_above, with_slot, IsClearOf, Learns, ReadsValue, Overwrites, IsSlotRefusal, IsLookRefusal, IsEndRefusal, IsReadRefusal, IsOverwriteRefusal};
 
 use crate::journal::Journal;
 use crate::shared::Why;
@@ -29,12 +29,13 @@ pub struct Txn<'j, 'b, D: BlockDisk, R: MapRule, J: Naming> {
     pub(crate) alloc: Global,
     pub(crate) began: Front<'b, J, R>,
     pub(crate) transaction: Transaction<'b, J, R>,
-    pub(crate) held: Vec<Held>,
+    pub(crate) held: Vec<Held<J>>,
 }
 
 impl<'j, 'b, D: BlockDisk, R: MapRule, J: Naming> Model for Txn<'j, 'b, D, R, J> {
     ghost use mathlib.Core.List.{IsPrefix};
-    ghost use Rattle.journal_twophase.specs.Transactions.{TxnState};
+    ghost use Rattle.journal_lockmap.specs.Numbers.{slots_of};
+    ghost use Rattle.journal_twophase.specs.Transactions.{TxnState, KeepsHeld};
 
     ghost Value = { TxnState };
 
@@ -43,10 +44,10 @@ impl<'j, 'b, D: BlockDisk, R: MapRule, J: Naming> Model for Txn<'j, 'b, D, R, J>
       reads = t.transaction.reads;
       writes = t.transaction.writes;
       seen = t.transaction.seen;
-      held = t.held.items;
+      held = slots_of t.held.items;
     } };
 
-    ghost invariant = { λ t. IsPrefix t.began t.transaction.seen };
+    ghost invariant = { λ t. IsPrefix t.began t.transaction.seen × KeepsHeld t.held.items t.transaction };
 }
 
 impl<'j, 'b, D: BlockDisk, R: MapRule, J: Naming> Txn<'j, 'b, D, R, J> {
@@ -85,9 +86,8 @@ impl<'j, 'b, D: BlockDisk, R: MapRule, J: Naming> Txn<'j, 'b, D, R, J> {
     /// The first that applies of these refuses it: J13 `Closed` where the journal was stopped, J6 `DeviceFailed` where
     /// the device failed before, J2 `BadAddress` where the address is not valid, J5 `Busy` where another holds the
     /// slot and this transaction a greater one, J9 `Stale` where the transaction has seen more of the history than
-    /// the core, J10 `Stranger` where a commit touched a slot under which the transaction had read, then J1
-    /// `NoMemory` where memory is refused, or J6 where the device fails in this call. The transaction is then as it
-    /// was, with the slots that it held.
+    /// the core, then J1 `NoMemory` where memory is refused, or J6 where the device fails in this call. The
+    /// transaction is then as it was, with the slots that it held.
     pub fn read<W: Wait>(&mut self, rt: &W, addr: Addr) -> Result<Value, Why<'b, J, R>>
         ensures reads { IfOk result (λ value. ReadsValue (holding self.old addr) addr value self.new) }
         ensures object { IfOk result (λ value. IsTrue (is_object J.blocks (addr, value))) }
@@ -125,12 +125,18 @@ impl<'j, 'b, D: BlockDisk, R: MapRule, J: Naming> Txn<'j, 'b, D, R, J> {
     }
 
     // The refusal of a read for which there is no memory. All that would refuse it otherwise comes before.
-    fn no_memory<W: Wait>(&self, rt: &W, addr: Addr) -> Why<'b, J, R>
+    fn no_memory<W: Wait>(&mut self, rt: &W, addr: Addr) -> Why<'b, J, R>
         requires valid { IsTrue (is_valid J.blocks addr) }
-        ensures { IsLookRefusal (core_of self.now) result }
+        ensures refusal { IsLookRefusal (core_of self.old) result }
+        ensures same { self.new ≡ self.old }
     {
         let journal = self.journal;
-        match journal.core.check_read(rt, &self.transaction, addr) {
+        let Txn {
+            transaction,
+            held,
+            ..
+        } = self;
+        match journal.core.check_read(rt, transaction, held, addr) {
             Ok(()) => Refusal::NoMemory,
             Err(refusal) => refusal,
         }
@@ -139,6 +145,7 @@ impl<'j, 'b, D: BlockDisk, R: MapRule, J: Naming> Txn<'j, 'b, D, R, J> {
     // Its own overwrite, else what the map gives, which it remembers.
     fn look_up<W: Wait>(&mut self, rt: &W, addr: Addr) -> Result<Value, Why<'b, J, R>>
         requires valid { IsTrue (is_valid J.blocks addr) }
+        requires slot { IsTrue (holds self.old.held (slot_number addr)) }
         ensures reads { IfOk result (λ value. ReadsValue self.old addr value self.new) }
         ensures object { IfOk result (λ value. IsTrue (is_object J.blocks (addr, value))) }
         ensures refusal { IfErr result (IsLookRefusal (core_of self.old)) }
@@ -177,6 +184,7 @@ impl<'j, 'b, D: BlockDisk, R: MapRule, J: Naming> Txn<'j, 'b, D, R, J> {
     ) -> Result<Value, Why<'b, J, R>>
         requires valid { IsTrue (is_valid J.blocks addr) }
         requires size { length room.items ≡ size_at J.blocks addr }
+        requires slot { IsTrue (holds self.old.held (slot_number addr)) }
         ensures learns { IfOk result (λ value. Learns self.old addr value self.new) }
         ensures object { IfOk result (λ value. IsTrue (is_object J.blocks (addr, value))) }
         ensures refusal { IfErr result (IsLookRefusal (core_of self.old)) }
@@ -184,9 +192,14 @@ impl<'j, 'b, D: BlockDisk, R: MapRule, J: Naming> Txn<'j, 'b, D, R, J> {
     {
         let journal = self.journal;
         let mut bytes = room;
-        let found = journal.core.read(rt, &self.transaction, addr, &mut bytes)?;
+        let Txn {
+            transaction,
+            held,
+            ..
+        } = self;
+        let found = journal.core.read(rt, transaction, held, addr, &mut bytes)?;
         let value = Value::new(bytes);
-        self.transaction.remember(found, &value)?;
+        transaction.remember(found, &value)?;
         Ok(value)
     }
 
@@ -240,6 +253,7 @@ impl<'j, 'b, D: BlockDisk, R: MapRule, J: Naming> Txn<'j, 'b, D, R, J> {
     // Remembers what is to be written.
     fn remember(&mut self, addr: Addr, bytes: &[u8]) -> Result<(), Why<'b, J, R>>
         requires object { IsTrue (is_object J.blocks (addr, bytes.now)) }
+        requires slot { IsTrue (holds self.old.held (slot_number addr)) }
         ensures overwrites { OnOk result (Overwrites self.old addr bytes.now self.new) }
         ensures refusal { IsOkUnless result Refusal.NoMemory }
         ensures same { OnErr result (self.new ≡ self.old) }
@@ -254,6 +268,7 @@ impl<'j, 'b, D: BlockDisk, R: MapRule, J: Naming> Txn<'j, 'b, D, R, J> {
         requires in_range { slot < SLOT_COUNT }
         ensures taken { OnOk result (self.new ≡ record self.old { held = with_slot self.old.held slot }) }
         ensures took { IfOk result (λ took. self.new.held ≡ (if took then self.old.held ++ slot ∷ [] else self.old.held)) }
+        ensures clear { IfOk result (λ took. IsTrue took → IsClearOf slot self.new.reads × IsClearOf slot self.new.writes) }
         ensures refusal { IfErr result (IsSlotRefusal self.old.held slot) }
         ensures same { OnErr result (self.new ≡ self.old) }
     {
@@ -289,8 +304,9 @@ impl<'j, 'b, D: BlockDisk, R: MapRule, J: Naming> Txn<'j, 'b, D, R, J> {
         self.held.iter().any(|held| held.slot() > slot)
     }
 
-    // Gives back the slot that a refused call took, where it took one.
+    // Gives back the slot that a refused call took, where it took one. Nothing that was read or overwritten lies under it.
     fn give_back<W: Wait>(&mut self, rt: &W, took: bool)
+        requires clear { IsTrue took → (before : List ℕ) (slot : ℕ) → self.old.held ≡ before ++ slot ∷ [] → IsClearOf slot self.old.reads × IsClearOf slot self.old.writes }
         ensures { (t : TxnState) (slot : ℕ) → self.old ≡ record t { held = (if took then t.held ++ slot ∷ [] else t.held) } → self.new ≡ t }
     {
         if !took {
@@ -316,7 +332,7 @@ impl<'j, 'b, D: BlockDisk, R: MapRule, J: Naming> Txn<'j, 'b, D, R, J> {
 }
 
 // Gives all these slots back.
-pub(crate) fn release_all<W: Wait>(rt: &W, slots: &LockMap, held: Vec<Held>) {
+pub(crate) fn release_all<J: Naming, W: Wait>(rt: &W, slots: &LockMap<J>, held: Vec<Held<J>>) {
     let mut held = held;
     while let Some(last) = held.pop() {
         slots.release(rt, last);

@@ -4,6 +4,7 @@ ghost use Rattle.journal_world.specs.Maps.{Map, Agrees, overwritten};
 ghost use Rattle.journal_world.specs.Histories.{count, floor};
 ghost use Rattle.journal_history.specs.Tokens.{IsExact, OnlyExtends};
 ghost use Rattle.journal_twophase.specs.Journals.{IsKnown};
+ghost use Rattle.journal_twophase.specs.Transactions.{KeepsHeld};
 ghost use Rattle.journal_twophase.specs.Waits.{IsStable, CommitsAndWaits, IsWaitRefusal, IsEndedUnmarked, IsWaitFault};
 
 use crate::shared::{Shared, SharedCore, Why};
@@ -119,16 +120,18 @@ impl<'b, D: BlockDisk, R: MapRule, J: Naming> SharedCore<'b, D, R, J> {
         session: &mut Session<'b, J, R>,
         transaction: &Transaction<'b, J, R>,
         spares: &mut Spares,
-        slots: &LockMap,
-        held: Vec<Held>,
+        slots: &LockMap<J>,
+        held: Vec<Held<J>>,
     ) -> Waited<'b, J, R>
         requires rule { (m : Map) → m.blocks ≡ J.blocks → R.statement m → Agrees m transaction.now.reads
             → R.statement (overwritten m transaction.now.writes) }
+        requires held { KeepsHeld held.items transaction.now }
         ensures committed { IfOk result (λ done. CommitsAndWaits R.statement J.blocks transaction.now.seen transaction.now session.old session.new done.0) }
         ensures stable { IfOk result (λ done. IsStable done.0.count done.1 session.new) }
         ensures fault { IfErr result (IsWaitFault R.statement J.blocks transaction.now.seen transaction.now session.old session.new) }
     {
-        let (shared, answer) = self.commit_with_room(rt, session, transaction, spares);
+        let mut held = held;
+        let (shared, answer) = self.commit_with_room(rt, session, transaction, &mut held, spares);
         release_all(rt, slots, held);
         self.tell_of_commit(&answer, shared.logger_sleeps);
         let receipt = match answer {

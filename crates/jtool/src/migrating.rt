@@ -6,9 +6,10 @@ use crate::fault::Fault;
 use std::alloc::Global;
 use std::fs::{File, Files};
 use std::io::Write;
+use std::sync::Wait;
 
 /// Makes the disk in a file one of version 2.
-pub fn migrate<'w, R: Files<File = File>, O: Write>(
+pub fn migrate<'w, R: Files<File = File> + Wait, O: Write>(
     rt: &R,
     alloc: Global,
     path: &'w str,

@@ -59,14 +59,16 @@ fn stop_no_commit<J: Naming + Send + Sync, H: Abort + Threads + Wait + Clock + S
     rt: &H,
     alloc: Global,
     book: &Book<AnyMap>,
+    cell: SlotCell,
 )
     requires book { book.now ≡ J.book }
+    requires cell { cell ≡ J.cell }
     requires blocks { J.blocks ≡ 800 }
 {
     let gate = Gate::default();
     let disk = MemDisk::new::<()>(alloc, BLOCKS).expect(rt, "a disk");
     let disk = GatedDisk { disk, gate: &gate };
-    let journal: Open<GatedDisk, J> = opened_on(rt, alloc, book, disk);
+    let journal: Open<GatedDisk, J> = opened_on(rt, alloc, book, cell, disk);
     logs_beside(rt, alloc, &journal, &gate);
     installs_beside(rt, alloc, &journal, &gate);
     let _disk = journal.into_disk();
@@ -75,5 +77,6 @@ fn stop_no_commit<J: Naming + Send + Sync, H: Abort + Threads + Wait + Clock + S
 #[test]
 fn barriers_stop_no_commit(rt: HostRuntime) {
     let book: Book<AnyMap> = Book::open::<()>().ok().expect(&rt, "a book");
-    stop_no_commit::<Brand, _>(&rt, rt.alloc(), &book);
+    let cell = SlotCell::open(rt.alloc()).ok().expect(&rt, "a cell");
+    stop_no_commit::<Brand, _>(&rt, rt.alloc(), &book, cell);
 }

@@ -60,17 +60,20 @@ fn reads_made<H: Abort + Wait>(rt: &H, alloc: Global, cached: usize, deeds: &[De
     requires most { cached ≤ MAX_CACHED_BLOCKS }
 {
     let book: Book<AnyMap> = Book::open::<()>().ok().expect(rt, "a book");
-    reads_in::<Brand, _>(rt, alloc, &book, cached, deeds)
+    let cell = SlotCell::open(alloc).ok().expect(rt, "a cell");
+    reads_in::<Brand, _>(rt, alloc, &book, cell, cached, deeds)
 }
 
 fn reads_in<J: Naming, H: Abort + Wait>(
     rt: &H,
     alloc: Global,
     book: &Book<AnyMap>,
+    cell: SlotCell,
     cached: usize,
     deeds: &[Deed],
 ) -> Option<u32>
     requires book { book.now ≡ J.book }
+    requires cell { cell ≡ J.cell }
     requires blocks { J.blocks ≡ 800 }
     requires some { 1 ≤ cached }
     requires most { cached ≤ MAX_CACHED_BLOCKS }
@@ -80,7 +83,7 @@ fn reads_in<J: Naming, H: Abort + Wait>(
         disk: MemDisk::new::<()>(alloc, BLOCKS).expect(rt, "a disk"),
         reads: &reads,
     };
-    let opened = Journal::open_with_cache(alloc, book, disk, &AnyMap, cached);
+    let opened = Journal::open_with_cache(alloc, book, cell, disk, &AnyMap, cached);
     let journal: Open<CountedDisk, J> = opened.ok().expect(rt, "a journal");
     let before = reads.load(Ordering::SeqCst);
     let right = are_right(rt, alloc, &journal, deeds);

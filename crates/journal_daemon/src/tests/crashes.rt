@@ -173,9 +173,9 @@ impl Watch {
     fn open(&self, image: MemDisk)
         requires settled { IsSettled image.past }
     {
-        let opens = match Book::open::<()>() {
-            Ok(book) => opens_in::<Brand>(self.alloc, &book, image, self),
-            Err(_refused) => false,
+        let opens = match (Book::open::<()>(), SlotCell::open(self.alloc)) {
+            (Ok(book), Ok(cell)) => opens_in::<Brand>(self.alloc, &book, cell, image, self),
+            _ => false,
         };
         if !opens {
             self.blame();
@@ -184,12 +184,21 @@ impl Watch {
 }
 
 /// Whether a journal can be opened over what a crash left.
-fn opens_in<J: Naming>(alloc: Global, book: &Book<Watch>, image: MemDisk, watch: &Watch) -> bool
+fn opens_in<J: Naming>(
+    alloc: Global,
+    book: &Book<Watch>,
+    cell: SlotCell,
+    image: MemDisk,
+    watch: &Watch,
+) -> bool
     requires book { book.now ≡ J.book }
+    requires cell { cell ≡ J.cell }
     requires blocks { image.past.size ≡ J.blocks }
     requires settled { IsSettled image.past }
 {
-    let opened: Result<Journal<MemDisk, Watch, J>, _> = Journal::open(alloc, book, image, watch);
+    let opened: Result<Journal<MemDisk, Watch, J>, _> = Journal::open(
+        alloc, book, cell, image, watch,
+    );
     match opened {
         Ok(journal) => {
             let _disk = journal.into_disk();
@@ -412,15 +421,17 @@ fn watched_in<J: Naming + Send + Sync, H: Abort + Threads + Wait + Clock + Sync>
     rt: &H,
     alloc: Global,
     book: &Book<AnyMap>,
+    cell: SlotCell,
     watch: &Watch,
     case: Case,
 ) -> Outcome
     requires book { book.now ≡ J.book }
+    requires cell { cell ≡ J.cell }
     requires blocks { J.blocks ≡ 532 }
 {
     let mut disk = MemDisk::new::<()>(alloc, 532).expect(rt, "a disk");
     disk.fail_in(case.fails_in);
-    let journal: Watched<J> = opened_on(rt, alloc, book, WatchedDisk { disk, watch });
+    let journal: Watched<J> = opened_on(rt, alloc, book, cell, WatchedDisk { disk, watch });
     let ended = run_watched(rt, alloc, &journal, watch, case.filled);
     let WatchedDisk { disk, .. } = journal.into_disk();
     watch.pass(&disk);
@@ -434,7 +445,8 @@ fn watched<H: Abort + Threads + Wait + Clock + Sync>(
     case: Case,
 ) -> Outcome {
     let book: Book<AnyMap> = Book::open::<()>().ok().expect(rt, "a book");
-    watched_in::<Brand, _>(rt, alloc, &book, watch, case)
+    let cell = SlotCell::open(alloc).ok().expect(rt, "a cell");
+    watched_in::<Brand, _>(rt, alloc, &book, cell, watch, case)
 }
 
 /// At each device call each image that a crash may leave opens, and each thread's object counts in it what the thread

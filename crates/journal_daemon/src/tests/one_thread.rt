@@ -180,12 +180,18 @@ fn runs<'b, J: Naming, H: Abort + Wait>(rt: &H, alloc: Global, journal: &Open<'b
 }
 
 /// Opens a second journal on the book, whose disk is handed back.
-fn opens_again<J: Naming, H: Abort>(rt: &H, alloc: Global, book: &Book<AnyMap>) -> (u64, bool)
+fn opens_again<J: Naming, H: Abort>(
+    rt: &H,
+    alloc: Global,
+    book: &Book<AnyMap>,
+    cell: SlotCell,
+) -> (u64, bool)
     requires book { book.now ≡ J.book }
+    requires cell { cell ≡ J.cell }
     requires blocks { J.blocks ≡ 800 }
 {
     let disk = MemDisk::new::<()>(alloc, BLOCKS).expect(rt, "a disk");
-    let again: Result<Open<MemDisk, J>, _> = Journal::open(alloc, book, disk, &AnyMap);
+    let again: Result<Open<MemDisk, J>, _> = Journal::open(alloc, book, cell, disk, &AnyMap);
     match again {
         Ok(journal) => (journal.into_disk().size(), false),
         Err(refused) => (
@@ -204,13 +210,16 @@ fn closes<'b, J: Naming, H: Abort + Wait>(rt: &H, journal: Open<'b, MemDisk, J>)
     }
 }
 
-fn answers<J: Naming, H: Abort + Wait>(rt: &H, alloc: Global, book: &Book<AnyMap>)
+fn answers<J: Naming, H: Abort + Wait>(rt: &H, alloc: Global, book: &Book<AnyMap>, cell: SlotCell)
     requires book { book.now ≡ J.book }
+    requires cell { cell ≡ J.cell }
     requires blocks { J.blocks ≡ 800 }
 {
-    let journal = opened::<J, _>(rt, alloc, book);
+    let journal = opened::<J, _>(rt, alloc, book, cell);
     runs(rt, alloc, &journal);
-    let again = opens_again::<J, _>(rt, alloc, book);
+    // A journal's name is of one cell, so the second has a name of its own.
+    let other = SlotCell::open(alloc).ok().expect(rt, "a cell");
+    let again = opens_again::<Brand, _>(rt, alloc, book, other);
     let closed = closes(rt, journal);
     wants(rt, &(again, closed), &((800, true), (3, 800)));
 }
@@ -218,7 +227,8 @@ fn answers<J: Naming, H: Abort + Wait>(rt: &H, alloc: Global, book: &Book<AnyMap
 #[test]
 fn each_call_is_answered(rt: HostRuntime) {
     let book: Book<AnyMap> = Book::open::<()>().ok().expect(&rt, "a book");
-    answers::<Brand, _>(&rt, rt.alloc(), &book);
+    let cell = SlotCell::open(rt.alloc()).ok().expect(&rt, "a cell");
+    answers::<Brand, _>(&rt, rt.alloc(), &book, cell);
 }
 
 /// One transaction holds a slot and tries a lower one, which another holds until it is given up.

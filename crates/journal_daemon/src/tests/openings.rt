@@ -72,22 +72,26 @@ fn blank<H: Abort>(rt: &H, alloc: Global, fails: bool) -> MemDisk
 fn opening<H: Abort + Wait>(rt: &H, alloc: Global, book: &Ruled, disk: MemDisk) -> Came
     requires settled { IsSettled disk.past }
 {
-    opening_in::<Brand, _>(rt, alloc, book, disk)
+    let cell = SlotCell::open(alloc).ok().expect(rt, "a cell");
+    opening_in::<Brand, _>(rt, alloc, book, cell, disk)
 }
 
 fn opening_in<J: Naming, H: Abort + Wait>(
     rt: &H,
     alloc: Global,
     book: &Ruled,
+    cell: SlotCell,
     disk: MemDisk,
 ) -> Came
     requires book { book.now ≡ J.book }
+    requires cell { cell ≡ J.cell }
     requires blocks { disk.past.size ≡ J.blocks }
     requires settled { IsSettled disk.past }
 {
     let answer: Result<Journal<MemDisk, FirstBitIsClear, J>, _> = Journal::open(
         alloc,
         book,
+        cell,
         disk,
         &FirstBitIsClear,
     );

@@ -27,13 +27,15 @@ fn makes_room<J: Naming + Send + Sync, H: Abort + Threads + Wait + Clock + Sync>
     rt: &H,
     alloc: Global,
     book: &Book<AnyMap>,
+    cell: SlotCell,
     disk: MemDisk,
 ) -> ((u64, u64), Ending)
     requires book { book.now ≡ J.book }
+    requires cell { cell ≡ J.cell }
     requires blocks { disk.past.size ≡ J.blocks }
     requires settled { IsSettled disk.past }
 {
-    let journal: Open<MemDisk, J> = opened_on(rt, alloc, book, disk);
+    let journal: Open<MemDisk, J> = opened_on(rt, alloc, book, cell, disk);
     let opened = journal.stat(rt);
     let (_ended, ending) = beside(rt, alloc, &journal, &OpenGate, &WaitOnce, 2);
     let _disk = journal.into_disk();
@@ -51,7 +53,8 @@ pub(super) fn recover_a_full_log<J: Naming + Send + Sync, H: Abort + Threads + W
     fill_the_log(rt, alloc, journal, &mut session);
     let image = journal.image(rt, &mut session, &[]);
     let book: Book<AnyMap> = Book::open::<()>().ok().expect(rt, "a book");
-    let ended = makes_room::<Brand, _>(rt, alloc, &book, image.ok().expect(rt, "an image"));
+    let cell = SlotCell::open(alloc).ok().expect(rt, "a cell");
+    let ended = makes_room::<Brand, _>(rt, alloc, &book, cell, image.ok().expect(rt, "an image"));
     wants(rt, &ended, &((0, POSITIONS), Ending::Stable));
 }
 

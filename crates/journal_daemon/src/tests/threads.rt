@@ -124,14 +124,16 @@ fn stops_nobody<J: Naming + Send + Sync, H: Abort + Threads + Wait + Clock + Syn
     rt: &H,
     alloc: Global,
     book: &Book<AnyMap>,
+    cell: SlotCell,
 )
     requires book { book.now ≡ J.book }
+    requires cell { cell ≡ J.cell }
     requires blocks { J.blocks ≡ 800 }
 {
     let gate = Gate::default();
     let disk = MemDisk::new::<()>(alloc, BLOCKS).expect(rt, "a disk");
     let disk = GatedDisk { disk, gate: &gate };
-    let journal: Open<GatedDisk, J> = opened_on(rt, alloc, book, disk);
+    let journal: Open<GatedDisk, J> = opened_on(rt, alloc, book, cell, disk);
     looks_beside(rt, alloc, &journal, &gate);
     let _disk = journal.into_disk();
 }
@@ -139,7 +141,8 @@ fn stops_nobody<J: Naming + Send + Sync, H: Abort + Threads + Wait + Clock + Syn
 #[test]
 fn a_barrier_stops_no_observer(rt: HostRuntime) {
     let book: Book<AnyMap> = Book::open::<()>().ok().expect(&rt, "a book");
-    stops_nobody::<Brand, _>(&rt, rt.alloc(), &book);
+    let cell = SlotCell::open(rt.alloc()).ok().expect(&rt, "a cell");
+    stops_nobody::<Brand, _>(&rt, rt.alloc(), &book, cell);
 }
 
 /// Overwrites these data blocks, and says whether it could.

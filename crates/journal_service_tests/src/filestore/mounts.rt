@@ -10,6 +10,7 @@ use journal_disk::MemDisk;
 use journal_filestore::FileStore;
 use journal_history::{Book, Naming};
 use journal_inode::SoundFiles;
+use journal_lockmap::SlotCell;
 use std::alloc::Global;
 use std::marker::Brand;
 use std::sync::atomic::Ordering;
@@ -18,13 +19,17 @@ use std::test::*;
 fn mount<'w, 'b, J: Naming>(
     alloc: Global,
     book: &'b Book<SoundFiles>,
+    cell: SlotCell,
     disk: WatchedDisk<'w>,
 ) -> Told
     requires book { book.now ≡ J.book }
+    requires cell { cell ≡ J.cell }
     requires blocks { disk.disk.past.size ≡ J.blocks }
     requires settled { IsSettled disk.disk.past }
 {
-    let mounted: Result<FileStore<'b, WatchedDisk<'w>, J>, _> = FileStore::mount(alloc, book, disk);
+    let mounted: Result<FileStore<'b, WatchedDisk<'w>, J>, _> = FileStore::mount(
+        alloc, book, cell, disk,
+    );
     match mounted {
         Ok(_files) => Ok(()),
         Err(_) => Err(Wrong::Refused),
@@ -34,9 +39,9 @@ fn mount<'w, 'b, J: Naming>(
 fn mount_watched(alloc: Global, disk: MemDisk, watch: &Watch) -> Told
     requires settled { IsSettled disk.past }
 {
-    match Book::<SoundFiles>::open::<()>() {
-        Ok(book) => mount::<Brand>(alloc, &book, WatchedDisk { disk, watch }),
-        Err(_) => Err(Wrong::Refused),
+    match (Book::<SoundFiles>::open::<()>(), SlotCell::open(alloc)) {
+        (Ok(book), Ok(cell)) => mount::<Brand>(alloc, &book, cell, WatchedDisk { disk, watch }),
+        _ => Err(Wrong::Refused),
     }
 }
 

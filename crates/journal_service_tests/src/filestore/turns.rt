@@ -12,6 +12,7 @@ use journal_disk::MemDisk;
 use journal_filestore::FileStore;
 use journal_history::{Book, Naming};
 use journal_inode::SoundFiles;
+use journal_lockmap::SlotCell;
 use journal_twophase::Txn;
 use journal_world::Addr;
 use std::alloc::Global;
@@ -202,16 +203,20 @@ fn over<'w, 'b, J: Naming + Send + Sync, H: Threads + Wait + Sync>(
     rt: &H,
     alloc: Global,
     book: &'b Book<SoundFiles>,
+    cell: SlotCell,
     disk: WatchedDisk<'w>,
     watch: &Watch,
     contest: &Contest,
 ) -> Told
     requires book { book.now ≡ J.book }
+    requires cell { cell ≡ J.cell }
     requires blocks { disk.disk.past.size ≡ J.blocks }
     requires settled { IsSettled disk.disk.past }
 {
     // Each attempt reads two blocks, so that with one copy none of its reads finds its block in memory.
-    let mounted: Result<Watched<'w, 'b, J>, _> = FileStore::mount_with_cache(alloc, book, disk, 1);
+    let mounted: Result<Watched<'w, 'b, J>, _> = FileStore::mount_with_cache(
+        alloc, book, cell, disk, 1,
+    );
     match mounted {
         Ok(files) => contend(rt, alloc, &files, watch, contest),
         Err(_) => Err(Wrong::Refused),
@@ -227,12 +232,12 @@ fn on_disk<H: Threads + Wait + Sync>(
 ) -> Told
     requires settled { IsSettled disk.past }
 {
-    match Book::<SoundFiles>::open::<()>() {
-        Ok(book) => {
+    match (Book::<SoundFiles>::open::<()>(), SlotCell::open(alloc)) {
+        (Ok(book), Ok(cell)) => {
             let watched = WatchedDisk { disk, watch };
-            over::<Brand, _>(rt, alloc, &book, watched, watch, contest)
+            over::<Brand, _>(rt, alloc, &book, cell, watched, watch, contest)
         }
-        Err(_) => Err(Wrong::Refused),
+        _ => Err(Wrong::Refused),
     }
 }
 

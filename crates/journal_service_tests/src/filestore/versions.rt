@@ -12,6 +12,7 @@ use journal_filestore::{
 };
 use journal_history::{Book, Naming};
 use journal_inode::{FormatVersion, SoundFiles, VersionTwo};
+use journal_lockmap::SlotCell;
 use journal_world::Moment;
 use std::alloc::Global;
 use std::marker::Brand;
@@ -237,14 +238,16 @@ fn tell<'b, J: Naming, W: Wait>(
     rt: &W,
     alloc: Global,
     book: &'b Book<SoundFiles<VersionTwo>>,
+    cell: SlotCell,
     disk: MemDisk,
     story: &[(Call, Reply)],
 ) -> Told
     requires book { book.now ≡ J.book }
+    requires cell { cell ≡ J.cell }
     requires blocks { disk.past.size ≡ J.blocks }
     requires settled { IsSettled disk.past }
 {
-    let mounted: Result<Files<'b, J>, _> = FileStore::mount(alloc, book, disk);
+    let mounted: Result<Files<'b, J>, _> = FileStore::mount(alloc, book, cell, disk);
     match mounted {
         Ok(files) => tell_alone(rt, alloc, &files, story),
         Err(_) => Err(Wrong::Refused),
@@ -281,9 +284,12 @@ fn on_new_disk<W: Wait>(rt: &W, alloc: Global, blocks: u64, story: &[(Call, Repl
     requires { (MIN_BLOCKS ≤ blocks) × (blocks ≤ MAX_BLOCKS) }
 {
     let disk = formatted(alloc, blocks, AT, FormatVersion::Two)?;
-    match Book::<SoundFiles<VersionTwo>>::open::<()>() {
-        Ok(book) => tell::<Brand, _>(rt, alloc, &book, disk, story),
-        Err(_) => Err(Wrong::Refused),
+    match (
+        Book::<SoundFiles<VersionTwo>>::open::<()>(),
+        SlotCell::open(alloc),
+    ) {
+        (Ok(book), Ok(cell)) => tell::<Brand, _>(rt, alloc, &book, cell, disk, story),
+        _ => Err(Wrong::Refused),
     }
 }
 

@@ -10,6 +10,7 @@ use journal_disk::MemDisk;
 use journal_filestore::FileStore;
 use journal_history::{Book, Naming};
 use journal_inode::{FormatVersion, SoundFiles, VersionTwo};
+use journal_lockmap::SlotCell;
 use journal_world::Moment;
 use std::alloc::Global;
 use std::marker::Brand;
@@ -41,14 +42,16 @@ fn tell<'b, J: Naming + Send + Sync, H: Threads + Wait + Sync>(
     rt: &H,
     alloc: Global,
     book: &'b Book<SoundFiles<VersionTwo>>,
+    cell: SlotCell,
     disk: MemDisk,
     table: Table,
 ) -> Told
     requires book { book.now ≡ J.book }
+    requires cell { cell ≡ J.cell }
     requires blocks { disk.past.size ≡ J.blocks }
     requires settled { IsSettled disk.past }
 {
-    let mounted: Result<Files<'b, J>, _> = FileStore::mount(alloc, book, disk);
+    let mounted: Result<Files<'b, J>, _> = FileStore::mount(alloc, book, cell, disk);
     match mounted {
         Ok(files) => ask_beside(rt, alloc, &files, table),
         Err(_) => Err(Wrong::Refused),
@@ -76,9 +79,12 @@ fn on_new_disk<H: Threads + Wait + Sync>(rt: &H, alloc: Global, blocks: u64, tab
 {
     let at = Moment { secs: 0, nanos: 0 };
     let disk = formatted(alloc, blocks, at, FormatVersion::Two)?;
-    match Book::<SoundFiles<VersionTwo>>::open::<()>() {
-        Ok(book) => tell::<Brand, _>(rt, alloc, &book, disk, table),
-        Err(_) => Err(Wrong::Refused),
+    match (
+        Book::<SoundFiles<VersionTwo>>::open::<()>(),
+        SlotCell::open(alloc),
+    ) {
+        (Ok(book), Ok(cell)) => tell::<Brand, _>(rt, alloc, &book, cell, disk, table),
+        _ => Err(Wrong::Refused),
     }
 }
 

@@ -15,6 +15,7 @@ use journal_disk::{BlockDisk, DiskFault, MemDisk};
 use journal_filestore::FileStore;
 use journal_history::{Book, Naming, Session};
 use journal_inode::SoundFiles;
+use journal_lockmap::SlotCell;
 use journal_server::{End, Outcome, Served};
 use std::alloc::Global;
 use std::io;
@@ -386,15 +387,17 @@ fn over<'s, 'b, J: Naming + Send + Sync, H: Threads + Wait + Sync>(
     rt: &H,
     alloc: Global,
     book: &'b Book<SoundFiles>,
+    cell: SlotCell,
     disk: GatedDisk<'s>,
     signals: &'s Signals,
     piece: Piece,
 ) -> Told
     requires book { book.now ≡ J.book }
+    requires cell { cell ≡ J.cell }
     requires blocks { disk.disk.past.size ≡ J.blocks }
     requires settled { IsSettled disk.disk.past }
 {
-    let mounted: Result<Gated<'s, 'b, J>, _> = FileStore::mount(alloc, book, disk);
+    let mounted: Result<Gated<'s, 'b, J>, _> = FileStore::mount(alloc, book, cell, disk);
     match mounted {
         Ok(files) => tell_over(rt, alloc, &files, signals, piece),
         Err(_) => Err(Wrong::Refused),
@@ -416,15 +419,15 @@ fn on_disk<H: Threads + Wait + Sync>(rt: &H, alloc: Global, disk: MemDisk, piece
     requires settled { IsSettled disk.past }
 {
     let signals = Signals::new();
-    match Book::<SoundFiles>::open::<()>() {
-        Ok(book) => {
+    match (Book::<SoundFiles>::open::<()>(), SlotCell::open(alloc)) {
+        (Ok(book), Ok(cell)) => {
             let gated = GatedDisk {
                 disk,
                 signals: &signals,
             };
-            over::<Brand, _>(rt, alloc, &book, gated, &signals, piece)
+            over::<Brand, _>(rt, alloc, &book, cell, gated, &signals, piece)
         }
-        Err(_) => Err(Wrong::Refused),
+        _ => Err(Wrong::Refused),
     }
 }
 

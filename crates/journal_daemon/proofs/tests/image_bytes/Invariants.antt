@@ -1,5 +1,5 @@
 use Rattle.journal_daemon.proofs.tests.image_bytes.Given as goal
 
--- the book that was just opened, and the disk's blocks
+-- the book and the cell that were just opened, and the disk's blocks
 abbrev pub ghosts-first_bytes : goal.ghosts-first_bytes
-ghosts-first_bytes g a = record { book = a.book.now; blocks = g.J.Naming.blocks }
+ghosts-first_bytes g a = record { book = a.book.now; cell = a.cell; blocks = g.J.Naming.blocks }

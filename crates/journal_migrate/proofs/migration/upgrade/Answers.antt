@@ -1,19 +1,32 @@
-use Rattle.std.proofs.Common.{IsTrue, sym, ap, subst, ◌∙◌, rules}
+use Rattle.std.proofs.Common.{◌≡◌, ◌∷◌, [], IsTrue, sym, ap, subst, ◌∙◌, rules}
 use Rattle.std.proofs.lemmas.Result.{on_ok_weaker, on_err_weaker}
 use Rattle.journal_world.specs.declared.refusal.Refusal.{Refusal}
 use Rattle.journal_objlog.proofs.Refusing.{if_err}
 use Rattle.journal_history.specs.Tokens.{SessionState}
 use Rattle.journal_core.specs.Causes.{Told}
-use Rattle.journal_core.specs.Cores.{disk_of, next_of}
+use Rattle.journal_world.specs.Addresses.{slot_of}
+use Rattle.journal_lockmap.specs.Numbers.{slots_of}
+use Rattle.journal_inode.specs.Places.{addr_of}
+use Rattle.journal_inode.specs.Places.Object.{superblock}
+use Rattle.journal_core.specs.SlotCounts.{AgreeWith}
+use Rattle.journal_core.specs.Cores.{CoreState, disk_of, next_of}
 use Rattle.journal_migrate.specs.Migrations.{IsUpgradeRefusal}
-use Rattle.journal_migrate.proofs.Drafting.{at_draft, keeps_rule, awaits, commit_refused}
+use Rattle.journal_migrate.proofs.Drafting.{at_draft, keeps_rule, under, covered, apart, awaits, commit_refused}
 use Rattle.journal_migrate.proofs.Bringing.{no_commit, left_committed, two_marked}
 use Rattle.journal_migrate.proofs.migration.upgrade.Goals as goal
 
 pub commit_step-requires : goal.commit_step-requires
 commit_step-requires g c =
     let is_one : IsTrue c.in_ok-draft.field-0 = search rules in
-    record { rule = λ m blocks sound agrees. keeps_rule c.session_step.new.self.history c.draft.new.transaction m (c.in_ok-draft.ensures.drafted is_one) sound agrees }
+    let drafts = c.in_ok-draft.ensures.drafted is_one in
+    let history : c.draft.new.core.history ≡ c.session_step.new.self.history = ap (λ (k : CoreState). k.history) c.in_ok-draft.ensures.others in
+    let one : slots_of c.draft.new.held ≡ slot_of (addr_of superblock) ∷ [] = ap slots_of c.in_ok-draft.ensures.held ∙ c.requires.held in
+    record {
+      rule = λ m blocks sound agrees. keeps_rule c.session_step.new.self.history c.draft.new.transaction m drafts sound agrees;
+      under = under c.draft.new.held one c.session_step.new.self.history c.draft.new.transaction drafts (subst (λ h. AgreeWith h c.draft.new.held) history c.in_ok-draft.ensures.agree);
+      covered = covered c.draft.new.held one c.session_step.new.self.history c.draft.new.transaction drafts;
+      apart = apart c.draft.new.held one;
+    }
 
 pub returns-in_err-commit_step-clause-refusal : goal.returns-in_err-commit_step-clause-refusal
 returns-in_err-commit_step-clause-refusal g c =

@@ -1,5 +1,5 @@
 use Rattle.journal_migrate.proofs.tests.migrated_once.Given as goal
 
--- the book that was just opened, and the disk's blocks
+-- the book and the cell that were just opened, and the disk's blocks
 abbrev pub ghosts-migrated : goal.ghosts-migrated
-ghosts-migrated a = record { book = a.book.now; blocks = a.disk.past.size }
+ghosts-migrated g a = record { book = a.book.now; cell = a.cell; blocks = a.disk.past.size }

@@ -1,5 +1,5 @@
 use Rattle.journal_service.proofs.checking.count_in.Given as goal
 
--- the book that was just opened, and the disk's blocks
+-- the book and the cell that were just opened, and the disk's blocks
 abbrev pub ghosts-files_of : goal.ghosts-files_of
-ghosts-files_of g a = record { book = a.book.now; blocks = a.disk.size }
+ghosts-files_of g a = record { book = a.book.now; blocks = a.disk.size; cell = a.cell }

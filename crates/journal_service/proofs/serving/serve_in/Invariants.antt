@@ -1,5 +1,5 @@
 use Rattle.journal_service.proofs.serving.serve_in.Given as goal
 
--- the book that was just opened, and the disk's blocks
+-- the book and the cell that were just opened, and the disk's blocks
 abbrev pub ghosts-serve_mounted : goal.ghosts-serve_mounted
-ghosts-serve_mounted g a = record { book = a.book.now; blocks = a.disk.size }
+ghosts-serve_mounted g a = record { book = a.book.now; blocks = a.disk.size; cell = a.cell }

@@ -16,3 +16,12 @@ returns-clause-committed g c =
 pub returns-clause-fenced : goal.returns-clause-fenced
 returns-clause-fenced g c =
     shows_fence c.args.volatile.now.memory.history c.commit-answer.new.session c.commit-answer.result c.commit-answer.ensures.longer
+
+pub commit-answer-requires-clause-under : goal.commit-answer-requires-clause-under
+commit-answer-requires-clause-under g c = c.requires.held.reads
+
+pub commit-answer-requires-clause-covered : goal.commit-answer-requires-clause-covered
+commit-answer-requires-clause-covered g c = c.requires.held.writes
+
+pub commit-answer-requires-clause-apart : goal.commit-answer-requires-clause-apart
+commit-answer-requires-clause-apart g c = c.requires.held.apart

@@ -22,13 +22,13 @@ returns-in_err-fetched-clause-crash g c =
 
 pub returns-in-Ok-Done-clause-pair : goal.returns-in-Ok-Done-clause-pair
 returns-in-Ok-Done-clause-pair g c =
-    let it : IsCommittedIn c.args.transaction.now.reads c.args.transaction.now.writes c.args.session.now c.commit-answer.new.session c.fetch_step.new.memory c.commit-answer.new.self = search rules in
-    pair_committed g.J.Naming.blocks c.fetch_step.new.memory c.fetch_step.new.self c.fetch_step.ensures.pair c.commit-answer.new.self c.args.transaction.now.reads
-    c.args.transaction.now.writes c.args.session.now c.commit-answer.new.session c.keeps.ensures it
+    let it : IsCommittedIn c.args.transaction.now.reads c.args.transaction.now.writes c.args.session.now c.commit_unmoved-answer.new.session c.fetch_step.new.memory c.commit_unmoved-answer.new.self = search rules in
+    pair_committed g.J.Naming.blocks c.fetch_step.new.memory c.fetch_step.new.self c.fetch_step.ensures.pair c.commit_unmoved-answer.new.self c.args.transaction.now.reads
+    c.args.transaction.now.writes c.args.session.now c.commit_unmoved-answer.new.session c.keeps.ensures it
 
 pub returns-in-Ok-Done-clause-crash : goal.returns-in-Ok-Done-clause-crash
 returns-in-Ok-Done-clause-crash g c =
-    crashes_pair g.J.Naming.blocks c.args.memory.now c.commit-answer.new.self c.args.self.now c.fetch_step.new.self c.requires.pair (returns-in-Ok-Done-clause-pair g c) c.fetch_step.ensures.crash
+    crashes_pair g.J.Naming.blocks c.args.memory.now c.commit_unmoved-answer.new.self c.args.self.now c.fetch_step.new.self c.requires.pair (returns-in-Ok-Done-clause-pair g c) c.fetch_step.ensures.crash
 
 pub unreachable-requires : goal.unreachable-requires
 unreachable-requires g c =
@@ -46,7 +46,7 @@ unreachable-requires g c =
 
 pub returns-clause-crash : goal.returns-clause-crash
 returns-clause-crash g c =
-    let pair : IsPair g.J.Naming.blocks c.commit-answer.new.self c.fetch_step.new.self =
-    pair_roomed g.J.Naming.blocks c.fetch_step.new.memory c.fetch_step.new.self c.fetch_step.ensures.pair c.commit-answer.new.self c.commit-answer.new.self.tail.log.room c.keeps.ensures
+    let pair : IsPair g.J.Naming.blocks c.commit_unmoved-answer.new.self c.fetch_step.new.self =
+    pair_roomed g.J.Naming.blocks c.fetch_step.new.memory c.fetch_step.new.self c.fetch_step.ensures.pair c.commit_unmoved-answer.new.self c.commit_unmoved-answer.new.self.tail.log.room c.keeps.ensures
     (search rules) in
-    crashes_pair g.J.Naming.blocks c.args.memory.now c.commit-answer.new.self c.args.self.now c.fetch_step.new.self c.requires.pair pair c.fetch_step.ensures.crash
+    crashes_pair g.J.Naming.blocks c.args.memory.now c.commit_unmoved-answer.new.self c.args.self.now c.fetch_step.new.self c.requires.pair pair c.fetch_step.ensures.crash

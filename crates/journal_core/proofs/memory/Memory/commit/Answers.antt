@@ -3,10 +3,10 @@ use Rattle.journal_world.specs.Maps.{Agrees}
 use Rattle.journal_world.specs.Histories.{is_trusted, latest}
 use Rattle.journal_history.specs.Tokens.{next_transaction}
 use Rattle.journal_core.specs.Transactions.{TransactionState}
-use Rattle.journal_core.specs.SlotCounts.{CountsWrites}
+use Rattle.journal_lockmap.specs.Numbers.{AreCovered, CountsWrites}
 use Rattle.journal_core.specs.Memories.{MemoryState}
 use Rattle.journal_core.proofs.Committing.{ruled_then, few_commits}
-use Rattle.journal_core.proofs.Counting.{memory_committed, memory_reserved, few_counted}
+use Rattle.journal_core.proofs.Counting.{memory_committed, memory_reserved, agree_with}
 use Rattle.journal_core.proofs.memory.Memory.commit.Goals as goal
 
 pub commit-requires-clause-rule : goal.commit-requires-clause-rule
@@ -20,10 +20,8 @@ count_one-requires-clause-small g c =
     few_commits c.self.inside.tally c.reserve.new.self c.self.inside.writer c.number-number.result c.reserve.ensures.same c.self.invariant.counts.tallied
     (subst (λ (s : MemoryState). length s.history + 1 < 2 ^ 62) (sym c.self.view_is) c.requires.room)
 
-pub count_writes-requires : goal.count_writes-requires
-count_writes-requires g c =
-    few_counted c.self.inside.tally c.self.inside.slots c.self.inside.writer c.self.invariant.counts
-    (subst (λ (s : MemoryState). length s.history + 1 < 2 ^ 62) (sym c.self.view_is) c.requires.room)
+pub count_writes-requires-clause-covered : goal.count_writes-requires-clause-covered
+count_writes-requires-clause-covered g c = subst (λ (u : TransactionState). AreCovered c.args.held.now u.writes) (sym c.transaction.view_is) c.requires.covered
 
 pub invariant_of-self-in-Err : goal.invariant_of-self-in-Err
 invariant_of-self-in-Err g c =
@@ -36,4 +34,8 @@ invariant_of-self-2 g c =
     let t = next_transaction c.args.session.now c.args.transaction.now.reads c.args.transaction.now.writes in
     memory_committed _ _ _ _ c.self.invariant c.reserve.new.self c.count_one.new.self c.count_writes.new.self c.commit.new.self c.max-self-inside.result t c.number-number.result
     c.in-Ok.ensures.committed.added c.max-self-inside.ensures c.number-number.ensures c.reserve.ensures.same c.count_one.ensures
-    (subst (λ (u : TransactionState). CountsWrites u.writes c.self.inside.slots c.count_writes.new.self) c.transaction.view_is c.count_writes.ensures)
+    (subst (λ (u : TransactionState). CountsWrites u.writes c.self.inside.slots c.count_writes.new.self) c.transaction.view_is c.count_writes.ensures.counts)
+
+pub returns-clause-agree : goal.returns-clause-agree
+returns-clause-agree g c =
+    agree_with c.count_one.new.self c.count_writes.new.self c.commit.new.self c.count_writes.new.held (invariant_of-self-2 g c).counts c.count_writes.ensures.agree

@@ -1,27 +1,54 @@
-use Rattle.std.proofs.Common.{◌≡◌, Some, IsTrue, refl, sym, subst, rules}
-use Rattle.journal_world.specs.Addresses.{is_valid}
-use Rattle.journal_world.specs.Maps.{value_at, is_object}
-use Rattle.journal_world.specs.Histories.{latest}
-use Rattle.journal_objlog.specs.ObjectTails.{blocks_of, known_at, known_updates}
-use Rattle.journal_core.specs.Updates.{AreObjectsOf}
+use Rattle.std.proofs.Common.{◌≡◌, None, IsTrue, IsSome, IfOk, IfErr, IfSome, OnOk, List, sym, subst}
+use Rattle.journal_world.specs.Maps.{value_at}
+use Rattle.journal_world.specs.Histories.{is_trusted, latest}
+use Rattle.journal_objlog.specs.ObjectTails.{known_at}
+use Rattle.journal_lockmap.specs.Numbers.{HeldState}
+use Rattle.journal_core.specs.SlotCounts.{AgreeWith}
+use Rattle.journal_core.specs.Transactions.{AreUnmoved}
+use Rattle.journal_core.specs.Durables.{DurableState}
 use Rattle.journal_core.specs.Outsets.{MayRead}
-use Rattle.journal_core.specs.Volatiles.{VolatileState, outset_of}
-use Rattle.journal_core.proofs.Events.{finds_in_memory}
-use Rattle.journal_core.proofs.Staying.{read_latest}
-use Rattle.journal_core.proofs.Stepping.{of_ok}
+use Rattle.journal_core.specs.Volatiles.{VolatileState, IsReadRefusal, outset_of, usable}
+use Rattle.journal_core.specs.Cores.{IsPair, core_of}
+use Rattle.journal_core.specs.Interleavings.{FindsValue}
+use Rattle.journal_core.proofs.Remembering.{unmoved_under}
 use Rattle.journal_core.proofs.volatile.Volatile.read.Goals as goal
 
+pub read_unmoved-requires-clause-unmoved : goal.read_unmoved-requires-clause-unmoved
+read_unmoved-requires-clause-unmoved g c =
+    subst (λ (s : VolatileState). AreUnmoved s.memory.history c.args.transaction.now) (sym c.look.ensures.same)
+    (unmoved_under c.args.self.now.memory.history c.args.held.now c.args.transaction.now c.look.ensures.agree c.requires.under)
+
+pub returns-clause-agree : goal.returns-clause-agree
+returns-clause-agree g c =
+    subst (λ (s : VolatileState). AgreeWith s.memory.history c.look.new.held) (sym c.look.ensures.same)
+    (subst (λ (l : List HeldState). AgreeWith c.args.self.now.memory.history l) (sym c.look.ensures.held) c.look.ensures.agree)
+
 pub returns-clause-value : goal.returns-clause-value
-returns-clause-value g c = λ trusted yes.
-    subst (λ (v : VolatileState). c.read.new.into ≡ value_at (latest v.memory.history) c.args.addr) c.self.view_is
-    (read_latest g.J.Naming.blocks c.self.inside.memory.history c.in_ok-blocks.blocks.now c.self.inside.tail c.args.addr c.read.new.into c.self.invariant.size
-    (subst (λ (v : VolatileState). AreObjectsOf g.J.Naming.blocks (latest v.memory.history) (known_updates c.in_ok-blocks.blocks.now v.tail)) (sym c.self.view_is) (c.in_ok-blocks.ensures.latest trusted))
-    (of_ok (λ _. IsTrue (is_valid (blocks_of c.self.inside.tail) c.args.addr)) c.read.result c.in_ok-raise.field-0 c.in_ok-raise.field-0 c.in_ok-raise.ensures.only_ok refl c.read.ensures.valid)
-    (of_ok (λ found. IsTrue found → known_at c.in_ok-blocks.blocks.now c.self.inside.tail c.args.addr ≡ Some c.read.new.into) c.read.result c.in_ok-raise.field-0 c.in_ok-raise.field-0
-    c.in_ok-raise.ensures.only_ok refl c.read.ensures.found (search rules)))
+returns-clause-value g c =
+    subst (λ (s : VolatileState). IsTrue (is_trusted s.memory.history) → IfOk c.read_unmoved.result (λ found.
+    IsSome found → c.read_unmoved.new.into ≡ value_at (latest s.memory.history) c.args.addr)) c.look.ensures.same c.read_unmoved.ensures.value
+
+pub returns-clause-found : goal.returns-clause-found
+returns-clause-found g c =
+    subst (λ (s : VolatileState). IfOk c.read_unmoved.result (λ found. IfSome found (λ found. found ≡ record { addr = c.args.addr; seen = s.memory.history })))
+    c.look.ensures.same c.read_unmoved.ensures.found
+
+pub returns-clause-lacks : goal.returns-clause-lacks
+returns-clause-lacks g c =
+    subst (λ (s : VolatileState). IfOk c.read_unmoved.result (λ found. found ≡ None → known_at (usable s c.args.fetched.now) s.tail c.args.addr ≡ None))
+    c.look.ensures.same c.read_unmoved.ensures.lacks
+
+pub returns-clause-may : goal.returns-clause-may
+returns-clause-may g c =
+    subst (λ (s : VolatileState). OnOk c.read_unmoved.result (MayRead g.J.Naming.blocks (outset_of s) c.args.transaction.now c.args.addr)) c.look.ensures.same
+    c.read_unmoved.ensures.may
+
+pub returns-clause-refusal : goal.returns-clause-refusal
+returns-clause-refusal g c =
+    subst (λ (s : VolatileState). IfErr c.read_unmoved.result (IsReadRefusal g.J.Naming.blocks s c.args.transaction.now c.args.addr c.args.fetched.now)) c.look.ensures.same
+    c.read_unmoved.ensures.refusal
 
 pub returns-clause-event : goal.returns-clause-event
-returns-clause-event g c = λ d pair yes.
-    let may : MayRead g.J.Naming.blocks (outset_of c.args.self.now) c.args.transaction.now c.args.addr = search rules in
-    let object : IsTrue (is_object g.J.Naming.blocks (c.args.addr, c.read.new.into)) = search rules in
-    finds_in_memory g.J.Naming.blocks c.args.self.now d pair c.args.transaction.now c.args.addr c.read.new.into may (λ trusted. returns-clause-value g c trusted yes) object
+returns-clause-event g c =
+    subst (λ (s : VolatileState). (d : DurableState) → IsPair g.J.Naming.blocks s d → IfOk c.read_unmoved.result (λ found. IsSome found →
+    FindsValue g.J.Naming.blocks (core_of s d) c.args.transaction.now c.args.addr c.read_unmoved.new.into (core_of s d))) c.look.ensures.same c.read_unmoved.ensures.event

@@ -1,5 +1,5 @@
 use Rattle.journal_daemon.proofs.tests.barriers.barriers_stop_no_commit.Given as goal
 
--- the book that was just opened, and the disk's blocks
+-- the book and the cell that were just opened, and the disk's blocks
 abbrev pub ghosts-stop_no_commit : goal.ghosts-stop_no_commit
-ghosts-stop_no_commit g a = record { book = a.book.now; blocks = 800 }
+ghosts-stop_no_commit g a = record { book = a.book.now; cell = a.cell; blocks = 800 }

@@ -1,5 +1,5 @@
 use Rattle.journal_daemon.proofs.tests.crashes.watched.Given as goal
 
--- the book that was just opened, and the disk's blocks
+-- the book and the cell that were just opened, and the disk's blocks
 abbrev pub ghosts-watched_in : goal.ghosts-watched_in
-ghosts-watched_in g a = record { book = a.book.now; blocks = 532 }
+ghosts-watched_in g a = record { book = a.book.now; cell = a.cell; blocks = 532 }

@@ -1,5 +1,5 @@
 use Rattle.journal_daemon.proofs.tests.one_thread.each_call_is_answered.Given as goal
 
--- the book that was just opened, and the disk's blocks
+-- the book and the cell that were just opened, and the disk's blocks
 abbrev pub ghosts-answers : goal.ghosts-answers
-ghosts-answers g a = record { book = a.book.now; blocks = 800 }
+ghosts-answers g a = record { book = a.book.now; cell = a.cell; blocks = 800 }

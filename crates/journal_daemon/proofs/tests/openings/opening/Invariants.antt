@@ -1,5 +1,5 @@
 use Rattle.journal_daemon.proofs.tests.openings.opening.Given as goal
 
--- the book, and the disk's blocks
+-- the book, the cell that was just opened, and the disk's blocks
 abbrev pub ghosts-opening_in : goal.ghosts-opening_in
-ghosts-opening_in g a = record { book = a.book.now; blocks = a.disk.past.size }
+ghosts-opening_in g a = record { book = a.book.now; cell = a.cell; blocks = a.disk.past.size }

@@ -1,5 +1,5 @@
 use Rattle.journal_service_tests.proofs.filestore.mounts.mount_watched.Given as goal
 
--- the book that was just opened, and the disk's blocks
+-- the book and the cell that were just opened, and the disk's blocks
 abbrev pub ghosts-mount : goal.ghosts-mount
-ghosts-mount a = record { book = a.book.now; blocks = a.disk.disk.past.size }
+ghosts-mount a = record { book = a.book.now; cell = a.cell; blocks = a.disk.disk.past.size }

@@ -1,5 +1,12 @@
-use Rattle.journal_twophase.proofs.Looking.{finds}
+use Rattle.std.proofs.Common.{ap}
+use Rattle.journal_core.specs.Volatiles.{VolatileState}
+use Rattle.journal_twophase.proofs.Looking.{finds, agrees_found}
 use Rattle.journal_twophase.proofs.shared.SharedCore.read_in.Goals as goal
+
+pub returns-clause-agree : goal.returns-clause-agree
+returns-clause-agree g c =
+    agrees_found c.read-answer.result c.args.addr _ _ c.read-answer.new.held c.read-answer.ensures.found (ap (λ (v : VolatileState). v.memory.history) c.read-answer.ensures.same)
+    c.read-answer.ensures.agree
 
 pub returns-clause-found : goal.returns-clause-found
 returns-clause-found g c =

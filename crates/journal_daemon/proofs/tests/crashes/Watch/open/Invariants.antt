@@ -1,5 +1,5 @@
 use Rattle.journal_daemon.proofs.tests.crashes.Watch.open.Given as goal
 
--- the book that was just opened, and the image's blocks
+-- the book and the cell that were just opened, and the image's blocks
 abbrev pub ghosts-opens_in : goal.ghosts-opens_in
-ghosts-opens_in a = record { book = a.book.now; blocks = a.image.past.size }
+ghosts-opens_in a = record { book = a.book.now; cell = a.cell; blocks = a.image.past.size }

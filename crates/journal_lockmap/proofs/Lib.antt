@@ -1,0 +1,4 @@
+mod Moves
+mod Places
+mod Counting
+mod Marking

@@ -1,0 +1,65 @@
+-- What contracts see of the slots' numbers, and of a slot that is held.
+use Rattle.std.specs.Prelude.{ℕ, ◌≡◌, ◌<◌, ◌+◌, ◌==◌, if◌then◌else◌, Bool, false, IsTrue, List, length, map, All, slice_index, slice_index_or}
+use Rattle.std.specs.List.{list_any}
+use Rattle.atomic_table.specs.Seated.{TableId}
+use Rattle.journal_world.specs.declared.address.TheConstants.{SLOTS}
+use Rattle.journal_world.specs.Addresses.{slot_of}
+use Rattle.journal_world.specs.Maps.{Pair}
+use Rattle.journal_lockmap.specs.declared.cell.View.{View}
+use Rattle.journal_lockmap.specs.Tokens.{keeper, token}
+
+-- A slot that someone holds, or that is free: which, and how many commits touched it
+pub record HeldState : Type 0 where
+  pub slot : ℕ
+  pub count : ℕ
+
+-- A pass of the journal's cell that knows the number of this slot alone
+pub record IsToken (journal : TableId) (slot : ℕ) (of : TableId) (holds : Type 0) (v : View) : Type 0 where
+  pub cell : of ≡ journal
+  pub fresh : holds
+  pub view : v ≡ token slot v.count
+  pub small : slot < SLOTS
+
+-- A cell of the journal, with the pass that knows the numbers of all its slots, each of which has a token
+pub record IsKeeper (journal cell of : TableId) (v : View) : Type 0 where
+  pub cell_is : cell ≡ journal
+  pub pass_is : of ≡ journal
+  pub view : v ≡ keeper v.counts SLOTS
+  pub slots : length v.counts ≡ SLOTS
+
+-- the slot is among those that are counted, and its number is the one that is held
+abbrev pub HasNumber : List ℕ → HeldState → Type 0
+HasNumber counts h = (h.slot < length counts) × (h.count ≡ slice_index counts h.slot)
+
+-- what is held agrees with the numbers
+abbrev pub Agree : List ℕ → List HeldState → Type 0
+Agree counts held = All (HasNumber counts) held
+
+-- the slots of what is held
+abbrev pub slots_of : List HeldState → List ℕ
+slots_of held = map (λ h. h.slot) held
+
+-- some write is of the slot
+abbrev pub writes_slot : List Pair → ℕ → Bool
+writes_slot writes slot = list_any (λ p. slot_of p.0 == slot) writes
+
+-- for each slot, whether some write is of it
+abbrev pub Marks : List Bool → List Pair → Type 0
+Marks written writes = (slot : ℕ) → slot < SLOTS → slice_index_or written slot false ≡ writes_slot writes slot
+
+-- One commit more is counted, which writes these
+pub record CountsWrites (writes : List Pair) (old new : List ℕ) : Type 0 where
+  pub slots : length new ≡ length old
+  pub touched : (slot : ℕ) → slot < SLOTS → slice_index new slot ≡ (if writes_slot writes slot then slice_index old slot + 1 else slice_index old slot)
+
+-- the slot is among those that are held
+abbrev pub is_held : List HeldState → ℕ → Bool
+is_held held slot = list_any (λ h. h.slot == slot) held
+
+-- the slot of each address that is written is held
+abbrev pub AreCovered : List HeldState → List Pair → Type 0
+AreCovered held writes = All (λ p. IsTrue (is_held held (slot_of p.0))) writes
+
+-- each slot is held once
+abbrev pub AreApart : List HeldState → Type 0
+AreApart held = (i j : ℕ) → i < length held → j < length held → slice_index (slots_of held) i ≡ slice_index (slots_of held) j → i ≡ j

@@ -1,0 +1,94 @@
+// The cell of a journal's slots: its rule, and its kinds of step.
+use atomic_table::{Join, Split};
+use crossbeam_utils::atomic::seq_cell::{Pass, RuledSeqCell};
+use crossbeam_utils::rule::{Outcome, Protocol};
+use std::collections::LinkedList;
+
+/// What a pass knows: the keeper the number of every slot, a token that of its own. No value of it is made.
+pub struct View {
+    /// Whether it is the keeper: its `counts` are the slots' numbers, and the first `made` slots have tokens.
+    pub keeps: bool,
+    pub counts: LinkedList<u64>,
+    pub made: u64,
+    /// Whether it has a token: that of `slot`, which `count` commits touched.
+    pub has: bool,
+    pub slot: u64,
+    pub count: u64,
+}
+
+/// The rule: one pass at most is the keeper, each token agrees with it, and no slot has two tokens.
+pub struct Counted;
+
+impl Protocol<[u64; 1], View> for Counted {
+    ghost use Rattle.journal_lockmap.specs.Tokens.{first as first_view, Kept};
+
+    ghost holds = { Kept };
+
+    ghost first = { first_view };
+}
+
+/// A look at the cell.
+pub struct Look;
+
+impl Outcome<[u64; 1], View> for Look {
+    ghost use Rattle.journal_lockmap.specs.Tokens.{Agrees};
+
+    ghost then = { Agrees };
+}
+
+/// A commit's change.
+pub struct Touch;
+
+impl Outcome<[u64; 1], View> for Touch {
+    ghost use Rattle.journal_lockmap.specs.Tokens.{Touches};
+
+    ghost then = { Touches };
+}
+
+/// Makes the token of the next slot.
+pub struct Make;
+
+impl Split<View> for Make {
+    ghost use Rattle.std.specs.Prelude.{◌+◌, slice_index};
+    ghost use Rattle.journal_lockmap.specs.Tokens.{keeper, token};
+
+    ghost left = { λ v. keeper v.counts (v.made + 1) };
+
+    ghost right = { λ v. token v.made (slice_index v.counts v.made) };
+}
+
+/// Makes a pass that knows nothing.
+pub struct Spare;
+
+impl Split<View> for Spare {
+    ghost use Rattle.journal_lockmap.specs.Tokens.{keeper, nobody};
+
+    ghost left = { λ v. keeper v.counts v.made };
+
+    ghost right = { λ v. nobody };
+}
+
+/// Takes a token in, or splits it off.
+pub struct Off;
+
+impl Split<View> for Off {
+    ghost use Rattle.journal_lockmap.specs.Tokens.{keeper, token};
+
+    ghost left = { λ v. keeper v.counts v.made };
+
+    ghost right = { λ v. token v.slot v.count };
+}
+
+impl Join<View> for Off {
+    ghost use Rattle.journal_lockmap.specs.Tokens.{holder, nobody};
+
+    ghost both = { λ v w. holder v.counts v.made w.slot w.count };
+
+    ghost spent = { nobody };
+}
+
+/// The cell. Its one word says nothing: all that is known of slots stands in the passes' views.
+pub type Cell = RuledSeqCell<[u64; 1], View, Counted, 1>;
+
+/// A pass of the cell.
+pub type SlotPass = Pass<[u64; 1], View>;

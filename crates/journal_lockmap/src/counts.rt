@@ -1,0 +1,153 @@
+// How many commits touched each slot.
+ghost use Rattle.std.specs.Prelude.{false, ◌≡◌, ◌<◌, ◌+◌, IfOk, length, replicate, slice_index, slice_set};
+ghost use Rattle.crossbeam_utils.specs.Seq.{cell_view};
+ghost use Rattle.journal_world.specs.declared.address.TheConstants.{SLOTS as SLOT_COUNT};
+ghost use Rattle.journal_lockmap.specs.Tokens.{keeper, first as first_view};
+ghost use Rattle.journal_lockmap.specs.Numbers.{HasNumber, Agree, AreApart, AreCovered, slots_of, CountsWrites, Marks};
+
+use crate::cell::{Cell, SlotPass};
+use crate::held::Held;
+use crate::slots::Slots;
+use crate::steps::make;
+use crate::token::Token;
+use journal_history::Naming;
+use journal_world::{Objects, SLOTS, slot_of};
+use std::alloc::{AllocError, Global};
+use std::marker::{Model, PhantomData};
+use std::sync::Wait;
+
+/// The cell of the slots of a journal that has no name yet. Contracts see which cell it is, so that whoever opens
+/// the journal can name it by the cell.
+#[derive(Drop)]
+pub struct SlotCell {
+    cell: Cell,
+    first: SlotPass,
+}
+
+impl Model for SlotCell {
+    ghost use Rattle.std.specs.Prelude.{◌≡◌};
+    ghost use Rattle.atomic_table.specs.Seated.{TableId};
+    ghost use Rattle.crossbeam_utils.specs.Seq.{cell_view};
+    ghost use Rattle.journal_lockmap.specs.Tokens.{first as first_view};
+
+    ghost Value = { TableId };
+
+    ghost view = { λ c. c.cell.table.shared.table_id };
+
+    ghost invariant = { λ c. (c.first.table_id ≡ c.cell.table.shared.table_id) × (cell_view c.first ≡ first_view) };
+}
+
+impl SlotCell {
+    /// A new cell. Where memory is refused nothing was made.
+    pub fn open(alloc: Global) -> Result<SlotCell, AllocError> {
+        let (cell, first) = Cell::ruled(alloc, [0])?;
+        Ok(SlotCell { cell, first })
+    }
+}
+
+/// The numbers of commits that touched each slot. Contracts see them in the slots' order. They stand in proofs
+/// alone, as what one pass of the cell, the keeper, knows; a token knows that of its slot.
+#[derive(Drop)]
+pub struct SlotCounts<J: Naming> {
+    cell: Cell,
+    keeper: SlotPass,
+    journal: PhantomData<J>,
+}
+
+impl<J: Naming> Model for SlotCounts<J> {
+    ghost use Rattle.std.specs.Prelude.{ℕ, List};
+    ghost use Rattle.crossbeam_utils.specs.Seq.{cell_view};
+    ghost use Rattle.journal_lockmap.specs.Numbers.{IsKeeper};
+
+    ghost Value = { List ℕ };
+
+    ghost view = { λ c. (cell_view c.keeper).counts };
+
+    ghost invariant = { λ c. IsKeeper J.cell c.cell.table.shared.table_id c.keeper.table_id (cell_view c.keeper) };
+}
+
+impl<J: Naming> SlotCounts<J> {
+    /// The numbers of the journal that has this cell, and its slots, with a token for each. No commit touched any,
+    /// and all are free. Where memory is refused the cell is gone.
+    pub fn begin(alloc: Global, cell: SlotCell) -> Result<(SlotCounts<J>, Slots<J>), AllocError>
+        requires cell { cell ≡ J.cell }
+        ensures counts { IfOk result (λ made. made.0 ≡ replicate SLOT_COUNT 0) }
+        ensures free { IfOk result (λ made. made.1 ≡ replicate SLOT_COUNT false) }
+    {
+        let SlotCell { cell, first } = cell;
+        let mut keeper = first;
+        let mut free: Vec<Option<Token<J>>> = Vec::new(alloc);
+        for slot in 0..SLOTS {
+            let token = make(&cell, &mut keeper);
+            free.push(Some(Token::new(slot as u16, token)))?;
+        }
+        let counts = SlotCounts {
+            cell,
+            keeper,
+            journal: PhantomData,
+        };
+        Ok((counts, Slots { free }))
+    }
+
+    /// Shows that the numbers of what is held are those that are kept here. Nothing changes, and it waits for
+    /// nobody.
+    pub fn look_all<W: Wait>(&mut self, rt: &W, held: &mut [Held<J>])
+        ensures same { self.new ≡ self.old }
+        ensures held { held.new ≡ held.old }
+        ensures agree { Agree self.old held.old }
+    {
+        for index in 0..held.len() {
+            self.look(rt, &mut held[index]);
+        }
+    }
+
+    /// Counts one more commit, which writes these addresses, of slots that are held: a slot once, however many
+    /// addresses of it the commit writes. What is held agrees then, and holds the same slots. It takes no memory,
+    /// waits for nobody, and goes over the writes once and over what is held once.
+    pub fn count_writes<W: Wait>(&mut self, rt: &W, held: &mut [Held<J>], writes: &Objects)
+        requires apart { AreApart held.old }
+        requires covered { AreCovered held.old writes.now }
+        ensures counts { CountsWrites writes.now self.old self.new }
+        ensures agree { Agree self.new held.new }
+        ensures slots { slots_of held.new ≡ slots_of held.old }
+    {
+        let written = written_slots(writes);
+        for i in 0..held.len() {
+            if written[usize::from(held[i].slot())] {
+                self.touch(rt, &mut held[i]);
+            } else {
+                self.look(rt, &mut held[i]);
+            }
+        }
+    }
+
+    // Shows that what is held agrees with the numbers. Nothing changes.
+    fn look<W: Wait>(&mut self, rt: &W, held: &mut Held<J>)
+        ensures same { self.new ≡ self.old }
+        ensures held { held.new ≡ held.old }
+        ensures agrees { HasNumber self.old held.old }
+    {
+        held.token.look(rt, &self.cell, &mut self.keeper);
+    }
+
+    // Counts one more commit for a slot that is held.
+    fn touch<W: Wait>(&mut self, rt: &W, held: &mut Held<J>)
+        ensures count { self.new ≡ slice_set self.old held.old.slot (slice_index self.old held.old.slot + 1) }
+        ensures held { held.new ≡ record { slot = held.old.slot; count = slice_index self.old held.old.slot + 1 } }
+        ensures slots { length self.old ≡ SLOT_COUNT }
+    {
+        held.token.touch(rt, &self.cell, &mut self.keeper);
+    }
+}
+
+// Which slots some of the writes are of.
+fn written_slots(writes: &Objects) -> [bool; SLOTS as usize]
+    ensures all { length result ≡ SLOT_COUNT }
+    ensures marks { Marks result writes.now }
+{
+    let mut written = [false; SLOTS as usize];
+    for (addr, _) in writes.iter() {
+        written[usize::from(slot_of(*addr))] = true;
+    }
+    written
+}

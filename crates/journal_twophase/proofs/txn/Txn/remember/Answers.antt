@@ -1,0 +1,12 @@
+use Rattle.std.proofs.Common.{IsTrue, sym, subst}
+use Rattle.journal_world.specs.Addresses.{slot_of}
+use Rattle.journal_twophase.specs.Transactions.{TxnState, holds}
+use Rattle.journal_twophase.proofs.Holding.{keeps_written, begun_still}
+use Rattle.journal_twophase.proofs.txn.Txn.remember.Goals as goal
+
+pub invariant_of-self-2 : goal.invariant_of-self-2
+invariant_of-self-2 g c = (
+  begun_still c.self.inside.began c.self.inside.transaction c.overwrite.new.self c.args.addr c.new-value.result c.self.invariant.0 c.in_ok-overwrite.ensures.ok,
+  keeps_written c.self.inside.held.items c.self.inside.transaction c.overwrite.new.self c.args.addr c.new-value.result c.self.invariant.1
+      (subst (λ (s : TxnState). IsTrue (holds s.held (slot_of c.args.addr))) (sym c.self.view_is) c.requires.slot) c.in_ok-overwrite.ensures.ok,
+)
