@@ -10,6 +10,15 @@ use Rattle.journal_wal.proofs.wal.Wal.take_reserved.Given.{Over}
 use Rattle.journal_wal.proofs.wal.Wal.take_reserved.Goals.{After-cut}
 use Rattle.journal_wal.proofs.wal.Wal.take_reserved.Goals as goal
 
+pub returns-clause-takes : goal.returns-clause-takes
+returns-clause-takes g c =
+    subst (λ (w : WalState). TakesGroup w c.args.updates.items (record (of_parts c.self.inside.on_disk.circ c.self.inside.memory (logging_of c.self.inside.on_disk.logger) (installing_of c.self.inside.on_disk.installer)) { log = c.cut.new.self })) c.self.view_is
+    (group_taken (of_parts c.self.inside.on_disk.circ c.self.inside.memory (logging_of c.self.inside.on_disk.logger) (installing_of c.self.inside.on_disk.installer)) c.args.updates.items c.self.invariant
+    (subst (λ (w : WalState). HasGroupRoom w (length c.args.updates.items)) (sym c.self.view_is) c.requires.room)
+    (subst (λ (w : WalState). AreHomes (size_of w) c.args.updates.items) (sym c.self.view_is) c.requires.homes)
+    c.requires.distinct c.cut.new.self
+    (c.cut.ensures.log ∙ ap (λ (l : LogState). record l { cut = next_position l }) c.append.ensures.log)).1
+
 taken : (g : Over) (c : After-cut g) → let w = of_parts c.self.inside.on_disk.circ c.self.inside.memory (logging_of c.self.inside.on_disk.logger) (installing_of c.self.inside.on_disk.installer) in
     Leaves w (record w { log = c.cut.new.self }) × TakesGroup w c.args.updates.items (record w { log = c.cut.new.self })
 taken g c =
@@ -18,11 +27,6 @@ taken g c =
     (subst (λ (w : WalState). AreHomes (size_of w) c.args.updates.items) (sym c.self.view_is) c.requires.homes)
     c.requires.distinct c.cut.new.self
     (c.cut.ensures.log ∙ ap (λ (l : LogState). record l { cut = next_position l }) c.append.ensures.log)
-
-pub returns-clause-takes : goal.returns-clause-takes
-returns-clause-takes g c =
-    subst (λ (w : WalState). TakesGroup w c.args.updates.items (record (of_parts c.self.inside.on_disk.circ c.self.inside.memory (logging_of c.self.inside.on_disk.logger) (installing_of c.self.inside.on_disk.installer)) { log = c.cut.new.self })) c.self.view_is
-    (taken g (goal.at.returns-clause-takes g c).After-cut).1
 
 pub append-requires : goal.append-requires
 append-requires g c =
