@@ -3,7 +3,7 @@ use Rattle.std.proofs.Common.{◌≡◌, ℕ, ◌==◌, ◌||◌, Bool, true, fa
 use Rattle.std.proofs.lemmas.Bool.{cond-true, cond-false}
 use Rattle.journal_block.specs.declared.update.Update.{Update}
 use Rattle.journal_block.specs.Block.{Bytes}
-use Rattle.journal_block.specs.Updates.{Content, updated, with_updates, updates_block}
+use Rattle.journal_block.specs.Updates.{updated, updates_block}
 
 -- some updates, and then others
 pub updated-append : (first later : List Update) (b : ℕ) (bytes : Bytes)

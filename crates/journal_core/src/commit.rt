@@ -3,7 +3,7 @@ ghost use Rattle.std.specs.Prelude.{◌≡◌, length, IsTrue, IfOk, IfErr, OnOk
 ghost use Rattle.journal_world.specs.Maps.{Map, Agrees, overwritten};
 ghost use Rattle.journal_world.specs.Histories.{is_trusted, latest};
 ghost use Rattle.journal_history.specs.Tokens.{next_transaction, OnlyExtends, IsReceiptFor};
-ghost use Rattle.journal_lockmap.specs.Numbers.{AreApart, AreCovered, slots_of};
+ghost use Rattle.journal_lockmap.specs.Numbers.{AreApart, HoldsSlots, slots_of};
 ghost use Rattle.journal_core.specs.SlotCounts.{AgreeWith, AreUnder};
 ghost use Rattle.journal_core.specs.Transactions.{AreUnmoved};
 ghost use Rattle.journal_core.specs.Cores.{Crashes, IsRunning, OnlyReads};
@@ -49,7 +49,7 @@ impl<'b, D: BlockDisk, R: MapRule, J: Naming> Core<'b, D, R, J> {
         requires rule { (m : Map) → m.blocks ≡ J.blocks → R.statement m → Agrees m transaction.now.reads
             → R.statement (overwritten m transaction.now.writes) }
         requires under { AreUnder held.old transaction.now.seen transaction.now.reads }
-        requires covered { AreCovered held.old transaction.now.writes }
+        requires covered { HoldsSlots held.old transaction.now.writes }
         requires apart { AreApart held.old }
         ensures agree { AgreeWith self.new.history held.new }
         ensures slots { slots_of held.new ≡ slots_of held.old }
@@ -83,7 +83,7 @@ impl<'b, D: BlockDisk, R: MapRule, J: Naming> Core<'b, D, R, J> {
         requires rule { (m : Map) → m.blocks ≡ J.blocks → R.statement m → Agrees m transaction.now.reads
             → R.statement (overwritten m transaction.now.writes) }
         requires unmoved { AreUnmoved self.old.history transaction.now }
-        requires covered { AreCovered held.old transaction.now.writes }
+        requires covered { HoldsSlots held.old transaction.now.writes }
         requires apart { AreApart held.old }
         ensures agree { OnOk result (AgreeWith self.new.history held.new) }
         ensures slots { slots_of held.new ≡ slots_of held.old }

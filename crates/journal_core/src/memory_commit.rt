@@ -5,7 +5,7 @@ ghost use Rattle.journal_world.specs.Histories.{is_trusted, is_fenced, commits_o
 ghost use Rattle.journal_world.specs.Histories.Entry.{stable};
 ghost use Rattle.journal_history.specs.Tokens.{made, next_transaction, OnlyExtends, Commits, IsReceiptFor};
 ghost use Rattle.journal_core.specs.Memories.{HasSeen, ShowsLonger, IsStaleRefusal, IsAdmissionRefusal, IsAddingRefusal, IsMarkRefusal};
-ghost use Rattle.journal_lockmap.specs.Numbers.{AreApart, AreCovered, slots_of};
+ghost use Rattle.journal_lockmap.specs.Numbers.{AreApart, HoldsSlots, slots_of};
 ghost use Rattle.journal_core.specs.SlotCounts.{AgreeWith};
 ghost use Rattle.journal_core.specs.Transactions.{AreUnmoved};
 
@@ -83,7 +83,7 @@ impl<'b, R: MapRule, J: Naming> Memory<'b, R, J> {
         requires room { length self.old.history + 1 < 2 ^ 62 }
         requires small { session.old.number < 2 ^ 62 }
         requires apart { AreApart held.old }
-        requires covered { AreCovered held.old transaction.now.writes }
+        requires covered { HoldsSlots held.old transaction.now.writes }
         ensures agree { OnOk result (AgreeWith self.new.history held.new) }
         ensures slots { slots_of held.new ≡ slots_of held.old }
         ensures held { OnErr result (held.new ≡ held.old) }

@@ -4,7 +4,7 @@ ghost use Rattle.journal_world.specs.Maps.{Map, Agrees, overwritten};
 ghost use Rattle.journal_world.specs.Histories.{is_trusted, latest};
 ghost use Rattle.journal_objlog.specs.ObjectTails.{known_updates, missing_blocks};
 ghost use Rattle.journal_history.specs.Tokens.{next_transaction, OnlyExtends, IsReceiptFor};
-ghost use Rattle.journal_lockmap.specs.Numbers.{AreApart, AreCovered, slots_of};
+ghost use Rattle.journal_lockmap.specs.Numbers.{AreApart, HoldsSlots, slots_of};
 ghost use Rattle.journal_core.specs.SlotCounts.{AgreeWith};
 ghost use Rattle.journal_core.specs.Cores.{Crashes, IsPair, IsRunning, OnlyReads, core_of};
 ghost use Rattle.journal_core.specs.Durables.{IsCallRefusal};
@@ -44,7 +44,7 @@ impl<'b, D: BlockDisk, R: MapRule, J: Naming> Durable<'b, D, R, J> {
         requires rule { (m : Map) → m.blocks ≡ J.blocks → R.statement m → Agrees m transaction.now.reads
             → R.statement (overwritten m transaction.now.writes) }
         requires unmoved { AreUnmoved memory.old.memory.history transaction.now }
-        requires covered { AreCovered held.old transaction.now.writes }
+        requires covered { HoldsSlots held.old transaction.now.writes }
         requires apart { AreApart held.old }
         requires pair { IsPair J.blocks memory.old self.old }
         ensures agree { OnOk result (AgreeWith memory.new.memory.history held.new) }
@@ -91,7 +91,7 @@ impl<'b, D: BlockDisk, R: MapRule, J: Naming> Durable<'b, D, R, J> {
         requires rule { (m : Map) → m.blocks ≡ J.blocks → R.statement m → Agrees m transaction.now.reads
             → R.statement (overwritten m transaction.now.writes) }
         requires unmoved { AreUnmoved memory.old.memory.history transaction.now }
-        requires covered { AreCovered held.old transaction.now.writes }
+        requires covered { HoldsSlots held.old transaction.now.writes }
         requires apart { AreApart held.old }
         requires blocks { All (λ u. u.block < J.blocks) rooms.items }
         requires named { map (λ u. u.block) rooms.items ≡ missing_blocks J.blocks (known_updates [] memory.old.tail) transaction.now.writes }

@@ -7,7 +7,7 @@ ghost use Rattle.journal_block.specs.Updates.{updates_block};
 ghost use Rattle.journal_objlog.specs.ObjectTails.{blocks_of, known_updates, tail_base, missing_blocks, TakesPrepared, IfReady, IfMissing as IfUnready};
 ghost use Rattle.journal_objlog.specs.Writes.{writes_block, written_blocks, IsPrepared};
 ghost use Rattle.journal_history.specs.Tokens.{made, next_transaction, OnlyExtends, IsReceiptFor};
-ghost use Rattle.journal_lockmap.specs.Numbers.{AreApart, AreCovered, slots_of};
+ghost use Rattle.journal_lockmap.specs.Numbers.{AreApart, HoldsSlots, slots_of};
 ghost use Rattle.journal_core.specs.Memories.{ShowsLonger, IsAddingRefusal};
 ghost use Rattle.journal_core.specs.SlotCounts.{AgreeWith, AreUnder};
 ghost use Rattle.journal_core.specs.Transactions.{AreUnmoved};
@@ -69,7 +69,7 @@ impl<'b, R: MapRule, J: Naming> Volatile<'b, R, J> {
         requires rule { (m : Map) → m.blocks ≡ J.blocks → R.statement m → Agrees m transaction.now.reads
             → R.statement (overwritten m transaction.now.writes) }
         requires under { AreUnder held.old transaction.now.seen transaction.now.reads }
-        requires covered { AreCovered held.old transaction.now.writes }
+        requires covered { HoldsSlots held.old transaction.now.writes }
         requires apart { AreApart held.old }
         ensures agree { AgreeWith self.new.memory.history held.new }
         ensures slots { slots_of held.new ≡ slots_of held.old }
@@ -108,7 +108,7 @@ impl<'b, R: MapRule, J: Naming> Volatile<'b, R, J> {
         requires rule { (m : Map) → m.blocks ≡ J.blocks → R.statement m → Agrees m transaction.now.reads
             → R.statement (overwritten m transaction.now.writes) }
         requires unmoved { AreUnmoved self.old.memory.history transaction.now }
-        requires covered { AreCovered held.old transaction.now.writes }
+        requires covered { HoldsSlots held.old transaction.now.writes }
         requires apart { AreApart held.old }
         ensures agree { IfOk result (IfDone (λ _. AgreeWith self.new.memory.history held.new)) }
         ensures slots { slots_of held.new ≡ slots_of held.old }
@@ -205,7 +205,7 @@ impl<'b, R: MapRule, J: Naming> Volatile<'b, R, J> {
         requires ready { TakesPrepared self.old.tail prepared }
         requires named { (b : ℕ) → updates_block prepared b ≡ writes_block transaction.now.writes b }
         requires written { IsTrue (is_trusted self.old.memory.history) → AreObjectsOf J.blocks (overwritten (latest self.old.memory.history) transaction.now.writes) prepared }
-        requires covered { AreCovered held.old transaction.now.writes }
+        requires covered { HoldsSlots held.old transaction.now.writes }
         requires apart { AreApart held.old }
         ensures agree { OnOk result (AgreeWith self.new.memory.history held.new) }
         ensures slots { slots_of held.new ≡ slots_of held.old }

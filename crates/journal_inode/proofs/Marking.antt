@@ -7,7 +7,7 @@ use Rattle.std.proofs.lemmas.List.{length-set, get_or-take, length-take-le}
 use Rattle.std.proofs.lemmas.List.Elements.{All-nil, All-push, All-get_or, Contains-get_or, Contains-append_left, Contains-push, Contains-push_cases}
 use Rattle.std.proofs.lemmas.List.Quantifiers.{all_pairs_push}
 use Rattle.journal_world.specs.declared.layout.TheConstants.{FIRST_DATA}
-use Rattle.journal_inode.specs.Admitting.{IsUnmarked, Marks}
+use Rattle.journal_inode.specs.Admitting.{IsUnmarked, MarksBlocks}
 
 pub get-set_same : (xs : List Bool) (k : ℕ) (x : Bool) → k < length xs → slice_get (slice_set xs k x) k ≡ Some x
 get-set_same [] k x low = absurd (omega arith)
@@ -39,8 +39,8 @@ place_of b from = omega arith
 contains_none : (b : ℕ) → Contains {X = ℕ} [] b → ⊥
 contains_none b has = let low : has.0 < 0 = has.1 in omega (arith, low)
 
-pub Marks-none : (old : List Bool) → Marks [] old old
-Marks-none old = record {
+pub MarksBlocks-none : (old : List Bool) → MarksBlocks [] old old
+MarksBlocks-none old = record {
   unmarked = All-nil (IsUnmarked old);
   distinct = λ i j d low high. absurd (omega (arith, high));
   marked = λ k. ((λ set. inl set), λ either. by_either k either);
@@ -52,9 +52,9 @@ Marks-none old = record {
     by_either k (inr has) = absurd (contains_none (FIRST_DATA + k) has)
 
 -- one more was free
-pub Marks-more : (bs : List ℕ) (b : ℕ) (old mid new : List Bool) → Marks bs old mid → FIRST_DATA ≤ b → IsUnmarked mid b → new ≡ slice_set mid (b - FIRST_DATA) true
-    → Marks (bs ++ b ∷ []) old new
-Marks-more bs b old mid new marks from unmarked is = record {
+pub MarksBlocks-more : (bs : List ℕ) (b : ℕ) (old mid new : List Bool) → MarksBlocks bs old mid → FIRST_DATA ≤ b → IsUnmarked mid b → new ≡ slice_set mid (b - FIRST_DATA) true
+    → MarksBlocks (bs ++ b ∷ []) old new
+MarksBlocks-more bs b old mid new marks from unmarked is = record {
   unmarked = All-push (IsUnmarked old) bs b marks.unmarked was;
   distinct = all_pairs_push ◌≢◌ bs b marks.distinct
       (λ k d low same. true-false (marked_mid (subst (Contains bs) same (Contains-get_or bs k d low))) unmarked);
@@ -106,9 +106,9 @@ same_default zero (x ∷ xs) d e low = refl
 same_default (suc k) (x ∷ xs) d e low = same_default k xs d e (omega (arith, low))
 
 -- one was marked already, so not all of them were free and distinct
-pub Marks-twice : (bs : List ℕ) (i : ℕ) (old mid : List Bool) → Marks (take i bs) old mid → i < length bs → FIRST_DATA ≤ get_or bs i 0 → slice_get mid (get_or bs i 0 - FIRST_DATA) ≡ Some true
+pub MarksBlocks-twice : (bs : List ℕ) (i : ℕ) (old mid : List Bool) → MarksBlocks (take i bs) old mid → i < length bs → FIRST_DATA ≤ get_or bs i 0 → slice_get mid (get_or bs i 0 - FIRST_DATA) ≡ Some true
     → All (IsUnmarked old) bs → AllPairs ◌≢◌ bs → ⊥
-Marks-twice bs i old mid marks low from set unmarked distinct = by_either ((marks.marked (get_or bs i 0 - FIRST_DATA)).0 set)
+MarksBlocks-twice bs i old mid marks low from set unmarked distinct = by_either ((marks.marked (get_or bs i 0 - FIRST_DATA)).0 set)
   where
     by_either : (slice_get old (get_or bs i 0 - FIRST_DATA) ≡ Some true) ⊎ Contains (take i bs) (FIRST_DATA + (get_or bs i 0 - FIRST_DATA)) → ⊥
     by_either (inl was) = true-false was (All-get_or (IsUnmarked old) bs i 0 low unmarked)

@@ -46,20 +46,20 @@ abbrev pub IsUnmarked : List Bool → ℕ → Type 0
 IsUnmarked marks b = slice_get marks (b - FIRST_DATA) ≡ Some false
 
 -- These blocks were marked by none and are distinct, and the table is marked with them
-pub record Marks (bs : List ℕ) (old new : List Bool) : Type 0 where
+pub record MarksBlocks (bs : List ℕ) (old new : List Bool) : Type 0 where
   pub unmarked : All (IsUnmarked old) bs
   pub distinct : AllPairs ◌≢◌ bs
   pub marked : (k : ℕ) → (slice_get new k ≡ Some true) ↔ ((slice_get old k ≡ Some true) ⊎ Contains bs (FIRST_DATA + k))
   pub same_length : length new ≡ length old
 
 -- The table was marked with the blocks, or one of them was marked already
-abbrev pub MarksAll : List ℕ → List Bool → List Bool → Bool → Type 0
-MarksAll bs old new true = Marks bs old new
-MarksAll bs old new false = All (IsUnmarked old) bs → AllPairs ◌≢◌ bs → ⊥
+abbrev pub MarksOrMeets : List ℕ → List Bool → List Bool → Bool → Type 0
+MarksOrMeets bs old new true = MarksBlocks bs old new
+MarksOrMeets bs old new false = All (IsUnmarked old) bs → AllPairs ◌≢◌ bs → ⊥
 
 -- so for the blocks of an inode
 abbrev pub Claims : FormatVersion → Node → List Bool → List Bool → Bool → Type 0
-Claims version (File f) old new claimed = MarksAll (blocks_of version f) old new claimed
+Claims version (File f) old new claimed = MarksOrMeets (blocks_of version f) old new claimed
 Claims version _ old new claimed = (claimed ≡ true) × (new ≡ old)
 
 -- The block is a data block, and its bytes from a size on are zero

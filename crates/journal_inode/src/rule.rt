@@ -5,7 +5,7 @@ ghost use Rattle.journal_inode.specs.Sound.{superblock_of, node_at, IsDataBlock,
 ghost use Rattle.journal_world.specs.Refusals.{IsReadingRefusal};
 ghost use Rattle.journal_inode.specs.Places.{object};
 ghost use Rattle.journal_inode.specs.Places.Object.{superblock};
-ghost use Rattle.journal_inode.specs.Admitting.{AllZero, IsSoundBlock, AreSoundBlocks, MarksAll, IsSoundInode, HasDataBlocks, AreSoundBelow, AreOwners, Claims, bit_asked, AreBitsBelow};
+ghost use Rattle.journal_inode.specs.Admitting.{AllZero, IsSoundBlock, AreSoundBlocks, MarksOrMeets, IsSoundInode, HasDataBlocks, AreSoundBelow, AreOwners, Claims, bit_asked, AreBitsBelow};
 
 use crate::superblock::{are_zero, is_superblock};
 use crate::{
@@ -270,7 +270,7 @@ fn claim(owners: &mut Vec<bool>, version: FormatVersion, node: Node) -> bool
 // Notes blocks as owned; no where one of them is owned already.
 fn mark(owners: &mut Vec<bool>, blocks: &[u64]) -> bool
     requires { AllByRecursion (IsDataBlock (FIRST_DATA + length owners.old.items)) blocks.now }
-    ensures marks { MarksAll blocks.now owners.old.items owners.new.items result }
+    ensures marks { MarksOrMeets blocks.now owners.old.items owners.new.items result }
     ensures length { length owners.new.items ≡ length owners.old.items }
 {
     for block in blocks {

@@ -1,5 +1,5 @@
 -- A commit's writes are counted, one held slot after the other.
-use Rattle.std.proofs.Common.{◌≡◌, ◌≢◌, ◌<◌, ◌≤◌, ◌+◌, ◌==◌, ◌||◌, ◌&&◌, ℕ, zero, suc, Bool, true, false, cond, if◌then◌else◌, IsTrue, List, [], ◌∷◌, length, get_or, set, take, map, All, eq-eqb, refl, sym, ap, subst, ◌∙◌, arith, get_or-set_same, get_or-set_other}
+use Rattle.std.proofs.Common.{◌≡◌, ◌≢◌, ◌<◌, ◌≤◌, ◌+◌, ◌==◌, ◌||◌, ◌&&◌, ℕ, zero, suc, Bool, true, false, cond, if◌then◌else◌, IsTrue, List, [], ◌∷◌, length, get_or, set, take, eq-eqb, refl, sym, ap, subst, ◌∙◌, arith, get_or-set_same, get_or-set_other}
 use Rattle.std.specs.Prelude.{slice_index, slice_set}
 use Rattle.std.specs.List.{list_any}
 use Rattle.std.proofs.lemmas.Bool.{ne_eqb, eqb-true, eqb-false, true≢false}
@@ -11,7 +11,7 @@ use Rattle.std.proofs.lemmas.Grind.{get_or-set_at}
 use Rattle.journal_world.specs.declared.address.TheConstants.{SLOTS}
 use Rattle.journal_world.specs.Addresses.{slot_of}
 use Rattle.journal_world.specs.Maps.{Pair}
-use Rattle.journal_lockmap.specs.Numbers.{HeldState, slots_of, is_held, HasNumber, AreApart, AreCovered, Agree, writes_slot, Marks, CountsWrites}
+use Rattle.journal_lockmap.specs.Numbers.{HeldState, slots_of, is_held, HasNumber, AreApart, HoldsSlots, Agree, is_written, CountsWrites}
 
 abbrev none : HeldState
 none = record { slot = 0; count = 0 }
@@ -25,7 +25,7 @@ pub record AreCountedTo (writes : List Pair) (i : ℕ) (held now : List HeldStat
   pub same : slots_of now ≡ slots_of held
   pub long : length new ≡ length old
   pub agree : (k : ℕ) (d : HeldState) → k < i → HasNumber new (get_or now k d)
-  pub counted : (slot : ℕ) → slot < SLOTS → slice_index new slot ≡ cond (is_among held i slot && writes_slot writes slot) (slice_index old slot + 1) (slice_index old slot)
+  pub counted : (slot : ℕ) → slot < SLOTS → slice_index new slot ≡ cond (is_among held i slot && is_written writes slot) (slice_index old slot + 1) (slice_index old slot)
 
 pub counted_none : (writes : List Pair) (held : List HeldState) (old : List ℕ) → AreCountedTo writes 0 held held old old
 counted_none writes held old = record { same = refl; long = refl; agree = λ k d lt. absurd (omega (arith, lt)); counted = λ slot lt. refl }
@@ -72,10 +72,10 @@ module _ (writes : List Pair) (held now : List HeldState) (old new : List ℕ) (
   among_other other differ = more other ∙ ap (λ b. is_among held i other || b) (ne_eqb slot other differ) ∙ or-false (is_among held i other)
 
   pub uncounted : slice_index new slot ≡ slice_index old slot
-  uncounted = was.counted slot small ∙ ap (λ b. cond (b && writes_slot writes slot) (slice_index old slot + 1) (slice_index old slot)) not_among
+  uncounted = was.counted slot small ∙ ap (λ b. cond (b && is_written writes slot) (slice_index old slot + 1) (slice_index old slot)) not_among
 
   -- it is counted
-  pub counted_one : writes_slot writes slot ≡ true → slot < length new
+  pub counted_one : is_written writes slot ≡ true → slot < length new
       → AreCountedTo writes (i + 1) held (set now i (record { slot = slot; count = slice_index new slot + 1 })) old (slice_set new slot (slice_index new slot + 1))
   counted_one wrote in_list = record {
     same = slots_set now i x none (omega (arith, lt, lengths)) (sym here) ∙ was.same;
@@ -103,22 +103,22 @@ module _ (writes : List Pair) (held now : List HeldState) (old new : List ℕ) (
           (omega (arith, here.0, length-set new slot n), here.1 ∙ sym (get_or-set_other new slot (get_or now k d).slot n 0 (λ same. apart_slot (sym same))))
 
       counts : (other : ℕ) → other < SLOTS → (b : Bool) → (slot == other) ≡ b
-          → slice_index (set new slot n) other ≡ cond (is_among held (i + 1) other && writes_slot writes other) (slice_index old other + 1) (slice_index old other)
+          → slice_index (set new slot n) other ≡ cond (is_among held (i + 1) other && is_written writes other) (slice_index old other + 1) (slice_index old other)
       counts other lt_other true is =
           let same : slot ≡ other = eqb-true slot other is in
-          subst (λ (o : ℕ). slice_index (set new slot n) o ≡ cond (is_among held (i + 1) o && writes_slot writes o) (slice_index old o + 1) (slice_index old o)) same
+          subst (λ (o : ℕ). slice_index (set new slot n) o ≡ cond (is_among held (i + 1) o && is_written writes o) (slice_index old o + 1) (slice_index old o)) same
           (get_or-set_same new slot n 0 in_list
           ∙ ap (λ m. m + 1) uncounted
-          ∙ sym (ap (λ b. cond (b && writes_slot writes slot) (slice_index old slot + 1) (slice_index old slot)) among_own
+          ∙ sym (ap (λ b. cond (b && is_written writes slot) (slice_index old slot + 1) (slice_index old slot)) among_own
           ∙ ap (λ b. cond b (slice_index old slot + 1) (slice_index old slot)) wrote))
       counts other lt_other false is =
           let differ : slot ≢ other = eqb-false slot other is in
           get_or-set_other new slot other n 0 (λ same. differ (sym same))
           ∙ was.counted other lt_other
-          ∙ sym (ap (λ b. cond (b && writes_slot writes other) (slice_index old other + 1) (slice_index old other)) (among_other other differ))
+          ∙ sym (ap (λ b. cond (b && is_written writes other) (slice_index old other + 1) (slice_index old other)) (among_other other differ))
 
   -- or nothing is written there, and the number stays
-  pub counted_not : writes_slot writes slot ≡ false → HasNumber new (get_or now i none) → AreCountedTo writes (i + 1) held now old new
+  pub counted_not : is_written writes slot ≡ false → HasNumber new (get_or now i none) → AreCountedTo writes (i + 1) held now old new
   counted_not not_wrote agrees_here = record {
     same = was.same;
     long = was.long;
@@ -133,24 +133,24 @@ module _ (writes : List Pair) (held now : List HeldState) (old new : List ℕ) (
       agrees k d less false is = let differ : k ≢ i = eqb-false k i is in was.agree k d (omega (arith, less, differ))
 
       counts : (other : ℕ) → other < SLOTS → (b : Bool) → (slot == other) ≡ b
-          → slice_index new other ≡ cond (is_among held (i + 1) other && writes_slot writes other) (slice_index old other + 1) (slice_index old other)
+          → slice_index new other ≡ cond (is_among held (i + 1) other && is_written writes other) (slice_index old other + 1) (slice_index old other)
       counts other lt_other true is =
           let same : slot ≡ other = eqb-true slot other is in
-          subst (λ (o : ℕ). slice_index new o ≡ cond (is_among held (i + 1) o && writes_slot writes o) (slice_index old o + 1) (slice_index old o)) same
+          subst (λ (o : ℕ). slice_index new o ≡ cond (is_among held (i + 1) o && is_written writes o) (slice_index old o + 1) (slice_index old o)) same
           (uncounted
           ∙ sym (ap (λ b. cond (is_among held (i + 1) slot && b) (slice_index old slot + 1) (slice_index old slot)) not_wrote
           ∙ ap (λ b. cond b (slice_index old slot + 1) (slice_index old slot)) (and-false (is_among held (i + 1) slot))))
       counts other lt_other false is =
           let differ : slot ≢ other = eqb-false slot other is in
           was.counted other lt_other
-          ∙ sym (ap (λ b. cond (b && writes_slot writes other) (slice_index old other + 1) (slice_index old other)) (among_other other differ))
+          ∙ sym (ap (λ b. cond (b && is_written writes other) (slice_index old other + 1) (slice_index old other)) (among_other other differ))
 
 same_length : (held now : List HeldState) → slots_of now ≡ slots_of held → length now ≡ length held
 same_length held now same = sym (length-map now (λ (h : HeldState). h.slot)) ∙ ap length same ∙ length-map held (λ (h : HeldState). h.slot)
 
 -- the next one that is held was touched, however its place is named
 pub counted_touched : (writes : List Pair) (held now later : List HeldState) (old new more : List ℕ) (i slot : ℕ) (d e x : HeldState)
-    → i < length now → AreApart held → AreCountedTo writes i held now old new → slot ≡ (get_or now i d).slot → slot < SLOTS → writes_slot writes slot ≡ true → length new ≡ SLOTS
+    → i < length now → AreApart held → AreCountedTo writes i held now old new → slot ≡ (get_or now i d).slot → slot < SLOTS → is_written writes slot ≡ true → length new ≡ SLOTS
     → later ≡ set now i x → x ≡ record { slot = (get_or now i e).slot; count = slice_index new (get_or now i e).slot + 1 }
     → more ≡ slice_set new (get_or now i e).slot (slice_index new (get_or now i e).slot + 1)
     → AreCountedTo writes (i + 1) held later old more
@@ -165,7 +165,7 @@ counted_touched writes held now later old new more i slot d e x lt apart was is 
 
 -- or only looked at
 pub counted_looked : (writes : List Pair) (held now later : List HeldState) (old new more : List ℕ) (i slot : ℕ) (d e x : HeldState)
-    → i < length now → AreApart held → AreCountedTo writes i held now old new → slot ≡ (get_or now i d).slot → slot < SLOTS → writes_slot writes slot ≡ false
+    → i < length now → AreApart held → AreCountedTo writes i held now old new → slot ≡ (get_or now i d).slot → slot < SLOTS → is_written writes slot ≡ false
     → later ≡ set now i x → x ≡ get_or now i e → more ≡ new → HasNumber new (get_or now i e)
     → AreCountedTo writes (i + 1) held later old more
 counted_looked writes held now later old new more i slot d e x lt apart was is small not_wrote later_is x_is more_is agrees =
@@ -179,29 +179,29 @@ held_among : (held : List HeldState) (slot : ℕ) → list_any (λ n. n == slot)
 held_among [] slot = refl
 held_among (h ∷ hs) slot = ap (λ b. (h.slot == slot) || b) (held_among hs slot)
 
-covered_slot : (writes : List Pair) (held : List HeldState) (slot : ℕ) → AreCovered held writes → writes_slot writes slot ≡ true → is_held held slot ≡ true
+covered_slot : (writes : List Pair) (held : List HeldState) (slot : ℕ) → HoldsSlots held writes → is_written writes slot ≡ true → is_held held slot ≡ true
 covered_slot [] held slot all some = absurd (true≢false (sym some))
 covered_slot (p ∷ ps) held slot all some = by (slot_of p.0 == slot) refl (covered_slot ps held slot (All-tail (λ (q : Pair). IsTrue (is_held held (slot_of q.0))) p ps all))
   where
-    by : (b : Bool) → (slot_of p.0 == slot) ≡ b → (writes_slot ps slot ≡ true → is_held held slot ≡ true) → is_held held slot ≡ true
+    by : (b : Bool) → (slot_of p.0 == slot) ≡ b → (is_written ps slot ≡ true → is_held held slot ≡ true) → is_held held slot ≡ true
     by true is rest = subst (λ (n : ℕ). is_held held n ≡ true) (eqb-true (slot_of p.0) slot is) (All-head (λ (q : Pair). IsTrue (is_held held (slot_of q.0))) p ps all)
-    by false is rest = rest (sym (ap (λ b. b || writes_slot ps slot) is) ∙ some)
+    by false is rest = rest (sym (ap (λ b. b || is_written ps slot) is) ∙ some)
 
 -- once all that is held was gone through, the commit is counted
-pub counted_all : (writes : List Pair) (i : ℕ) (held now : List HeldState) (old new : List ℕ) → length held ≤ i → AreCovered held writes
+pub counted_all : (writes : List Pair) (i : ℕ) (held now : List HeldState) (old new : List ℕ) → length held ≤ i → HoldsSlots held writes
     → AreCountedTo writes i held now old new → CountsWrites writes old new
 counted_all writes i held now old new through covered was = record {
   slots = was.long;
-  touched = λ slot lt. was.counted slot lt ∙ by slot (writes_slot writes slot) refl;
+  touched = λ slot lt. was.counted slot lt ∙ by slot (is_written writes slot) refl;
 }
   where
     among : (slot : ℕ) → is_among held i slot ≡ is_held held slot
     among slot = ap (list_any (λ n. n == slot)) (take_all i (slots_of held) (omega (arith, through, length-map held (λ (h : HeldState). h.slot)))) ∙ held_among held slot
 
-    by : (slot : ℕ) (b : Bool) → writes_slot writes slot ≡ b
-        → cond (is_among held i slot && writes_slot writes slot) (slice_index old slot + 1) (slice_index old slot)
-        ≡ cond (writes_slot writes slot) (slice_index old slot + 1) (slice_index old slot)
-    by slot true is = ap (λ b. cond (b && writes_slot writes slot) (slice_index old slot + 1) (slice_index old slot)) (among slot ∙ covered_slot writes held slot covered is)
+    by : (slot : ℕ) (b : Bool) → is_written writes slot ≡ b
+        → cond (is_among held i slot && is_written writes slot) (slice_index old slot + 1) (slice_index old slot)
+        ≡ cond (is_written writes slot) (slice_index old slot + 1) (slice_index old slot)
+    by slot true is = ap (λ b. cond (b && is_written writes slot) (slice_index old slot + 1) (slice_index old slot)) (among slot ∙ covered_slot writes held slot covered is)
     by slot false is = ap (λ b. cond (is_among held i slot && b) (slice_index old slot + 1) (slice_index old slot)) is
         ∙ ap (λ b. cond b (slice_index old slot + 1) (slice_index old slot)) (and-false (is_among held i slot))
         ∙ sym (ap (λ b. cond b (slice_index old slot + 1) (slice_index old slot)) is)

@@ -1,5 +1,5 @@
 -- Each step keeps the rule of the counts.
-use Rattle.std.proofs.Common.{◌≡◌, ◌≢◌, ◌⊎◌, ℕ, zero, suc, ◌+◌, ◌<◌, ◌≤◌, List, [], ◌∷◌, ◌++◌, length, set, true, false, true≢false, Bool, refl, sym, ap, ◌∙◌, subst, inl, inr, ⊎_elim, arith, get_or-set_same, get_or-set_other}
+use Rattle.std.proofs.Common.{◌≡◌, ◌≢◌, ◌⊎◌, ℕ, zero, suc, ◌+◌, ◌<◌, ◌≤◌, List, [], ◌∷◌, ◌++◌, length, set, true, false, true≢false, refl, sym, ap, ◌∙◌, subst, inl, inr, ⊎_elim, arith, get_or-set_same, get_or-set_other}
 use Rattle.std.proofs.lemmas.List.{length-set}
 use Rattle.std.specs.Prelude.{slice_index}
 use mathlib.Core.Option.{some, some-ne-none, some-injective}
@@ -7,7 +7,7 @@ use lib.ListN.{get_elem?}
 use Rattle.crossbeam_utils.specs.Register.{Turns, Forks, Merges}
 use Rattle.atomic_table.proofs.Lists.{at_set, set_again}
 use Rattle.journal_lockmap.specs.declared.cell.View.{View}
-use Rattle.journal_lockmap.specs.Tokens.{keeper, holder, token, nobody, first, Fits, IsKept, Kept, Agrees, Touches}
+use Rattle.journal_lockmap.specs.Tokens.{keeper, holder, token, nobody, first, KeepsRule, Kept, Looks, Touches}
 
 off : false ≡ true → ⊥
 off e = true≢false (sym e)
@@ -58,7 +58,7 @@ once_snoc views w old apart i j v u ei ej hv hu s =
     (at_snoc views w v i ei)
 
 -- a view with no token and no counts
-bare : (seat : ℕ) (counts : List ℕ) (made j : ℕ) → Fits seat counts made j nobody
+bare : (seat : ℕ) (counts : List ℕ) (made j : ℕ) → KeepsRule seat counts made j nobody
 bare seat counts made j = record { keeps = λ k. absurd (off k); agrees = λ h. absurd (off h); made_already = λ h. absurd (off h) }
 
 pub makes : (by : ℕ) (cs : List ℕ) (m : ℕ) → m < length cs → Forks Kept by (keeper cs m) (keeper cs (m + 1)) (token m (slice_index cs m))
@@ -67,7 +67,7 @@ makes by cs m room words views h at =
     let mine = (k.each by (keeper cs m) at).keeps refl in
     let l = keeper cs (m + 1) in
     let r = token m (slice_index cs m) in
-    let F : ℕ → View → Type 0 = Fits h.0 h.1 (m + 1) in
+    let F : ℕ → View → Type 0 = KeepsRule h.0 h.1 (m + 1) in
     let same : m ≡ h.2 = mine.2 in
     let long : length cs ≡ length h.1 = ap length mine.1 in
     let new_l : F by l = record { keeps = λ _. (mine.0, mine.1, refl); agrees = λ c. absurd (off c); made_already = λ c. absurd (off c) } in
@@ -94,7 +94,7 @@ joins by cs m other sl n words views h at apart there =
     let mine = (k.each by (keeper cs m) at).keeps refl in
     let was : At views other (token sl n) = ⊎_elim (λ (x : (other ≡ by) × (w ≡ token sl n)). absurd (apart x.0)) (λ (x : (other ≢ by) × (At views other (token sl n))). x.1) (at_set views by other w (token sl n) there) in
     let theirs = k.each other (token sl n) was in
-    let F : ℕ → View → Type 0 = Fits h.0 h.1 h.2 in
+    let F : ℕ → View → Type 0 = KeepsRule h.0 h.1 h.2 in
     let new_w : F by w = record { keeps = λ _. mine; agrees = λ _. theirs.agrees refl; made_already = λ _. theirs.made_already refl } in
     let after : (j : ℕ) (u : View) → At (set vs other nobody) j u → u.has ≡ true → ((j ≡ by) × (w ≡ u)) ⊎ ((j ≢ other) × (At views j u)) =
     λ j u e hu. ⊎_elim
@@ -120,7 +120,7 @@ joins by cs m other sl n words views h at apart there =
       },
     )
 
-pub looks : (by : ℕ) (cs : List ℕ) (m sl n : ℕ) → Turns Kept by (holder cs m sl n) (λ x. x) Agrees
+pub looks : (by : ℕ) (cs : List ℕ) (m sl n : ℕ) → Turns Kept by (holder cs m sl n) (λ x. x) Looks
 looks by cs m sl n words views h at =
     let k = h.3 in
     let v = holder cs m sl n in
@@ -140,7 +140,7 @@ touches by cs m sl n short words views h at =
     let low = fits.made_already refl in
     let cs' : List ℕ = set cs sl (n + 1) in
     let w = holder cs' m sl (n + 1) in
-    let F : ℕ → View → Type 0 = Fits h.0 cs' h.2 in
+    let F : ℕ → View → Type 0 = KeepsRule h.0 cs' h.2 in
     let long : length cs ≡ length h.1 = ap length mine.1 in
     let long' : length cs' ≡ length cs = length-set cs sl (n + 1) in
     let room = k.room in
@@ -173,7 +173,7 @@ splits by cs m sl n words views h at =
     let r = token sl n in
     let fits = k.each by v at in
     let mine = fits.keeps refl in
-    let F : ℕ → View → Type 0 = Fits h.0 h.1 h.2 in
+    let F : ℕ → View → Type 0 = KeepsRule h.0 h.1 h.2 in
     let new_l : F by l = record { keeps = λ _. mine; agrees = λ c. absurd (off c); made_already = λ c. absurd (off c) } in
     let new_r : (j : ℕ) → F j r = λ j. record { keeps = λ c. absurd (off c); agrees = λ _. fits.agrees refl; made_already = λ _. fits.made_already refl } in
     let gone : (j : ℕ) (u : View) → At (set views by l) j u → u.has ≡ true → sl ≡ u.slot → ⊥ =
@@ -197,8 +197,8 @@ joins_as by v other u is iu =
     subst (λ (x : View). Merges Kept by x other u (holder v.counts v.made u.slot u.count) nobody) (sym is)
     (subst (λ (x : View). Merges Kept by (keeper v.counts v.made) other x (holder v.counts v.made u.slot u.count) nobody) (sym iu) (joins by v.counts v.made other u.slot u.count))
 
-pub looks_as : (by : ℕ) (v : View) (cs : List ℕ) (m sl n : ℕ) → v ≡ holder cs m sl n → Turns Kept by v (λ x. x) Agrees
-looks_as by v cs m sl n is = subst (λ (x : View). Turns Kept by x (λ y. y) Agrees) (sym is) (looks by cs m sl n)
+pub looks_as : (by : ℕ) (v : View) (cs : List ℕ) (m sl n : ℕ) → v ≡ holder cs m sl n → Turns Kept by v (λ x. x) Looks
+looks_as by v cs m sl n is = subst (λ (x : View). Turns Kept by x (λ y. y) Looks) (sym is) (looks by cs m sl n)
 
 pub touches_as : (by : ℕ) (v : View) → v ≡ holder v.counts v.made v.slot v.count → v.slot < length v.counts → Turns Kept by v (λ x. x) Touches
 touches_as by v is short = subst (λ (x : View). Turns Kept by x (λ y. y) Touches) (sym is) (touches by v.counts v.made v.slot v.count short)
@@ -212,7 +212,7 @@ spares by cs m words views h at =
     let k = h.3 in
     let l = keeper cs m in
     let mine = (k.each by l at).keeps refl in
-    let F : ℕ → View → Type 0 = Fits h.0 h.1 h.2 in
+    let F : ℕ → View → Type 0 = KeepsRule h.0 h.1 h.2 in
     let new_l : F by l = record { keeps = λ _. mine; agrees = λ c. absurd (off c); made_already = λ c. absurd (off c) } in (
       h.0,
       h.1,
@@ -244,6 +244,6 @@ begins words = (
     only zero v e = some-injective first v e
     only (suc by) v e = absurd (some-ne-none v (sym e))
 
-    one : (by : ℕ) (v : View) → At (first ∷ []) by v → Fits 0 first.counts 0 by v
-    one zero v e = subst (Fits 0 first.counts 0 0) (some-injective first v e) (record { keeps = λ _. (refl, refl, refl); agrees = λ c. absurd (off c); made_already = λ c. absurd (off c) })
+    one : (by : ℕ) (v : View) → At (first ∷ []) by v → KeepsRule 0 first.counts 0 by v
+    one zero v e = subst (KeepsRule 0 first.counts 0 0) (some-injective first v e) (record { keeps = λ _. (refl, refl, refl); agrees = λ c. absurd (off c); made_already = λ c. absurd (off c) })
     one (suc by) v e = absurd (some-ne-none v (sym e))

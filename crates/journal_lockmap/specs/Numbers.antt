@@ -40,25 +40,25 @@ abbrev pub slots_of : List HeldState → List ℕ
 slots_of held = map (λ h. h.slot) held
 
 -- some write is of the slot
-abbrev pub writes_slot : List Pair → ℕ → Bool
-writes_slot writes slot = list_any (λ p. slot_of p.0 == slot) writes
+abbrev pub is_written : List Pair → ℕ → Bool
+is_written writes slot = list_any (λ p. slot_of p.0 == slot) writes
 
 -- for each slot, whether some write is of it
-abbrev pub Marks : List Bool → List Pair → Type 0
-Marks written writes = (slot : ℕ) → slot < SLOTS → slice_index_or written slot false ≡ writes_slot writes slot
+abbrev pub MarksWrites : List Bool → List Pair → Type 0
+MarksWrites written writes = (slot : ℕ) → slot < SLOTS → slice_index_or written slot false ≡ is_written writes slot
 
 -- One commit more is counted, which writes these
 pub record CountsWrites (writes : List Pair) (old new : List ℕ) : Type 0 where
   pub slots : length new ≡ length old
-  pub touched : (slot : ℕ) → slot < SLOTS → slice_index new slot ≡ (if writes_slot writes slot then slice_index old slot + 1 else slice_index old slot)
+  pub touched : (slot : ℕ) → slot < SLOTS → slice_index new slot ≡ (if is_written writes slot then slice_index old slot + 1 else slice_index old slot)
 
 -- the slot is among those that are held
 abbrev pub is_held : List HeldState → ℕ → Bool
 is_held held slot = list_any (λ h. h.slot == slot) held
 
 -- the slot of each address that is written is held
-abbrev pub AreCovered : List HeldState → List Pair → Type 0
-AreCovered held writes = All (λ p. IsTrue (is_held held (slot_of p.0))) writes
+abbrev pub HoldsSlots : List HeldState → List Pair → Type 0
+HoldsSlots held writes = All (λ p. IsTrue (is_held held (slot_of p.0))) writes
 
 -- each slot is held once
 abbrev pub AreApart : List HeldState → Type 0

@@ -31,9 +31,9 @@ impl Protocol<[u64; 1], View> for Counted {
 pub struct Look;
 
 impl Outcome<[u64; 1], View> for Look {
-    ghost use Rattle.journal_lockmap.specs.Tokens.{Agrees};
+    ghost use Rattle.journal_lockmap.specs.Tokens.{Looks};
 
-    ghost then = { Agrees };
+    ghost then = { Looks };
 }
 
 /// A commit's change.

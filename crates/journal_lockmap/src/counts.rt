@@ -3,7 +3,7 @@ ghost use Rattle.std.specs.Prelude.{false, ◌≡◌, ◌<◌, ◌+◌, IfOk, le
 ghost use Rattle.crossbeam_utils.specs.Seq.{cell_view};
 ghost use Rattle.journal_world.specs.declared.address.TheConstants.{SLOTS as SLOT_COUNT};
 ghost use Rattle.journal_lockmap.specs.Tokens.{keeper, first as first_view};
-ghost use Rattle.journal_lockmap.specs.Numbers.{HasNumber, Agree, AreApart, AreCovered, slots_of, CountsWrites, Marks};
+ghost use Rattle.journal_lockmap.specs.Numbers.{HasNumber, Agree, AreApart, HoldsSlots, slots_of, CountsWrites, MarksWrites};
 
 use crate::cell::{Cell, SlotPass};
 use crate::held::Held;
@@ -106,7 +106,7 @@ impl<J: Naming> SlotCounts<J> {
     /// waits for nobody, and goes over the writes once and over what is held once.
     pub fn count_writes<W: Wait>(&mut self, rt: &W, held: &mut [Held<J>], writes: &Objects)
         requires apart { AreApart held.old }
-        requires covered { AreCovered held.old writes.now }
+        requires covered { HoldsSlots held.old writes.now }
         ensures counts { CountsWrites writes.now self.old self.new }
         ensures agree { Agree self.new held.new }
         ensures slots { slots_of held.new ≡ slots_of held.old }
@@ -143,7 +143,7 @@ impl<J: Naming> SlotCounts<J> {
 // Which slots some of the writes are of.
 fn written_slots(writes: &Objects) -> [bool; SLOTS as usize]
     ensures all { length result ≡ SLOT_COUNT }
-    ensures marks { Marks result writes.now }
+    ensures marks { MarksWrites result writes.now }
 {
     let mut written = [false; SLOTS as usize];
     for (addr, _) in writes.iter() {

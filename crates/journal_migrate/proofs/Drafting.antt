@@ -18,7 +18,7 @@ use Rattle.journal_inode.specs.Places.{addr_of, object}
 use Rattle.journal_inode.specs.Places.Object.{superblock}
 use Rattle.journal_inode.specs.Sound.{HasSoundFiles}
 use Rattle.journal_inode.proofs.Upgrading.{Sound-upgraded}
-use Rattle.journal_lockmap.specs.Numbers.{HeldState, slots_of, is_held, AreCovered, AreApart}
+use Rattle.journal_lockmap.specs.Numbers.{HeldState, slots_of, is_held, HoldsSlots, AreApart}
 use Rattle.journal_history.specs.Tokens.{SessionState, next_transaction}
 use Rattle.journal_core.specs.declared.refusal_number.RefusalNumber.TheVariants.{J9}
 use Rattle.journal_core.specs.Causes.{Told, IsExplained}
@@ -86,7 +86,7 @@ module _ (held : List HeldState) (one : slots_of held ≡ slot_of (addr_of super
       at : only.0.count ≡ touched history (slot_of (addr_of superblock))
       at = All-head (λ (h : HeldState). h.count ≡ touched history h.slot) only.0 [] (subst (AgreeWith history) only.1 agree) ∙ ap (touched history) only.2
 
-  pub covered : (history : List Entry) (t : TransactionState) → DraftsUpgrade history t → AreCovered held t.writes
+  pub covered : (history : List Entry) (t : TransactionState) → DraftsUpgrade history t → HoldsSlots held t.writes
   covered history t drafts =
       of_both (λ a. IsTrue (is_held held (slot_of a))) (addr_of superblock) (in_version_two drafts.found) [] t.writes drafts.writes
       (ap (λ hs. is_held hs (slot_of (addr_of superblock))) only.1 ∙ ap (λ (n : ℕ). (n == slot_of (addr_of superblock)) || false) only.2

@@ -1,7 +1,7 @@
 -- What refusals are, and leave.
 use Rattle.std.proofs.Common.{◌≡◌, ℕ, Result, Ok, Err, IfErr, IsErrAnd, subst}
 use Rattle.journal_wal.specs.Wal.{WalState}
-use Rattle.journal_objlog.specs.ObjectLogs.{map_now, map_cut, map_logged, KeepsMaps, Crashes as MapCrashes, OnlyReads}
+use Rattle.journal_objlog.specs.ObjectLogs.{map_now, map_cut, map_logged, KeepsMaps, Crashes as MapCrashes}
 use Rattle.journal_objlog.specs.Soundness.{IsObjectLog}
 use Rattle.journal_world.proofs.SameMaps.{SameMap-trans}
 use Rattle.journal_objlog.proofs.Openings.{crash_read, OnlyReads-refl}

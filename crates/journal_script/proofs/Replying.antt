@@ -24,14 +24,14 @@ use Rattle.journal_script.specs.Answers.{Refuses}
 use Rattle.journal_command.specs.Commands.{LineSays}
 use Rattle.journal_script.specs.Transcripts.{Streams, IsAnswerTo, IsOpening, IsOpened, Talks, TakesOneLine, AsksOpening, Prints, ComesTo, ComesToBy, ComesToCrash, Opens, OpensToCrash, RefusesOpening}
 use Rattle.journal_core.specs.Causes.{Told}
-use Rattle.journal_script.specs.Clients.{ClientState, IsRefusal, IsRefused, GivesAnswer, Replies, AnswersLine, GoesOn}
+use Rattle.journal_script.specs.Clients.{ClientState, IsRefusal, IsRefused, GivesAnswer, Replies, AnswersLine, FlowGoesOn}
 
 -- ---- replies of a journal
 
 -- what a call gave or was refused goes on
 pub replies_plain : (blocks : ℕ) (old : ClientState) (command : Command) (r : Result Answer (Refusal Told)) (flow : ControlFlow Crash Answer)
     → ((answer : Answer) → GivesAnswer blocks command answer ⊎ IsRefused (IsRefusal command) answer → Replies blocks old command (Continue answer) old)
-    → IfOk r (GivesAnswer blocks command) → IfErr r (IsRefusal command) → GoesOn r flow → Replies blocks old command flow old
+    → IfOk r (GivesAnswer blocks command) → IfErr r (IsRefusal command) → FlowGoesOn r flow → Replies blocks old command flow old
 replies_plain blocks old command (Ok answer) flow replies gives refused goes =
     subst (λ (f : ControlFlow Crash Answer). Replies blocks old command f old) (sym goes) (replies answer (inl gives))
 replies_plain blocks old command (Err why) flow replies gives refused goes =

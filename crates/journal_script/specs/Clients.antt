@@ -174,9 +174,9 @@ AnswersLine blocks old line reply new =
     ⊎ (((command : Command) → LineSays line command → ⊥) × (reply ≡ Continue (to_no_command line)) × (new ≡ old))
 
 -- what is answered goes on
-abbrev pub GoesOn : {C : Type 0} → Result Answer (Refusal C) → ControlFlow Crash Answer → Type 0
-GoesOn (Ok answer) flow = flow ≡ Continue answer
-GoesOn (Err why) flow = (answer : Answer) × Refuses why answer × (flow ≡ Continue answer)
+abbrev pub FlowGoesOn : {C : Type 0} → Result Answer (Refusal C) → ControlFlow Crash Answer → Type 0
+FlowGoesOn (Ok answer) flow = flow ≡ Continue answer
+FlowGoesOn (Err why) flow = (answer : Answer) × Refuses why answer × (flow ≡ Continue answer)
 
 -- a crash ends the journal, unless it is refused
 abbrev pub EndsMount : {C : Type 0} → Result Crash (Refusal C) → ControlFlow Crash Answer → Type 0

@@ -4,7 +4,7 @@ ghost use Rattle.journal_world.specs.Addresses.{Value};
 ghost use Rattle.journal_twophase.specs.Journals.{IsSessionRefusal};
 ghost use Rattle.journal_twophase.specs.Transactions.{IsOverwriteRefusal, IsReadRefusal};
 ghost use Rattle.journal_command.specs.Commands.{IsInside};
-ghost use Rattle.journal_script.specs.Clients.{most_of, FindsTransaction, PutsValue, Gets, KeepsOpen, CommitsOpen, FencesOwn, IsChosen, IsStepRefusal, GivesAnswer, Obeys, Replies, AnswersLine, GoesOn, EndsMount};
+ghost use Rattle.journal_script.specs.Clients.{most_of, FindsTransaction, PutsValue, Gets, KeepsOpen, CommitsOpen, FencesOwn, IsChosen, IsStepRefusal, GivesAnswer, Obeys, Replies, AnswersLine, FlowGoesOn, EndsMount};
 
 use crate::answer::Answer;
 use crate::blocks::bytes_of;
@@ -298,7 +298,7 @@ impl<'j, 'b, J: Naming> Client<'j, 'b, J> {
 
 // The journal goes on, and answers this.
 fn goes_on<C: Drop>(answered: Result<Answer, Refusal<C>>) -> ControlFlow<Crash, Answer>
-    ensures { GoesOn answered result }
+    ensures { FlowGoesOn answered result }
 {
     ControlFlow::Continue(answered.unwrap_or_else(Answer::refused))
 }

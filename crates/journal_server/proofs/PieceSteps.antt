@@ -15,7 +15,7 @@ use Rattle.journal_server.specs.declared.pieces.Taken.{Taken}
 use Rattle.journal_server.specs.declared.pieces.Taken.TheVariants.{Front, Overlong}
 use Rattle.journal_server.specs.Output.{IsReply, AllReplies}
 use Rattle.journal_server.specs.Serving.{SoFar, Finished}
-use Rattle.journal_server.specs.Sending.{Takes, GoesOn, EndsBad, Sent, SentUpToBad, SentInPart}
+use Rattle.journal_server.specs.Sending.{Takes, StreamGoesOn, EndsBad, Sent, SentUpToBad, SentInPart}
 use Rattle.journal_server.proofs.Settling.{replies_stay}
 use Rattle.journal_server.proofs.Sends.{all_grow, so_far_grown}
 use Rattle.journal_server.proofs.Serving.{ends_long, ends_bad}
@@ -94,7 +94,7 @@ front_within taken old new rest count h is =
 
 -- all of it was taken, and answered
 pub all_of_piece : {S : Type 0} (answers : Message → S → S → List ℕ → Type 0) (start waiting : Stream) (piece : List ℕ) (before now : S) (held holds : Option (List ℕ)) (n m : ℕ) (done rest : List ℕ) → piece ≡ done ++ rest → rest ≡ []
-    → Sent answers (after start done) waiting before now held holds n m → waiting.part ≢ TooLong → GoesOn answers (after start piece) waiting before now held holds n m
+    → Sent answers (after start done) waiting before now held holds n m → waiting.part ≢ TooLong → StreamGoesOn answers (after start piece) waiting before now held holds n m
 all_of_piece answers start waiting piece before now held holds n m done rest is none h short =
     let whole : done ≡ piece = sym (is ∙ ap (λ (r : List ℕ). done ++ r) none ∙ append-nil done) in
     let e : Sent answers (after start piece) waiting before now held holds n m = subst (λ (p : List ℕ). Sent answers (after start p) waiting before now held holds n m) whole h in

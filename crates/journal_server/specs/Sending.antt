@@ -109,8 +109,8 @@ Takes (Front count) old new piece = (0 < count) × (count ≤ length piece) × (
 Takes Overlong old new piece = (new ≡ after old piece) × (new.part ≡ TooLong)
 
 -- a piece has come and its calls were answered, and the stream goes on
-abbrev pub GoesOn : {S : Type 0} → (Message → S → S → List ℕ → Type 0) → Stream → Stream → S → S → Option (List ℕ) → Option (List ℕ) → ℕ → ℕ → Type 0
-GoesOn answers fed new before now held holds count counted = Sent answers fed new before now held holds count counted × (fed.part ≢ TooLong)
+abbrev pub StreamGoesOn : {S : Type 0} → (Message → S → S → List ℕ → Type 0) → Stream → Stream → S → S → Option (List ℕ) → Option (List ℕ) → ℕ → ℕ → Type 0
+StreamGoesOn answers fed new before now held holds count counted = Sent answers fed new before now held holds count counted × (fed.part ≢ TooLong)
 
 -- a piece has come, and its calls were answered up to a bad record: a header that goes above the limit, or a record that is no call
 abbrev pub EndsBad : {S : Type 0} → (Message → S → S → List ℕ → Type 0) → Stream → Stream → S → S → Option (List ℕ) → Option (List ℕ) → ℕ → ℕ → Type 0

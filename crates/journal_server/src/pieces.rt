@@ -3,7 +3,7 @@ ghost use Rattle.std.specs.Prelude.{◌≡◌, ◌≢◌, ◌<◌, [], length, I
 ghost use Rattle.journal_rpc.specs.Stream.{after};
 ghost use Rattle.journal_rpc.specs.declared.part.Part.TheVariants.{TooLong};
 ghost use Rattle.journal_server.specs.Output.{IsReply};
-ghost use Rattle.journal_server.specs.Sending.{Takes, GoesOn, EndsBad, SentInPart};
+ghost use Rattle.journal_server.specs.Sending.{Takes, StreamGoesOn, EndsBad, SentInPart};
 
 use crate::connection::ConnFault;
 use crate::holding::Holding;
@@ -54,7 +54,7 @@ pub(crate) fn answer_piece<
     requires none { records.old.records ≡ [] }
     requires short { records.old.part ≢ TooLong }
     ensures sent { IfOk result (λ goes_on. MatchBool goes_on
-        (GoesOn (IsReply V.VERSION (C.tells service.now.clock.now) service.now.verifier.0 session.new.seen) (after records.old piece.now) records.new
+        (StreamGoesOn (IsReply V.VERSION (C.tells service.now.clock.now) service.now.verifier.0 session.new.seen) (after records.old piece.now) records.new
         session.old session.new (W.contents writer.old) (W.contents writer.new) answered.old answered.new)
         (EndsBad (IsReply V.VERSION (C.tells service.now.clock.now) service.now.verifier.0 session.new.seen) (after records.old piece.now) records.new
         session.old session.new (W.contents writer.old) (W.contents writer.new) answered.old answered.new)) }

@@ -1,5 +1,5 @@
 -- What an open transaction keeps of the slots that it holds, as it takes one, gives one back, reads and overwrites.
-use Rattle.std.proofs.Common.{◌≡◌, ◌≢◌, ◌<◌, ◌+◌, ◌==◌, ◌||◌, ℕ, zero, suc, Bool, true, false, cond, IsTrue, List, [], ◌∷◌, ◌++◌, length, length-append, take, drop, map, get_or, All, Option, Some, None, Result, Ok, Err, IfOk, OnErr, slice_get, nat_lt, refl, eq-eqb, sym, ap, subst, ◌∙◌, arith}
+use Rattle.std.proofs.Common.{◌≡◌, ◌≢◌, ◌<◌, ◌+◌, ◌==◌, ◌||◌, ℕ, zero, suc, Bool, true, false, cond, IsTrue, List, [], ◌∷◌, ◌++◌, length, length-append, take, drop, get_or, Option, Some, None, Result, Ok, Err, IfOk, OnErr, slice_get, nat_lt, refl, eq-eqb, sym, ap, subst, ◌∙◌, arith}
 use mathlib.Core.List.{IsPrefix}
 use Rattle.std.specs.Prelude.{slice_index}
 use Rattle.std.specs.List.{list_any}
@@ -14,9 +14,8 @@ use Rattle.std.proofs.lemmas.List.Elements.{All-head, All-tail}
 use Rattle.std.proofs.lemmas.List.Folds.{list_any-append, list_any_at}
 use Rattle.journal_world.specs.declared.address.Addr.{Addr}
 use Rattle.journal_world.specs.Addresses.{Value, slot_of}
-use Rattle.journal_world.specs.Maps.{Pair}
 use Rattle.journal_world.specs.Histories.{Entry, touched}
-use Rattle.journal_lockmap.specs.Numbers.{HeldState, slots_of, is_held, AreCovered, AreApart}
+use Rattle.journal_lockmap.specs.Numbers.{HeldState, slots_of, is_held, HoldsSlots, AreApart}
 use Rattle.journal_core.specs.SlotCounts.{AgreeWith, IsUnder, AreUnder}
 use Rattle.journal_core.specs.Transactions.{TransactionState, FoundState, Remembers, Overwrites}
 use Rattle.journal_core.proofs.Remembering.{of_both}
@@ -182,7 +181,7 @@ pub keeps_read : (held : List HeldState) (t after : TransactionState) (a : Addr)
     → IsTrue (holds (slots_of held) (slot_of a)) → Remembers t found.addr v found.seen after → KeepsHeld held after
 keeps_read held t after a v found kept agree finds slot remembers = record {
   reads = subst (λ (h : List Entry). AreUnder held h after.reads) (sym seen) (of_both (λ b. IsUnder held found.seen (b, v)) found.addr v t.reads after.reads remembers.reads own before);
-  writes = subst (AreCovered held) (sym (ap (λ (u : TransactionState). u.writes) remembers.others)) kept.writes;
+  writes = subst (HoldsSlots held) (sym (ap (λ (u : TransactionState). u.writes) remembers.others)) kept.writes;
   apart = kept.apart;
 }
   where

@@ -10,7 +10,7 @@ use Rattle.journal_world.specs.Maps.{Pair, SamePairs, value_among, value_at, is_
 use Rattle.journal_world.specs.Histories.{Entry, is_trusted, latest}
 use Rattle.journal_core.specs.declared.refusal_number.RefusalNumber.TheVariants.{J6, J9, J13}
 use Rattle.journal_core.specs.Causes.{Told, IsUnexplained, IsExplained}
-use Rattle.journal_lockmap.specs.Numbers.{HeldState, AreCovered, AreApart}
+use Rattle.journal_lockmap.specs.Numbers.{HeldState, HoldsSlots, AreApart}
 use Rattle.journal_core.specs.SlotCounts.{AreUnder}
 use Rattle.journal_core.specs.Transactions.{TransactionState, FoundState, AreUnmoved}
 
@@ -72,7 +72,7 @@ pub record Overwrites (old : TxnState) (a : Addr) (v : Value) (new : TxnState) :
 -- and no commit touched one since, and all that it overwrote lies under them
 pub record KeepsHeld (held : List HeldState) (t : TransactionState) : Type 0 where
   pub reads : AreUnder held t.seen t.reads
-  pub writes : AreCovered held t.writes
+  pub writes : HoldsSlots held t.writes
   pub apart : AreApart held
 
 -- nothing of these lies under the slot

@@ -1,4 +1,4 @@
-use Rattle.std.proofs.Common.{IsErr, refl, rules}
+use Rattle.std.proofs.Common.{IsErr, refl}
 use Rattle.journal_wal.specs.declared.step.GroupStep.{GroupStep}
 use Rattle.journal_wal.specs.declared.step.GroupStep.TheVariants.{Logged}
 use Rattle.journal_wal.specs.Wal.{LogAnswers as WalLogs}

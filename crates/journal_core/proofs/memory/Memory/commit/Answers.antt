@@ -3,7 +3,7 @@ use Rattle.journal_world.specs.Maps.{Agrees}
 use Rattle.journal_world.specs.Histories.{is_trusted, latest}
 use Rattle.journal_history.specs.Tokens.{next_transaction}
 use Rattle.journal_core.specs.Transactions.{TransactionState}
-use Rattle.journal_lockmap.specs.Numbers.{AreCovered, CountsWrites}
+use Rattle.journal_lockmap.specs.Numbers.{HoldsSlots, CountsWrites}
 use Rattle.journal_core.specs.Memories.{MemoryState}
 use Rattle.journal_core.proofs.Committing.{ruled_then, few_commits}
 use Rattle.journal_core.proofs.Counting.{memory_committed, memory_reserved, agree_with}
@@ -21,7 +21,7 @@ count_one-requires-clause-small g c =
     (subst (λ (s : MemoryState). length s.history + 1 < 2 ^ 62) (sym c.self.view_is) c.requires.room)
 
 pub count_writes-requires-clause-covered : goal.count_writes-requires-clause-covered
-count_writes-requires-clause-covered g c = subst (λ (u : TransactionState). AreCovered c.args.held.now u.writes) (sym c.transaction.view_is) c.requires.covered
+count_writes-requires-clause-covered g c = subst (λ (u : TransactionState). HoldsSlots c.args.held.now u.writes) (sym c.transaction.view_is) c.requires.covered
 
 pub invariant_of-self-in-Err : goal.invariant_of-self-in-Err
 invariant_of-self-in-Err g c =

@@ -2,7 +2,7 @@ use Rattle.std.proofs.Common.{◌≡◌, IsTrue, IfOk, IfErr, OnOk, OnErr, List,
 use Rattle.journal_world.specs.Maps.{Agrees}
 use Rattle.journal_world.specs.Histories.{is_trusted, latest}
 use Rattle.journal_history.specs.Tokens.{next_transaction, IsReceiptFor}
-use Rattle.journal_lockmap.specs.Numbers.{HeldState, AreApart, AreCovered}
+use Rattle.journal_lockmap.specs.Numbers.{HeldState, AreApart, HoldsSlots}
 use Rattle.journal_core.specs.Memories.{ShowsLonger}
 use Rattle.journal_core.specs.Transactions.{AreUnmoved}
 use Rattle.journal_core.specs.Cores.{CoreState, Crashes, OnlyReads}
@@ -18,7 +18,7 @@ commit_unmoved-requires-clause-unmoved g c =
     (unmoved_under c.args.self.now.history c.args.held.now c.args.transaction.now c.look.ensures.agree c.requires.under)
 
 pub commit_unmoved-requires-clause-covered : goal.commit_unmoved-requires-clause-covered
-commit_unmoved-requires-clause-covered g c = subst (λ (l : List HeldState). AreCovered l c.args.transaction.now.writes) (sym c.look.ensures.held) c.requires.covered
+commit_unmoved-requires-clause-covered g c = subst (λ (l : List HeldState). HoldsSlots l c.args.transaction.now.writes) (sym c.look.ensures.held) c.requires.covered
 
 pub commit_unmoved-requires-clause-apart : goal.commit_unmoved-requires-clause-apart
 commit_unmoved-requires-clause-apart g c = subst AreApart (sym c.look.ensures.held) c.requires.apart

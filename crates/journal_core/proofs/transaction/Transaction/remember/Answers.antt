@@ -1,7 +1,7 @@
 use Rattle.std.proofs.Common.{◌≡◌, IsTrue, sym, subst, ◌∙◌}
 use mathlib.Core.List.{IsPrefix}
 use Rattle.journal_world.specs.Addresses.{Value}
-use Rattle.journal_world.specs.Maps.{is_object, are_objects, value_at}
+use Rattle.journal_world.specs.Maps.{is_object, value_at}
 use Rattle.journal_world.specs.Histories.{is_trusted, latest}
 use Rattle.journal_core.specs.Transactions.{TransactionState, FoundState, AreUnmoved, Remembers}
 use Rattle.journal_core.proofs.Remembering.{remembered, remembers}

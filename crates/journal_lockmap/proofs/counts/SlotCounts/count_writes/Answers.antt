@@ -1,6 +1,6 @@
 use Rattle.std.proofs.Common.{◌≡◌, ◌<◌, true, false, length, get_or, arith, sym, ap, ◌∙◌}
 use Rattle.std.proofs.lemmas.List.{get_or_default}
-use Rattle.journal_lockmap.specs.Numbers.{writes_slot}
+use Rattle.journal_lockmap.specs.Numbers.{is_written}
 use Rattle.journal_lockmap.proofs.Counting.{counted_touched, counted_looked, counted_all}
 use Rattle.journal_lockmap.proofs.counts.SlotCounts.count_writes.Goals.{then-written-from, else-written-from}
 use Rattle.journal_lockmap.proofs.counts.SlotCounts.count_writes.Goals as goal
@@ -11,7 +11,7 @@ loop-i-preserved g c =
     let written = c.written_slots-written.result in
     let below : c.loop-i.i < length c.loop-i.held = omega arith in
     let small : c.from.result < length written = omega (arith, c.from.ensures, c.slot.ensures.in_range, c.written_slots-written.ensures.all) in
-    let marked : get_or written slot false ≡ writes_slot c.args.writes.now slot = c.written_slots-written.ensures.marks slot c.slot.ensures.in_range in
+    let marked : get_or written slot false ≡ is_written c.args.writes.now slot = c.written_slots-written.ensures.marks slot c.slot.ensures.in_range in
     let same : get_or written slot false ≡ get_or written c.from.result false = ap (λ n. get_or written n false) (sym c.from.ensures) in
     elim c.if-written-from.branch [
       | then-written-from w ↦ counted_touched c.args.writes.now c.args.held.now c.loop-i.held c.if-written-from.held c.args.self.now c.loop-i.self c.if-written-from.self c.loop-i.i slot

@@ -1,5 +1,5 @@
-use Rattle.std.proofs.Common.{◌≡◌, false, ap, sym, subst, ◌∙◌, is_ok, rules}
-use Rattle.journal_lockmap.specs.Numbers.{HeldState, slots_of}
+use Rattle.std.proofs.Common.{◌≡◌, false, ap, sym, ◌∙◌, is_ok, rules}
+use Rattle.journal_lockmap.specs.Numbers.{slots_of}
 use Rattle.journal_twophase.specs.Transactions.{TxnState, holds}
 use Rattle.journal_twophase.proofs.Holding.{keeps_pushed, clear_of, if_took}
 use Rattle.journal_twophase.proofs.txn.Txn.take.Goals.{then-holds_above+in_ok-held, else-holds_above}
