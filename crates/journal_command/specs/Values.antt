@@ -44,24 +44,24 @@ pub record SpellsValue (text value : List ℕ) : Type 0 where
   pub fits : length value ≤ 4096
 
 -- Equal bytes, one after another
-pub record Run : Type 0 where
+pub record ByteRun : Type 0 where
   pub byte : ℕ
   pub count : ℕ
 
-abbrev pub run : ℕ → ℕ → Run
+abbrev pub run : ℕ → ℕ → ByteRun
 run byte count = record { byte = byte; count = count }
 
 -- runs with one more byte in front
-abbrev pub with_front : ℕ → List Run → List Run
+abbrev pub with_front : ℕ → List ByteRun → List ByteRun
 with_front byte [] = run byte 1 ∷ []
 with_front byte (r ∷ rs) = if byte == r.byte then run byte (r.count + 1) ∷ rs else run byte 1 ∷ r ∷ rs
 
 -- the maximal runs of a value's bytes
-abbrev pub runs : List ℕ → List Run
+abbrev pub runs : List ℕ → List ByteRun
 runs [] = []
 runs (byte ∷ bytes) = with_front byte (runs bytes)
 
-abbrev pub run_text : Run → List ℕ
+abbrev pub run_text : ByteRun → List ℕ
 run_text r = if r.count == 1 then hex r.byte else starred r.byte r.count
 
 -- how a value is printed

@@ -14,7 +14,7 @@ use Rattle.journal_inode.specs.declared.node.TheConstants.{MORE_BLOCKS}
 use Rattle.journal_inode.specs.Places.{object}
 use Rattle.journal_inode.specs.Places.Object.{block}
 use Rattle.journal_inode.specs.Versions.{most_bytes, more_count, room_of}
-use Rattle.journal_inode.specs.Sound.{blocks_of, stored, content, IsDataBlock, IsSoundFile, HasDistinctBlocks, HasSoundFiles}
+use Rattle.journal_inode.specs.Sound.{file_blocks, stored, content, IsDataBlock, IsSoundFile, RepeatsNoBlock, HasSoundFiles}
 use Rattle.journal_filestore.proofs.Replacing.{Replaces, IsSoundNode, IsInPlace-file, Sound-replaced}
 use Rattle.journal_filestore.specs.Files.{is_file_number, entry_of}
 use Rattle.journal_filestore.specs.Doing.{Puts}
@@ -38,10 +38,10 @@ module _ (version : FormatVersion) where
     pub size : g.size ≡ length p
     pub small : length p ≤ most_bytes version
     pub timed : g.mtime.nanos ≤ MAX_NANOS
-    pub on_disk : AllByRecursion (IsDataBlock n.blocks) (blocks_of version g)
-    pub distinct : HasDistinctBlocks version g
+    pub on_disk : AllByRecursion (IsDataBlock n.blocks) (file_blocks version g)
+    pub distinct : RepeatsNoBlock version g
     pub absent : drop (more_count version g.size) g.more ≡ replicate (MORE_BLOCKS - more_count version g.size) 0
-    pub sized : AllByRecursion (λ b. length (object n (block b)) ≡ BLOCK_BYTES) (blocks_of version g)
+    pub sized : AllByRecursion (λ b. length (object n (block b)) ≡ BLOCK_BYTES) (file_blocks version g)
     pub held_bytes : stored version n g ≡ p ++ replicate (room_of version g.size - length p) 0
 
   pub Puts-replaced : (m n : Map) (i : ℕ) (new : Node) → is_file_number i ≡ true → HasSoundFiles version m → Replaces version m n i new → IsSoundNode version n i new
@@ -81,5 +81,5 @@ module _ (version : FormatVersion) where
       (Puts-replaced m n i (File g) number sound r (record {
         placed = IsInPlace-file i g (IsFileNumber-test i number).from;
         file = λ f is. subst (IsSoundFile version n) (File-is g f is) (IsSoundFile-Stores n g p has);
-        distinct = λ f is. subst (HasDistinctBlocks version) (File-is g f is) has.distinct;
+        distinct = λ f is. subst (RepeatsNoBlock version) (File-is g f is) has.distinct;
       }))

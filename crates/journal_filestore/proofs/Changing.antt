@@ -17,7 +17,7 @@ use Rattle.journal_inode.specs.Places.{Object, IsOnDisk, object}
 use Rattle.journal_inode.specs.Places.Object.{superblock, bit, inode, block}
 use Rattle.journal_inode.specs.Nodes.{inode_bytes, Fits}
 use Rattle.journal_inode.specs.Versions.{most_bytes, more_count, room_of}
-use Rattle.journal_inode.specs.Sound.{node_at, blocks_of, held, stored, IsAmong, HasBlock, IsTaken, IsDataBlock, IsBit, IsSoundFile, HasSoundFiles}
+use Rattle.journal_inode.specs.Sound.{node_at, file_blocks, held, stored, IsAmong, HasBlock, IsTaken, IsDataBlock, IsBit, IsSoundFile, HasSoundFiles}
 use Rattle.journal_filestore.specs.Files.{is_file_number}
 use Rattle.journal_filestore.specs.Doing.{Write, HasBit, AreClear, bits_written, blocks_written, Puts}
 use Rattle.journal_filestore.proofs.Overwrites.{or_else}
@@ -50,13 +50,13 @@ clear_is_free version m b sound has clear taken =
 free_on_disk : (version : FormatVersion) (m : Map) (b : ℕ) → (IsTaken version m b → ⊥) → b < m.blocks
 free_on_disk version m b free = omega (arith, λ (past : m.blocks ≤ b). free (inl past))
 
-pub HadBlocks-file : (version : FormatVersion) (m : Map) (i : ℕ) (f : FileNode) → i < INODES → HasSoundFiles version m → node_at m i ≡ File f → HadBlocks version m i (blocks_of version f)
+pub HadBlocks-file : (version : FormatVersion) (m : Map) (i : ℕ) (f : FileNode) → i < INODES → HasSoundFiles version m → node_at m i ≡ File f → HadBlocks version m i (file_blocks version f)
 HadBlocks-file version m i f low sound is = record {
-  has = λ b has. is_among (blocks_of version f) b (subst (λ x. HasBlock version x b) is has);
-  its = λ b has. subst (λ x. HasBlock version x b) (sym is) (among_is (blocks_of version f) b has);
-  on_disk = λ b has. all_among (IsDataBlock m.blocks) (blocks_of version f) b old.on_disk has;
-  whole = λ b has. all_among (λ c. length (object m (block c)) ≡ BLOCK_BYTES) (blocks_of version f) b old.sized has;
-  distinct = distinct_pairs (blocks_of version f) (sound.distinct i f low is);
+  has = λ b has. is_among (file_blocks version f) b (subst (λ x. HasBlock version x b) is has);
+  its = λ b has. subst (λ x. HasBlock version x b) (sym is) (among_is (file_blocks version f) b has);
+  on_disk = λ b has. all_among (IsDataBlock m.blocks) (file_blocks version f) b old.on_disk has;
+  whole = λ b has. all_among (λ c. length (object m (block c)) ≡ BLOCK_BYTES) (file_blocks version f) b old.sized has;
+  distinct = distinct_pairs (file_blocks version f) (sound.distinct i f low is);
 }
   where
     old : IsSoundFile version m f
@@ -199,7 +199,7 @@ pub record IsNodeOf (version : FormatVersion) (g : FileNode) (p : List ℕ) : Ty
 -- The file at number i becomes g, whose blocks are kept ones and new ones, in which these bytes are written to some in the middle
 pub Puts-changed : (version : FormatVersion) (m n : Map) (i : ℕ) (g : FileNode) (p kept cut fresh xs bs ys bytes : List ℕ) → is_file_number i ≡ true → HasSoundFiles version m
     → HadBlocks version m i (kept ++ cut) → Distinct fresh → AllByRecursion HasBit fresh → AreClear m fresh
-    → blocks_of version g ≡ kept ++ fresh → kept ++ fresh ≡ xs ++ bs ++ ys → ((b : ℕ) → Among xs b ⊎ Among ys b → Among kept b)
+    → file_blocks version g ≡ kept ++ fresh → kept ++ fresh ≡ xs ++ bs ++ ys → ((b : ℕ) → Among xs b ⊎ Among ys b → Among kept b)
     → length bytes ≡ BLOCK_BYTES * length bs → Becomes m n (all_written i (File g) cut fresh bs bytes) → IsNodeOf version g p
     → held m xs ++ bytes ++ held m ys ≡ p ++ replicate (room_of version g.size - length p) 0
     → Puts version m n i (record { generation = g.generation; file = Some (record { bytes = p; mtime = g.mtime }) })
@@ -212,7 +212,7 @@ Puts-changed version m n i g p kept cut fresh xs bs ys bytes number sound had ap
       small = node.small;
       timed = node.timed;
       on_disk = subst (AllByRecursion (IsDataBlock n.blocks)) (sym blocks_are) (all_from (IsDataBlock n.blocks) (kept ++ fresh) (λ b has. subst (λ k. IsDataBlock k b) (sym is.blocks) (range b has)));
-      distinct = pairs_distinct (blocks_of version g) (subst Distinct (sym blocks_are) all_distinct);
+      distinct = pairs_distinct (file_blocks version g) (subst Distinct (sym blocks_are) all_distinct);
       absent = node.absent;
       sized = subst (AllByRecursion (λ b. length (object n (block b)) ≡ BLOCK_BYTES)) (sym blocks_are) (all_from (λ b. length (object n (block b)) ≡ BLOCK_BYTES) (kept ++ fresh) (λ b has. sized b (cases_Among bs b) has));
       held_bytes = held_bytes;
@@ -227,11 +227,11 @@ Puts-changed version m n i g p kept cut fresh xs bs ys bytes number sound had ap
     clear_bits : (b : ℕ) → Among fresh b → object m (bit (b - FIRST_DATA)) ≡ 0 ∷ []
     clear_bits b has = all_among (λ c. object m (bit (c - FIRST_DATA)) ≡ 0 ∷ []) fresh b clear has
 
-    has_new : (b : ℕ) → IsAmong (blocks_of version g) b → Among (kept ++ fresh) b
-    has_new b has = subst (λ cs. Among cs b) blocks_are (is_among (blocks_of version g) b has)
+    has_new : (b : ℕ) → IsAmong (file_blocks version g) b → Among (kept ++ fresh) b
+    has_new b has = subst (λ cs. Among cs b) blocks_are (is_among (file_blocks version g) b has)
 
-    its_new : (b : ℕ) → Among (kept ++ fresh) b → IsAmong (blocks_of version g) b
-    its_new b has = among_is (blocks_of version g) b (subst (λ cs. Among cs b) (sym blocks_are) has)
+    its_new : (b : ℕ) → Among (kept ++ fresh) b → IsAmong (file_blocks version g) b
+    its_new b has = among_is (file_blocks version g) b (subst (λ cs. Among cs b) (sym blocks_are) has)
 
     bs_new : (b : ℕ) → Among bs b → Among (kept ++ fresh) b
     bs_new b has = subst (λ cs. Among cs b) (sym parts) (among_left (xs ++ bs) ys b (among_right xs bs b has))

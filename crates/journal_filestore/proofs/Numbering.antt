@@ -9,7 +9,7 @@ use Rattle.journal_inode.specs.declared.version.FormatVersion.TheVariants.{One, 
 use Rattle.journal_inode.specs.declared.node.FileNode.{FileNode}
 use Rattle.journal_inode.specs.declared.node.TheConstants.{MORE_BLOCKS}
 use Rattle.journal_inode.specs.Versions.{most_bytes, more_count, room_of}
-use Rattle.journal_inode.specs.Sound.{blocks_of, stored, content, IsSoundFile}
+use Rattle.journal_inode.specs.Sound.{file_blocks, stored, content, IsSoundFile}
 use Rattle.journal_inode.proofs.Blocks.{more_fits}
 use Rattle.journal_filestore.specs.Changes.{more_of}
 
@@ -54,7 +54,7 @@ drop_more kept fresh k whole =
 
 -- an inode's blocks, where it has just as many numbers as it needs
 pub blocks_more : (version : FormatVersion) (g : FileNode) (kept fresh : List ℕ) → g.more ≡ more_of kept fresh → length kept + length fresh ≡ more_count version g.size
-    → blocks_of version g ≡ g.block ∷ (kept ++ fresh)
+    → file_blocks version g ≡ g.block ∷ (kept ++ fresh)
 blocks_more version g kept fresh is whole = ap (λ xs. g.block ∷ take (more_count version g.size) xs) is ∙ ap (λ xs. g.block ∷ xs) (take_more kept fresh (more_count version g.size) whole)
 
 pub absent_more : (version : FormatVersion) (g : FileNode) (kept fresh : List ℕ) → g.more ≡ more_of kept fresh → length kept + length fresh ≡ more_count version g.size

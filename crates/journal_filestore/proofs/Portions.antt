@@ -12,7 +12,7 @@ use Rattle.journal_twophase.specs.Transactions.{TxnState}
 use Rattle.journal_inode.specs.Places.{object}
 use Rattle.journal_inode.specs.Places.Object.{block}
 use Rattle.journal_inode.specs.Versions.{most_bytes, more_count}
-use Rattle.journal_inode.specs.Sound.{blocks_of, held, stored, content, IsSoundFile}
+use Rattle.journal_inode.specs.Sound.{file_blocks, held, stored, content, IsSoundFile}
 use Rattle.journal_inode.proofs.Blocks.{length-blocks, length-held}
 use Rattle.journal_filestore.specs.declared.read.TheConstants.{READ_BYTES}
 use Rattle.journal_filestore.specs.declared.reply.Attributes.{Attributes}
@@ -64,7 +64,7 @@ bytes-blocks version m f offset n first after sound many some within first_is af
     ∙ sym (range_of_front (stored version m f) f.size offset (offset + n) within)
   where
     bl : List ℕ
-    bl = blocks_of version f
+    bl = file_blocks version f
 
     middle : List ℕ
     middle = slice_range (f.block ∷ f.more) first after

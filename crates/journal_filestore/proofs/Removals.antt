@@ -7,7 +7,7 @@ use Rattle.journal_inode.specs.declared.node.Node.TheVariants.{Free, File}
 use Rattle.journal_inode.specs.declared.node.TheConstants.{MORE_BLOCKS}
 use Rattle.journal_inode.specs.Places.Object.{inode}
 use Rattle.journal_inode.specs.Nodes.{inode_bytes, Fits}
-use Rattle.journal_inode.specs.Sound.{node_at, blocks_of}
+use Rattle.journal_inode.specs.Sound.{node_at, file_blocks}
 use Rattle.journal_filestore.specs.Files.{is_file_number}
 use Rattle.journal_filestore.specs.Doing.{WritesObject, WritesEach, bits_written, Puts, Makes}
 use Rattle.journal_filestore.proofs.Doings.{Tells-nothing}
@@ -16,7 +16,7 @@ use Rattle.journal_filestore.proofs.Removing.{Puts-removed}
 
 -- the bits of the file's blocks are cleared, and the inode becomes free
 pub Makes-remove : (version : FormatVersion) (blocks j : ℕ) (f : FileNode) (numbers : List ℕ) (t0 t1 t2 : TxnState) → t0.writes ≡ []
-    → numbers ≡ blocks_of version f → length numbers ≤ 1 + MORE_BLOCKS
+    → numbers ≡ file_blocks version f → length numbers ≤ 1 + MORE_BLOCKS
     → WritesEach blocks t0 t1 (bits_written 0 numbers) → WritesObject blocks t1 t2 (inode j) (inode_bytes (Free f.generation))
     → is_file_number j ≡ true → Fits (File f)
     → Makes version blocks t0 t2 (λ m n. node_at m j ≡ File f → Puts version m n j (record { generation = f.generation; file = None }))

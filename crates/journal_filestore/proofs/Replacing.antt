@@ -14,7 +14,7 @@ use Rattle.journal_inode.specs.Places.{object}
 use Rattle.journal_inode.specs.Places.Object.{superblock, bit, inode, block}
 use Rattle.journal_inode.specs.Nodes.{inode_bytes, node_of, Fits}
 use Rattle.journal_inode.specs.SameFiles.{IsSoundFile-held}
-use Rattle.journal_inode.specs.Sound.{superblock_of, node_at, blocks_of, held, stored, IsAmong, HasBlock, IsTaken, IsDataBlock, IsInPlace, IsSoundFile, HasDistinctBlocks, IsBit, HasSoundFiles}
+use Rattle.journal_inode.specs.Sound.{superblock_of, node_at, file_blocks, held, stored, IsAmong, HasBlock, IsTaken, IsDataBlock, IsInPlace, IsSoundFile, RepeatsNoBlock, IsBit, HasSoundFiles}
 use Rattle.journal_inode.proofs.Fields.{node_of-bytes_of}
 
 -- What becomes of a bit, where the old inode has its block or not, and the new one has it or not
@@ -76,15 +76,15 @@ module _ (version : FormatVersion) where
   pub record IsSoundNode (n : Map) (i : ℕ) (new : Node) : Type 0 where
     pub placed : IsInPlace i new
     pub file : (f : FileNode) → new ≡ File f → IsSoundFile version n f
-    pub distinct : (f : FileNode) → new ≡ File f → HasDistinctBlocks version f
+    pub distinct : (f : FileNode) → new ≡ File f → RepeatsNoBlock version f
 
   pub cases_HasBlock : (n : Node) (b : ℕ) → HasBlock version n b ⊎ (HasBlock version n b → ⊥)
-  cases_HasBlock (File f) b = cases_IsAmong (blocks_of version f) b
+  cases_HasBlock (File f) b = cases_IsAmong (file_blocks version f) b
   cases_HasBlock (Free g) b = inr (λ h. h)
   cases_HasBlock (Root t) b = inr (λ h. h)
 
   -- only a file has blocks
-  file_with : (n : Node) (b : ℕ) → HasBlock version n b → (f : FileNode) × (n ≡ File f) × IsAmong (blocks_of version f) b
+  file_with : (n : Node) (b : ℕ) → HasBlock version n b → (f : FileNode) × (n ≡ File f) × IsAmong (file_blocks version f) b
   file_with (File f) b has = (f, refl, has)
   file_with (Free g) b has = absurd has
   file_with (Root t) b has = absurd has
@@ -106,9 +106,9 @@ module _ (version : FormatVersion) where
 
   -- the blocks of another file stay
   block-other : (m n : Map) (i : ℕ) (new : Node) → i < INODES → HasSoundFiles version m → Replaces m n i new
-      → (j : ℕ) (f : FileNode) → j < INODES → j ≢ i → node_at m j ≡ File f → (b : ℕ) → IsAmong (blocks_of version f) b → object n (block b) ≡ object m (block b)
+      → (j : ℕ) (f : FileNode) → j < INODES → j ≢ i → node_at m j ≡ File f → (b : ℕ) → IsAmong (file_blocks version f) b → object n (block b) ≡ object m (block b)
   block-other m n i new low sound r j f below ne is_file b has =
-      let range : IsDataBlock m.blocks b = holds_among (IsDataBlock m.blocks) (blocks_of version f) b (sound.files j f below is_file).on_disk has in
+      let range : IsDataBlock m.blocks b = holds_among (IsDataBlock m.blocks) (file_blocks version f) b (sound.files j f below is_file).on_disk has in
       r.other_blocks b range.0 range.1
       (alone m n i new low sound r j b below ne (subst (λ x. HasBlock version x b) (sym is_file) has))
 
@@ -116,7 +116,7 @@ module _ (version : FormatVersion) where
   pub stored-other : (m n : Map) (i : ℕ) (new : Node) → i < INODES → HasSoundFiles version m → Replaces m n i new
       → (j : ℕ) (f : FileNode) → j < INODES → j ≢ i → node_at m j ≡ File f → stored version n f ≡ stored version m f
   stored-other m n i new low sound r j f below ne is_file =
-      held_others m n (blocks_of version f) (block-other m n i new low sound r j f below ne is_file)
+      held_others m n (file_blocks version f) (block-other m n i new low sound r j f below ne is_file)
 
   -- The rule is kept where one inode is replaced
   pub Sound-replaced : (m n : Map) (i : ℕ) (new : Node) → i < INODES → HasSoundFiles version m → Replaces m n i new → IsSoundNode n i new → HasSoundFiles version n
@@ -183,7 +183,7 @@ module _ (version : FormatVersion) where
       freed : (b : ℕ) → HasBlock version (node_at m i) b → (HasBlock version new b → ⊥) → IsTaken version n b → ⊥
       freed b had lacks (inl past) =
           let f = file_with (node_at m i) b had in
-          let range : IsDataBlock m.blocks b = holds_among (IsDataBlock m.blocks) (blocks_of version f.0) b (sound.files i f.0 low f.1).on_disk f.2 in
+          let range : IsDataBlock m.blocks b = holds_among (IsDataBlock m.blocks) (file_blocks version f.0) b (sound.files i f.0 low f.1).on_disk f.2 in
           omega (arith, past, range.1, r.blocks)
       freed b had lacks (inr t) = by_number t.0 t.1 (cases_eq t.0 i)
           (λ is. lacks (has_here t.0 b is t.2))
@@ -205,7 +205,7 @@ module _ (version : FormatVersion) where
       old_file j f below ne is_file =
           let old : IsSoundFile version m f = sound.files j f below is_file in
           IsSoundFile-held version m n f (sym r.blocks) (stored-other m n i new low sound r j f below ne is_file)
-          (sized_others m n (blocks_of version f) (block-other m n i new low sound r j f below ne is_file) old.sized) old
+          (sized_others m n (file_blocks version f) (block-other m n i new low sound r j f below ne is_file) old.sized) old
 
 -- a free inode or a file may stand at the number of a file
 pub IsInPlace-free : (i g : ℕ) → 2 ≤ i → IsInPlace i (Free g)

@@ -19,7 +19,7 @@ use Rattle.journal_inode.specs.Places.{object}
 use Rattle.journal_inode.specs.Places.Object.{block}
 use Rattle.journal_inode.specs.Nodes.{Fits}
 use Rattle.journal_inode.specs.Versions.{most_bytes, more_count, room_of}
-use Rattle.journal_inode.specs.Sound.{node_at, blocks_of, held, content, IsSoundFile, HasSoundFiles}
+use Rattle.journal_inode.specs.Sound.{node_at, file_blocks, held, content, IsSoundFile, HasSoundFiles}
 use Rattle.journal_inode.proofs.Blocks.{more_fits, room_enough, length-blocks, length-held}
 use Rattle.journal_filestore.specs.declared.settings.NewTime.{NewTime}
 use Rattle.journal_filestore.specs.declared.settings.NewTime.TheVariants.{Leave, Server, Client}
@@ -110,7 +110,7 @@ module _ (version : FormatVersion) (m n : Map) (i : ℕ) (f : FileNode) (fresh b
       node = with_blocks f (more_count version f.size) fresh size mtime
 
       bl : List ℕ
-      bl = blocks_of version f
+      bl = file_blocks version f
 
       p : List ℕ
       p = content version m f ++ replicate (size - f.size) 0
@@ -198,7 +198,7 @@ module _ (version : FormatVersion) (m n : Map) (i : ℕ) (f : FileNode) (b : ℕ
       last = more_count version size
 
       bl : List ℕ
-      bl = blocks_of version f
+      bl = file_blocks version f
 
       numbers : List ℕ
       numbers = f.block ∷ f.more
@@ -239,7 +239,7 @@ module _ (version : FormatVersion) (m n : Map) (i : ℕ) (f : FileNode) (b : ℕ
           ∙ ap (λ k. take k numbers ++ cut) (add-one last)
           ∙ ap (λ xs. xs ++ cut) first_are
 
-      blocks_are : blocks_of version node ≡ kept ++ []
+      blocks_are : file_blocks version node ≡ kept ++ []
       blocks_are =
           blocks_more version node (take last f.more) [] refl kept_size
           ∙ ap (λ xs. f.block ∷ xs) (append-nil (take last f.more))

@@ -15,7 +15,7 @@ use Rattle.journal_inode.specs.Places.{object}
 use Rattle.journal_inode.specs.Places.Object.{block}
 use Rattle.journal_inode.specs.Nodes.{Fits}
 use Rattle.journal_inode.specs.Versions.{most_bytes, more_count, room_of}
-use Rattle.journal_inode.specs.Sound.{node_at, blocks_of, held, content, IsSoundFile, HasSoundFiles}
+use Rattle.journal_inode.specs.Sound.{node_at, file_blocks, held, content, IsSoundFile, HasSoundFiles}
 use Rattle.journal_inode.proofs.Blocks.{room_enough, length-blocks, length-held}
 use Rattle.journal_filestore.specs.Files.{is_file_number}
 use Rattle.journal_filestore.specs.Operations.{placed, with_data}
@@ -110,7 +110,7 @@ module _ (version : FormatVersion) (m n : Map) (i : ℕ) (f : FileNode) (fresh b
   old = sound.files i f low is_file
 
   abbrev pub bl : List ℕ
-  bl = blocks_of version f
+  bl = file_blocks version f
 
   abbrev pub numbers : List ℕ
   numbers = f.block ∷ more_of (take (more_count version f.size) f.more) fresh

@@ -14,7 +14,7 @@ use Rattle.journal_inode.specs.declared.node.Node.TheVariants.{File}
 use Rattle.journal_inode.specs.declared.node.TheConstants.{MORE_BLOCKS}
 use Rattle.journal_inode.specs.Nodes.{Fits}
 use Rattle.journal_inode.specs.Versions.{most_bytes, more_count}
-use Rattle.journal_inode.specs.Sound.{blocks_of, held, content, IsSoundFile, HasSoundFiles}
+use Rattle.journal_inode.specs.Sound.{file_blocks, held, content, IsSoundFile, HasSoundFiles}
 use Rattle.journal_inode.proofs.Blocks.{more_fits, length-blocks}
 use Rattle.journal_filestore.specs.declared.reply.Attributes.{Attributes}
 use Rattle.journal_filestore.specs.declared.status.Status.TheVariants.{Invalid, TooBig, NoSpace}
@@ -118,7 +118,7 @@ module _ (version : FormatVersion) (blocks i offset : ℕ) (bs : List ℕ) (now 
           let same : more_count version g.size ≡ more_count version (max f.size (offset + length bs)) = ap (λ x. more_count version x.size) is in
           omega (arith, length-file_written i g fresh (slice_range numbers first after) bytes, new_ones.count, span, after_is, grown, last, same)
 
-      had_count : length (blocks_of version f) ≡ 1 + more_count version f.size
+      had_count : length (file_blocks version f) ≡ 1 + more_count version f.size
       had_count = length-blocks version f many small
 
       fits_node : Fits (File node)

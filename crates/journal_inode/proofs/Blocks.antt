@@ -14,7 +14,7 @@ use Rattle.journal_inode.specs.declared.node.TheConstants.{MORE_BLOCKS}
 use Rattle.journal_inode.specs.Places.{object}
 use Rattle.journal_inode.specs.Places.Object.{block}
 use Rattle.journal_inode.specs.Versions.{most_bytes, more_count, room_of}
-use Rattle.journal_inode.specs.Sound.{blocks_of, held, stored, IsAmong, IsDataBlock, IsSoundFile}
+use Rattle.journal_inode.specs.Sound.{file_blocks, held, stored, IsAmong, IsDataBlock, IsSoundFile}
 use Rattle.journal_inode.specs.Admitting.{AllZero, IsSoundBlock, AreSoundBlocks, AreBlocksScanned}
 use Rattle.journal_inode.proofs.Tails.{zeros, zeros-AllZero, AllZero-zeros, padded-AllZero, AllZero-padded}
 
@@ -130,31 +130,31 @@ pub room_enough : (version : FormatVersion) (size : ℕ) → size ≤ most_bytes
 room_enough One size small = small
 room_enough Two size small = omega (arith, small)
 
-pub length-blocks : (version : FormatVersion) (f : FileNode) → length f.more ≡ MORE_BLOCKS → f.size ≤ most_bytes version → length (blocks_of version f) ≡ 1 + more_count version f.size
+pub length-blocks : (version : FormatVersion) (f : FileNode) → length f.more ≡ MORE_BLOCKS → f.size ≤ most_bytes version → length (file_blocks version f) ≡ 1 + more_count version f.size
 length-blocks version f whole small =
     let fits : more_count version f.size ≤ length f.more = subst (λ n. more_count version f.size ≤ n) (sym whole) (more_fits version f.size small) in
     let more : length (take (more_count version f.size) f.more) ≡ more_count version f.size = length-take-le (more_count version f.size) f.more fits in
     omega (arith, more)
 
 -- the blocks of a file are the first of the numbers that its inode has
-pub first_blocks : (version : FormatVersion) (f : FileNode) (more : ℕ) (numbers : List ℕ) → more ≡ more_count version f.size → numbers ≡ f.block ∷ f.more → take (more + 1) numbers ≡ blocks_of version f
+pub first_blocks : (version : FormatVersion) (f : FileNode) (more : ℕ) (numbers : List ℕ) → more ≡ more_count version f.size → numbers ≡ f.block ∷ f.more → take (more + 1) numbers ≡ file_blocks version f
 first_blocks version f more numbers count are =
     ap (λ n. take n numbers) (add-one more) ∙ ap (take (suc more)) are ∙ ap (λ n. f.block ∷ take n f.more) count
 
 -- a file whose numbers are within bounds is sound where its blocks are
 pub file_decides : (version : FormatVersion) (m : Map) (f : FileNode) (t : Bool) → 1 ≤ f.generation → f.size ≤ most_bytes version → f.mtime.nanos ≤ MAX_NANOS
     → length f.more ≡ MORE_BLOCKS → AllZero (drop (more_count version f.size) f.more)
-    → (IsTrue t ↔ AreSoundBlocks m f.size (blocks_of version f)) → IsTrue t ↔ IsSoundFile version m f
+    → (IsTrue t ↔ AreSoundBlocks m f.size (file_blocks version f)) → IsTrue t ↔ IsSoundFile version m f
 file_decides version m f t born small timed many absent decides = (
-  (λ is. let told = blocks_to m (blocks_of version f) f.size (decides.0 is) in made told.0 told.1 told.2),
-  (λ sound. decides.1 (blocks_from m (blocks_of version f) f.size sound.on_disk sound.sized
+  (λ is. let told = blocks_to m (file_blocks version f) f.size (decides.0 is) in made told.0 told.1 told.2),
+  (λ sound. decides.1 (blocks_from m (file_blocks version f) f.size sound.on_disk sound.sized
       (AllZero-padded (stored version m f) (room_of version f.size - f.size) f.size sound.whole sound.padded))),
 )
   where
     left : length (drop (more_count version f.size) f.more) ≡ MORE_BLOCKS - more_count version f.size
     left = length-drop (more_count version f.size) f.more ∙ ap (λ n. n - more_count version f.size) many
 
-    made : AllByRecursion (IsDataBlock m.blocks) (blocks_of version f) → AreWhole m (blocks_of version f) → AllZero (drop f.size (stored version m f)) → IsSoundFile version m f
+    made : AllByRecursion (IsDataBlock m.blocks) (file_blocks version f) → AreWhole m (file_blocks version f) → AllZero (drop f.size (stored version m f)) → IsSoundFile version m f
     made range whole rest_is = record {
       born = born;
       small = small;
@@ -167,7 +167,7 @@ file_decides version m f t born small timed many absent decides = (
     }
       where
         room : length (stored version m f) ≡ room_of version f.size
-        room = length-held m (blocks_of version f) whole ∙ ap (λ n. BLOCK_BYTES * n) (length-blocks version f many small)
+        room = length-held m (file_blocks version f) whole ∙ ap (λ n. BLOCK_BYTES * n) (length-blocks version f many small)
 
 -- a file of further blocks that are not all absent is not sound
 pub not_absent : (version : FormatVersion) (m : Map) (f : FileNode) → (AllZero (drop (more_count version f.size) f.more) → ⊥) → IsSoundFile version m f → ⊥

@@ -10,7 +10,7 @@ use Rattle.journal_inode.specs.declared.node.FileNode.{FileNode}
 use Rattle.journal_inode.specs.declared.node.Node.{Node}
 use Rattle.journal_inode.specs.declared.node.Node.TheVariants.{Free, Root, File}
 use Rattle.journal_inode.specs.declared.place.TheConstants.{INODES}
-use Rattle.journal_inode.specs.Sound.{node_at, blocks_of, HasBlock, IsDataBlock, HasDistinctBlocks}
+use Rattle.journal_inode.specs.Sound.{node_at, file_blocks, HasBlock, IsDataBlock, RepeatsNoBlock}
 use Rattle.journal_inode.specs.Admitting.{IsSoundInode, AreSoundBelow, IsOwnedBelow, AreOwners, HasDataBlocks, IsUnmarked, Claims, IsScanned}
 use Rattle.journal_inode.proofs.Marking.{place_of, true-false, within_cases}
 use Rattle.journal_inode.proofs.Blocks.{among, contained}
@@ -27,7 +27,7 @@ module _ (version : FormatVersion) where
   has_same : (m : Map) (i j b : ℕ) → i ≡ j → HasBlock version (node_at m i) b → HasBlock version (node_at m j) b
   has_same m i j b is = subst (λ k. HasBlock version (node_at m k) b) is
 
-  AreSoundBelow-more : (m : Map) (n : ℕ) → AreSoundBelow version m n → IsSoundInode version m n → ((f : FileNode) → node_at m n ≡ File f → HasDistinctBlocks version f)
+  AreSoundBelow-more : (m : Map) (n : ℕ) → AreSoundBelow version m n → IsSoundInode version m n → ((f : FileNode) → node_at m n ≡ File f → RepeatsNoBlock version f)
       → ((i b : ℕ) → i < n → HasBlock version (node_at m i) b → HasBlock version (node_at m n) b → ⊥) → AreSoundBelow version m (n + 1)
   AreSoundBelow-more m n below next distinct alone = record {
     each = λ i low. cases_below i n low (below.each i) (λ is. subst (IsSoundInode version m) (sym is) next);
@@ -51,26 +51,26 @@ module _ (version : FormatVersion) where
   pub claimed_twice : (m : Map) (n blocks : ℕ) (node : Node) (old new : List Bool) → node_at m n ≡ node → FIRST_DATA + length old ≡ blocks → HasDataBlocks version blocks node → AreOwners version m n old
       → Claims version node old new false → n < INODES → AreSoundBelow version m INODES → ⊥
   claimed_twice m n blocks (File f) old new is whole in_range owned claims low below =
-      claims (All-weaker (Contains (blocks_of version f)) (IsUnmarked old) free (blocks_of version f) (All-contains_itself (blocks_of version f))) (below.distinct n f low is)
+      claims (All-weaker (Contains (file_blocks version f)) (IsUnmarked old) free (file_blocks version f) (All-contains_itself (file_blocks version f))) (below.distinct n f low is)
     where
-      free : (b : ℕ) → Contains (blocks_of version f) b → IsUnmarked old b
+      free : (b : ℕ) → Contains (file_blocks version f) b → IsUnmarked old b
       free b has = by_case (within_cases old (b - FIRST_DATA) (omega (arith, range.0, range.1, whole)))
         where
           range : IsDataBlock blocks b
-          range = All-contains (IsDataBlock blocks) (blocks_of version f) b (All-from_recursion (IsDataBlock blocks) (blocks_of version f) in_range.1) has
+          range = All-contains (IsDataBlock blocks) (file_blocks version f) b (All-from_recursion (IsDataBlock blocks) (file_blocks version f) in_range.1) has
 
           by_case : (slice_get old (b - FIRST_DATA) ≡ Some true) ⊎ (slice_get old (b - FIRST_DATA) ≡ Some false) → IsUnmarked old b
           by_case (inr clear) = clear
           by_case (inl set) =
               let other : IsOwnedBelow version m n b = (owned_at m n b old range.0 owned).0 set in
-              let mine : HasBlock version (node_at m n) b = subst (λ x. HasBlock version x b) (sym is) (among (blocks_of version f) b has) in
+              let mine : HasBlock version (node_at m n) b = subst (λ x. HasBlock version x b) (sym is) (among (file_blocks version f) b has) in
               let first : other.0 < n = other.1 in
               let same : other.0 ≡ n = below.apart other.0 n b (omega (arith, first, low)) low other.2 mine in
               absurd (omega (arith, first, same))
   claimed_twice m n blocks (Free g) old new is whole in_range owned claims low below = absurd (cc (claims.0))
   claimed_twice m n blocks (Root t) old new is whole in_range owned claims low below = absurd (cc (claims.0))
 
-  is_no_file : (m : Map) (n : ℕ) (node : Node) → node_at m n ≡ node → ((f : FileNode) → node ≡ File f → ⊥) → (f : FileNode) → node_at m n ≡ File f → HasDistinctBlocks version f
+  is_no_file : (m : Map) (n : ℕ) (node : Node) → node_at m n ≡ node → ((f : FileNode) → node ≡ File f → ⊥) → (f : FileNode) → node_at m n ≡ File f → RepeatsNoBlock version f
   is_no_file m n node is other f file = absurd (other f (sym is ∙ file))
 
   -- an inode without blocks
@@ -95,27 +95,27 @@ module _ (version : FormatVersion) where
   claimed_once m n blocks (File f) old new is in_range below next owned marks =
       (AreSoundBelow-more m n below next distinct alone, λ k. (to k, from k))
     where
-      distinct : (g : FileNode) → node_at m n ≡ File g → HasDistinctBlocks version g
-      distinct g file = subst (HasDistinctBlocks version) (same_file f g (sym is ∙ file)) marks.distinct
+      distinct : (g : FileNode) → node_at m n ≡ File g → RepeatsNoBlock version g
+      distinct g file = subst (RepeatsNoBlock version) (same_file f g (sym is ∙ file)) marks.distinct
         where
           same_file : (f g : FileNode) → File f ≡ File g → f ≡ g
           same_file f g same = cc
 
       -- the block is one of the inode's
-      mine : (b : ℕ) → HasBlock version (node_at m n) b → Contains (blocks_of version f) b
-      mine b has = contained (blocks_of version f) b (subst (λ x. HasBlock version x b) is has)
+      mine : (b : ℕ) → HasBlock version (node_at m n) b → Contains (file_blocks version f) b
+      mine b has = contained (file_blocks version f) b (subst (λ x. HasBlock version x b) is has)
 
       alone : (i b : ℕ) → i < n → HasBlock version (node_at m i) b → HasBlock version (node_at m n) b → ⊥
       alone i b first has own =
-          let range : IsDataBlock blocks b = All-contains (IsDataBlock blocks) (blocks_of version f) b (All-from_recursion (IsDataBlock blocks) (blocks_of version f) in_range.1) (mine b own) in
-          true-false ((owned_at m n b old range.0 owned).1 (i, first, has)) (All-contains (IsUnmarked old) (blocks_of version f) b marks.unmarked (mine b own))
+          let range : IsDataBlock blocks b = All-contains (IsDataBlock blocks) (file_blocks version f) b (All-from_recursion (IsDataBlock blocks) (file_blocks version f) in_range.1) (mine b own) in
+          true-false ((owned_at m n b old range.0 owned).1 (i, first, has)) (All-contains (IsUnmarked old) (file_blocks version f) b marks.unmarked (mine b own))
 
       to : (k : ℕ) → slice_get new k ≡ Some true → IsOwnedBelow version m (n + 1) (FIRST_DATA + k)
       to k set = by_either ((marks.marked k).0 set)
         where
-          by_either : (slice_get old k ≡ Some true) ⊎ Contains (blocks_of version f) (FIRST_DATA + k) → IsOwnedBelow version m (n + 1) (FIRST_DATA + k)
+          by_either : (slice_get old k ≡ Some true) ⊎ Contains (file_blocks version f) (FIRST_DATA + k) → IsOwnedBelow version m (n + 1) (FIRST_DATA + k)
           by_either (inl was) = let o = (owned k).0 was in (o.0, (let low : o.0 < n = o.1 in omega (arith, low)), o.2)
-          by_either (inr has) = (n, omega arith, subst (λ x. HasBlock version x (FIRST_DATA + k)) (sym is) (among (blocks_of version f) (FIRST_DATA + k) has))
+          by_either (inr has) = (n, omega arith, subst (λ x. HasBlock version x (FIRST_DATA + k)) (sym is) (among (file_blocks version f) (FIRST_DATA + k) has))
 
       from : (k : ℕ) → IsOwnedBelow version m (n + 1) (FIRST_DATA + k) → slice_get new k ≡ Some true
       from k owner = (marks.marked k).1 (cases_below owner.0 n owner.1

@@ -13,7 +13,7 @@ use Rattle.journal_inode.specs.declared.place.TheConstants.{INODES}
 use Rattle.journal_inode.specs.Nodes.{inode_bytes, node_of}
 use Rattle.journal_inode.specs.Places.{object}
 use Rattle.journal_inode.specs.Places.Object.{bit, inode, block}
-use Rattle.journal_inode.specs.Sound.{superblock_of, node_at, blocks_of, held, stored, IsAmong, HasBlock, IsTaken, IsDataBlock, IsInPlace, IsSoundFile, IsBit, HasSoundFiles}
+use Rattle.journal_inode.specs.Sound.{superblock_of, node_at, file_blocks, held, stored, IsAmong, HasBlock, IsTaken, IsDataBlock, IsInPlace, IsSoundFile, IsBit, HasSoundFiles}
 use Rattle.journal_inode.specs.Upgrades.{IsUpgraded}
 use Rattle.journal_inode.specs.Versions.{more_count, room_of}
 
@@ -21,7 +21,7 @@ use Rattle.journal_inode.specs.Versions.{more_count, room_of}
 count_none : (size : ℕ) → size ≤ 4096 → more_count Two size ≡ 0
 count_none size small = omega (arith, small)
 
-blocks_same : (f : FileNode) → f.size ≤ 4096 → blocks_of Two f ≡ blocks_of One f
+blocks_same : (f : FileNode) → f.size ≤ 4096 → file_blocks Two f ≡ file_blocks One f
 blocks_same f small = ap (λ n. f.block ∷ take n f.more) (count_none f.size small)
 
 -- a file stays sound
@@ -41,7 +41,7 @@ file_upgraded m n f up sound = record {
     none : more_count Two f.size ≡ 0
     none = count_none f.size sound.small
 
-    blocks : blocks_of Two f ≡ f.block ∷ []
+    blocks : file_blocks Two f ≡ f.block ∷ []
     blocks = blocks_same f sound.small
 
     same : object n (block f.block) ≡ object m (block f.block)

@@ -11,7 +11,7 @@ use Rattle.journal_inode.specs.declared.node.Node.TheVariants.{File}
 use Rattle.journal_inode.specs.Places.{object}
 use Rattle.journal_inode.specs.Places.Object.{inode, bit, block}
 use Rattle.journal_inode.specs.Nodes.{inode_bytes}
-use Rattle.journal_inode.specs.Sound.{node_at, blocks_of, HasBlock, IsDataBlock, IsInPlace, IsSoundFile, HasDistinctBlocks}
+use Rattle.journal_inode.specs.Sound.{node_at, file_blocks, HasBlock, IsDataBlock, IsInPlace, IsSoundFile, RepeatsNoBlock}
 use Rattle.journal_inode.specs.Versions.{most_bytes}
 
 abbrev pub AllZero : List ℕ → Type 0
@@ -27,7 +27,7 @@ pub record IsSoundInode (version : FormatVersion) (m : Map) (i : ℕ) : Type 0 w
 pub record AreSoundBelow (version : FormatVersion) (m : Map) (n : ℕ) : Type 0 where
   pub each : (i : ℕ) → i < n → IsSoundInode version m i
   pub apart : (i j b : ℕ) → i < n → j < n → HasBlock version (node_at m i) b → HasBlock version (node_at m j) b → i ≡ j
-  pub distinct : (i : ℕ) (f : FileNode) → i < n → node_at m i ≡ File f → HasDistinctBlocks version f
+  pub distinct : (i : ℕ) (f : FileNode) → i < n → node_at m i ≡ File f → RepeatsNoBlock version f
 
 -- The table says of each data block whether one of the first inodes has it
 abbrev pub IsOwnedBelow : FormatVersion → Map → ℕ → ℕ → Type 0
@@ -38,7 +38,7 @@ AreOwners version m n owners = (k : ℕ) → (slice_get owners k ≡ Some true) 
 
 -- The blocks of the inode are as many as it has room for, and data blocks of a disk of so many blocks
 abbrev pub HasDataBlocks : FormatVersion → ℕ → Node → Type 0
-HasDataBlocks version blocks (File f) = (f.size ≤ most_bytes version) × AllByRecursion (IsDataBlock blocks) (blocks_of version f)
+HasDataBlocks version blocks (File f) = (f.size ≤ most_bytes version) × AllByRecursion (IsDataBlock blocks) (file_blocks version f)
 HasDataBlocks version blocks _ = Unit {0}
 
 -- the block was marked by none
@@ -59,7 +59,7 @@ MarksOrMeets bs old new false = All (IsUnmarked old) bs → AllPairs ◌≢◌ b
 
 -- so for the blocks of an inode
 abbrev pub Claims : FormatVersion → Node → List Bool → List Bool → Bool → Type 0
-Claims version (File f) old new claimed = MarksOrMeets (blocks_of version f) old new claimed
+Claims version (File f) old new claimed = MarksOrMeets (file_blocks version f) old new claimed
 Claims version _ old new claimed = (claimed ≡ true) × (new ≡ old)
 
 -- The block is a data block, and its bytes from a size on are zero

@@ -13,7 +13,7 @@ use Rattle.journal_inode.specs.declared.place.TheConstants.{INODES}
 use Rattle.journal_inode.specs.Places.{Object, addr_of, IsOnDisk, object}
 use Rattle.journal_inode.specs.Places.Object.{superblock, bit, inode, block}
 use Rattle.journal_inode.specs.Nodes.{inode_bytes, node_of}
-use Rattle.journal_inode.specs.Sound.{superblock_of, node_at, blocks_of, held, stored, HasBlock, IsTaken, IsDataBlock, IsInPlace, IsSoundFile, IsBit, HasSoundFiles}
+use Rattle.journal_inode.specs.Sound.{superblock_of, node_at, file_blocks, held, stored, HasBlock, IsTaken, IsDataBlock, IsInPlace, IsSoundFile, IsBit, HasSoundFiles}
 use Rattle.journal_inode.specs.Versions.{room_of}
 
 -- each object of a disk has a valid address
@@ -41,11 +41,11 @@ sized-same m n (b ∷ bs) same here sized = (ap length (sym (object-same m n (bl
 
 -- a file whose blocks hold the same is sound too
 pub IsSoundFile-held : (version : FormatVersion) (m n : Map) (f : FileNode) → m.blocks ≡ n.blocks → stored version n f ≡ stored version m f
-    → AllByRecursion (λ b. length (object n (block b)) ≡ BLOCK_BYTES) (blocks_of version f) → IsSoundFile version m f → IsSoundFile version n f
+    → AllByRecursion (λ b. length (object n (block b)) ≡ BLOCK_BYTES) (file_blocks version f) → IsSoundFile version m f → IsSoundFile version n f
 IsSoundFile-held version m n f blocks same sized old = record {
   born = old.born;
   small = old.small;
-  on_disk = subst (λ k. AllByRecursion (IsDataBlock k) (blocks_of version f)) blocks old.on_disk;
+  on_disk = subst (λ k. AllByRecursion (IsDataBlock k) (file_blocks version f)) blocks old.on_disk;
   absent = old.absent;
   timed = old.timed;
   sized = sized;
@@ -75,7 +75,7 @@ Sound-same version m n same sound = record {
     back i b low = subst (λ x. HasBlock version x b) (sym (nodes i low))
 
     file : (f : FileNode) → IsSoundFile version m f → IsSoundFile version n f
-    file f old = IsSoundFile-held version m n f same.blocks (held-same m n (blocks_of version f) same old.on_disk) (sized-same m n (blocks_of version f) same old.on_disk old.sized) old
+    file f old = IsSoundFile-held version m n f same.blocks (held-same m n (file_blocks version f) same old.on_disk) (sized-same m n (file_blocks version f) same old.on_disk old.sized) old
 
     taken : (b : ℕ) → IsTaken version m b → IsTaken version n b
     taken b (inl past) = inl (subst (λ x. x ≤ b) same.blocks past)

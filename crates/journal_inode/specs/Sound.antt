@@ -31,8 +31,8 @@ abbrev pub node_at : Map → ℕ → Node
 node_at m i = node_of (object m (inode i))
 
 -- the blocks of a file, in the order of its bytes: in version 1 there is one
-abbrev pub blocks_of : FormatVersion → FileNode → List ℕ
-blocks_of version f = f.block ∷ take (more_count version f.size) f.more
+abbrev pub file_blocks : FormatVersion → FileNode → List ℕ
+file_blocks version f = f.block ∷ take (more_count version f.size) f.more
 
 -- what blocks hold, one behind another
 abbrev pub held : Map → List ℕ → Value
@@ -42,7 +42,7 @@ held m (b ∷ c ∷ bs) = object m (block b) ++ held m (c ∷ bs)
 
 -- what the blocks of a file hold
 abbrev pub stored : FormatVersion → Map → FileNode → Value
-stored version m f = held m (blocks_of version f)
+stored version m f = held m (file_blocks version f)
 
 -- the bytes of a file
 abbrev pub content : FormatVersion → Map → FileNode → List ℕ
@@ -56,7 +56,7 @@ IsAmong (x ∷ y ∷ ys) b = (x ≡ b) ⊎ IsAmong (y ∷ ys) b
 
 -- the block is one of the inode's
 abbrev pub HasBlock : FormatVersion → Node → ℕ → Type 0
-HasBlock version (File f) b = IsAmong (blocks_of version f) b
+HasBlock version (File f) b = IsAmong (file_blocks version f) b
 HasBlock version _ b = ⊥
 
 -- the block is not there, or a file has it
@@ -79,18 +79,18 @@ IsInPlace _ _ = ⊥
 pub record IsSoundFile (version : FormatVersion) (m : Map) (f : FileNode) : Type 0 where
   pub born : 1 ≤ f.generation
   pub small : f.size ≤ most_bytes version
-  pub on_disk : AllByRecursion (IsDataBlock m.blocks) (blocks_of version f)
+  pub on_disk : AllByRecursion (IsDataBlock m.blocks) (file_blocks version f)
   -- where a further block is not there its number is 0
   pub absent : drop (more_count version f.size) f.more ≡ replicate (MORE_BLOCKS - more_count version f.size) 0
   pub timed : f.mtime.nanos ≤ MAX_NANOS
   -- its blocks are whole, and so are its bytes
-  pub sized : AllByRecursion (λ b. length (object m (block b)) ≡ BLOCK_BYTES) (blocks_of version f)
+  pub sized : AllByRecursion (λ b. length (object m (block b)) ≡ BLOCK_BYTES) (file_blocks version f)
   pub whole : length (content version m f) ≡ f.size
   pub padded : stored version m f ≡ content version m f ++ replicate (room_of version f.size - f.size) 0
 
 -- no two blocks of the file are one
-abbrev pub HasDistinctBlocks : FormatVersion → FileNode → Type 0
-HasDistinctBlocks version f = AllPairs ◌≢◌ (blocks_of version f)
+abbrev pub RepeatsNoBlock : FormatVersion → FileNode → Type 0
+RepeatsNoBlock version f = AllPairs ◌≢◌ (file_blocks version f)
 
 -- the bit is set exactly where P holds
 abbrev pub IsBit : Value → Type 0 → Type 0
@@ -108,6 +108,6 @@ pub record HasSoundFiles (version : FormatVersion) (m : Map) : Type 0 where
   pub files : (i : ℕ) (f : FileNode) → i < INODES → node_at m i ≡ File f → IsSoundFile version m f
   -- no two files have one block, and no file has one twice
   pub apart : (i j b : ℕ) → i < INODES → j < INODES → HasBlock version (node_at m i) b → HasBlock version (node_at m j) b → i ≡ j
-  pub distinct : (i : ℕ) (f : FileNode) → i < INODES → node_at m i ≡ File f → HasDistinctBlocks version f
+  pub distinct : (i : ℕ) (f : FileNode) → i < INODES → node_at m i ≡ File f → RepeatsNoBlock version f
   -- the set bits are those of the files' blocks and of the blocks that are not there
   pub bits : (i : ℕ) → i < BLOCK_BITS → IsBit (object m (bit i)) (IsTaken version m (FIRST_DATA + i))

@@ -3,15 +3,15 @@ ghost use Rattle.std.specs.Prelude.{ℕ, ◌≡◌, ◌<◌, ◌+◌, ◌*◌, l
 ghost use Rattle.journal_world.specs.Maps.{Map};
 ghost use Rattle.journal_inode.specs.Places.{object};
 ghost use Rattle.journal_inode.specs.Places.Object.{block};
-ghost use Rattle.journal_inode.specs.Sound.{blocks_of, stored, IsSoundFile, HasSoundFiles};
+ghost use Rattle.journal_inode.specs.Sound.{file_blocks, stored, IsSoundFile, HasSoundFiles};
 ghost use Rattle.journal_inode.specs.Upgrades.{IsUpgraded};
 
 use crate::{FileNode, FormatVersion};
 
 /// Block `j` of a sound file holds its bytes from `4096 * j` on.
 pub fn blocks_hold_the_bytes_in_order()
-    ensures { (version : FormatVersion) (m : Map) (f : FileNode) → IsSoundFile version m f → (j : ℕ) → j < length (blocks_of version f)
-        → slice_range (stored version m f) (4096 * j) (4096 * j + 4096) ≡ object m (block (slice_index (blocks_of version f) j)) }
+    ensures { (version : FormatVersion) (m : Map) (f : FileNode) → IsSoundFile version m f → (j : ℕ) → j < length (file_blocks version f)
+        → slice_range (stored version m f) (4096 * j) (4096 * j + 4096) ≡ object m (block (slice_index (file_blocks version f) j)) }
 {}
 
 /// A map of sound files of version 1 is, with the superblock of version 2 in place of its own, one of sound files of

@@ -15,7 +15,7 @@ use Rattle.journal_filestore.specs.Files.{Files}
 use Rattle.journal_migrate.specs.Either.{HasEitherFiles}
 use Rattle.journal_migrate.specs.Holding.{HasFiles, HasFilesOfEither, LeavesMaps}
 use Rattle.journal_migrate.specs.Superblocks.{DraftsUpgrade}
-use Rattle.journal_migrate.specs.Marking.{IsMarked}
+use Rattle.journal_migrate.specs.Marking.{AddsMark}
 use Rattle.journal_migrate.proofs.Leaving.{leaves_opening, leaves_either, leaves_marked}
 use Rattle.journal_migrate.proofs.Drafting.{IsAtOutset, keeps_files, not_drafted}
 
@@ -76,6 +76,6 @@ module _ (disk : DiskState) (first : CoreState) (begins : Begins HasEitherFiles 
     left_committed last same = leaves_either (HasFilesOfEither files) begins.map disk.honest made last.history (same ∙ is)
         (subst (HasFilesOfEither files) (ap opened begins.history) has) (inr upgraded)
 
-    pub two_marked : (last : CoreState) → IsMarked now last → LeavesMaps (HasFiles Two files) last.history
+    pub two_marked : (last : CoreState) → AddsMark now last → LeavesMaps (HasFiles Two files) last.history
     two_marked last marked = leaves_marked (HasFiles Two files) begins.map disk.honest made last.history
         (marked ∙ ap (λ h. h ++ stable (count h) ∷ []) is) upgraded

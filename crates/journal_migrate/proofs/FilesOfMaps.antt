@@ -12,7 +12,7 @@ use Rattle.journal_inode.specs.declared.place.TheConstants.{INODES}
 use Rattle.journal_inode.specs.Nodes.{node_of}
 use Rattle.journal_inode.specs.Places.{object}
 use Rattle.journal_inode.specs.Places.Object.{inode, block}
-use Rattle.journal_inode.specs.Sound.{node_at, blocks_of, held, stored, IsDataBlock}
+use Rattle.journal_inode.specs.Sound.{node_at, file_blocks, held, stored, IsDataBlock}
 use Rattle.journal_inode.specs.SameFiles.{object-same, Sound-same}
 use Rattle.journal_inode.specs.Upgrades.{IsUpgraded}
 use Rattle.journal_inode.proofs.Upgrading.{Sound-upgraded}
@@ -52,7 +52,7 @@ HasFiles-same version files m n same has = record {
   sound = Sound-same version m n same has.sound;
   same = files_of-same version version m n
       (λ i low. ap node_of (sym (object-same m n (inode i) same low)))
-      (λ i f low is. held-same m n (blocks_of version f) same (has.sound.files i f low is).on_disk)
+      (λ i f low is. held-same m n (file_blocks version f) same (has.sound.files i f low is).on_disk)
       ∙ has.same;
 }
 

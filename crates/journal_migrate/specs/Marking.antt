@@ -46,8 +46,8 @@ pub record AwaitsMark (c : CoreState) : Type 0 where
   pub stage : (tail_length c.objects ≡ 0) ⊎ AwaitsCut c
 
 -- The commit was marked
-abbrev pub IsMarked : CoreState → CoreState → Type 0
-IsMarked old new = new.history ≡ old.history ++ stable (count old.history) ∷ []
+abbrev pub AddsMark : CoreState → CoreState → Type 0
+AddsMark old new = new.history ≡ old.history ++ stable (count old.history) ∷ []
 
 -- It is not marked yet, and fewer steps are left
 pub record ComesNearer (old new : CoreState) : Type 0 where

@@ -2,7 +2,7 @@
 ghost use Rattle.std.specs.Prelude.{◌≡◌, IsTrue, IfOk, IfErr, OnOk, OnErr, false};
 ghost use Rattle.journal_disk.specs.Disks.{Keeps};
 ghost use Rattle.journal_core.specs.Cores.{disk_of};
-ghost use Rattle.journal_migrate.specs.Marking.{AwaitsMark, IsMarked, ComesNearer, IsRunningRefusal};
+ghost use Rattle.journal_migrate.specs.Marking.{AwaitsMark, AddsMark, ComesNearer, IsRunningRefusal};
 
 use journal_core::{Cause, Core, LogStep};
 use journal_disk::BlockDisk;
@@ -18,7 +18,7 @@ pub(crate) fn make_stable<'b, D: BlockDisk, R: MapRule, J: Naming>(
     core: &mut Core<'b, D, R, J>,
 ) -> Result<(), Refusal<Cause<'b, J, R>>>
     requires awaits { AwaitsMark core.old }
-    ensures marked { OnOk result (IsMarked core.old core.new) }
+    ensures marked { OnOk result (AddsMark core.old core.new) }
     ensures refusal { IfErr result (IsRunningRefusal core.old core.new) }
     ensures same { OnErr result (core.new.history ≡ core.old.history) }
     ensures keeps { Keeps (disk_of core.old) (disk_of core.new) }
@@ -35,7 +35,7 @@ fn step<'b, D: BlockDisk, R: MapRule, J: Naming>(
     core: &mut Core<'b, D, R, J>,
 ) -> Result<bool, Refusal<Cause<'b, J, R>>>
     requires awaits { AwaitsMark core.old }
-    ensures marked { IfOk result (λ marked. IsTrue marked → IsMarked core.old core.new) }
+    ensures marked { IfOk result (λ marked. IsTrue marked → AddsMark core.old core.new) }
     ensures goes_on { IfOk result (λ marked. marked ≡ false → ComesNearer core.old core.new) }
     ensures refusal { IfErr result (IsRunningRefusal core.old core.new) }
     ensures same { OnErr result (core.new.history ≡ core.old.history) }

@@ -14,7 +14,7 @@ use Rattle.journal_inode.specs.Places.{object}
 use Rattle.journal_inode.specs.Places.Object.{inode}
 use Rattle.journal_inode.specs.Nodes.{node_of, word_at, time_at, file_from}
 use Rattle.journal_inode.specs.Versions.{most_bytes, room_of}
-use Rattle.journal_inode.specs.Sound.{node_at, blocks_of, IsInPlace, HasSoundFiles}
+use Rattle.journal_inode.specs.Sound.{node_at, file_blocks, IsInPlace, HasSoundFiles}
 use Rattle.journal_inode.proofs.Blocks.{length-blocks}
 use Rattle.journal_filestore.specs.Operations.{attributes_of_node}
 use Rattle.journal_nfs3.specs.Profile.{used_bytes, fattr_of}
@@ -29,14 +29,14 @@ more_whole v f is = of_kind (word_at v 0 == 2) (word_at v 0 == 1) is
     of_kind false true is = absurd cc
     of_kind false false is = absurd cc
 
-uses_blocks : (version : FormatVersion) (m : Map) → HasSoundFiles version m → (i : ℕ) (f : FileNode) → i < INODES → node_at m i ≡ File f → used_bytes version f.size ≡ BLOCK_BYTES * length (blocks_of version f)
+uses_blocks : (version : FormatVersion) (m : Map) → HasSoundFiles version m → (i : ℕ) (f : FileNode) → i < INODES → node_at m i ≡ File f → used_bytes version f.size ≡ BLOCK_BYTES * length (file_blocks version f)
 uses_blocks version m sound i f within is =
     let small : f.size ≤ most_bytes version = (sound.files i f within is).small in
     ap (room_of version) (min-eq_left small) ∙ sym (ap (λ n. BLOCK_BYTES * n) (length-blocks version f (more_whole (object m (inode i)) f is) small))
 
 -- the root is no file
 pub files_use_blocks : (version : FormatVersion) (m : Map) → HasSoundFiles version m → (i : ℕ) (f : FileNode) → i < INODES → node_at m i ≡ File f
-    → (fattr_of version (attributes_of_node i f)).used ≡ BLOCK_BYTES * length (blocks_of version f)
+    → (fattr_of version (attributes_of_node i f)).used ≡ BLOCK_BYTES * length (file_blocks version f)
 files_use_blocks version m sound i f within is =
     let other : (i == 1) ≡ false = ne_eqb i 1 (λ root. subst (λ (j : ℕ). IsInPlace j (File f)) root (subst (IsInPlace i) is (sound.placed i within))) in
     cond-false _ _ _ other ∙ uses_blocks version m sound i f within is

@@ -9,7 +9,7 @@ ghost use Rattle.journal_inode.specs.declared.node.Time.{Time};
 ghost use Rattle.journal_inode.specs.declared.node.FileNode.{FileNode};
 ghost use Rattle.journal_inode.specs.declared.node.Node.TheVariants.{File};
 ghost use Rattle.journal_inode.specs.declared.place.TheConstants.{INODES};
-ghost use Rattle.journal_inode.specs.Sound.{node_at, blocks_of, HasSoundFiles};
+ghost use Rattle.journal_inode.specs.Sound.{node_at, file_blocks, HasSoundFiles};
 ghost use Rattle.journal_xdr.specs.Items.{IsGrammar};
 ghost use Rattle.journal_filestore.specs.declared.owed.Owed.{Owed};
 ghost use Rattle.journal_filestore.specs.Done.{IsPaid};
@@ -74,5 +74,5 @@ pub fn owed_replies_are_told_once_paid()
 /// A file uses the bytes of its blocks, 4096 for each; in version 1 it has one.
 pub fn files_use_their_blocks()
     ensures { (version : FormatVersion) (m : Map) → HasSoundFiles version m → (i : ℕ) (f : FileNode) → i < INODES → node_at m i ≡ File f
-        → (fattr_of version (attributes_of_node i f)).used ≡ BLOCK_BYTES * length (blocks_of version f) }
+        → (fattr_of version (attributes_of_node i f)).used ≡ BLOCK_BYTES * length (file_blocks version f) }
 {}

@@ -70,8 +70,8 @@ abbrev pub IsFresh : {T : Type 0} → (Pass (Job T) Hand → Type 0) → Pass (J
 IsFresh is_seat pass = is_seat pass × (view pass ≡ hand 1 [] [])
 
 -- the pass before any part of it is cut off: one for each worker, and one for who hands the connections out
-abbrev pub IsWhole : {T : Type 0} → (Pass (Job T) Hand → Type 0) → Pass (Job T) Hand → Type 0
-IsWhole is_seat pass = is_seat pass × (view pass ≡ hand 5 [] [])
+abbrev pub IsUncut : {T : Type 0} → (Pass (Job T) Hand → Type 0) → Pass (Job T) Hand → Type 0
+IsUncut is_seat pass = is_seat pass × (view pass ≡ hand 5 [] [])
 
 -- What a worker gives back: it has put nothing, and there is a note of each connection that it took, unless memory was refused
 abbrev pub IsWork : {T N : Type 0} → (Pass (Job T) Hand → Type 0) → (N → ℕ) → Work T N → Type 0

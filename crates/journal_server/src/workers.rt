@@ -3,7 +3,7 @@ ghost use Rattle.std.specs.Prelude.{◌≡◌, ◌-◌, ◌<◌, ◌+◌, ◌++�
 ghost use Rattle.std.specs.List.{All};
 ghost use Rattle.crossbeam_channel.specs.Claims.{view, IsSeatAt};
 ghost use Rattle.crossbeam_channel.specs.Ends.{sends_on, receives_on};
-ghost use Rattle.journal_server.specs.Lines.{hand, both, below, numbers_by, outcome_numbers, times, HasEachOnce, IsFresh, IsWork, IsWhole};
+ghost use Rattle.journal_server.specs.Lines.{hand, both, below, numbers_by, outcome_numbers, times, HasEachOnce, IsFresh, IsWork, IsUncut};
 ghost use Rattle.std.specs.Option.{ForSome};
 ghost use Rattle.journal_core.specs.declared.refusal_number.RefusalNumber.TheVariants.{J11};
 ghost use Rattle.journal_core.specs.Causes.{IsUnexplained};
@@ -496,7 +496,7 @@ fn in_threads<
 ) -> (Result<Vec<N>, AllocError>, I)
 where
     I::Connection: Drop + Send,
-    requires pass { IsWhole (IsSeatAt (sends_on sender.now)) pass }
+    requires pass { IsUncut (IsSeatAt (sends_on sender.now)) pass }
     requires same { receives_on line.now ≡ sends_on sender.now }
     ensures { IfOk result.0 (λ notes. HasEachOnce (numbers_by N.about notes.items) (I.given result.1 - I.given source)) }
 {
@@ -504,7 +504,7 @@ where
         thread::scope_env(),
         rt,
         |scope| -> (Result<Vec<N>, AllocError>, I)
-            requires { IsWhole (IsSeatAt (sends_on sender.now)) pass × (receives_on line.now ≡ sends_on sender.now) }
+            requires { IsUncut (IsSeatAt (sends_on sender.now)) pass × (receives_on line.now ≡ sends_on sender.now) }
             ensures { IfOk result.0 (λ notes. HasEachOnce (numbers_by N.about notes.items) (I.given result.1 - I.given source)) }
         {
             let mut source = source;
@@ -544,7 +544,7 @@ fn hire<
     line: &'s LineReceiver<S>,
     pass: &mut Pass<Job<S>, Hand>,
 ) -> Result<Vec<Worker<'s, S, N>>, AllocError>
-    requires pass { IsWhole (IsSeatAt (sends_on sender.now)) pass.old }
+    requires pass { IsUncut (IsSeatAt (sends_on sender.now)) pass.old }
     requires same { receives_on line.now ≡ sends_on sender.now }
     ensures seat { IsSeatAt (sends_on sender.now) pass.new × (0 < (view pass.new).parts) }
     ensures left { OnOk result (view pass.new ≡ hand 1 [] []) }
