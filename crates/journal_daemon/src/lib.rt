@@ -2,8 +2,8 @@
 //!
 //! `start` runs both until the journal is stopped. Each makes one step at a time: the logger makes commits stable,
 //! group by group, and the installer brings them home where the log needs room. A thread with nothing to do sleeps
-//! until there is something; none of them polls. The logger cuts no group before all have gone on that the last mark
-//! woke, and gives them a moment to commit again, so that their next commits share it.
+//! until there is something; none of them polls. The logger gives those whom the last mark woke a moment to commit
+//! again before it cuts a group, so that their next commits share it.
 //!
 //! A thread passes a gate before each step, so that a test can hold it there.
 #![tactic(auto)]

@@ -40,12 +40,11 @@ impl<'b, D: BlockDisk, R: MapRule, J: Naming> SharedCore<'b, D, R, J> {
         answer
     }
 
-    // Does the next thing of the logger once all have gone on that a mark woke, and as many wait again or have had their time
-    // to. Else the first of them that commits again would have a group for itself, and the others would wait for the next.
+    // Does the next thing of the logger once as many wait for the next mark as the last one woke, or have had their time to. Else
+    // the first of them that commits again would have a group for itself, and the others would wait for the next.
     pub(crate) fn log_gathered<W: Wait + Clock>(&self, rt: &W) -> Result<LogStep, Why<'b, J, R>>
         ensures { IfErr result IsLogRefusal }
     {
-        self.await_gathered(rt);
         self.await_company(rt);
         self.log_step(rt)
     }
@@ -78,8 +77,9 @@ impl<'b, D: BlockDisk, R: MapRule, J: Naming> SharedCore<'b, D, R, J> {
     {
         let mut shared = self.shared.lock(rt);
         let answer = durable.settle(&mut shared.volatile);
+        let commits = shared.volatile.commits();
         match answer {
-            Ok(LogStep::Marked(_)) => shared.sleepers.wake(),
+            Ok(LogStep::Marked(_)) => shared.sleepers.wake(commits),
             Ok(LogStep::Cut) => shared.sleepers.cut(),
             _ => {}
         }

@@ -203,10 +203,9 @@ impl<'b, D: BlockDisk, R: MapRule, J: Naming> Journal<'b, D, R, J> {
         Ok(log_moved(self.core.log_step(rt)?))
     }
 
-    /// Does the next thing of the logger as `log_step` does, but first waits until all threads have gone on that a mark
-    /// woke, so that their next commits share a group. They need nothing of the logger to go on, so the wait ends, and a
-    /// stop or a device that failed ends it too. Where some then wait for the next mark, it also waits until as many do as
-    /// the last mark woke, but at most 200 microseconds, since a thread may have nothing to commit.
+    /// Does the next thing of the logger as `log_step` does, but first waits until as many threads wait for the next mark
+    /// as the last one woke, so that their next commits share a group, or until more commits came than one of each. It waits
+    /// at most 200 microseconds, since a thread may have nothing to commit. A stop or a device that failed ends the wait too.
     ///
     /// It is refused as `log_step` is.
     pub fn log_gathered<W: Wait + Clock>(&self, rt: &W) -> Result<Step, Why<'b, J, R>>

@@ -45,6 +45,29 @@ pub(crate) struct Shared<'b, R: MapRule, J: Naming> {
     pub(crate) sleepers: Sleepers,
 }
 
+// What the logger waited for that has come.
+#[derive(Clone, Copy, Drop)]
+pub(crate) enum LoggerWait {
+    Nothing,
+    // A commit.
+    Work,
+    // That those whom a mark woke commit again.
+    Company,
+}
+
+impl<'b, R: MapRule, J: Naming> Shared<'b, R, J> {
+    // Which wait of the logger ended with the last commit.
+    pub(crate) fn ended_wait(&self) -> LoggerWait {
+        if self.logger_sleeps {
+            LoggerWait::Work
+        } else if self.sleepers.is_enough(self.volatile.commits()) {
+            LoggerWait::Company
+        } else {
+            LoggerWait::Nothing
+        }
+    }
+}
+
 /// The core of a journal, a part under each of two locks.
 ///
 /// There is one condition variable for each reason to wait, so that nobody is woken for another's. All are the memory
@@ -62,7 +85,7 @@ pub(crate) struct SharedCore<'b, D: BlockDisk, R: MapRule, J: Naming> {
     pub(crate) marked: Condvar,
     // The logger waits for a commit, or for positions that are free.
     pub(crate) logging: Condvar,
-    // The logger waits until all have gone on that a mark woke, and until as many sleep again.
+    // The logger waits until as many sleep again as a mark woke, or have had their time to.
     pub(crate) gathered: Condvar,
     // The installer waits for a crowded log.
     pub(crate) installing: Condvar,
@@ -313,11 +336,11 @@ impl<'b, D: BlockDisk, R: MapRule, J: Naming> SharedCore<'b, D, R, J> {
         ensures fenced { IfErr result (ShowsFence session.new) }
         ensures session { OnErr result (OnlyExtends session.old session.new) }
     {
-        let (answer, sleeps) = {
+        let (answer, ended) = {
             let (shared, answer) = self.commit_with_room(rt, session, transaction, held, spares);
-            (answer, shared.logger_sleeps)
+            (answer, shared.ended_wait())
         };
-        self.tell_of_commit(&answer, sleeps);
+        self.tell_of_commit(&answer, ended);
         answer
     }
 
@@ -340,9 +363,9 @@ impl<'b, D: BlockDisk, R: MapRule, J: Naming> SharedCore<'b, D, R, J> {
     {
         let shared = self.shared.lock(rt);
         let (shared, answer) = self.commit_or_fetch(rt, shared, session, transaction, held, spares);
-        let sleeps = shared.logger_sleeps;
+        let ended = shared.ended_wait();
         drop(shared);
-        self.tell_of_commit(&answer, sleeps);
+        self.tell_of_commit(&answer, ended);
         answer
     }
 
@@ -427,16 +450,17 @@ impl<'b, D: BlockDisk, R: MapRule, J: Naming> SharedCore<'b, D, R, J> {
         }
     }
 
-    // Wakes the logger where a commit was made and it sleeps, and all where the device failed.
+    // Wakes the logger where a commit was made that it waited for, and all where the device failed.
     pub(crate) fn tell_of_commit(
         &self,
         answer: &Result<Receipt<'b, J, R>, Why<'b, J, R>>,
-        sleeps: bool,
+        ended: LoggerWait,
     ) {
-        if sleeps && answer.is_ok() {
-            self.logging.notify_all();
+        match ended {
+            LoggerWait::Work if answer.is_ok() => self.logging.notify_all(),
+            LoggerWait::Company if answer.is_ok() => self.gathered.notify_all(),
+            _ => self.tell_of_fault(answer),
         }
-        self.tell_of_fault(answer);
     }
 
     // Waits until the logger has something to do, or would be refused. It looks at memory alone: what it does not know of the
@@ -452,23 +476,11 @@ impl<'b, D: BlockDisk, R: MapRule, J: Naming> SharedCore<'b, D, R, J> {
         }
     }
 
-    // Waits until all have gone on that a mark woke, or the logger would be refused. They need the lock alone to go on, so
-    // this waits for nobody that waits for the logger.
-    pub(crate) fn await_gathered<W: Wait>(&self, rt: &W) {
-        let mut shared = self.shared.lock(rt);
-        for _ in rt.forever() {
-            if shared.sleepers.have_gone_on() || shared.volatile.check_running().is_err() {
-                return;
-            }
-            shared = self.gathered.wait(rt, shared);
-        }
-    }
-
-    // Where some wait for the next mark, waits until as many do as the last one woke, but not for long: one of them may have
-    // nothing to commit. Who is woken too early cuts too early, which harms nobody.
+    // Waits until as many wait for the next mark as the last one woke, or more commits have come than one of each, but not for
+    // long: one of them may have nothing to commit. Who is woken too early cuts too early, which harms nobody.
     pub(crate) fn await_company<W: Wait + Clock>(&self, rt: &W) {
         let shared = self.shared.lock(rt);
-        if shared.sleepers.are_too_few() {
+        if shared.sleepers.are_too_few(shared.volatile.commits()) {
             let _ended = self
                 .gathered
                 .wait_timeout(rt, shared, Duration::from_micros(COMPANY));

@@ -6,12 +6,15 @@ ghost use Rattle.std.specs.Prelude.{◌≡◌, ◌+◌, ◌-◌, ◌^◌, ◌<�
 // A thread is counted in before it sleeps, and out once it has the lock again. One that wakes without a mark may be
 // counted out in the place of one that a mark woke, which is then counted out in its place.
 //
-// Those whom a mark woke are likely to commit again at once, so that many are awaited until a group is cut.
+// Those whom a mark woke are likely to commit again at once, so that many are awaited until a group is cut. Where more commits
+// come than one of each, somebody commits without waiting each time, and nobody is awaited any longer: there are enough.
 #[derive(Default, Drop)]
 pub(crate) struct Sleepers {
     asleep: u64,
     woken: u64,
     awaited: u64,
+    // With so many commits of the history there are enough, whoever sleeps.
+    enough: u64,
 }
 
 impl Sleepers {
@@ -20,58 +23,58 @@ impl Sleepers {
         ensures enough { IsTrue result ↔ (self.new.asleep ≡ self.old.awaited) }
         ensures asleep { self.old.asleep + 1 < 2 ^ 64 → self.new.asleep ≡ self.old.asleep + 1 }
         ensures woken { self.new.woken ≡ self.old.woken }
-        ensures awaited { self.new.awaited ≡ self.old.awaited }
+        ensures others { (self.new.awaited ≡ self.old.awaited) × (self.new.enough ≡ self.old.enough) }
     {
         self.asleep = self.asleep.saturating_add(1);
         self.asleep == self.awaited
     }
 
-    // Counts all that sleep as woken, where a mark was made, and awaits as many.
-    pub(crate) fn wake(&mut self)
+    // Counts all that sleep as woken, where a mark was made and there were so many commits, and awaits as many.
+    pub(crate) fn wake(&mut self, commits: u64)
         ensures asleep { self.new.asleep ≡ 0 }
         ensures awaited { self.new.awaited ≡ self.old.asleep }
+        ensures enough { commits + self.old.asleep + 1 < 2 ^ 64 → self.new.enough ≡ commits + self.old.asleep + 1 }
         ensures woken { self.old.woken + self.old.asleep < 2 ^ 64 → self.new.woken ≡ self.old.woken + self.old.asleep }
     {
         self.woken = self.woken.saturating_add(self.asleep);
         self.awaited = self.asleep;
+        self.enough = commits.saturating_add(self.asleep).saturating_add(1);
         self.asleep = 0;
     }
 
     // Awaits nobody, where a group was cut: who sleeps from now on does so for the next.
     pub(crate) fn cut(&mut self)
-        ensures awaited { self.new.awaited ≡ 0 }
+        ensures awaited { (self.new.awaited ≡ 0) × (self.new.enough ≡ 0) }
         ensures others { (self.new.asleep ≡ self.old.asleep) × (self.new.woken ≡ self.old.woken) }
     {
         self.awaited = 0;
+        self.enough = 0;
     }
 
-    // Whether some sleep, but fewer than are awaited.
-    pub(crate) fn are_too_few(&self) -> bool
-        ensures { IsTrue result ↔ (0 < self.now.asleep × self.now.asleep < self.now.awaited) }
+    // Whether fewer sleep than are awaited, and there are not enough commits either.
+    pub(crate) fn are_too_few(&self, commits: u64) -> bool
+        ensures { IsTrue result ↔ (self.now.asleep < self.now.awaited × commits < self.now.enough) }
     {
-        0 < self.asleep && self.asleep < self.awaited
+        self.asleep < self.awaited && commits < self.enough
     }
 
-    // Counts a thread out that has the lock again. Says whether it was the last that a mark woke.
-    pub(crate) fn count_out(&mut self) -> bool
+    // Whether the last of so many commits is the one with which there are enough.
+    pub(crate) fn is_enough(&self, commits: u64) -> bool
+        ensures { IsTrue result ↔ (commits ≡ self.now.enough) }
+    {
+        commits == self.enough
+    }
+
+    // Counts a thread out that has the lock again.
+    pub(crate) fn count_out(&mut self)
         ensures woken { self.new.woken ≡ self.old.woken - 1 }
         ensures asleep { self.old.woken ≡ 0 → self.new.asleep ≡ self.old.asleep - 1 }
         ensures same { 0 < self.old.woken → self.new.asleep ≡ self.old.asleep }
-        ensures last { IsTrue result ↔ (self.old.woken ≡ 1) }
-        ensures awaited { self.new.awaited ≡ self.old.awaited }
+        ensures others { (self.new.awaited ≡ self.old.awaited) × (self.new.enough ≡ self.old.enough) }
     {
-        let Some(woken) = self.woken.checked_sub(1) else {
-            self.asleep = self.asleep.saturating_sub(1);
-            return false;
-        };
-        self.woken = woken;
-        woken == 0
-    }
-
-    // Whether all have gone on that a mark woke.
-    pub(crate) fn have_gone_on(&self) -> bool
-        ensures { IsTrue result ↔ (self.now.woken ≡ 0) }
-    {
-        self.woken == 0
+        match self.woken.checked_sub(1) {
+            Some(woken) => self.woken = woken,
+            None => self.asleep = self.asleep.saturating_sub(1),
+        }
     }
 }

@@ -95,8 +95,8 @@ impl<'b, D: BlockDisk, R: MapRule, J: Naming> SharedCore<'b, D, R, J> {
         unreachable!()
     }
 
-    // Sleeps until a mark is made or all are woken. The logger waits for those whom a mark woke: the last of them lets it go
-    // on, and so does the last that sleeps again.
+    // Sleeps until a mark is made or all are woken. The logger waits for those whom a mark woke: the last that sleeps again lets
+    // it go on.
     fn sleep<'s, W: Wait>(
         &'s self,
         rt: &W,
@@ -107,9 +107,7 @@ impl<'b, D: BlockDisk, R: MapRule, J: Naming> SharedCore<'b, D, R, J> {
             self.gathered.notify_all();
         }
         let mut shared = self.marked.wait(rt, shared);
-        if shared.sleepers.count_out() {
-            self.gathered.notify_all();
-        }
+        shared.sleepers.count_out();
         shared
     }
 
@@ -133,7 +131,7 @@ impl<'b, D: BlockDisk, R: MapRule, J: Naming> SharedCore<'b, D, R, J> {
         let mut held = held;
         let (shared, answer) = self.commit_with_room(rt, session, transaction, &mut held, spares);
         release_all(rt, slots, held);
-        self.tell_of_commit(&answer, shared.logger_sleeps);
+        self.tell_of_commit(&answer, shared.ended_wait());
         let receipt = match answer {
             Ok(receipt) => receipt,
             Err(why) => return Err(WaitFault::Refused(why)),
