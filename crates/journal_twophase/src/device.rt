@@ -40,8 +40,8 @@ impl<'b, D: BlockDisk, R: MapRule, J: Naming> SharedCore<'b, D, R, J> {
         answer
     }
 
-    // Does the next thing of the logger once as many wait for the next mark as the last one woke, or have had their time to. Else
-    // the first of them that commits again would have a group for itself, and the others would wait for the next.
+    // Does the next thing of the logger once as many have committed as the last mark woke, or have had their time to. Else the
+    // first of them that commits again would have a group for itself, and the others would wait for the next.
     pub(crate) fn log_gathered<W: Wait + Clock>(&self, rt: &W) -> Result<LogStep, Why<'b, J, R>>
         ensures { IfErr result IsLogRefusal }
     {

@@ -203,9 +203,9 @@ impl<'b, D: BlockDisk, R: MapRule, J: Naming> Journal<'b, D, R, J> {
         Ok(log_moved(self.core.log_step(rt)?))
     }
 
-    /// Does the next thing of the logger as `log_step` does, but first waits until as many threads wait for the next mark
-    /// as the last one woke, so that their next commits share a group, or until more commits came than one of each. It waits
-    /// at most 200 microseconds, since a thread may have nothing to commit. A stop or a device that failed ends the wait too.
+    /// Does the next thing of the logger as `log_step` does, but first waits until as many commits came as threads were woken
+    /// by the last mark, or as many wait for the next one, so that their next commits share a group. It waits at most 200
+    /// microseconds, since a thread may have nothing to commit. A stop or a device that failed ends the wait too.
     ///
     /// It is refused as `log_step` is.
     pub fn log_gathered<W: Wait + Clock>(&self, rt: &W) -> Result<Step, Why<'b, J, R>>

@@ -85,7 +85,7 @@ pub(crate) struct SharedCore<'b, D: BlockDisk, R: MapRule, J: Naming> {
     pub(crate) marked: Condvar,
     // The logger waits for a commit, or for positions that are free.
     pub(crate) logging: Condvar,
-    // The logger waits until as many sleep again as a mark woke, or have had their time to.
+    // The logger waits until as many commits have come as a mark woke threads, or as many sleep again.
     pub(crate) gathered: Condvar,
     // The installer waits for a crowded log.
     pub(crate) installing: Condvar,
@@ -476,8 +476,8 @@ impl<'b, D: BlockDisk, R: MapRule, J: Naming> SharedCore<'b, D, R, J> {
         }
     }
 
-    // Waits until as many wait for the next mark as the last one woke, or more commits have come than one of each, but not for
-    // long: one of them may have nothing to commit. Who is woken too early cuts too early, which harms nobody.
+    // Waits until as many commits have come as the last mark woke threads, or as many wait for the next one, but not for long:
+    // one of them may have nothing to commit. Who is woken too early cuts too early, which harms nobody.
     pub(crate) fn await_company<W: Wait + Clock>(&self, rt: &W) {
         let shared = self.shared.lock(rt);
         if shared.sleepers.are_too_few(shared.volatile.commits()) {

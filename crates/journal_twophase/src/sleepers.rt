@@ -6,14 +6,15 @@ ghost use Rattle.std.specs.Prelude.{◌≡◌, ◌+◌, ◌-◌, ◌^◌, ◌<�
 // A thread is counted in before it sleeps, and out once it has the lock again. One that wakes without a mark may be
 // counted out in the place of one that a mark woke, which is then counted out in its place.
 //
-// Those whom a mark woke are likely to commit again at once, so that many are awaited until a group is cut. Where more commits
-// come than one of each, somebody commits without waiting each time, and nobody is awaited any longer: there are enough.
+// Those whom a mark woke are likely to commit again at once, so that many are awaited until a group is cut: until as many sleep
+// again, or as many commits have come. One of the commits may be of somebody who makes several before he sleeps: then there
+// is enough for a group too.
 #[derive(Default, Drop)]
 pub(crate) struct Sleepers {
     asleep: u64,
     woken: u64,
     awaited: u64,
-    // With so many commits of the history there are enough, whoever sleeps.
+    // With so many commits of the history as many have come as are awaited.
     enough: u64,
 }
 
@@ -33,12 +34,12 @@ impl Sleepers {
     pub(crate) fn wake(&mut self, commits: u64)
         ensures asleep { self.new.asleep ≡ 0 }
         ensures awaited { self.new.awaited ≡ self.old.asleep }
-        ensures enough { commits + self.old.asleep + 1 < 2 ^ 64 → self.new.enough ≡ commits + self.old.asleep + 1 }
+        ensures enough { commits + self.old.asleep < 2 ^ 64 → self.new.enough ≡ commits + self.old.asleep }
         ensures woken { self.old.woken + self.old.asleep < 2 ^ 64 → self.new.woken ≡ self.old.woken + self.old.asleep }
     {
         self.woken = self.woken.saturating_add(self.asleep);
         self.awaited = self.asleep;
-        self.enough = commits.saturating_add(self.asleep).saturating_add(1);
+        self.enough = commits.saturating_add(self.asleep);
         self.asleep = 0;
     }
 
@@ -51,14 +52,14 @@ impl Sleepers {
         self.enough = 0;
     }
 
-    // Whether fewer sleep than are awaited, and there are not enough commits either.
+    // Whether fewer sleep than are awaited, and with so many commits not as many have come either.
     pub(crate) fn are_too_few(&self, commits: u64) -> bool
         ensures { IsTrue result ↔ (self.now.asleep < self.now.awaited × commits < self.now.enough) }
     {
         self.asleep < self.awaited && commits < self.enough
     }
 
-    // Whether the last of so many commits is the one with which there are enough.
+    // Whether with the last of so many commits as many have come as are awaited.
     pub(crate) fn is_enough(&self, commits: u64) -> bool
         ensures { IsTrue result ↔ (commits ≡ self.now.enough) }
     {

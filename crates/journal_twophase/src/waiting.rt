@@ -96,7 +96,7 @@ impl<'b, D: BlockDisk, R: MapRule, J: Naming> SharedCore<'b, D, R, J> {
     }
 
     // Sleeps until a mark is made or all are woken. The logger waits for those whom a mark woke: the last that sleeps again lets
-    // it go on.
+    // it go on, where no commit did before.
     fn sleep<'s, W: Wait>(
         &'s self,
         rt: &W,
