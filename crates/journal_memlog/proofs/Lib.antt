@@ -1,2 +1,5 @@
 pub mod Absorbing
+pub mod Entries
 pub mod Indexed
+pub mod Places
+pub mod Tails

@@ -1,32 +1,34 @@
--- The index of a log: where the last update of each block is.
-use Rattle.std.specs.Prelude.{ℕ, ◌≡◌, ◌⊎◌, ◌+◌, ◌<◌, ◌≤◌, List, [], length, slice_index, slice_index_or}
+-- The index of a log: where the last update of each bucket is, and the one before each update.
+use Rattle.std.specs.Prelude.{ℕ, ◌≡◌, ◌+◌, ◌-◌, ◌<◌, ◌≤◌, List, length, map, slice_index}
 use Rattle.journal_block.specs.declared.update.Update.{Update}
-use Rattle.journal_memlog.specs.Logs.{LogState, HasBounds}
+use Rattle.journal_memlog.specs.declared.entry.Entry.{Entry}
+use Rattle.journal_memlog.specs.declared.entry.TheConstants.{BUCKETS}
+use Rattle.journal_memlog.specs.Logs.{LogState, IsMemLog}
+use Rattle.journal_memlog.specs.Buckets.{bucket_of, update_at}
 
 -- what contracts see of the fields
-abbrev pub state_of_fields : ℕ → ℕ → ℕ → List Update → ℕ → List ℕ → LogState
-state_of_fields start logged cut updates room newest =
-    record { blocks = length newest; start = start; logged = logged; cut = cut; updates = updates; room = room }
+abbrev pub updates_of : List Entry → List Update
+updates_of entries = map (λ entry. entry.update) entries
 
--- the update at a place, and what stands for one where there is none
-abbrev pub no_update : Update
-no_update = record { block = 0; bytes = [] }
+abbrev pub earlier_of : List Entry → List ℕ
+earlier_of entries = map (λ entry. entry.earlier) entries
 
-abbrev pub update_at : List Update → ℕ → Update
-update_at updates k = slice_index_or updates k no_update
+abbrev pub state_of_fields : ℕ → ℕ → ℕ → ℕ → List Entry → ℕ → LogState
+state_of_fields blocks start logged cut entries room =
+    record { blocks = blocks; start = start; logged = logged; cut = cut; updates = updates_of entries; room = room }
 
--- The entry is one more than the position of an update of the block
-pub record Names (start : ℕ) (updates : List Update) (b entry : ℕ) : Type 0 where
-  pub offset : ℕ
-  pub position : entry ≡ start + offset + 1
-  pub within : offset < length updates
-  pub block : (update_at updates offset).block ≡ b
+-- The place is one more than the position of the bucket's last update among the first `count`, or no more than `start`
+-- where it has none there
+pub record LeadsTo (start : ℕ) (updates : List Update) (bucket count place : ℕ) : Type 0 where
+  pub within : place ≤ start + count
+  pub same : start < place → bucket_of (update_at updates (place - 1 - start)).block ≡ bucket
+  pub last : (k : ℕ) → k < count → bucket_of (update_at updates k).block ≡ bucket → start + k < place
 
--- Each block has an entry, which tells where its last update is, or is 0 where it has none
-pub record IsIndexed (log : LogState) (newest : List ℕ) : Type 0 where
-  pub bounds : HasBounds log
-  pub names : (b : ℕ) → (slice_index newest b ≡ 0) ⊎ Names log.start log.updates b (slice_index newest b)
-  pub last : (k : ℕ) → k < length log.updates → log.start + k < slice_index newest (update_at log.updates k).block
-  -- in the tail there is no earlier one
-  pub tail : (k : ℕ) → k < length log.updates → log.cut ≤ log.start + k
-      → slice_index newest (update_at log.updates k).block ≡ log.start + k + 1
+-- Each bucket leads to its last update, and each update to the one before it in its bucket
+pub record IsIndexed (log : LogState) (earlier heads : List ℕ) : Type 0 where
+  pub sound : IsMemLog log
+  pub buckets : length heads ≡ BUCKETS
+  pub chains : (bucket : ℕ) → bucket < BUCKETS
+      → LeadsTo log.start log.updates bucket (length log.updates) (slice_index heads bucket)
+  pub links : (k : ℕ) → k < length log.updates
+      → LeadsTo log.start log.updates (bucket_of (update_at log.updates k).block) k (slice_index earlier k)

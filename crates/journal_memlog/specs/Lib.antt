@@ -1,3 +1,4 @@
 pub mod Logs
+pub mod Buckets
 pub mod Index
 pub mod Laws

@@ -13,15 +13,18 @@
 //! never changed. Once the disk has a group, `logged` says so, and once its blocks are in their homes,
 //! `trim` drops its positions.
 //!
-//! Beside the updates, each block of the disk has the position of its last update. So the newest content of
-//! a block, and whether it stands in the tail, are found at once, and no call looks at other updates than
-//! its own.
+//! The blocks of the disk are divided into a fixed number of buckets. Each bucket has the position of its last
+//! update, and each update that of the one before it in its bucket. So the newest content of a block, and whether
+//! it stands in the tail, are found by a look at the few updates of its bucket. The log takes memory by its updates
+//! alone, whatever the number of blocks of the disk. A position never comes again, so a link to one that was
+//! dropped is known by its number, and no call has to remove it.
 //!
 //! Contracts see a log as a `LogState`. What absorbing makes of a tail is in `specs/Logs.antt`, and what
 //! follows from it for every tail in `specs/Laws.antt`.
 #![tactic(auto)]
 
 mod bounds;
+mod entry;
 mod mem_log;
 
 pub use bounds::{Bounds, Group};

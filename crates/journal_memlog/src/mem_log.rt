@@ -1,9 +1,11 @@
 // The log in memory.
-ghost use Rattle.std.specs.Prelude.{ℕ, ◌≡◌, ◌+◌, ◌-◌, ◌<◌, ◌≤◌, ◌^◌, ◌++◌, [], ◌∷◌, length, slice_get, slice_index, is_some, Some, IfSome, IfOk, OnOk, OnErr, IsOkUnless};
+ghost use Rattle.std.specs.Prelude.{ℕ, ◌≡◌, ◌+◌, ◌-◌, ◌<◌, ◌≤◌, ◌^◌, ◌++◌, [], ◌∷◌, length, slice_get, is_some, Some, IfSome, IfOk, OnOk, OnErr, IsOkUnless};
 ghost use Rattle.journal_block.specs.Block.{Bytes};
 ghost use Rattle.journal_block.specs.Updates.{updated, updates_block};
 ghost use Rattle.journal_memlog.specs.Logs.{LogState, IsMemLog, HasDistinctBlocks, bounds_of, next_position, head_of, tail_of, empty_log, with_logged, appended, trimmed, CanTake};
+ghost use Rattle.journal_memlog.specs.Buckets.{updates_from, IsLastOf};
 
+use crate::entry::{BUCKETS, Entry, bucket_of};
 use crate::{Bounds, Group};
 use journal_block::{Block, Update};
 use journal_world::Refusal;
@@ -16,27 +18,28 @@ use std::marker::Model;
 /// Positions count updates, from the first log of the disk on, and stay below 2^62.
 #[derive(Drop)]
 pub struct MemLog {
+    blocks: u64,
     start: u64,
     logged: u64,
     cut: u64,
-    updates: VecDeque<Update>,
-    // Of each block of the disk one more than the position of its last update, or 0.
-    newest: Vec<u64>,
+    entries: VecDeque<Entry>,
+    // Of each bucket one more than the position of its last update, or no more than `start`.
+    heads: Vec<u64>,
 }
 
 impl Model for MemLog {
-    ghost use Rattle.std.specs.Prelude.{◌-◌, length};
+    ghost use Rattle.std.specs.Prelude.{◌-◌};
     ghost use Rattle.std.specs.VecDeque.{deque_len, deque_capacity};
     ghost use Rattle.journal_memlog.specs.Logs.{LogState};
-    ghost use Rattle.journal_memlog.specs.Index.{IsIndexed, state_of_fields};
+    ghost use Rattle.journal_memlog.specs.Index.{IsIndexed, state_of_fields, earlier_of};
 
     ghost Value = { LogState };
 
-    ghost view = { λ log. state_of_fields log.start log.logged log.cut log.updates.items
-        (deque_capacity log.updates - deque_len log.updates) log.newest.items };
+    ghost view = { λ log. state_of_fields log.blocks log.start log.logged log.cut log.entries.items
+        (deque_capacity log.entries - deque_len log.entries) };
 
-    ghost invariant = { λ log. IsIndexed (state_of_fields log.start log.logged log.cut log.updates.items
-        (deque_capacity log.updates - deque_len log.updates) log.newest.items) log.newest.items };
+    ghost invariant = { λ log. IsIndexed (state_of_fields log.blocks log.start log.logged log.cut log.entries.items
+        (deque_capacity log.entries - deque_len log.entries)) (earlier_of log.entries.items) log.heads.items };
 }
 
 impl MemLog {
@@ -49,13 +52,14 @@ impl MemLog {
         ensures sound { IfOk result IsMemLog }
         ensures refusal { IsOkUnless result Refusal.NoMemory }
     {
-        let newest = vec![in alloc; 0u64; blocks as usize]?;
+        let heads = vec![in alloc; 0u64; BUCKETS as usize]?;
         Ok(MemLog {
+            blocks,
             start,
             logged: start,
             cut: start,
-            updates: VecDeque::new(alloc),
-            newest,
+            entries: VecDeque::new(alloc),
+            heads,
         })
     }
 
@@ -77,7 +81,7 @@ impl MemLog {
         ensures next { result ≡ next_position self.now }
         ensures sound { IsMemLog self.now }
     {
-        self.start + self.updates.len() as u64
+        self.start + self.entries.len() as u64
     }
 
     /// The number of blocks in the tail.
@@ -91,7 +95,7 @@ impl MemLog {
     pub fn stands(&self, block: u64) -> bool
         ensures { result ≡ updates_block (tail_of self.now) block }
     {
-        entry_of(&self.newest, block) > self.cut
+        self.newest(block, self.cut).is_some()
     }
 
     /// The update at a position.
@@ -100,7 +104,25 @@ impl MemLog {
         requires to_next { position < next_position self.now }
         ensures { slice_get self.now.updates (position - self.now.start) ≡ Some result.now }
     {
-        &self.updates[(position - self.start) as usize]
+        &self.entries[(position - self.start) as usize].update
+    }
+
+    // The position of the block's last update, if one stands at `floor` or after it. It looks at the updates of
+    // the block's bucket from the last one on.
+    fn newest(&self, block: u64, floor: u64) -> Option<u64>
+        requires { self.now.start ≤ floor }
+        ensures found { is_some result ≡ updates_block (updates_from self.now floor) block }
+        ensures last { IfSome result (IsLastOf self.now block floor) }
+    {
+        let mut place = self.heads[bucket_of(block)];
+        while place > floor {
+            let entry = &self.entries[(place - 1 - self.start) as usize];
+            if entry.update.block == block {
+                return Some(place - 1);
+            }
+            place = entry.earlier;
+        }
+        None
     }
 
     /// The content of the block's last update in the whole log, or `None` where it has none.
@@ -109,11 +131,10 @@ impl MemLog {
         ensures content { IfSome result (λ found.
             (before : Bytes) → updated self.now.updates block before ≡ found.now) }
     {
-        let entry = entry_of(&self.newest, block);
-        if entry == 0 {
-            return None;
+        match self.newest(block, self.start) {
+            Some(position) => Some(&self.at(position).bytes),
+            None => None,
         }
-        Some(&self.at(entry - 1).bytes)
     }
 
     /// Adds a position that the disk's log has already, for a recovery: the log has neither tail nor group.
@@ -132,11 +153,12 @@ impl MemLog {
         ensures sound { IsMemLog self.new }
         ensures refusal { IsOkUnless result Refusal.NoMemory }
     {
-        let block = update.block as usize;
-        self.updates.push_back(update)?;
+        let bucket = bucket_of(update.block);
+        let earlier = self.heads[bucket];
+        self.entries.push_back(Entry { update, earlier })?;
         self.cut += 1;
         self.logged = self.cut;
-        self.newest[block] = self.cut;
+        self.heads[bucket] = self.cut;
         Ok(())
     }
 
@@ -152,15 +174,16 @@ impl MemLog {
         ensures sound { IsMemLog self.new }
         ensures refusal { IsOkUnless result Refusal.NoMemory }
     {
-        if n <= self.updates.capacity() - self.updates.len() {
+        if n <= self.entries.capacity() - self.entries.len() {
             return Ok(());
         }
-        self.updates.reserve(n)?;
+        self.entries.reserve(n)?;
         Ok(())
     }
 
     /// Puts updates into the tail, one after the other: each in the place of the update of its block, or at the end.
-    /// It takes no memory, moves the blocks, and takes time by these updates alone.
+    /// It takes no memory and moves the blocks. It takes time by these updates, and by the log's updates of their
+    /// buckets.
     pub fn append(&mut self, updates: Vec<Update>)
         requires { CanTake self.old updates.items }
         ensures log { self.new ≡ appended self.old updates.items }
@@ -184,13 +207,13 @@ impl MemLog {
         ensures log { self.new ≡ appended self.old (update ∷ []) }
         ensures sound { IsMemLog self.new }
     {
-        let block = update.block as usize;
-        let entry = self.newest[block];
-        if entry > self.cut {
-            self.updates[(entry - 1 - self.start) as usize] = update;
+        if let Some(position) = self.newest(update.block, self.cut) {
+            self.entries[(position - self.start) as usize].update = update;
         } else {
-            self.updates.push_back_reserved(update);
-            self.newest[block] = self.start + self.updates.len() as u64;
+            let bucket = bucket_of(update.block);
+            let earlier = self.heads[bucket];
+            self.entries.push_back_reserved(Entry { update, earlier });
+            self.heads[bucket] = self.start + self.entries.len() as u64;
         }
     }
 
@@ -240,20 +263,9 @@ impl MemLog {
         ensures log { self.new ≡ trimmed self.old (self.old.start + 1) }
         ensures sound { IsMemLog self.new }
     {
-        let update = self.updates.pop_front().unwrap();
-        let block = update.block as usize;
+        let Entry { update, .. } = self.entries.pop_front().unwrap();
+        // Chains end at `start`, so no link to the position has to be looked for.
         self.start += 1;
-        // A later update of the block keeps its entry.
-        if self.newest[block] == self.start {
-            self.newest[block] = 0;
-        }
         update
     }
-}
-
-// One more than the position of the block's last update, or 0, also where the disk has no such block.
-fn entry_of(newest: &[u64], block: u64) -> u64
-    ensures { result ≡ slice_index newest.now block }
-{
-    newest.get(block as usize).copied().unwrap_or(0)
 }

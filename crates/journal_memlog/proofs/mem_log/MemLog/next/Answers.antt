@@ -1,7 +1,6 @@
-use Rattle.std.proofs.Common.{refl, subst}
+use Rattle.std.proofs.Common.{subst}
 use Rattle.journal_memlog.specs.Logs.{IsMemLog}
-use Rattle.journal_memlog.proofs.Indexed.{is_log}
 use Rattle.journal_memlog.proofs.mem_log.MemLog.next.Goals as goal
 
 pub returns-clause-sound : goal.returns-clause-sound
-returns-clause-sound c = subst IsMemLog c.self.view_is (is_log _ c.self.inside.newest.items c.self.invariant refl)
+returns-clause-sound c = subst IsMemLog c.self.view_is c.self.invariant.sound
