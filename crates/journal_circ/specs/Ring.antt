@@ -1,28 +1,46 @@
 -- What contracts see of a circular log, and what its steps say.
-use Rattle.std.specs.Prelude.{ℕ, ◌≡◌, ◌≢◌, ◌⊎◌, ◌<◌, ◌≤◌, ◌-◌, Bool, false, IsTrue, IsErr, IfErr, OnOk, List, take, Result}
+use Rattle.std.specs.Prelude.{ℕ, ◌≡◌, ◌≢◌, ◌⊎◌, ◌<◌, ◌≤◌, ◌-◌, ◌%◌, Bool, false, [], ◌∷◌, if◌then◌else◌, IsTrue, IsErr, IfErr, OnOk, List, take, Result}
 use Rattle.journal_world.specs.declared.refusal.Refusal.{Refusal}
 use Rattle.journal_world.specs.declared.refusal.Refusal.TheVariants.{NoMemory, DeviceFailed, BadLog}
 use Rattle.journal_block.specs.declared.update.Update.{Update}
-use Rattle.journal_block.specs.Block.{Bytes, u64_at}
+use Rattle.journal_block.specs.Block.{Bytes, u64_at, with_bytes}
 use Rattle.journal_block.specs.Updates.{Content, with_updates, updates_block}
-use Rattle.journal_disk.specs.Disks.{DiskEvent, DiskState, Keeps, HasFailed, read_of, past_after, MayHaveHappened}
+use Rattle.journal_disk.specs.Disks.{Past, DiskEvent, DiskState, Keeps, HasFailed, read_of, past_after, MayHaveHappened}
 use Rattle.journal_disk.specs.Images.{EveryImage, reading}
 use Rattle.journal_disk.specs.Moments.{LeavesOnly}
 use Rattle.journal_circ.specs.declared.extent.Extent.{Extent}
-use Rattle.journal_circ.specs.Log.{updates_from, IsWellFormed}
+use Rattle.journal_circ.specs.Log.{updates_from, is_sealed, tag_in, tag_at, tag_of, other_tag, with_tag, with_address, word_of, IsWellFormed}
 use Rattle.journal_circ.specs.StandsFor.{StandsFor}
-use Rattle.journal_circ.specs.declared.layout.TheConstants.{FIRST_HOME}
+use Rattle.journal_circ.specs.declared.layout.TheConstants.{FIRST_HOME, LOG_POSITIONS}
 
 -- What contracts see of a `Circ`
 pub record Ring : Type 0 where
   pub disk : DiskState
   -- block 0 as the next group has it
   pub header : Bytes
+  -- of a sealed log the tag that each log block has as it reads
+  pub tags : Bytes
+  -- whether the log is of the sealed form
+  pub sealed : Bool
   pub extent : Extent
   -- the position that is put next
   pub next : ℕ
   -- whether a call failed
   pub faulted : Bool
+
+-- the tag that the next log block of a sealed log is put with
+abbrev pub next_tag : Ring → ℕ
+next_tag r = other_tag (tag_at r.tags r.next) (tag_in r.header r.next)
+
+-- What an update of the next position is put as: its log block, and what block 0 and the tags in memory become
+abbrev pub bytes_put : Ring → Bytes → Bytes
+bytes_put r bytes = if r.sealed then with_tag bytes (next_tag r) else bytes
+
+abbrev pub header_put : Ring → ℕ → Bytes → Bytes
+header_put r block bytes = with_address r.header r.next (if r.sealed then word_of block 0 (next_tag r) (tag_of bytes) else block)
+
+abbrev pub tags_put : Ring → Bytes
+tags_put r = if r.sealed then with_bytes r.tags (r.next % LOG_POSITIONS) (next_tag r ∷ []) else r.tags
 
 -- the updates of the log, from its start to the position that is put next
 abbrev pub log_of : Ring → List Update
@@ -87,6 +105,11 @@ pub record Steps {A : Type 0} (event : DiskEvent) (result : Result A (Refusal Un
   pub makes : OnOk result (MakesCall event old.disk new.disk)
   pub tries : TriesCall event old.disk new.disk
 
+-- What a change of the form of an empty log says of images: up to one moment, and from it on, each stands for the home blocks
+abbrev pub ChangesForm : Ring → Past → Type 0
+ChangesForm r new = (mid : Past) × (LeavesOnly r.disk.past mid (StandsFor r.disk.past.size (home_of r))
+    × LeavesOnly mid new (StandsFor r.disk.past.size (home_of r)))
+
 -- The log and the home blocks are as before
 pub record KeepsLog (old new : Ring) : Type 0 where
   pub log : log_of new ≡ log_of old
@@ -100,10 +123,12 @@ IsOpenRefusal old new BadLog = IsTrue old.honest → IsWellFormed (reading old.p
 IsOpenRefusal old new _ = ⊥
 
 -- a log on which nothing is in flight
-abbrev pub at_rest : DiskState → Bytes → ℕ → Ring
-at_rest disk header start = let end = u64_at header 0 in record {
+abbrev pub at_rest : DiskState → (header tags : Bytes) → (start end : ℕ) → Ring
+at_rest disk header tags start end = record {
   disk = disk;
   header = header;
+  tags = tags;
+  sealed = is_sealed header;
   extent = record { start = start; freed = start; end = end; coming = end; stable = end; homes = false };
   next = end;
   faulted = false;

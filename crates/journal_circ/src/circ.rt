@@ -6,7 +6,8 @@ ghost use Rattle.journal_circ.specs.Ring.{log_of, home_of, IsFault};
 
 use crate::extent::Extent;
 use crate::fail_stop::FailStop;
-use crate::layout::{address_at, log_block};
+use crate::layout::{home_at, log_block};
+use crate::tag::put_back;
 use journal_block::Block;
 use journal_disk::{BlockDisk, MemDisk};
 use journal_world::Refusal;
@@ -16,6 +17,7 @@ use std::marker::Model;
 pub mod installer;
 pub mod logger;
 mod opening;
+mod seal;
 mod start_block;
 
 pub use opening::Opened;
@@ -31,6 +33,12 @@ pub struct Circ<D: BlockDisk> {
     device: FailStop<D>,
     // Block 0 as the next group has it.
     header: Block,
+    // Whether block 0 is of the sealed form.
+    sealed: bool,
+    // Of a sealed log, the tag that each log block has as it reads: byte s is the one of block 2 + s.
+    tags: Block,
+    // What a tagged log block is written from, so that no step allocates.
+    scratch: Block,
     // Block 1 as it was put last.
     start_block: StartBlock,
     extent: Extent,
@@ -47,6 +55,8 @@ impl<D: BlockDisk> Model for Circ<D> {
     ghost view = { λ c. record {
       disk = D.state c.device.disk;
       header = c.header;
+      tags = c.tags;
+      sealed = c.sealed;
       extent = c.extent;
       next = c.next;
       faulted = c.device.faulted;
@@ -55,6 +65,8 @@ impl<D: BlockDisk> Model for Circ<D> {
     ghost invariant = { λ c. IsCirc (record {
       disk = D.state c.device.disk;
       header = c.header;
+      tags = c.tags;
+      sealed = c.sealed;
       extent = c.extent;
       next = c.next;
       faulted = c.device.faulted;
@@ -98,7 +110,8 @@ impl<D: BlockDisk> Circ<D> {
         ensures err { OnErr result (self.new ≡ record self.old { disk = self.new.disk; faulted = true }) }
     {
         self.device.read(log_block(position), into)?;
-        Ok(self.header.get_u64(address_at(position)))
+        put_back(&self.header, position, into);
+        Ok(home_at(&self.header, position))
     }
 
     /// The number of blocks of the disk.
@@ -130,6 +143,13 @@ impl<D: BlockDisk> Circ<D> {
         ensures { result ≡ self.now.next }
     {
         self.next
+    }
+
+    /// Whether the log is of the sealed form: a group takes one barrier.
+    pub fn is_sealed(&self) -> bool
+        ensures { result ≡ self.now.sealed }
+    {
+        self.sealed
     }
 
     /// Whether a device call failed, so that every step and read answers J6.

@@ -95,12 +95,13 @@ nil_of [] none = refl
 nil_of (x ∷ xs) none = absurd (omega (arith, none))
 
 -- where no group is in flight, no call of the logger is due
-no_call_by : (logging : Logging) (group left : ℕ) (put : DiskEvent) (header : Bytes) → log_steps_by logging group left ≡ 0 → log_call_by logging group left put header ≡ None
-no_call_by log_blocks zero left put header none = refl
-no_call_by log_blocks (suc group) left put header none = absurd (omega (arith, none))
-no_call_by log_end group left put header none = absurd (omega (arith, none))
-no_call_by log_sync group left put header none = absurd (omega (arith, none))
-no_call_by log_spent group left put header none = refl
+no_call_by : (sealed : Bool) (logging : Logging) (group left : ℕ) (put after : DiskEvent) (header : Bytes) → log_steps_by sealed logging group left ≡ 0
+    → log_call_by logging group left put after header ≡ None
+no_call_by sealed log_blocks zero left put after header none = refl
+no_call_by sealed log_blocks (suc group) left put after header none = absurd (omega (arith, none))
+no_call_by sealed log_end group left put after header none = absurd (omega (arith, none))
+no_call_by sealed log_sync group left put after header none = absurd (omega (arith, none))
+no_call_by sealed log_spent group left put after header none = refl
 
 -- ---- of a pair that goes on
 
@@ -382,7 +383,7 @@ module _ (blocks : ℕ) (v : VolatileState) (d : DurableState) (pair : IsPair bl
 
       pub roomed_tries : TriesToLog (core_of v d) (core_of v e)
       roomed_tries = inr (subst (λ (call : Option DiskEvent). TriesDueCall call (disk_of d) (disk_of e))
-          (sym (no_call_by d.objects.logging (d.objects.log.cut - d.objects.log.logged) (d.objects.log.cut - d.objects.ring.next) _ _ none))
+          (sym (no_call_by d.objects.ring.sealed d.objects.logging (d.objects.log.cut - d.objects.log.logged) (d.objects.log.cut - d.objects.ring.next) _ _ _ none))
           (λ honest. ap (λ (w : WalState). (log_disk w).past) objects_roomed))
 
       pub roomed_fault : is_faulted e ≡ is_faulted d

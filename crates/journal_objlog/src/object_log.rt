@@ -1,8 +1,8 @@
 // An object log, how it is opened, and what it tells without a step.
 ghost use Rattle.std.specs.Prelude.{ℕ, ◌≡◌, ◌<◌, ◌↔◌, ◌⊎◌, false, IsTrue, IfOk, IfErr, MatchResult};
-ghost use Rattle.journal_disk.specs.Disks.{Keeps, IsSettled};
+ghost use Rattle.journal_disk.specs.Disks.{Keeps, IsSettled, read_of};
 ghost use Rattle.journal_disk.specs.Images.{EveryImage, reading};
-ghost use Rattle.journal_circ.specs.Log.{IsWellFormed};
+ghost use Rattle.journal_circ.specs.Log.{is_sealed, IsWellFormed};
 ghost use Rattle.journal_circ.specs.Ring.{IsOpenRefusal};
 ghost use Rattle.journal_wal.specs.Wal.{IsAtRest, HasBoundsIn, log_steps};
 ghost use Rattle.journal_objlog.specs.Maps.{OpensAs};
@@ -54,8 +54,9 @@ impl<D: BlockDisk> ObjectLog<D> {
             (λ refused. (D.state refused.disk).past ≡ (D.state disk).past) }
         ensures well_formed { IsTrue (D.state disk).honest → IfOk result (λ _. IsWellFormed (reading (D.state disk).past)) }
         ensures opened { IfOk result IsAtRest }
-        // The bounds are those that the disk tells.
+        // The bounds and the form are those that the disk tells.
         ensures bounds { IsTrue (D.state disk).honest → IfOk result (HasBoundsIn (reading (D.state disk).past)) }
+        ensures form { IsTrue (D.state disk).honest → IfOk result (λ log. log.ring.sealed ≡ is_sealed (read_of (D.state disk).past 0)) }
         ensures blocks { IfOk result (λ log. (map_now log).blocks ≡ layout.blocks) }
         // Each image opens as the map now.
         ensures images { IsTrue (D.state disk).honest → IfOk result (λ log.
@@ -87,6 +88,13 @@ impl<D: BlockDisk> ObjectLog<D> {
         ensures rest { IsTrue result ⊎ ((log_steps self.now ≡ 0) × IsCutLogged self.now) }
     {
         self.wal.is_logging()
+    }
+
+    /// Whether the log on the disk is sealed: a group takes one barrier, and two of a plain log.
+    pub fn is_sealed(&self) -> bool
+        ensures { result ≡ self.now.ring.sealed }
+    {
+        self.wal.is_sealed()
     }
 
     /// Whether the device failed, so that each read, group and step answers J6.

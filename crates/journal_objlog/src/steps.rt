@@ -10,9 +10,9 @@ use journal_wal::{GroupStep, InstallStep};
 use journal_world::Refusal;
 
 impl<D: BlockDisk> ObjectLog<D> {
-    /// Does the next thing of the logger: cuts the whole tail into a group, writes one of its log blocks,
-    /// makes a barrier, writes block 0, makes a barrier. For a group of k blocks these are k + 4 steps. It is
-    /// idle where no group is in flight and the tail is empty or has no place in the log.
+    /// Does the next thing of the logger: cuts the whole tail into a group, writes one of its log blocks, of a plain log
+    /// makes a barrier, writes block 0, makes a barrier. For a group of k blocks these are k + 4 steps, and k + 3 of a
+    /// sealed log. It is idle where no group is in flight and the tail is empty or has no place in the log.
     ///
     /// The map now stays. A cut makes it the map at the last cut, and the last step of a group makes that the
     /// map which alone a crash may leave.

@@ -25,7 +25,7 @@ pub record Appends (old : WalState) (updates : List Update) (new : WalState) : T
 same_marks : (ring : Ring) (log later : LogState) → later.cut ≡ log.cut → later.logged ≡ log.logged
     → (phase : Logging) → IsLogging ring log phase → IsLogging ring later phase
 same_marks ring log later cut logged log_blocks is = is
-same_marks ring log later cut logged log_end is = (is.0, is.1, is.2 ∙ sym cut, omega (arith, is.3, cut, logged))
+same_marks ring log later cut logged log_end is = (is.0, is.1, is.2 ∙ sym cut, omega (arith, is.3, cut, logged), is.4)
 same_marks ring log later cut logged log_sync is = (is.0 ∙ sym cut, is.1 ∙ sym cut, omega (arith, is.2, cut, logged))
 same_marks ring log later cut logged log_spent is = is
 
@@ -65,6 +65,7 @@ module _ (w : WalState) (updates : List Update) (is : IsWal w) (can : CanTake w.
     next_to_cut = is.tied.next_to_cut;
     cut_to_last = omega (arith, from, width, length-append (head_of w.log) tail);
     fits = is.tied.fits;
+    group = is.tied.group;
     small = can.below;
     tail = omega (arith, few, ap (λ (us : List Update). length us) (tail_of-appended w.log updates from is.tied.cut_to_last));
     blocks = All-appended (λ (u : Update). (513 ≤ u.block) × (u.block < w.log.blocks)) w.log updates is.tied.blocks
@@ -126,6 +127,7 @@ room_made w room is = record {
     next_to_cut = is.tied.next_to_cut;
     cut_to_last = is.tied.cut_to_last;
     fits = is.tied.fits;
+    group = is.tied.group;
     small = is.tied.small;
     tail = is.tied.tail;
     blocks = is.tied.blocks;

@@ -97,6 +97,7 @@ tied_by ring now log tied size start end more less coming = record {
   next_to_cut = less;
   cut_to_last = tied.cut_to_last;
   fits = tied.fits;
+  group = tied.group;
   small = tied.small;
   tail = tied.tail;
   blocks = tied.blocks;

@@ -46,18 +46,18 @@ none_of [] none = refl
 none_of (x ∷ xs) none = absurd (omega (arith, none))
 
 -- The logger rests where it has no step left and the device did not fail
-no_group : (group left : ℕ) → log_steps_by log_blocks group left ≡ 0 → group ≡ 0
-no_group zero left none = refl
-no_group (suc group) left none = absurd (omega (arith, none))
+no_group : (sealed : Bool) (group left : ℕ) → log_steps_by sealed log_blocks group left ≡ 0 → group ≡ 0
+no_group sealed zero left none = refl
+no_group sealed (suc group) left none = absurd (omega (arith, none))
 
 pub at_rest : (w : WalState) → IsWal w → w.ring.faulted ≡ false → log_steps w ≡ 0 → (w.logging ≡ log_blocks) × (w.log.logged ≡ w.log.cut)
 at_rest w is fine none = by w.logging refl
   where
-    steps : (p : Logging) → w.logging ≡ p → log_steps_by p (w.log.cut - w.log.logged) (w.log.cut - w.ring.next) ≡ 0
-    steps p is_p = ap (λ (q : Logging). log_steps_by q (w.log.cut - w.log.logged) (w.log.cut - w.ring.next)) (sym is_p) ∙ none
+    steps : (p : Logging) → w.logging ≡ p → log_steps_by w.ring.sealed p (w.log.cut - w.log.logged) (w.log.cut - w.ring.next) ≡ 0
+    steps p is_p = ap (λ (q : Logging). log_steps_by w.ring.sealed q (w.log.cut - w.log.logged) (w.log.cut - w.ring.next)) (sym is_p) ∙ none
 
     by : (p : Logging) → w.logging ≡ p → (w.logging ≡ log_blocks) × (w.log.logged ≡ w.log.cut)
-    by log_blocks is_p = (is_p, omega (arith, no_group (w.log.cut - w.log.logged) (w.log.cut - w.ring.next) (steps log_blocks is_p), is.tied.end_to_next, is.tied.next_to_cut))
+    by log_blocks is_p = (is_p, omega (arith, no_group w.ring.sealed (w.log.cut - w.log.logged) (w.log.cut - w.ring.next) (steps log_blocks is_p), is.tied.end_to_next, is.tied.next_to_cut))
     by log_end is_p = absurd (omega (arith, steps log_end is_p))
     by log_sync is_p = absurd (omega (arith, steps log_sync is_p))
     by log_spent is_p =

@@ -27,14 +27,14 @@ use Rattle.journal_wal.proofs.Logger.{Leaves, stepped}
 
 -- a step of the installer leaves the logger what it relies on
 pub logging_stays : (ring now : Ring) (log later : LogState) → now.extent.coming ≡ ring.extent.coming → now.extent.end ≡ ring.extent.end
-    → now.extent.stable ≡ ring.extent.stable → now.next ≡ ring.next → (IsTrue ring.faulted → IsTrue now.faulted)
+    → now.extent.stable ≡ ring.extent.stable → now.next ≡ ring.next → now.sealed ≡ ring.sealed → (IsTrue ring.faulted → IsTrue now.faulted)
     → later.cut ≡ log.cut → later.logged ≡ log.logged → (phase : Logging) → IsLogging ring log phase → IsLogging now later phase
-logging_stays ring now log later coming end stable next faulted cut logged log_blocks is = coming ∙ is ∙ sym end
-logging_stays ring now log later coming end stable next faulted cut logged log_end is =
-    (coming ∙ is.0 ∙ sym end, stable ∙ is.1 ∙ sym next, next ∙ is.2 ∙ sym cut, omega (arith, is.3, cut, logged))
-logging_stays ring now log later coming end stable next faulted cut logged log_sync is =
+logging_stays ring now log later coming end stable next form faulted cut logged log_blocks is = coming ∙ is ∙ sym end
+logging_stays ring now log later coming end stable next form faulted cut logged log_end is =
+    (coming ∙ is.0 ∙ sym end, stable ∙ is.1 ∙ sym next, next ∙ is.2 ∙ sym cut, omega (arith, is.3, cut, logged), form ∙ is.4)
+logging_stays ring now log later coming end stable next form faulted cut logged log_sync is =
     (coming ∙ is.0 ∙ sym cut, next ∙ is.1 ∙ sym cut, omega (arith, is.2, cut, logged))
-logging_stays ring now log later coming end stable next faulted cut logged log_spent is = faulted is
+logging_stays ring now log later coming end stable next form faulted cut logged log_spent is = faulted is
 
 none : Update
 none = record { block = 0; bytes = [] }
@@ -72,6 +72,7 @@ module _ (ring now : Ring) (log : LogState) (logging : Logging) where
     end : now.extent.end ≡ ring.extent.end
     coming : now.extent.coming ≡ ring.extent.coming
     stable : now.extent.stable ≡ ring.extent.stable
+    sealed : now.sealed ≡ ring.sealed
     faulted : IsTrue ring.faulted → IsTrue now.faulted
 
   same_by : (freed : ℕ) (homes faulted : Bool) → now ≡ record ring { disk = now.disk; extent = record ring.extent { freed = freed; homes = homes }; faulted = faulted }
@@ -82,6 +83,7 @@ module _ (ring now : Ring) (log : LogState) (logging : Logging) where
     end = ap (λ (r : Ring). r.extent.end) is_now;
     coming = ap (λ (r : Ring). r.extent.coming) is_now;
     stable = ap (λ (r : Ring). r.extent.stable) is_now;
+    sealed = ap (λ (r : Ring). r.sealed) is_now;
     faulted = λ was. subst IsTrue (sym (ap (λ (r : Ring). r.faulted) is_now)) (stays was);
   }
 
@@ -93,7 +95,7 @@ module _ (ring now : Ring) (log : LogState) (logging : Logging) where
       (tied_by ring now log is.tied steps.keeps.size same.start same.end (omega (arith, same.next)) (omega (arith, same.next, is.tied.next_to_cut))
       (⊎_elim (λ (e : ring.extent.coming ≡ log.logged). inl (same.coming ∙ e)) (λ e. inr (same.coming ∙ e.0, same.next ∙ e.1)) is.tied.coming))
       (λ honest. log_is honest ∙ is.log honest ∙ (λ i. take (sym same.next i - log.start) log.updates))
-      (logging_stays ring now log log same.coming same.end same.stable same.next same.faulted refl refl logging is.logging)
+      (logging_stays ring now log log same.coming same.end same.stable same.next same.sealed same.faulted refl refl logging is.logging)
       after_is
 
   module _ (upto : ℕ) (plan : List (ℕ × ℕ)) (b q : ℕ) (puts : PutsHomes ring log upto plan) (has : planned plan b ≡ Some q) where
@@ -285,6 +287,7 @@ module _ (ring now : Ring) (log : LogState) (logging : Logging) (upto : ℕ)
     next_to_cut = omega (arith, next, is.tied.next_to_cut);
     cut_to_last = omega (arith, last, is.tied.cut_to_last);
     fits = omega (arith, is.tied.fits, position.above);
+    group = is.tied.group;
     small = omega (arith, last, is.tied.small);
     tail = omega (
       arith,
@@ -332,7 +335,7 @@ module _ (ring now : Ring) (log : LogState) (logging : Logging) (upto : ℕ)
         tied = tied;
         log = λ honest. log_is dropped (subst IsTrue steps.keeps.honest honest);
         images = images;
-        logging = logging_stays ring now log (trimmed log upto) coming end (ap (λ (r : Ring). r.extent.stable) is_now) next
+        logging = logging_stays ring now log (trimmed log upto) coming end (ap (λ (r : Ring). r.extent.stable) is_now) next (ap (λ (r : Ring). r.sealed) is_now)
             (subst IsTrue (sym (ap (λ (r : Ring). r.faulted) is_now))) refl refl logging is.logging;
         installing = freed ∙ is.installing.idle ∙ sym start;
       };
@@ -366,21 +369,21 @@ call_home log upto plan rest b q u disk now is found happened =
     (subst (λ (v : Update). MakesCall (write b v.bytes) disk now) (sym (get_or_from_slice_get log.updates (q - log.start) u (record { block = 0; bytes = [] }) found)) happened)
 
 -- a step of an installing that goes on
-pub installs_on : (ring now : Ring) (log : LogState) (logging : Logging) (before after : Installing) (left : ℕ) → now.next ≡ ring.next
+pub installs_on : (ring now : Ring) (log : LogState) (logging : Logging) (before after : Installing) (left : ℕ) → now.next ≡ ring.next → now.sealed ≡ ring.sealed
     → install_steps_by before ≡ suc (suc left) → install_steps_by after ≡ suc left
     → MakesDueCall (install_call log before) ring.disk now.disk → after ≡ after_call before
     → (IsTrue ring.disk.honest → KeepsBlocks (record { ring = ring; log = log; logging = logging; installing = before })
     (record { ring = now; log = log; logging = logging; installing = after }))
     → let new : WalState = record { ring = now; log = log; logging = logging; installing = after } in
     Installs (record { ring = ring; log = log; logging = logging; installing = before }) new × (0 < install_steps new)
-installs_on ring now log logging before after left next was is call is_next blocks = (
+installs_on ring now log logging before after left next form was is call is_next blocks = (
   record {
     ahead = before;
     is_ahead = record { begins = λ none_left. absurd (omega (arith, was, none_left)); goes_on = λ some. refl };
     call = call;
     next = is_next;
     blocks = blocks;
-    logging = λ i. log_steps_by logging (log.cut - log.logged) (log.cut - next i);
+    logging = λ i. log_steps_by (form i) logging (log.cut - log.logged) (log.cut - next i);
     moves = subst (λ (n : ℕ). InstallMoves n old new) (sym was) (record { steps = omega (arith, was, is); log = refl });
   },
   omega (arith, is),
@@ -393,20 +396,20 @@ installs_on ring now log logging before after left next was is call is_next bloc
     new = record { ring = now; log = log; logging = logging; installing = after }
 
 -- the step that frees positions
-pub installs_freed : (ring now : Ring) (log : LogState) (logging : Logging) (upto : ℕ) → now.next ≡ ring.next → IsInLog log upto
+pub installs_freed : (ring now : Ring) (log : LogState) (logging : Logging) (upto : ℕ) → now.next ≡ ring.next → now.sealed ≡ ring.sealed → IsInLog log upto
     → MakesDueCall (install_call log (install_sync upto)) ring.disk now.disk
     → (IsTrue ring.disk.honest → KeepsBlocks (record { ring = ring; log = log; logging = logging; installing = install_sync upto })
     (record { ring = now; log = trimmed log upto; logging = logging; installing = install_none }))
     → InstallAnswers (record { ring = ring; log = log; logging = logging; installing = install_sync upto }) (Freed upto)
     (record { ring = now; log = trimmed log upto; logging = logging; installing = install_none })
-installs_freed ring now log logging upto next position call blocks = (
+installs_freed ring now log logging upto next form position call blocks = (
   record {
     ahead = install_sync upto;
     is_ahead = record { begins = λ none_left. absurd (omega (arith, none_left)); goes_on = λ some. refl };
     call = call;
     next = refl;
     blocks = blocks;
-    logging = λ i. log_steps_by logging (log.cut - log.logged) (log.cut - next i);
+    logging = λ i. log_steps_by (form i) logging (log.cut - log.logged) (log.cut - next i);
     moves = record { steps = refl; upto = upto; upto_is = refl; above = position.above; below = position.below; log = refl };
   },
   refl,

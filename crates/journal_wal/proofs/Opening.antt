@@ -51,7 +51,7 @@ log_same old new recovers honest =
     ∙ (λ i. updates_from old.header (read_of (recovers.past honest i)) old.extent.start (old.next - old.extent.start))
 
 -- A log that was recovered
-module _ (first ring : Ring) (log : LogState) (rest : first ≡ at_rest first.disk first.header first.extent.start)
+module _ (first ring : Ring) (log : LogState) (rest : first ≡ at_rest first.disk first.header first.tags first.extent.start first.extent.end)
     (recovers : OnlyReadsRing first ring) (is : IsRecovered first first.extent.end log) (fine : ring.faulted ≡ false)
     (ordered : first.extent.start ≤ first.extent.end) (fits : first.extent.end ≤ first.extent.start + 511) (small : first.extent.end < 2 ^ 62)
     (stands : IsTrue first.disk.honest → EveryImage first.disk.past (StandsFor first.disk.past.size (blocks_to first first.extent.end))) where
@@ -80,6 +80,7 @@ module _ (first ring : Ring) (log : LogState) (rest : first ≡ at_rest first.di
     next_to_cut = omega (arith, next, is.cut);
     cut_to_last = omega (arith, is.cut, is.next);
     fits = omega (arith, fits, is.cut, is.start);
+    group = omega (arith, is.cut, is.logged);
     small = omega (arith, small, is.next);
     tail = omega (arith, length-drop (log.cut - log.start) log.updates, is.cut, is.next, is.start, ordered);
     blocks = is.homes;
@@ -124,7 +125,7 @@ module _ (first ring : Ring) (log : LogState) (rest : first ≡ at_rest first.di
     },
     record {
       fine = fine;
-      logging = λ i. log_steps_by log_blocks (nothing i) (log.cut - ring.next);
+      logging = λ i. log_steps_by ring.sealed log_blocks (nothing i) (log.cut - ring.next);
       installing = refl;
       tail = length-drop (log.cut - log.start) log.updates ∙ omega (arith, is.cut, is.next, is.start, ordered);
       cut = is.logged ∙ sym is.cut;

@@ -5,7 +5,7 @@ use Rattle.journal_world.specs.declared.refusal.Refusal.TheVariants.{NoMemory, D
 use Rattle.journal_block.specs.declared.update.Update.{Update}
 use Rattle.journal_block.specs.Updates.{with_updates}
 use Rattle.journal_memlog.specs.Logs.{next_position}
-use Rattle.journal_wal.specs.Wal.{WalState, SameBlocks, size_of, blocks_now, blocks_cut, blocks_logged, log_steps, tail_length, free_positions}
+use Rattle.journal_wal.specs.Wal.{WalState, SameBlocks, size_of, blocks_now, blocks_cut, blocks_logged, log_steps, barriers_before, tail_length, free_positions}
 use Rattle.journal_wal.specs.declared.append.TheConstants.{MAX_TAIL}
 
 -- There is a place for a group of so many blocks: none is in flight, it has a block, and the log a position for each
@@ -28,7 +28,7 @@ pub record TakesGroup (old : WalState) (updates : List Update) (new : WalState) 
   pub disk : new.ring ≡ old.ring
   -- their positions are the next ones
   pub log : new.log ≡ record old.log { cut = next_position old.log + length updates; updates = old.log.updates ++ updates; room = new.log.room }
-  pub steps : log_steps new ≡ length updates + 3
+  pub steps : log_steps new ≡ length updates + barriers_before old.ring.sealed + 2
   pub tail : tail_length new ≡ 0
   pub now : SameBlocks (size_of old) (blocks_now new) (with_updates (blocks_now old) updates)
   pub cut : SameBlocks (size_of old) (blocks_cut new) (with_updates (blocks_now old) updates)

@@ -1,5 +1,5 @@
 -- What holds of every write-ahead log: of its numbers, of its two cycles, and of each image of an honest disk.
-use Rattle.std.specs.Prelude.{ℕ, ◌≡◌, ◌⊎◌, ◌<◌, ◌≤◌, ◌+◌, ◌-◌, ◌^◌, IsTrue, List, length, take, Some, None}
+use Rattle.std.specs.Prelude.{ℕ, ◌≡◌, ◌⊎◌, ◌<◌, ◌≤◌, ◌+◌, ◌-◌, ◌^◌, false, IsTrue, List, length, take, Some, None}
 use Rattle.journal_block.specs.declared.update.Update.{Update}
 use Rattle.journal_block.specs.Updates.{with_updates}
 use Rattle.journal_disk.specs.Images.{EveryImage}
@@ -64,7 +64,7 @@ IsInstalling ring log install_spent = IsTrue ring.faulted
 -- What the logger's cycle keeps
 abbrev pub IsLogging : Ring → LogState → Logging → Type 0
 IsLogging ring log log_blocks = ring.extent.coming ≡ ring.extent.end
-IsLogging ring log log_end = (ring.extent.coming ≡ ring.extent.end) × (ring.extent.stable ≡ ring.next) × (ring.next ≡ log.cut) × (log.logged < log.cut)
+IsLogging ring log log_end = (ring.extent.coming ≡ ring.extent.end) × (ring.extent.stable ≡ ring.next) × (ring.next ≡ log.cut) × (log.logged < log.cut) × (ring.sealed ≡ false)
 IsLogging ring log log_sync = (ring.extent.coming ≡ log.cut) × (ring.next ≡ log.cut) × (log.logged < log.cut)
 IsLogging ring log log_spent = IsTrue ring.faulted
 
@@ -78,6 +78,8 @@ pub record AreTied (ring : Ring) (log : LogState) : Type 0 where
   pub next_to_cut : ring.next ≤ log.cut
   pub cut_to_last : log.cut ≤ next_position log
   pub fits : log.cut ≤ log.start + LOG_POSITIONS
+  -- a group has at most 255 blocks
+  pub group : log.cut ≤ log.logged + MAX_TAIL
   pub small : next_position log < 2 ^ 62
   pub tail : length (tail_of log) ≤ MAX_TAIL
   pub blocks : AreHomes log.blocks log.updates

@@ -1,5 +1,5 @@
 -- What contracts see of a write-ahead log: the blocks now, those that a crash may leave, and what the next steps are.
-use Rattle.std.specs.Prelude.{ℕ, zero, suc, ◌≡◌, ◌⊎◌, ◌<◌, ◌≤◌, ◌+◌, ◌-◌, ◌^◌, true, false, IsTrue, if◌then◌else◌, List, [], ◌∷◌, length, take, slice_index_or, Option, Some, None}
+use Rattle.std.specs.Prelude.{ℕ, zero, suc, Bool, ◌≡◌, ◌⊎◌, ◌<◌, ◌≤◌, ◌+◌, ◌-◌, ◌^◌, true, false, IsTrue, if◌then◌else◌, List, [], ◌∷◌, length, take, slice_index_or, Option, Some, None}
 use Rattle.std.specs.List.{All, slice_get}
 use Rattle.std.specs.List.Sorted.{IsStrictlySortedBy}
 use Rattle.std.specs.Map.{lookup, keys_of}
@@ -14,10 +14,11 @@ use Rattle.journal_disk.specs.Disks.{DiskEvent, write, barrier, DiskState, Keeps
 use Rattle.journal_disk.specs.Images.{EveryImage}
 use Rattle.journal_disk.specs.Moments.{LeavesOnly}
 use Rattle.journal_circ.specs.StandsFor.{StandsFor}
-use Rattle.journal_circ.specs.Log.{log_block, with_end, start_block, start_in, end_in}
-use Rattle.journal_circ.specs.Ring.{Ring, home_of, MakesCall, TriesCall}
+use Rattle.journal_circ.specs.Log.{log_block, with_end, with_group, start_block, start_in, end_in}
+use Rattle.journal_circ.specs.Ring.{Ring, home_of, bytes_put, MakesCall, TriesCall}
 use Rattle.journal_memlog.specs.Logs.{LogState, next_position, tail_of, trimmed}
 use Rattle.journal_circ.specs.declared.layout.TheConstants.{FIRST_HOME, LOG_POSITIONS}
+use Rattle.journal_wal.specs.declared.append.TheConstants.{MAX_TAIL}
 use Rattle.journal_wal.specs.declared.step.GroupStep.{GroupStep}
 use Rattle.journal_wal.specs.declared.step.GroupStep.TheVariants.{Idle, Cut, Put, Logged}
 use Rattle.journal_wal.specs.declared.step.InstallStep.{InstallStep}
@@ -25,9 +26,9 @@ use Rattle.journal_wal.specs.declared.step.InstallStep.TheVariants.{Idle as Inst
 
 -- What the logger does next
 pub data Logging : Type 0 where
-  -- the next log block of the group, if one is left, else a barrier; nothing where no group is in flight
+  -- the next log block of the group, if one is left, else of a plain log a barrier, of a sealed one block 0; nothing where no group is in flight
   log_blocks : Logging
-  -- all log blocks are stable: block 0
+  -- all log blocks of a plain log are stable: block 0
   log_end : Logging
   -- block 0 was written: a barrier
   log_sync : Logging
@@ -97,16 +98,20 @@ tail_length w = length (tail_of w.log)
 abbrev pub free_positions : WalState → ℕ
 free_positions w = LOG_POSITIONS - (w.log.logged - w.log.start)
 
--- How many steps the group in flight still takes: one a log block, a barrier, block 0, a barrier
-abbrev pub log_steps_by : Logging → ℕ → ℕ → ℕ
-log_steps_by log_blocks zero left = 0
-log_steps_by log_blocks (suc group) left = left + 3
-log_steps_by log_end group left = 2
-log_steps_by log_sync group left = 1
-log_steps_by log_spent group left = 0
+-- how many barriers stand between a group's log blocks and block 0: that of a plain log
+abbrev pub barriers_before : Bool → ℕ
+barriers_before sealed = if sealed then 0 else 1
+
+-- How many steps the group in flight still takes: one a log block, of a plain log a barrier, block 0, a barrier
+abbrev pub log_steps_by : Bool → Logging → ℕ → ℕ → ℕ
+log_steps_by sealed log_blocks zero left = 0
+log_steps_by sealed log_blocks (suc group) left = left + barriers_before sealed + 2
+log_steps_by sealed log_end group left = 2
+log_steps_by sealed log_sync group left = 1
+log_steps_by sealed log_spent group left = 0
 
 abbrev pub log_steps : WalState → ℕ
-log_steps w = log_steps_by w.logging (w.log.cut - w.log.logged) (w.log.cut - w.ring.next)
+log_steps w = log_steps_by w.ring.sealed w.logging (w.log.cut - w.log.logged) (w.log.cut - w.ring.next)
 
 -- How many steps the installing still takes: one a home block, a barrier, block 1, a barrier
 abbrev pub install_steps_by : Installing → ℕ
@@ -123,18 +128,23 @@ install_steps w = install_steps_by w.installing
 abbrev pub bytes_at : LogState → ℕ → Bytes
 bytes_at log q = (slice_index_or log.updates (q - log.start) (record { block = 0; bytes = [] })).bytes
 
--- The logger's next device call, where a group is in flight: each of its log blocks, a barrier, block 0 with the end, a barrier
-abbrev pub log_call_by : Logging → ℕ → ℕ → DiskEvent → Bytes → Option DiskEvent
-log_call_by log_blocks zero left put header = None
-log_call_by log_blocks (suc group) zero put header = Some barrier
-log_call_by log_blocks (suc group) (suc left) put header = Some put
-log_call_by log_end group left put header = Some (write 0 header)
-log_call_by log_sync group left put header = Some barrier
-log_call_by log_spent group left put header = None
+-- the device call once each log block is put: of a plain log a barrier, of a sealed one block 0 with the group
+abbrev pub call_after_blocks : Ring → LogState → DiskEvent
+call_after_blocks ring log = if ring.sealed then write 0 (with_group ring.header log.logged (log.cut - log.logged)) else barrier
+
+-- The logger's next device call, where a group is in flight: each of its log blocks; of a plain log a barrier, block 0 with the end, a barrier;
+-- of a sealed log block 0 with the group, a barrier
+abbrev pub log_call_by : Logging → ℕ → ℕ → (put after : DiskEvent) → Bytes → Option DiskEvent
+log_call_by log_blocks zero left put after header = None
+log_call_by log_blocks (suc group) zero put after header = Some after
+log_call_by log_blocks (suc group) (suc left) put after header = Some put
+log_call_by log_end group left put after header = Some (write 0 header)
+log_call_by log_sync group left put after header = Some barrier
+log_call_by log_spent group left put after header = None
 
 abbrev pub log_call : WalState → Option DiskEvent
 log_call w = log_call_by w.logging (w.log.cut - w.log.logged) (w.log.cut - w.ring.next)
-    (write (log_block w.ring.next) (bytes_at w.log w.ring.next)) (with_end w.ring.header w.log.cut)
+    (write (log_block w.ring.next) (bytes_put w.ring (bytes_at w.log w.ring.next))) (call_after_blocks w.ring w.log) (with_end w.ring.header w.log.cut)
 
 -- The installer's next device call, where it has begun: each home block of its plan, a barrier, block 1 with the start, a barrier
 abbrev pub install_call : LogState → Installing → Option DiskEvent
@@ -199,7 +209,8 @@ pub record Cuts (old new : WalState) : Type 0 where
   pub rest : log_steps old ≡ 0
   pub disk : new.ring ≡ old.ring
   pub fits : (0 < tail_length old) × (tail_length old ≤ free_positions old)
-  pub steps : log_steps new ≡ tail_length old + 3
+  pub few : tail_length old ≤ MAX_TAIL
+  pub steps : log_steps new ≡ tail_length old + barriers_before old.ring.sealed + 2
   pub tail : tail_length new ≡ 0
   pub now : SameBlocks (size_of old) (blocks_now new) (blocks_now old)
   pub cut : SameBlocks (size_of old) (blocks_cut new) (blocks_now old)

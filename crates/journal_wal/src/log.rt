@@ -11,9 +11,9 @@ use journal_world::Refusal;
 use std::mem;
 
 impl<D: BlockDisk> Wal<D> {
-    /// Does the next thing of the logger: cuts the whole tail into a group, writes one of its log blocks,
-    /// makes a barrier, writes block 0, makes a barrier. For a group of k blocks these are k + 4 steps. It is
-    /// idle where no group is in flight and the tail is empty or has no place in the log.
+    /// Does the next thing of the logger: cuts the whole tail into a group, writes one of its log blocks, of a plain log
+    /// makes a barrier, writes block 0, makes a barrier. For a group of k blocks these are k + 4 steps, and k + 3 of a
+    /// sealed log. It is idle where no group is in flight and the tail is empty or has no place in the log.
     ///
     /// Answers J6 `DeviceFailed`, and nothing else, where the device failed in this call or before.
     pub fn log_step(&mut self) -> Result<GroupStep, Refusal<()>>
@@ -36,13 +36,12 @@ impl<D: BlockDisk> Wal<D> {
                 let update = self.memory.at(circ.next());
                 Logger::Blocks(circ.put_slot(state, update.block, &update.bytes)?)
             }
-            Logger::Blocks(state) if bounds.logged < bounds.cut => {
-                Logger::Synced(circ.sync_slots(state)?)
-            }
-            Logger::Blocks(state) => {
+            Logger::Blocks(state) if bounds.logged == bounds.cut => {
                 self.on_disk.logger = Logger::Blocks(state);
                 return Ok(self.cut());
             }
+            Logger::Blocks(state) if circ.is_sealed() => Logger::EndPut(circ.put_group(state)?),
+            Logger::Blocks(state) => Logger::Synced(circ.sync_slots(state)?),
             Logger::Synced(state) => Logger::EndPut(circ.put_end(state)?),
             Logger::EndPut(state) => {
                 let state = circ.sync_end(state)?;

@@ -1,9 +1,9 @@
 // Recovery: the log on the disk is read into memory, and nothing is written.
 ghost use Rattle.std.specs.Prelude.{ℕ, ◌≡◌, ◌≤◌, ◌<◌, ◌+◌, ◌-◌, ◌^◌, ◌∷◌, ◌++◌, [], false, IsTrue, OnOk, OnErr, IfOk, IfErr, MatchResult, slice_get, Some};
 ghost use Rattle.journal_world.specs.declared.layout.TheConstants.{MIN_BLOCKS};
-ghost use Rattle.journal_disk.specs.Disks.{Keeps, IsSettled};
+ghost use Rattle.journal_disk.specs.Disks.{Keeps, IsSettled, read_of};
 ghost use Rattle.journal_disk.specs.Images.{EveryImage, reading};
-ghost use Rattle.journal_circ.specs.Log.{IsWellFormed};
+ghost use Rattle.journal_circ.specs.Log.{is_sealed, IsWellFormed};
 ghost use Rattle.journal_circ.specs.StandsFor.{StandsFor};
 ghost use Rattle.journal_circ.specs.Ring.{IsOpenRefusal, log_of};
 ghost use Rattle.journal_wal.specs.Wal.{IsAtRest, HasBoundsIn, AreHomes, size_of, blocks_now};
@@ -39,8 +39,9 @@ impl<D: BlockDisk> Wal<D> {
             (λ refused. (D.state refused.disk).past ≡ (D.state disk).past) }
         ensures well_formed { IsTrue (D.state disk).honest → IfOk result (λ _. IsWellFormed (reading (D.state disk).past)) }
         ensures opened { IfOk result IsAtRest }
-        // The bounds are those that the disk tells.
+        // The bounds and the form are those that the disk tells.
         ensures bounds { IsTrue (D.state disk).honest → IfOk result (HasBoundsIn (reading (D.state disk).past)) }
+        ensures form { IsTrue (D.state disk).honest → IfOk result (λ wal. wal.ring.sealed ≡ is_sealed (read_of (D.state disk).past 0)) }
         ensures images { IsTrue (D.state disk).honest → IfOk result (λ wal.
             EveryImage wal.ring.disk.past (StandsFor (size_of wal) (blocks_now wal))) }
     {

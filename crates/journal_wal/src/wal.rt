@@ -61,6 +61,13 @@ impl<D: BlockDisk> Wal<D> {
         (bounds.start, bounds.logged)
     }
 
+    /// Whether the log on the disk is sealed: a group of k blocks takes k + 3 steps, and k + 4 of a plain log.
+    pub fn is_sealed(&self) -> bool
+        ensures { result ≡ self.now.ring.sealed }
+    {
+        self.on_disk.circ.is_sealed()
+    }
+
     /// Whether a device call failed, so that every step, read and group answers J6.
     pub fn is_faulted(&self) -> bool
         ensures { result ≡ self.now.ring.faulted }

@@ -1,13 +1,13 @@
 // How the log of a disk is opened.
-ghost use Rattle.std.specs.Prelude.{ℕ, ◌≡◌, ◌<◌, ◌≤◌, ◌^◌, ◌↔◌, false, IsTrue, IfOk, IfErr, MatchResult};
-ghost use Rattle.journal_world.specs.declared.layout.TheConstants.{MIN_BLOCKS};
+ghost use Rattle.std.specs.Prelude.{ℕ, ◌≡◌, ◌<◌, ◌≤◌, ◌^◌, ◌↔◌, false, true, length, IsTrue, IfOk, IfErr, MatchResult};
+ghost use Rattle.journal_world.specs.declared.layout.TheConstants.{MIN_BLOCKS, BLOCK_BYTES};
 ghost use Rattle.journal_block.specs.Block.{u64_at};
 ghost use Rattle.journal_disk.specs.Disks.{Keeps, IsSettled, read_of};
 ghost use Rattle.journal_disk.specs.Images.{EveryImage, reading};
-ghost use Rattle.journal_circ.specs.Log.{address, start_in, end_in, DescribesLog, IsWellFormed};
+ghost use Rattle.journal_circ.specs.Log.{log_block, is_sealed, tag_at, tag_of, home_by, end_by, start_in, end_in, DescribesLog, IsWellFormed};
 ghost use Rattle.journal_circ.specs.StandsFor.{StandsFor};
-ghost use Rattle.journal_circ.specs.Ring.{blocks_to, IsOpenRefusal, at_rest};
-ghost use Rattle.journal_circ.specs.declared.layout.TheConstants.{FIRST_HOME};
+ghost use Rattle.journal_circ.specs.Ring.{blocks_to, IsFault, IsOpenRefusal, at_rest};
+ghost use Rattle.journal_circ.specs.declared.layout.TheConstants.{FIRST_HOME, LOG_POSITIONS};
 
 use crate::Circ;
 use crate::circ::installer::HomesPut;
@@ -15,7 +15,11 @@ use crate::circ::logger::LogBlocksPut;
 use crate::circ::start_block::StartBlock;
 use crate::extent::Extent;
 use crate::fail_stop::FailStop;
-use crate::layout::{BOUND_AT, FIRST_HOME, HEADER, LOG_POSITIONS, START_BLOCK, address_at};
+use crate::layout::{
+    BOUND_AT, FIRST_HOME, HEADER, LOG_POSITIONS, MAX_SEALED_BLOCKS, START_BLOCK, home_at,
+    is_sealed, log_block,
+};
+use crate::tag::{end_of, put_tag_at, tag_of};
 use journal_block::Block;
 use journal_disk::BlockDisk;
 use journal_world::{Refusal, Refused};
@@ -29,21 +33,25 @@ pub struct Opened<D: BlockDisk> {
     pub installer: HomesPut,
 }
 
-// What blocks 0 and 1 of a disk say, and what block 1 is put from.
+// What blocks 0 and 1 of a disk say, with the tags of a sealed log, and the blocks that later steps write from.
 #[derive(Drop)]
 struct Headers {
     header: Block,
+    tags: Block,
+    scratch: Block,
     start: u64,
+    end: u64,
     start_block: StartBlock,
 }
 
 impl<D: BlockDisk> Circ<D> {
     /// Opens the log of a disk that has at least 532 blocks and on which nothing is pending. It reads blocks 1
-    /// and 0, writes nothing and makes no barrier.
+    /// and 0, and of a sealed log the 511 log blocks for their tags. It writes nothing and makes no barrier.
     ///
-    /// Answers J1 `NoMemory` where memory for the two blocks is refused, J6 `DeviceFailed` where the device
+    /// Answers J1 `NoMemory` where memory for its four blocks is refused, J6 `DeviceFailed` where the device
     /// fails in this call, and J7 `BadLog` where the disk's log is not well formed, and no other refusal. A
-    /// refusal hands the disk back, with nothing written.
+    /// sealed log on a disk of more than 2^40 blocks is not well formed. A refusal hands the disk back, with
+    /// nothing written.
     pub fn open(alloc: Global, disk: D) -> Result<Opened<D>, Refused<D, ()>>
         requires in_range { MIN_BLOCKS ≤ (D.state disk).past.size }
         requires settled { IsTrue (D.state disk).honest → IsSettled (D.state disk).past }
@@ -56,7 +64,7 @@ impl<D: BlockDisk> Circ<D> {
             (λ opened. opened.circ.disk.past ≡ (D.state disk).past)
             (λ refused. (D.state refused.disk).past ≡ (D.state disk).past) }
         ensures well_formed { IsTrue (D.state disk).honest → IfOk result (λ _. IsWellFormed (reading (D.state disk).past)) }
-        ensures ok { IfOk result (λ opened. opened.circ ≡ at_rest opened.circ.disk opened.circ.header opened.circ.extent.start) }
+        ensures ok { IfOk result (λ opened. opened.circ ≡ at_rest opened.circ.disk opened.circ.header opened.circ.tags opened.circ.extent.start opened.circ.extent.end) }
         ensures header { IsTrue (D.state disk).honest → IfOk result (λ opened. opened.circ.header ≡ read_of (D.state disk).past 0) }
         // The bounds are those that the disk tells.
         ensures start { IsTrue (D.state disk).honest → IfOk result (λ opened. opened.circ.extent.start ≡ start_in (reading (D.state disk).past)) }
@@ -72,15 +80,22 @@ impl<D: BlockDisk> Circ<D> {
             Ok(
                 Headers {
                     header,
+                    tags,
+                    scratch,
                     start,
+                    end,
                     start_block,
                 },
             ) => {
-                let extent = Extent::at_rest(start, header.get_u64(BOUND_AT));
+                let extent = Extent::at_rest(start, end);
+                let sealed = is_sealed(&header);
                 Ok(Opened {
                     circ: Circ {
                         device,
                         header,
+                        sealed,
+                        tags,
+                        scratch,
                         start_block,
                         extent,
                         next: extent.end,
@@ -109,33 +124,101 @@ fn read_headers<D: BlockDisk>(
     ensures same { IsTrue (D.state device.old.disk).honest →
         (D.state device.new.disk).past ≡ (D.state device.old.disk).past }
     ensures sound { IfOk result (λ _. device.new.faulted ≡ false) }
-    ensures log { IfOk result (λ headers. DescribesLog headers.header headers.start (D.state device.old.disk).past.size) }
+    ensures log { IfOk result (λ headers. DescribesLog headers.header headers.start headers.end (D.state device.old.disk).past.size) }
     ensures header { IsTrue (D.state device.old.disk).honest →
         IfOk result (λ headers. headers.header ≡ read_of (D.state device.old.disk).past 0) }
     ensures start { IsTrue (D.state device.old.disk).honest →
         IfOk result (λ headers. headers.start ≡ u64_at (read_of (D.state device.old.disk).past 1) 0) }
+    ensures size { IfOk result (λ headers. length headers.tags ≡ BLOCK_BYTES) }
+    ensures tags { IsTrue (D.state device.old.disk).honest → IfOk result (λ headers. is_sealed headers.header ≡ true
+        → (q : ℕ) → tag_at headers.tags q ≡ tag_of (read_of (D.state device.old.disk).past (log_block q))) }
+    ensures end { IsTrue (D.state device.old.disk).honest →
+        IfOk result (λ headers. headers.end ≡ end_in (reading (D.state device.old.disk).past)) }
 {
     let mut header = Block::try_new(alloc)?;
     let start_block = StartBlock::new(alloc)?;
+    let mut tags = Block::try_new(alloc)?;
+    let mut scratch = Block::try_new(alloc)?;
     device.read(START_BLOCK, &mut header)?;
     let start = header.get_u64(BOUND_AT);
     device.read(HEADER, &mut header)?;
-    if !is_log(&header, start, device.disk.size()) {
+    let end = read_end(device, &header, &mut scratch, &mut tags)?;
+    if !is_log(&header, start, end, device.disk.size()) {
         return Err(Refusal::BadLog);
     }
     Ok(Headers {
         header,
+        tags,
+        scratch,
         start,
+        end,
         start_block,
     })
 }
 
-// Whether block 0 describes a log that begins at the position.
-fn is_log(header: &Block, start: u64, blocks: u64) -> bool
-    ensures { IsTrue result ↔ DescribesLog header.now start blocks }
+// Where the log of block 0 ends. Of a sealed log it reads the tags, which say whether the last group is there.
+fn read_end<D: BlockDisk>(
+    device: &mut FailStop<D>,
+    header: &Block,
+    scratch: &mut Block,
+    tags: &mut Block,
+) -> Result<u64, Refusal<()>>
+    requires in_range { MIN_BLOCKS ≤ (D.state device.old.disk).past.size }
+    requires sound { device.old.faulted ≡ false }
+    requires whole { length tags.old ≡ BLOCK_BYTES }
+    ensures refusal { IfErr result (IsFault device.old.faulted (D.state device.old.disk) (D.state device.new.disk)) }
+    ensures keeps { Keeps (D.state device.old.disk) (D.state device.new.disk) }
+    ensures same { IsTrue (D.state device.old.disk).honest →
+        (D.state device.new.disk).past ≡ (D.state device.old.disk).past }
+    ensures sound { IfOk result (λ _. device.new.faulted ≡ false) }
+    ensures size { length tags.new ≡ BLOCK_BYTES }
+    ensures tags { IsTrue (D.state device.old.disk).honest → IfOk result (λ _. is_sealed header.now ≡ true
+        → (q : ℕ) → tag_at tags.new q ≡ tag_of (read_of (D.state device.old.disk).past (log_block q))) }
+    ensures end { IsTrue (D.state device.old.disk).honest → IfOk result (λ end.
+        end ≡ end_by header.now (read_of (D.state device.old.disk).past)) }
 {
-    let end = header.get_u64(BOUND_AT);
-    if start > end || end >= 1 << 62 {
+    if is_sealed(header) {
+        match read_tags(device, scratch, tags) {
+            Ok(()) => Ok(end_of(header, tags)),
+            Err(refusal) => Err(refusal),
+        }
+    } else {
+        Ok(header.get_u64(BOUND_AT))
+    }
+}
+
+// Reads the tag of each log block, so that the next one that is put there differs from it.
+fn read_tags<D: BlockDisk>(
+    device: &mut FailStop<D>,
+    scratch: &mut Block,
+    tags: &mut Block,
+) -> Result<(), Refusal<()>>
+    requires in_range { MIN_BLOCKS ≤ (D.state device.old.disk).past.size }
+    requires sound { device.old.faulted ≡ false }
+    requires whole { length tags.old ≡ BLOCK_BYTES }
+    ensures refusal { IfErr result (IsFault device.old.faulted (D.state device.old.disk) (D.state device.new.disk)) }
+    ensures keeps { Keeps (D.state device.old.disk) (D.state device.new.disk) }
+    ensures same { IsTrue (D.state device.old.disk).honest →
+        (D.state device.new.disk).past ≡ (D.state device.old.disk).past }
+    ensures sound { IfOk result (λ _. device.new.faulted ≡ false) }
+    ensures tags { IsTrue (D.state device.old.disk).honest → IfOk result (λ _.
+        (q : ℕ) → q < LOG_POSITIONS → tag_at tags.new q ≡ tag_of (read_of (D.state device.old.disk).past (log_block q))) }
+    ensures size { length tags.new ≡ BLOCK_BYTES }
+{
+    for position in 0..LOG_POSITIONS {
+        match device.read(log_block(position), scratch) {
+            Ok(()) => put_tag_at(tags, position, tag_of(scratch)),
+            Err(refusal) => return Err(refusal),
+        }
+    }
+    Ok(())
+}
+
+// Whether block 0 describes a log from one position to another.
+fn is_log(header: &Block, start: u64, end: u64, blocks: u64) -> bool
+    ensures { IsTrue result ↔ DescribesLog header.now start end blocks }
+{
+    if is_sealed(header) && blocks > MAX_SEALED_BLOCKS || start > end || end >= 1 << 62 {
         return false;
     }
     if end - start > LOG_POSITIONS {
@@ -148,10 +231,10 @@ fn is_log(header: &Block, start: u64, blocks: u64) -> bool
 fn are_homes(header: &Block, start: u64, end: u64, blocks: u64) -> bool
     requires { start ≤ end }
     ensures { IsTrue result ↔ ((q : ℕ) → start ≤ q → q < end
-        → (FIRST_HOME ≤ address header.now q) × (address header.now q < blocks)) }
+        → (FIRST_HOME ≤ home_by header.now q) × (home_by header.now q < blocks)) }
 {
     for position in start..end {
-        let home = header.get_u64(address_at(position));
+        let home = home_at(header, position);
         if home < FIRST_HOME || home >= blocks {
             return false;
         }

@@ -1,9 +1,11 @@
-use Rattle.std.proofs.Common.{◌≡◌, inl, refl, sym, subst, arith}
-use Rattle.journal_circ.specs.Log.{address_at}
+use Rattle.std.proofs.Common.{false, ◌∙◌, ◌<◌, ◌≡◌, inl, refl, sym, subst, arith}
+use Rattle.journal_block.specs.Block.{u64_at}
+use Rattle.journal_circ.specs.Log.{address_at, is_sealed}
+use Rattle.journal_circ.proofs.Forms.{is_plain}
 use Rattle.journal_circ.specs.Ring.{Ring, Crashes}
 use Rattle.journal_circ.specs.Soundness.{IsCirc}
 use Rattle.journal_circ.proofs.Puts.{fine_of, done_of, end_is_put}
-use Rattle.journal_circ.proofs.Steps.{ring, stays, put as put_low}
+use Rattle.journal_circ.proofs.Steps.{ring, alike_by, stays, put as put_low}
 use Rattle.journal_circ.proofs.circ.Circ.put_end.Given.{Over}
 use Rattle.journal_circ.proofs.circ.Circ.put_end.Goals.{After-write}
 use Rattle.journal_circ.proofs.circ.Circ.put_end.Goals as goal
@@ -15,22 +17,24 @@ returns-in_err-check-clause-crash g c =
 
 -- block 0 was or was not written
 clause_crash : (g : Over) (c : After-write g) → let s = c.self.inside in
-    let now = ring (g.D.BlockDisk.state c.write.new.self.disk) c.put_u64.new.self (record s.extent { coming = s.next }) s.next c.write.new.self.faulted in
+    let now = ring (g.D.BlockDisk.state c.write.new.self.disk) c.put_u64.new.self s.tags s.sealed (record s.extent { coming = s.next }) s.next c.write.new.self.faulted in
     IsCirc now × Crashes c.args.self.now.next c.args.self.now now
 clause_crash g c =
     let s = c.self.inside in
-    let old : Ring = ring (g.D.BlockDisk.state s.device.disk) s.header s.extent s.next s.device.faulted in
+    let old : Ring = ring (g.D.BlockDisk.state s.device.disk) s.header s.tags s.sealed s.extent s.next s.device.faulted in
     let d = g.D.BlockDisk.state c.write.new.self.disk in
     let fine = fine_of c.write.result c.write.ensures.ok c.write.ensures.err in
     let done = done_of c.write.result c.write.ensures.written c.write.ensures.err in
     let one : s.extent.coming ≡ s.extent.end = subst (λ (r : Ring). r.extent.coming ≡ r.extent.end) (sym c.self.view_is) c.requires.one in
     let synced : s.extent.stable ≡ s.next = subst (λ (r : Ring). r.extent.stable ≡ r.next) (sym c.self.view_is) c.requires.synced in
+    let plain_was : is_sealed s.header ≡ false = sym c.self.invariant.form ∙ subst (λ (r : Ring). r.sealed ≡ false) (sym c.self.view_is) c.requires.plain in
+    let plain : is_sealed c.put_u64.new.self ≡ false = is_plain c.put_u64.new.self (omega (arith, c.put_u64.ensures.number, c.self.invariant.bounds)) in
     let is = end_is_put old d c.write.new.self.faulted c.self.invariant c.write.ensures.keeps fine 0 c.put_u64.new.self (omega (arith, c.self.invariant.bounds)) c.write.ensures.written_or_not done
-    refl one synced c.put_u64.ensures.number (λ q. c.put_u64.ensures.after (address_at q) (omega arith)) in (
+    refl plain_was plain one synced c.put_u64.ensures.number (λ q. c.put_u64.ensures.after (address_at q) (omega arith)) in (
       is,
-      subst (λ (r : Ring). Crashes r.next r (ring d c.put_u64.new.self (record s.extent { coming = s.next }) s.next c.write.new.self.faulted)) c.self.view_is
+      subst (λ (r : Ring). Crashes r.next r (ring d c.put_u64.new.self s.tags s.sealed (record s.extent { coming = s.next }) s.next c.write.new.self.faulted)) c.self.view_is
           (put_low old d 0 c.put_u64.new.self c.self.invariant c.write.ensures.keeps (omega (arith, c.self.invariant.bounds)) c.write.ensures.written_or_not
-          c.put_u64.new.self (λ q ge lt same. omega arith) (λ q ge lt. c.put_u64.ensures.after (address_at q) (omega arith)) (record s.extent { coming = s.next }) c.write.new.self.faulted refl refl is
+          c.put_u64.new.self s.tags (λ q ge lt same. omega arith) (λ q ge lt. alike_by s.header c.put_u64.new.self q (plain ∙ sym plain_was) (c.put_u64.ensures.after (address_at q) (omega arith))) (record s.extent { coming = s.next }) c.write.new.self.faulted refl refl is
           (omega arith) s.next (omega (arith, c.self.invariant.bounds)) (omega arith) (inl one) refl),
     )
 

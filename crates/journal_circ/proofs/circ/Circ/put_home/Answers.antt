@@ -13,11 +13,11 @@ returns-in_err-check-clause-crash g c =
 
 -- the block was or was not written
 clause_crash : (g : Over) (c : After-write g) → let s = c.self.inside in
-    let now = ring (g.D.BlockDisk.state c.write.new.self.disk) s.header (record s.extent { homes = false }) s.next c.write.new.self.faulted in
+    let now = ring (g.D.BlockDisk.state c.write.new.self.disk) s.header s.tags s.sealed (record s.extent { homes = false }) s.next c.write.new.self.faulted in
     IsCirc now × Crashes c.args.self.now.extent.coming c.args.self.now now
 clause_crash g c =
     let s = c.self.inside in
-    let old : Ring = ring (g.D.BlockDisk.state s.device.disk) s.header s.extent s.next s.device.faulted in
+    let old : Ring = ring (g.D.BlockDisk.state s.device.disk) s.header s.tags s.sealed s.extent s.next s.device.faulted in
     let d = g.D.BlockDisk.state c.write.new.self.disk in
     let fine = fine_of c.write.result c.write.ensures.ok c.write.ensures.err in
     let idle : s.extent.freed ≡ s.extent.start = subst (λ (r : Ring). r.extent.freed ≡ r.extent.start) (sym c.self.view_is) c.requires.idle in
@@ -26,7 +26,7 @@ clause_crash g c =
     let is = home_is_put old d c.write.new.self.faulted c.self.invariant c.write.ensures.keeps fine c.args.block c.args.from.now on_disk c.write.ensures.written_or_not c.requires.home idle logged in (
       is,
       stepped_at c.self.view_is (home old d c.args.block c.args.from.now c.self.invariant c.write.ensures.keeps on_disk c.write.ensures.written_or_not
-          s.header (λ q ge lt same. omega (arith, c.requires.home)) (λ q ge lt. refl) (record s.extent { homes = false }) c.write.new.self.faulted refl refl is logged refl),
+          s.header s.tags (λ q ge lt same. omega (arith, c.requires.home)) (λ q ge lt. (refl, λ f. refl)) (record s.extent { homes = false }) c.write.new.self.faulted refl refl is logged refl),
     )
 
 pub invariant_of-self : goal.invariant_of-self

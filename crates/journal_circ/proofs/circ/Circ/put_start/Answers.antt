@@ -14,11 +14,11 @@ returns-in_err-check-clause-crash g c =
 
 -- block 1 was or was not written
 clause_crash : (g : Over) (c : After-write g) → let s = c.self.inside in
-    let now = ring (g.D.BlockDisk.state c.write.new.self.disk) s.header (record s.extent { freed = c.args.upto }) s.next c.write.new.self.faulted in
+    let now = ring (g.D.BlockDisk.state c.write.new.self.disk) s.header s.tags s.sealed (record s.extent { freed = c.args.upto }) s.next c.write.new.self.faulted in
     IsCirc now × Crashes c.args.self.now.extent.coming c.args.self.now now
 clause_crash g c =
     let s = c.self.inside in
-    let old : Ring = ring (g.D.BlockDisk.state s.device.disk) s.header s.extent s.next s.device.faulted in
+    let old : Ring = ring (g.D.BlockDisk.state s.device.disk) s.header s.tags s.sealed s.extent s.next s.device.faulted in
     let d = g.D.BlockDisk.state c.write.new.self.disk in
     let fine = fine_of c.write.result c.write.ensures.ok c.write.ensures.err in
     let done = done_of c.write.result c.write.ensures.written c.write.ensures.err in
@@ -31,7 +31,7 @@ clause_crash g c =
     refl c.args.upto idle synced above below (ap (λ (bytes : Bytes). u64_at bytes 0) c.block.ensures ∙ c.put.ensures.number) installed in (
       is,
       stepped_at c.self.view_is (put_low old d 1 c.block.result.now c.self.invariant c.write.ensures.keeps (omega (arith, c.self.invariant.bounds)) c.write.ensures.written_or_not
-          s.header (λ q ge lt same. omega arith) (λ q ge lt. refl) (record s.extent { freed = c.args.upto }) c.write.new.self.faulted refl refl is
+          s.header s.tags (λ q ge lt same. omega arith) (λ q ge lt. (refl, λ f. refl)) (record s.extent { freed = c.args.upto }) c.write.new.self.faulted refl refl is
           (omega arith) s.extent.coming (omega (arith, c.self.invariant.bounds)) (omega (arith, c.self.invariant.bounds)) (inr refl) refl),
     )
 

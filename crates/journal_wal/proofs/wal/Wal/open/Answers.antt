@@ -1,4 +1,6 @@
-use Rattle.std.proofs.Common.{IsTrue, sym, subst, ◌∙◌}
+use Rattle.std.proofs.Common.{IsTrue, sym, ap, subst, ◌∙◌}
+use Rattle.journal_circ.specs.Log.{is_sealed}
+use Rattle.journal_circ.specs.Ring.{Ring}
 use Rattle.journal_wal.proofs.Opening.{opened_sound, stands_now}
 use Rattle.journal_wal.proofs.wal.Wal.open.Goals as goal
 
@@ -17,3 +19,7 @@ returns-in-Ok-clause-images g c = λ honest. stands_now c.in_ok-circ.field-0.cir
     c.in-Ok.ensures.memory c.in-Ok.ensures.fine c.recover.ensures.ordered c.recover.ensures.fits c.recover.ensures.small
     (λ honest. c.in_ok-circ.ensures.images (subst IsTrue c.in_ok-circ.ensures.keeps.honest honest))
     (subst IsTrue (sym (c.recover.ensures.disk.keeps.honest ∙ c.in_ok-circ.ensures.keeps.honest)) honest)
+
+pub returns-in-Ok-clause-form : goal.returns-in-Ok-clause-form
+returns-in-Ok-clause-form g c = λ honest. ap (λ (r : Ring). r.sealed) c.recover.ensures.disk.same ∙ ap (λ (r : Ring). r.sealed) c.in_ok-circ.ensures.ok
+    ∙ ap is_sealed (c.in_ok-circ.ensures.header honest)
