@@ -270,7 +270,8 @@ fn home(rt: &impl Abort, alloc: Global, disk: &MemDisk, position: usize) -> Run<
     let mut header = Block::try_new(alloc)?;
     assert!(rt; disk.size() > 0 && position < 511);
     disk.peek(0, &mut header);
-    Ok(header.get_u64(8 + 8 * position))
+    // The further bytes are those of a sealed log.
+    Ok(header.get_u64(8 + 8 * position) % (1 << 40))
 }
 
 fn fail_in(pair: &mut Pair, call: u64) -> Run<u64> {

@@ -15,6 +15,11 @@ use std::alloc::Global;
 use std::marker::Model;
 use std::process::Abort;
 
+mod sealed;
+
+/// What a sealed log has in block 0 beside the position at which its last group begins.
+pub(crate) const SEALED: u64 = 1 << 63;
+
 /// A call of a pair. It answers a number.
 #[derive(Clone, Copy)]
 pub(crate) enum Call {
@@ -103,8 +108,8 @@ fn put_headers(
     called(disk.barrier())
 }
 
-// A disk of zeros but for the start and the end of a log.
-fn disk_with_log(rt: &impl Abort, alloc: Global, start: u64, end: u64) -> Run<MemDisk>
+/// A disk of zeros but for these numbers in front of blocks 1 and 0.
+pub(crate) fn disk_with_log(rt: &impl Abort, alloc: Global, start: u64, end: u64) -> Run<MemDisk>
     ensures { IfOk result (λ disk. IsSettled disk.past) }
 {
     let mut disk = MemDisk::new(alloc, 600)?;
@@ -112,7 +117,7 @@ fn disk_with_log(rt: &impl Abort, alloc: Global, start: u64, end: u64) -> Run<Me
     Ok(disk.crash(&[]))
 }
 
-fn open(rt: &impl Abort, alloc: Global, disk: MemDisk) -> Run<Wal<MemDisk>>
+pub(crate) fn open(rt: &impl Abort, alloc: Global, disk: MemDisk) -> Run<Wal<MemDisk>>
     requires { IsSettled disk.past }
     ensures { IfOk result IsAtRest }
 {
@@ -322,7 +327,7 @@ fn run_once(rt: &impl Abort, alloc: Global, start: u64, end: u64, rows: &[Row]) 
     }
 }
 
-/// The first row that is answered otherwise by the log of a disk that says where it starts and ends.
+/// The first row that is answered otherwise by the log of a disk with these numbers in front of blocks 1 and 0.
 pub(crate) fn wrong_row(
     rt: &impl Abort,
     alloc: Global,

@@ -2,6 +2,7 @@
 use super::Call::{self, End, Failures, Home, Installer, IsLogging, Logger, Start};
 use super::{Pair, Row, answer, close, has, open, walk};
 use crate::runs::{Run, Wrong, is_refused, told};
+use crate::wal::{SEALED, disk_with_log};
 use journal_disk::MemDisk;
 use std::alloc::Global;
 use std::process::Abort;
@@ -100,9 +101,31 @@ static TURNS: [Row; 18] = [
     (8, Installer, 1_333),
 ];
 
+// The same of a sealed log: a group is logged in 6 turns, a cut, 3 log blocks, block 0 and a barrier.
+static SEALED_TURNS: [Row; 18] = [
+    (1, FIRST, 3_100),
+    (4, Logger, 1_100),
+    (1, SECOND, 3_200),
+    (1, Logger, 1_201),
+    (1, Logger, 1_211),
+    (1, Installer, 1_211),
+    (3, Logger, 1_211),
+    (2, Installer, 1_211),
+    (1, THIRD, 3_311),
+    (1, Logger, 1_311),
+    (1, Installer, 1_311),
+    (1, Logger, 1_312),
+    (1, Installer, 1_312),
+    (1, Installer, 1_322),
+    (5, Logger, 1_322),
+    (1, Logger, 1_323),
+    (1, Logger, 1_333),
+    (8, Installer, 1_333),
+];
+
 // The first turn that comes to something else.
-fn wrong_turn(rt: &impl Abort, alloc: Global, pair: &mut Pair) -> Wrong {
-    for (number, (times, call, want)) in TURNS.iter().enumerate() {
+fn wrong_turn(rt: &impl Abort, alloc: Global, pair: &mut Pair, turns: &[Row]) -> Wrong {
+    for (number, (times, call, want)) in turns.iter().enumerate() {
         for _i in 0..*times {
             let got = told(turn(rt, alloc, pair, *call));
             if got != *want {
@@ -132,27 +155,40 @@ static ENDED: [Row; 15] = [
     (1, Home(8), 532),
 ];
 
-// The first turn that comes to something else, and the first row that is answered otherwise in the end.
-fn crash(rt: &impl Abort, alloc: Global) -> Run<(Wrong, Wrong)> {
-    let mut pair = open(rt, alloc, MemDisk::new(alloc, 600)?)?;
-    let turn = wrong_turn(rt, alloc, &mut pair);
+// The first turn that comes to something else, and the first row that is answered otherwise in the end. Block 0 says
+// at first that the log is plain or sealed.
+fn crash(rt: &impl Abort, alloc: Global, header: u64, turns: &[Row]) -> Run<(Wrong, Wrong)> {
+    let mut pair = open(rt, alloc, disk_with_log(rt, alloc, 0, header)?)?;
+    let turn = wrong_turn(rt, alloc, &mut pair, turns);
     let row = walk(rt, alloc, &mut pair, &ENDED);
     close(pair);
     Ok((turn, row))
 }
 
-fn crash_once(rt: &impl Abort, alloc: Global) -> (Wrong, Wrong) {
-    match crash(rt, alloc) {
+fn crash_once(rt: &impl Abort, alloc: Global, header: u64, turns: &[Row]) -> (Wrong, Wrong) {
+    match crash(rt, alloc, header, turns) {
         Ok(wrong) => wrong,
         Err(refusal) => (Some((0, told(Err(refusal)))), None),
     }
 }
 
+fn wrong_crash(rt: &impl Abort, alloc: Global, header: u64, turns: &[Row]) -> (Wrong, Wrong) {
+    let wrong = crash_once(rt, alloc, header, turns);
+    if is_refused(wrong.0) || is_refused(wrong.1) {
+        return crash_once(rt, alloc, header, turns);
+    }
+    wrong
+}
+
 #[test]
 fn a_crash_leaves_whole_commits(rt: HostRuntime) {
-    let mut wrong = crash_once(&rt, rt.alloc());
-    if is_refused(wrong.0) || is_refused(wrong.1) {
-        wrong = crash_once(&rt, rt.alloc());
-    }
-    assert_eq!(rt; wrong, (None, None));
+    assert_eq!(rt; wrong_crash(&rt, rt.alloc(), 0, &TURNS), (None, None));
+}
+
+#[test]
+fn a_crash_of_a_sealed_log_leaves_whole_commits(rt: HostRuntime) {
+    assert_eq!(rt;
+        wrong_crash(&rt, rt.alloc(), SEALED, &SEALED_TURNS),
+        (None, None)
+    );
 }
