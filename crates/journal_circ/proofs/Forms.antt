@@ -1,10 +1,10 @@
 -- The two forms of a log.
-use Rattle.std.proofs.Common.{◌≡◌, ◌<◌, ◌≤◌, ◌+◌, ◌-◌, ◌*◌, ◌/◌, ◌%◌, ◌^◌, ℕ, Bool, true, false, zero, suc, refl, ap, ◌∙◌, arith, ◌==◌, ◌&&◌, if◌then◌else◌, List}
+use Rattle.std.proofs.Common.{◌≡◌, ◌<◌, ◌≤◌, ◌+◌, ◌-◌, ◌/◌, ◌%◌, ◌^◌, ℕ, false, zero, suc, refl, ap, ◌∙◌, arith, ◌==◌, ◌&&◌, if◌then◌else◌, List}
 use Rattle.std.proofs.lemmas.Bool.{lt-leb}
 use Rattle.journal_block.specs.Block.{Bytes, u64_at}
 use Rattle.journal_block.specs.Updates.{Content}
 use Rattle.journal_disk.specs.Disks.{block_at}
-use Rattle.journal_circ.specs.Log.{log_block, address, is_sealed, begin_of, count_in, tag_in, tag_of, with_tag, are_there, end_of, sealed_end, end_by, end_in, home_by, bytes_by}
+use Rattle.journal_circ.specs.Log.{log_block, address, is_sealed, begin_of, count_in, tag_in, tag_of, with_tag, are_there, sealed_end, end_by, end_in, home_by, bytes_by}
 
 -- a plain block 0
 pub is_plain : (h : Bytes) → u64_at h 0 < 2 ^ 63 → is_sealed h ≡ false

@@ -1,5 +1,5 @@
 -- When the last group of a sealed log is there.
-use Rattle.std.proofs.Common.{◌≡◌, ◌≢◌, ◌⊎◌, inl, inr, ⊎_elim, ◌<◌, ◌≤◌, ◌+◌, ◌-◌, ◌*◌, ◌/◌, ◌%◌, ◌^◌, ℕ, Bool, true, false, zero, suc, refl, sym, ap, ◌∙◌, arith, subst, ◌==◌, ◌&&◌, if◌then◌else◌, List, [], ◌∷◌, ◌++◌, length}
+use Rattle.std.proofs.Common.{◌≡◌, ◌≢◌, ◌⊎◌, inl, inr, ⊎_elim, ◌<◌, ◌≤◌, ◌+◌, ◌-◌, ◌/◌, ◌%◌, ◌^◌, ℕ, Bool, true, false, zero, suc, refl, sym, ap, ◌∙◌, arith, subst, ◌==◌, ◌&&◌, if◌then◌else◌, [], ◌∷◌, length}
 use Rattle.std.proofs.lemmas.Bool.{cases_eq, cases_lt, eqb-true, eq-eqb}
 use Rattle.journal_block.specs.Block.{Bytes, u64_at, with_bytes}
 use Rattle.journal_block.specs.Updates.{Content}

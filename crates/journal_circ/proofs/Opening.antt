@@ -1,5 +1,5 @@
 -- A disk on which nothing is pending, and whose blocks 0 and 1 describe a log.
-use Rattle.std.proofs.Common.{refl, true, length, ◌+◌, ◌%◌, ◌^◌, if◌then◌else◌, List, ◌≡◌, inl, ⊎_elim, ◌<◌, ◌≤◌, ℕ, Bool, false, true, sym, ap, ◌∙◌, arith, subst, IsTrue}
+use Rattle.std.proofs.Common.{true, length, ◌+◌, ◌%◌, ◌^◌, if◌then◌else◌, List, ◌≡◌, inl, ⊎_elim, ◌<◌, ◌≤◌, ℕ, Bool, false, true, sym, ap, ◌∙◌, arith, subst, IsTrue}
 use Rattle.journal_block.specs.Block.{Bytes, u64_at}
 use Rattle.std.specs.Prelude.{slice_index_or}
 use Rattle.journal_block.specs.Updates.{Content, updated}

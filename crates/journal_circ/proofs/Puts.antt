@@ -8,7 +8,7 @@ use Rattle.journal_disk.specs.Disks.{write, Past, DiskState, Keeps, block_at, re
 use Rattle.journal_disk.specs.Images.{IsImage, EveryImage, reading, IsOldOrWritten}
 use Rattle.journal_disk.specs.Laws.{read_written, reading_is_image, reading-at}
 use Rattle.journal_circ.specs.declared.extent.Extent.{Extent}
-use Rattle.journal_circ.specs.Log.{log_block, address_at, address, is_sealed, begin_of, count_in, tag_in, tag_of, tag_at, home_by, bytes_by, end_by, end_in, start_in}
+use Rattle.journal_circ.specs.Log.{log_block, address_at, address, is_sealed, begin_of, count_in, tag_in, tag_of, tag_at, home_by, end_by, end_in, start_in}
 use Rattle.journal_circ.specs.Ring.{Ring, IsLogged, IsInstalled}
 use Rattle.journal_circ.specs.Soundness.{updates_between, HasStart, HasEnd, HasForm, HasAddresses, HasLogBlocks, HasWhole, GivesHomeBlocks, HasHomeBlocks, HasSoundImages, HasHolds, HasTags, HasBounds, IsCirc}
 use Rattle.journal_circ.proofs.Forms.{form_home, plain_end, end_same, end_as}

@@ -3,7 +3,7 @@ use Rattle.std.proofs.Common.{◌≡◌, ⊎_elim, ◌<◌, ◌≤◌, ◌+◌, 
 use Rattle.journal_block.specs.Block.{Bytes, u64_at}
 use Rattle.journal_block.specs.Updates.{Content, updated}
 use Rattle.journal_disk.specs.Disks.{write, barrier, Past, IsSettled, block_at, read_of, past_after, MayHaveHappened}
-use Rattle.journal_disk.specs.Images.{IsImage, EveryImage, IsOldOrWritten}
+use Rattle.journal_disk.specs.Images.{IsImage, IsOldOrWritten}
 use Rattle.journal_disk.specs.Moments.{LeavesOnly}
 use Rattle.journal_disk.specs.Laws.{leaves_by_write, leaves_by_barrier, leaves_also, leaves_now, read_written, settled_after_barrier}
 use Rattle.journal_circ.specs.Log.{log_block, is_sealed, begin_of, count_in, end_by, end_in, start_in, updates_from}

@@ -3,7 +3,6 @@ use Rattle.std.proofs.Common.{◌≡◌, ◌≢◌, ◌⊎◌, inl, inr, ◌<◌
 use Rattle.journal_block.specs.Block.{Bytes}
 use Rattle.journal_block.specs.Updates.{Content, updated}
 use Rattle.journal_disk.specs.Disks.{write, barrier, Past, DiskState, Keeps, read_of, past_after, MayHaveHappened}
-use Rattle.journal_disk.specs.Laws.{read_written}
 use Rattle.journal_circ.specs.declared.extent.Extent.{Extent}
 use Rattle.journal_circ.specs.Log.{log_block, address, is_sealed, home_by, bytes_by, updates_from}
 use Rattle.journal_circ.specs.Ring.{Ring, log_of, blocks_to, IsLogged, Crashes, SameBlocksTo}

@@ -1,15 +1,13 @@
 -- What events make of a sealed log's tags.
-use Rattle.std.proofs.Common.{◌≡◌, ◌≢◌, ◌⊎◌, inl, inr, ⊎_elim, ◌<◌, ◌≤◌, ◌+◌, ◌-◌, ◌*◌, ◌/◌, ◌%◌, ◌^◌, ℕ, Bool, true, false, zero, suc, refl, sym, ap, ◌∙◌, arith, subst, ◌==◌, ◌&&◌, if◌then◌else◌, List}
+use Rattle.std.proofs.Common.{◌≡◌, ◌≢◌, ◌⊎◌, inl, inr, ⊎_elim, ◌<◌, ◌≤◌, ◌+◌, ◌-◌, ◌*◌, ◌/◌, ◌%◌, ◌^◌, ℕ, sym, ap, ◌∙◌, arith, subst, List}
 use Rattle.std.specs.Prelude.{slice_index_or}
-use Rattle.std.proofs.lemmas.Bool.{cases_eq, cases_lt, eqb-true, eq-eqb}
+use Rattle.std.proofs.lemmas.Bool.{cases_eq, cases_lt}
 use Rattle.journal_block.specs.Block.{Bytes, u64_at}
-use Rattle.journal_block.specs.Updates.{Content}
 use Rattle.journal_disk.specs.Disks.{barrier, Past, block_at, read_of, past_after}
-use Rattle.journal_disk.specs.Images.{IsImage, EveryImage, IsOldOrWritten, reading}
-use Rattle.journal_disk.specs.Laws.{settled_reads, settled_after_barrier, images_after_barrier, reading_is_image, reading-at}
-use Rattle.journal_circ.specs.Log.{log_block, address, is_sealed, begin_of, count_in, tag_in, tag_of, tag_at, are_there, end_of, sealed_end, end_by, end_in}
-use Rattle.journal_circ.specs.Soundness.{HasHold, HasWants, HasHolds, HasFlight, HasFree, HasTags}
-use Rattle.journal_circ.proofs.Forms.{there_same}
+use Rattle.journal_disk.specs.Images.{IsImage, EveryImage}
+use Rattle.journal_disk.specs.Laws.{settled_reads, settled_after_barrier, images_after_barrier}
+use Rattle.journal_circ.specs.Log.{log_block, address, begin_of, tag_in, tag_of, tag_at}
+use Rattle.journal_circ.specs.Soundness.{HasHolds, HasTags}
 use Rattle.journal_circ.proofs.Writes.{Written}
 
 -- After a barrier an image has each block as it reads

@@ -3,7 +3,7 @@ use Rattle.std.specs.Prelude.{ℕ, ◌≡◌, ◌≢◌, ◌⊎◌, ◌<◌, ◌
 use Rattle.journal_world.specs.declared.refusal.Refusal.{Refusal}
 use Rattle.journal_world.specs.declared.refusal.Refusal.TheVariants.{NoMemory, DeviceFailed, BadLog}
 use Rattle.journal_block.specs.declared.update.Update.{Update}
-use Rattle.journal_block.specs.Block.{Bytes, u64_at, with_bytes}
+use Rattle.journal_block.specs.Block.{Bytes, with_bytes}
 use Rattle.journal_block.specs.Updates.{Content, with_updates, updates_block}
 use Rattle.journal_disk.specs.Disks.{Past, DiskEvent, DiskState, Keeps, HasFailed, read_of, past_after, MayHaveHappened}
 use Rattle.journal_disk.specs.Images.{EveryImage, reading}

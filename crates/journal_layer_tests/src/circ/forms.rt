@@ -24,7 +24,7 @@ struct Change {
 }
 
 // Changes the form of the log of a disk.
-fn change(
+fn change_form(
     rt: &impl Abort,
     alloc: Global,
     disk: MemDisk,
@@ -46,7 +46,7 @@ fn change(
 // Where the log ends that a crash leaves, and 1000 more where it is sealed.
 fn end_left(rt: &impl Abort, alloc: Global, changed: &Change) -> Run<u64> {
     let disk = disk_with_log(rt, alloc, END, changed.header)?;
-    let disk = match change(rt, alloc, disk, changed) {
+    let disk = match change_form(rt, alloc, disk, changed) {
         Ok(disk) => disk,
         Err(refused) => refused.disk,
     };

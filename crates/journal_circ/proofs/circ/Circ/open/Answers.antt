@@ -1,6 +1,6 @@
 use Rattle.std.proofs.Common.{◌∙◌, sym, ap, subst, IsTrue}
 use Rattle.journal_circ.specs.declared.extent.Extent.{Extent}
-use Rattle.journal_circ.proofs.Opening.{resting, opened, stand_at_rest, well_formed_by}
+use Rattle.journal_circ.proofs.Opening.{opened, stand_at_rest, well_formed_by}
 use Rattle.journal_circ.proofs.Steps.{ring}
 use Rattle.journal_circ.proofs.circ.Circ.open.Goals as goal
 

@@ -1,5 +1,4 @@
-use Rattle.std.proofs.Common.{false, ◌∙◌, ◌<◌, ◌≡◌, inl, refl, sym, subst, arith}
-use Rattle.journal_block.specs.Block.{u64_at}
+use Rattle.std.proofs.Common.{false, ◌∙◌, ◌≡◌, inl, refl, sym, subst, arith}
 use Rattle.journal_circ.specs.Log.{address_at, is_sealed}
 use Rattle.journal_circ.proofs.Forms.{is_plain}
 use Rattle.journal_circ.specs.Ring.{Ring, Crashes}

@@ -1,7 +1,5 @@
 use Rattle.std.proofs.Common.{◌≡◌, ◌≢◌, ◌∙◌, ◌<◌, ◌≤◌, ◌-◌, ◌+◌, ◌%◌, ◌^◌, ℕ, true, false, ap, inl, refl, sym, subst, arith, IsTrue}
-use Rattle.std.proofs.lemmas.Result.{err_from_is_err_and}
-use Rattle.journal_block.specs.Block.{Bytes, u64_at}
-use Rattle.journal_disk.specs.Disks.{read_of}
+use Rattle.journal_block.specs.Block.{u64_at}
 use Rattle.journal_circ.specs.Log.{log_block, address, is_sealed, begin_of, home_in, tag_in, first_in, word_of, with_tag, home_by}
 use Rattle.journal_circ.specs.Ring.{Ring, Crashes, KeepsLog}
 use Rattle.journal_circ.specs.Soundness.{IsCirc}

@@ -9,7 +9,7 @@ use Rattle.journal_circ.specs.Log.{log_block, address_at, address, is_sealed, ho
 use Rattle.journal_circ.specs.Ring.{Ring, Crashes, log_of}
 use Rattle.journal_circ.specs.Soundness.{IsCirc}
 use Rattle.journal_circ.proofs.Groups.{byte_back, tag_put}
-use Rattle.journal_circ.proofs.Puts.{not_good, address_kept, addresses_put, slot_is_tried, tagged_slot_is_put}
+use Rattle.journal_circ.proofs.Puts.{not_good, addresses_put, slot_is_tried, tagged_slot_is_put}
 use Rattle.journal_circ.proofs.Steps.{ring, alike_by, stepped_at, log_put, put, log_grown, slot}
 use Rattle.journal_circ.proofs.circ.Circ.put_tagged.Given.{Over}
 use Rattle.journal_circ.proofs.circ.Circ.put_tagged.Goals as goal

@@ -1,9 +1,7 @@
 use Rattle.std.proofs.Common.{ℕ, refl, ◌≡◌, ◌<◌, ◌≤◌, ◌-◌, Some, sym, ap, subst, ◌∙◌, IsTrue}
 use Rattle.std.specs.List.{slice_get}
-use Rattle.journal_block.specs.Block.{u64_at}
 use Rattle.journal_disk.specs.Disks.{read_of}
 use Rattle.journal_circ.specs.Ring.{Ring, log_of}
-use Rattle.journal_block.specs.Block.{Bytes}
 use Rattle.journal_circ.proofs.Forms.{form_bytes}
 use Rattle.journal_circ.proofs.Logs.{update_at_position}
 use Rattle.journal_circ.proofs.Steps.{ring}

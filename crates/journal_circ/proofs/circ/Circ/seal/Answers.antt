@@ -1,4 +1,4 @@
-use Rattle.std.proofs.Common.{◌≡◌, ◌<◌, ◌≤◌, ◌+◌, ◌^◌, ℕ, true, sym, subst, arith, IsTrue}
+use Rattle.std.proofs.Common.{◌≡◌, ◌≤◌, ◌+◌, ◌^◌, true, sym, subst, arith, IsTrue}
 use Rattle.journal_block.specs.Block.{u64_at}
 use Rattle.journal_circ.specs.Log.{is_sealed, begin_of, count_in}
 use Rattle.journal_circ.specs.Ring.{Ring, ChangesForm}

@@ -1,4 +1,4 @@
-use Rattle.std.proofs.Common.{◌≡◌, ◌<◌, ◌∙◌, false, sym, subst, arith, IsTrue}
+use Rattle.std.proofs.Common.{◌≡◌, ◌∙◌, false, sym, subst, arith, IsTrue}
 use Rattle.journal_circ.specs.Log.{is_sealed}
 use Rattle.journal_circ.specs.Ring.{Ring, ChangesForm}
 use Rattle.journal_circ.proofs.Forms.{is_plain, plain_end}
