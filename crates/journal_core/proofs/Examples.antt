@@ -15,10 +15,11 @@ use Rattle.journal_core.specs.Durables.{FetchedState}
 use Rattle.journal_core.specs.Cores.{CoreState, Crashes, disk_of}
 use Rattle.journal_core.specs.Transactions.{TransactionState, begun, Overwrites}
 use Rattle.journal_core.specs.Openings.{Begins}
-use Rattle.journal_core.specs.Interleavings.{Event, Answer, Mount, mounted, with_core, with_transaction, with_slot, with_fetched, ended, FetchesBlocks, CommitsTransaction, LogsStep, Joins, IsLeftBetween, HoldsImage, Run}
+use Rattle.journal_core.specs.Interleavings.{Event, Mount, mounted, with_core, with_transaction, with_slot, with_fetched, ended, FetchesBlocks, CommitsTransaction, LogsStep, Joins, Run}
+use Rattle.journal_core.specs.Outcomes.{Answer, IsLeftBetween, HoldsImage}
 use Rattle.journal_core.specs.Interleavings.Event.{joins, fetches, begins, takes, overwrites, logs, crashes, opens}
 use Rattle.journal_core.specs.Interleavings.Event.{commits as finishes}
-use Rattle.journal_core.specs.Interleavings.Answer.{nothing, committed, marked, crashed, reopened}
+use Rattle.journal_core.specs.Outcomes.Answer.{nothing, committed, marked, crashed, reopened}
 use Rattle.journal_core.specs.Interleavings.Machine.{up, down}
 
 -- two inodes of one block

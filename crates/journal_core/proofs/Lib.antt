@@ -9,6 +9,9 @@ pub mod Counting
 pub mod Holding
 pub mod Running
 pub mod Events
+pub mod Between
+pub mod HoldRuns
+pub mod Answering
 pub mod Fronts
 pub mod Enduring
 pub mod CallsOfLogs
@@ -17,6 +20,7 @@ pub mod Staying
 pub mod Unready
 pub mod Pairing
 pub mod Joining
+pub mod OneThread
 pub mod Fetching
 pub mod Admitting
 pub mod Fencing

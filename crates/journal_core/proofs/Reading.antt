@@ -32,11 +32,6 @@ look_refused blocks c t a (Worn cause) it = absurd it
 look_refused blocks c t a (Full cause) it = absurd it
 look_refused blocks c t a Fenced it = absurd it
 
-pub looks_not : {T : Type 0} (blocks : ℕ) (c : CoreState) (o : Outset) (t : TransactionState) (a : Addr) → o ≡ outset c → (r : Result T (Refusal Told))
-    → IfErr r (IsLookRefusal blocks o t a) → IfErr r (IsReadRefusal blocks c t a c)
-looks_not blocks c o t a same (Ok value) it = tt
-looks_not blocks c o t a same (Err why) it = look_refused blocks c t a why (subst (λ (p : Outset). IsLookRefusal blocks p t a why) same it)
-
 -- where nothing but a fetch can refuse it, and the fetch has seen no more of the history
 pub reads_not : (blocks : ℕ) (v : VolatileState) (c : CoreState) (t : TransactionState) (a : Addr) (f : FetchedState) (why : Refusal Told) → outset_of v ≡ outset c
     → (MayRead blocks (outset_of v) t a → IsPrefix f.front v.memory.history) → IsRefusedIn blocks v t a f why → IsReadRefusal blocks c t a c why

@@ -32,10 +32,11 @@ use Rattle.journal_core.specs.Transactions.{TransactionState, begun}
 use Rattle.journal_core.specs.Steps.{Marks, IsInstallRefusal}
 use Rattle.journal_core.specs.FenceSteps.{AddsFence, AnswersFence}
 use Rattle.journal_core.specs.Openings.{Begins}
-use Rattle.journal_core.specs.Interleavings.{Event, Answer, Tells, TellsAll, Mount, Machine, mounted, holds, with_core, with_transaction, with_slot, with_fetched, ended, keeping, blocks_of, FindsValue, ReadsValue, IsUnread, CommitsTransaction, RefusesCommit, LogsStep, AnswersLog, AnswersInstall, AnswersSession, AnswersFetch, HoldsImage, Ignores, BeginsTransaction, TakesSlot, ReadsUnderSlot, OverwritesUnderSlot, Finishes, MakesLogStep, MakesFence, HappensUp, HappensDown, Happens, Run, HasHistory, IsUndisturbed, StaysFetched}
+use Rattle.journal_core.specs.Interleavings.{Event, Mount, Machine, mounted, holds, with_core, with_transaction, with_slot, with_fetched, ended, keeping, blocks_of, FindsValue, ReadsValue, IsUnread, CommitsTransaction, RefusesCommit, LogsStep, AnswersLog, AnswersInstall, AnswersSession, AnswersFetch, Ignores, BeginsTransaction, TakesSlot, ReadsUnderSlot, OverwritesUnderSlot, Finishes, MakesLogStep, MakesFence, HappensUp, HappensDown, Happens, Run, HasHistory, IsUndisturbed, StaysFetched}
+use Rattle.journal_core.specs.Outcomes.{Answer, Tells, TellsAll, HoldsImage}
 use Rattle.journal_core.specs.Interleavings.Event.{begins, takes, reads, overwrites, aborts, fetches, joins, fences, stops, logs, installs, crashes, opens}
 use Rattle.journal_core.specs.Interleavings.Event.{commits as finishes}
-use Rattle.journal_core.specs.Interleavings.Answer.{nothing, value, committed, marked, fenced, crashed, reopened}
+use Rattle.journal_core.specs.Outcomes.Answer.{nothing, value, committed, marked, fenced, waited, imaged, crashed, reopened}
 use Rattle.journal_core.specs.Interleavings.Machine.{up, down}
 use Rattle.journal_core.proofs.Holding.{IsSound, begun_sound, sound_held, keeps_taken, keeps_given, sound_marked, sound_fenced, sound_committed, sound_read, sound_overwritten, is_holder}
 use Rattle.journal_core.specs.Cores.{disk_of}
@@ -266,6 +267,8 @@ module _ (rule : Map → Type 0) where
   goes-reads m actor a (Some t) true (committed u) new it is at holder = absurd it
   goes-reads m actor a (Some t) true (marked n) new it is at holder = absurd it
   goes-reads m actor a (Some t) true (fenced s) new it is at holder = absurd it
+  goes-reads m actor a (Some t) true (waited k) new it is at holder = absurd it
+  goes-reads m actor a (Some t) true (imaged other) new it is at holder = absurd it
   goes-reads m actor a (Some t) true crashed new it is at holder = absurd it
   goes-reads m actor a (Some t) true reopened new it is at holder = absurd it
 
@@ -323,6 +326,8 @@ module _ (rule : Map → Type 0) where
   goes-finishes m actor (Some d) (value a v) new it is at = absurd it
   goes-finishes m actor (Some d) (marked n) new it is at = absurd it
   goes-finishes m actor (Some d) (fenced s) new it is at = absurd it
+  goes-finishes m actor (Some d) (waited k) new it is at = absurd it
+  goes-finishes m actor (Some d) (imaged other) new it is at = absurd it
   goes-finishes m actor (Some d) crashed new it is at = absurd it
   goes-finishes m actor (Some d) reopened new it is at = absurd it
 
@@ -360,6 +365,8 @@ module _ (rule : Map → Type 0) where
   goes-fences m session (value a v) new it is = absurd it
   goes-fences m session (committed t) new it is = absurd it
   goes-fences m session (marked n) new it is = absurd it
+  goes-fences m session (waited k) new it is = absurd it
+  goes-fences m session (imaged other) new it is = absurd it
   goes-fences m session crashed new it is = absurd it
   goes-fences m session reopened new it is = absurd it
 
@@ -385,6 +392,8 @@ module _ (rule : Map → Type 0) where
   goes-logs m (value a v) new it is = absurd it
   goes-logs m (committed t) new it is = absurd it
   goes-logs m (fenced s) new it is = absurd it
+  goes-logs m (waited k) new it is = absurd it
+  goes-logs m (imaged other) new it is = absurd it
   goes-logs m crashed new it is = absurd it
   goes-logs m reopened new it is = absurd it
 
@@ -517,6 +526,8 @@ module _ (rule : Map → Type 0) where
   goes-opens image m (committed t) new it holds = stays-down image m (committed t) new holds it.0 it.1
   goes-opens image m (marked n) new it holds = stays-down image m (marked n) new holds it.0 it.1
   goes-opens image m (fenced s) new it holds = stays-down image m (fenced s) new holds it.0 it.1
+  goes-opens image m (waited k) new it holds = stays-down image m (waited k) new holds it.0 it.1
+  goes-opens image m (imaged other) new it holds = stays-down image m (imaged other) new holds it.0 it.1
   goes-opens image m crashed new it holds = stays-down image m crashed new holds it.0 it.1
 
   goes-down : (image : List Bytes) (m : Map) (event : Event) (answer : Answer) (new : Machine) → HappensDown rule image event answer new → OpensAs m image

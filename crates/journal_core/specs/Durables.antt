@@ -1,5 +1,5 @@
--- What contracts see of the core's durable part, what its type keeps by itself, and what its calls do. The memory part is
--- asked for none of it.
+-- What contracts see of the core's durable part, what its type keeps by itself, and what its calls
+-- do. The memory part is asked for none of it.
 use Rattle.std.specs.Prelude.{ℕ, ◌≡◌, ◌≢◌, ◌⊎◌, ◌<◌, ◌≤◌, ◌+◌, ◌^◌, Bool, true, false, IsTrue, List, [], All}
 use Rattle.journal_world.specs.declared.address.Addr.{Addr}
 use Rattle.journal_world.specs.declared.refusal.Refusal.{Refusal}
@@ -43,8 +43,8 @@ is_faulted d = is_log_faulted d.objects
 abbrev pub disk_of : DurableState → DiskState
 disk_of d = log_disk d.objects
 
--- The image opens as the map after so many of the front's commits: at least those that are marked, at most those with the
--- group in flight
+-- The image opens as the map after so many of the front's commits: at least those that are marked,
+-- at most those with the group in flight
 pub record Leaves (d : DurableState) (image : List Bytes) : Type 0 where
   pub commits : ℕ
   pub marked : d.marked ≤ commits
@@ -53,8 +53,8 @@ pub record Leaves (d : DurableState) (image : List Bytes) : Type 0 where
   pub opens : OpensAs map image
   pub same : SameMap map (at d.front commits)
 
--- What each call says of crashes: at every moment of it an image is one that might have been left before, and at its end one
--- that may be left now
+-- What each call says of crashes: at every moment of it an image is one that might have been left
+-- before, and at its end one that may be left now
 pub record Crashes (old new : DurableState) : Type 0 where
   pub keeps : Keeps (disk_of old) (disk_of new)
   pub moments : IsTrue (disk_of old).honest → LeavesOnly (disk_of old).past (disk_of new).past (Leaves old)
@@ -81,6 +81,8 @@ pub record IsDurable (blocks : ℕ) (d : DurableState) : Type 0 where
   -- where no call is due, no group is in flight; and where none is, no more commits come
   pub idle : is_faulted d ≡ false → log_steps d.objects ≡ 0 → IsCutLogged d.objects
   pub rest : IsCutLogged d.objects → d.logged ≡ d.coming
+  -- of the log in memory: while block 0 is written and its barrier is not made, a crash may leave
+  -- the group in flight, which is not counted as logged yet
   pub maps : IsTrue (disk_of d).honest → IsLoggedAt d.objects d.front d.logged d.coming
   pub images : IsTrue (disk_of d).honest → EveryImage (disk_of d).past (MayOpenAs d.objects)
   -- the law of the map that blocks make, at this size
@@ -92,7 +94,8 @@ begun_durable objects front = record { objects = objects; front = front; marked 
 
 -- What its calls do
 
--- What the logger's call did: it made the device call of the group in flight that was due, or none is in flight. It never cuts
+-- What the logger's call did: it made the device call of the group in flight that was due, or none
+-- is in flight. It never cuts
 abbrev pub LogAnswers : DurableState → GroupStep → DurableState → Type 0
 LogAnswers old Idle new = (log_steps old.objects ≡ 0) × (new ≡ old)
 LogAnswers old Cut new = ⊥

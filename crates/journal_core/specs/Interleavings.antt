@@ -1,18 +1,16 @@
 -- Transactions of many actors, the logger's and the installer's steps, crashes and openings, in any order: lists of events,
 -- and what they come to.
-use Rattle.std.specs.Prelude.{ℕ, ◌≡◌, ◌⊎◌, ◌==◌, ◌≤◌, true, false, if◌then◌else◌, Bool, IsTrue, List, [], ◌∷◌, ◌++◌, map, All, Option, Some, None, Result, Ok, Err}
+use Rattle.std.specs.Prelude.{ℕ, ◌≡◌, ◌⊎◌, ◌==◌, ◌≤◌, true, false, if◌then◌else◌, Bool, IsTrue, List, [], ◌∷◌, map, All, Option, Some, None, Result, Ok, Err}
 use mathlib.Core.List.{IsPrefix}
 use Rattle.journal_world.specs.declared.address.Addr.{Addr}
 use Rattle.journal_world.specs.declared.refusal.Refusal.{Refusal}
 use Rattle.journal_world.specs.Addresses.{Value, slot_of}
-use Rattle.journal_world.specs.Maps.{Map, Pair, Transaction, SameMap, Agrees, value_at, is_object}
-use Rattle.journal_world.specs.Histories.{Entry, opened, is_trusted, latest, at, count, floor, Follows, IsTrueTo}
-use Rattle.journal_world.specs.Histories.Entry.{opening, commit, stable, fence}
+use Rattle.journal_world.specs.Maps.{Map, Pair, Agrees, value_at, is_object}
+use Rattle.journal_world.specs.Histories.{Entry, opened, is_trusted, latest, at, count}
+use Rattle.journal_world.specs.Histories.Entry.{opening, commit, fence}
 use Rattle.journal_block.specs.declared.update.Update.{Update}
 use Rattle.journal_block.specs.Block.{Bytes}
-use Rattle.journal_disk.specs.Disks.{Past, DiskState, IsSettled}
-use Rattle.journal_disk.specs.Images.{IsImage}
-use Rattle.journal_disk.specs.Moments.{Extends}
+use Rattle.journal_disk.specs.Disks.{DiskState}
 use Rattle.journal_objlog.specs.Maps.{OpensAs}
 use Rattle.journal_history.specs.Tokens.{SessionState, CommitPlace, next_transaction}
 use Rattle.journal_wal.specs.declared.step.InstallStep.{InstallStep}
@@ -28,6 +26,8 @@ use Rattle.journal_core.specs.Volatiles.{IsFrontRefusal}
 use Rattle.journal_core.specs.Commits.{IsCommitted, CanCommit, IsCommitRefusal}
 use Rattle.journal_core.specs.FenceSteps.{AddsFence, AnswersFence}
 use Rattle.journal_core.specs.Openings.{Begins}
+use Rattle.journal_core.specs.Outcomes.{Answer, IsLeftBetween, HoldsImage, is_actor}
+use Rattle.journal_core.specs.Outcomes.Answer.{nothing, value, committed, marked, fenced, crashed, reopened}
 
 -- An event. The first six are of one actor, and all of these but the first of the transaction that it has open. A slot that
 -- it takes is held until the transaction is ended. An actor fetches blocks of these numbers from the disk, and has them from then
@@ -51,47 +51,12 @@ pub data Event : Type 0 where
   crashes : List Bytes → Event
   opens : Event
 
--- What is answered: a value, a commit, a mark, a fence, or nothing, where nothing is asked or it is refused; that the mount ended by a
--- crash, and that the next one began
-pub data Answer : Type 0 where
-  nothing : Answer
-  value : Addr → Value → Answer
-  committed : Transaction → Answer
-  marked : ℕ → Answer
-  fenced : ℕ → Answer
-  crashed : Answer
-  reopened : Answer
-
--- One entry more, which may follow and is true to the rule, so that a legal history stays legal
-abbrev pub AddsEntry : (Map → Type 0) → List Entry → Entry → List Entry → Type 0
-AddsEntry rule old e new = Follows old e × IsTrueTo rule old e × (new ≡ old ++ e ∷ [])
-
--- What an answer tells of the history: a value is what its last map gives; a commit, a mark or a fence is one entry more; a crash
--- leaves the map after so many commits, no fewer than the greatest mark, and the next history begins with it
-abbrev pub Tells : (Map → Type 0) → List Entry → Answer → List Entry → Type 0
-Tells rule old nothing new = new ≡ old
-Tells rule old (value a v) new = (v ≡ value_at (latest old) a) × (new ≡ old)
-Tells rule old (committed t) new = AddsEntry rule old (commit t) new
-Tells rule old (marked n) new = AddsEntry rule old (stable n) new
-Tells rule old (fenced s) new = AddsEntry rule old (fence s) new
-Tells rule old crashed new = (n : ℕ) × (floor old ≤ n) × (n ≤ count old) × ((m : Map) × SameMap m (at old n) × (new ≡ opening m true ∷ []))
-Tells rule old reopened new = (m : Map) × SameMap m (opened old) × (new ≡ opening m true ∷ [])
-
--- the same of answers one after the other
-abbrev pub TellsAll : (Map → Type 0) → List Entry → List Answer → List Entry → Type 0
-TellsAll rule old [] new = new ≡ old
-TellsAll rule old (answer ∷ answers) new = (mid : List Entry) × Tells rule old answer mid × TellsAll rule mid answers new
-
 -- A mount: its core, the transaction that each actor has open, the actor that holds each slot, and all that each actor has fetched
 pub record Mount : Type 0 where
   pub core : CoreState
   pub transactions : ℕ → Option TransactionState
   pub holders : ℕ → Option ℕ
   pub fetched : ℕ → List FetchedState
-
-abbrev pub is_actor : Option ℕ → ℕ → Bool
-is_actor None actor = false
-is_actor (Some holder) actor = holder == actor
 
 -- the actor holds the slot of the address
 abbrev pub holds : Mount → ℕ → Addr → Bool
@@ -248,19 +213,6 @@ pub record RefusesSession (old : CoreState) (why : Refusal Told) (new : CoreStat
 abbrev pub AnswersSession : CoreState → Result SessionState (Refusal Told) → CoreState → Type 0
 AnswersSession old (Ok session) new = Joins old session new
 AnswersSession old (Err why) new = RefusesSession old why new
-
--- The image was left at a moment from the old past to the new one
-pub record IsLeftBetween (old new : Past) (image : List Bytes) : Type 0 where
-  pub moment : Past
-  pub since : Extends old moment
-  pub until : Extends moment new
-  pub is_image : IsImage moment image
-
--- A disk as a crash left it: nothing is pending, and it holds the image
-pub record HoldsImage (disk : DiskState) (image : List Bytes) : Type 0 where
-  pub honest : IsTrue disk.honest
-  pub settled : IsSettled disk.past
-  pub is_image : IsImage disk.past image
 
 -- nothing is answered, and nothing changes
 abbrev pub Ignores : Mount → Answer → Machine → Type 0

@@ -17,4 +17,8 @@ pub mod Steps
 pub mod FenceSteps
 pub mod Commits
 pub mod Openings
+pub mod Holds
+pub mod Outcomes
 pub mod Interleavings
+pub mod TwoLocks
+pub mod CallAnswers

@@ -1,5 +1,5 @@
--- What contracts see of the core's volatile part, what its type keeps by itself, and what its calls do. No device is asked for
--- any of it.
+-- What contracts see of the core's volatile part, what its type keeps by itself, and what its calls
+-- do. No device is asked for any of it.
 use Rattle.std.specs.Prelude.{ℕ, ◌≡◌, ◌≢◌, ◌⊎◌, ◌<◌, ◌≤◌, ◌-◌, ◌^◌, nat_le, if◌then◌else◌, Bool, IsTrue, List, [], length, All}
 use Rattle.journal_world.specs.declared.address.Addr.{Addr}
 use Rattle.journal_world.specs.declared.refusal.Refusal.{Refusal}
@@ -49,8 +49,10 @@ pub record HasUpdates (blocks : ℕ) (v : VolatileState) : Type 0 where
   pub since : All (λ c. HaveAllSince blocks v.memory.history c.commits (updates_from v.tail.log c.end)) (cut_points v.tail)
   pub since_last : HaveAllSince blocks v.memory.history v.memory.cut (tail_of v.tail.log)
 
--- What it keeps by itself, on a disk of so many blocks: each block that a commit after `trimmed` wrote is in memory as the
--- commits left it, and each block of which it has a copy
+-- What it keeps by itself, on a disk of so many blocks. Where the history is trusted it is said of
+-- values: what the updates after a cut have of an address is what the map gives it after all
+-- commits, and no commit after that cut changed the value of an address of which they have nothing.
+-- A commit that wrote what stood there already may so have no update
 pub record IsVolatile (blocks : ℕ) (v : VolatileState) : Type 0 where
   pub size : blocks_of v.tail ≡ blocks
   pub begun : v.memory.history ≢ []
@@ -60,15 +62,16 @@ pub record IsVolatile (blocks : ℕ) (v : VolatileState) : Type 0 where
   pub small : next_position v.tail.log < 2 ^ 62
   pub cuts : All (IsCutOf v) (cut_points v.tail)
   pub updates : IsTrue (is_trusted v.memory.history) → HasUpdates blocks v
-  -- what it knows of a block, by its updates or by its copy alone, is what the latest map has
+  -- what it knows of an address, by its updates or by a copy of its block alone, is what the latest map gives it
   pub known : IsTrue (is_trusted v.memory.history) → AreObjectsOf blocks (latest v.memory.history) (known_blocks v.tail)
 
 -- how many positions of the log have updates up to the last cut, where it starts at this one
 abbrev pub used_positions : VolatileState → ℕ → ℕ
 used_positions v start = v.tail.log.cut - start
 
--- The logger has nothing to do, as far as memory alone can tell, where the log starts at this position: the last cut is marked, and
--- there is no tail and no commit behind the mark, or there are fewer free positions than the tail has blocks
+-- The logger has nothing to do, as far as memory alone can tell, where the log starts at this
+-- position: the last cut is marked, and there is no tail and no commit behind the mark, or there
+-- are fewer free positions than the tail has blocks
 pub record HasNothingToLog (v : VolatileState) (start : ℕ) : Type 0 where
   pub marked : v.memory.cut ≤ floor v.memory.history
   pub rest : ((tail_of v.tail.log ≡ []) × (count v.memory.history ≤ floor v.memory.history))
@@ -83,7 +86,8 @@ abbrev pub IsFrontRefusal : List Entry → List Entry → Refusal Told → Type 
 IsFrontRefusal history seen (Stale cause) = IsExplained J9 seen cause × IsLonger history seen
 IsFrontRefusal history seen other = ⊥
 
--- why an object is not read: by what is known before the value is looked for, or else the fetch has seen more of the history
+-- why an object is not read: by what is known before the value is looked for, or else the fetch has
+-- seen more of the history
 abbrev pub IsReadRefusal : ℕ → VolatileState → TransactionState → Addr → FetchedState → Refusal Told → Type 0
 IsReadRefusal blocks v t a f why =
     IsLookRefusal blocks (outset_of v) t a why ⊎ (MayRead blocks (outset_of v) t a × IsFrontRefusal v.memory.history f.front why)

@@ -1,4 +1,4 @@
-// The durable part's device calls.
+// The durable part's device calls, as its log makes them. Their holds are in `holds.rt`.
 ghost use Rattle.std.specs.Prelude.{◌≡◌, false, IsTrue, OnOk, OnErr, IfOk, IfErr};
 ghost use Rattle.journal_wal.specs.Wal.{TriesDueCall, TriesAhead, log_call};
 ghost use Rattle.journal_core.specs.Durables.{Crashes, LogAnswers, InstallAnswers, IsCallRefusal, IsInstallRefusal, LeavesLog, disk_of, is_faulted};
@@ -15,7 +15,7 @@ impl<'b, D: BlockDisk, R: MapRule, J: Naming> Durable<'b, D, R, J> {
     /// never `Cut`.
     ///
     /// Answers J6 `DeviceFailed`, and nothing else, where the device failed in this call or before.
-    pub fn log_call(&mut self) -> Result<GroupStep, Refusal<Cause<'b, J, R>>>
+    pub(crate) fn advance_log(&mut self) -> Result<GroupStep, Refusal<Cause<'b, J, R>>>
         ensures ok { IfOk result (λ step. LogAnswers self.old step self.new) }
         ensures fine { OnOk result ((is_faulted self.old ≡ false) × (is_faulted self.new ≡ false)) }
         ensures refusal { IfErr result (IsCallRefusal self.old self.new) }
@@ -39,7 +39,7 @@ impl<'b, D: BlockDisk, R: MapRule, J: Naming> Durable<'b, D, R, J> {
     ///
     /// Answers J6 `DeviceFailed` where the device failed in this call or before, and J1 `NoMemory` where memory for
     /// the list of addresses is refused, at the first of these calls.
-    pub fn install_call(&mut self) -> Result<InstallStep, Refusal<Cause<'b, J, R>>>
+    pub(crate) fn advance_install(&mut self) -> Result<InstallStep, Refusal<Cause<'b, J, R>>>
         ensures ok { IfOk result (λ step. InstallAnswers self.old step self.new) }
         ensures fine { OnOk result ((is_faulted self.old ≡ false) × (is_faulted self.new ≡ false)) }
         ensures refusal { IfErr result (IsInstallRefusal self.old self.new) }

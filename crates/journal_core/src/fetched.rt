@@ -58,7 +58,7 @@ impl<'b, D: BlockDisk, R: MapRule, J: Naming> Durable<'b, D, R, J> {
     /// no logged update of it is in memory. It takes no memory.
     ///
     /// Answers J6 `DeviceFailed`, and nothing else, where the device failed in this call or before.
-    pub fn fetch(
+    pub(crate) fn fetch_blocks(
         &mut self,
         mut updates: Vec<Update>,
     ) -> Result<Fetched<'b, J, R>, Refusal<Cause<'b, J, R>>>

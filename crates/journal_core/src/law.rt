@@ -6,7 +6,8 @@ ghost use Rattle.journal_core.specs.Cores.{CoreState};
 ghost use Rattle.journal_core.specs.Transactions.{TransactionState};
 ghost use Rattle.journal_core.specs.Openings.{Begins};
 ghost use Rattle.journal_core.specs.Interleavings.Machine.{up};
-ghost use Rattle.journal_core.specs.Interleavings.{Event, Answer, Machine, Mount, mounted, TellsAll, Run, HasHistory, IsUndisturbed, StaysFetched};
+ghost use Rattle.journal_core.specs.Interleavings.{Event, Machine, Mount, mounted, Run, HasHistory, IsUndisturbed, StaysFetched};
+ghost use Rattle.journal_core.specs.Outcomes.{Answer, TellsAll};
 
 use journal_world::MapRule;
 

@@ -1,5 +1,5 @@
 // Holds of both parts: what each asks of the other is looked at, and nothing is required that ties them.
-ghost use Rattle.std.specs.Prelude.{◌≡◌, ◌≤◌, [], false, IsTrue, IfOk, IfErr, OnOk, OnErr};
+ghost use Rattle.std.specs.Prelude.{◌≡◌, ◌<◌, ◌≤◌, [], false, IsTrue, IfOk, IfErr, OnOk, OnErr, All};
 ghost use Rattle.journal_world.specs.Histories.{is_trusted};
 ghost use Rattle.journal_disk.specs.Images.{EveryImage};
 ghost use Rattle.journal_memlog.specs.Logs.{tail_of};
@@ -24,7 +24,10 @@ impl<'b, D: BlockDisk, R: MapRule, J: Naming> Durable<'b, D, R, J> {
     /// then as the map after a front of the history that has every marked commit.
     ///
     /// Answers J9 `Stale` where the history that this part has seen is the longer, or where it lacks a mark.
-    pub fn disk_under(&self, memory: &Volatile<'b, R, J>) -> Result<&D, Refusal<Cause<'b, J, R>>>
+    pub(crate) fn disk_under(
+        &self,
+        memory: &Volatile<'b, R, J>,
+    ) -> Result<&D, Refusal<Cause<'b, J, R>>>
         ensures disk { IfOk result (λ disk. D.state disk.now ≡ disk_of self.now) }
         ensures size { (disk_of self.now).past.size ≡ J.blocks }
         ensures trusted { OnOk result (is_trusted memory.now.memory.history ≡ (disk_of self.now).honest) }
@@ -132,7 +135,7 @@ impl<'b, D: BlockDisk, R: MapRule, J: Naming> Durable<'b, D, R, J> {
 
     /// Does what is due of both parts where no device call is: marks what is logged; else cuts; else marks commits that
     /// wrote nothing. It is idle where there is none of these.
-    pub fn settle(
+    pub(crate) fn do_due(
         &mut self,
         memory: &mut Volatile<'b, R, J>,
     ) -> Result<LogStep, Refusal<Cause<'b, J, R>>>
@@ -167,8 +170,9 @@ impl<'b, D: BlockDisk, R: MapRule, J: Naming> Durable<'b, D, R, J> {
     }
 
     /// Drops from memory what is at home: the updates of each cut that ends at the position or before it.
-    pub fn trim(&self, memory: &mut Volatile<'b, R, J>, upto: u64)
+    pub(crate) fn trim_memory(&self, memory: &mut Volatile<'b, R, J>, upto: u64)
         ensures drops { DropsCuts memory.old.tail upto memory.new.tail }
+        ensures left { All (λ c. upto < c.end) memory.new.tail.cuts }
         ensures others { memory.new ≡ record memory.old { tail = memory.new.tail } }
         ensures tied { upto ≤ end_of self.now.objects → Tied memory.old self.now → Tied memory.new self.now }
     {

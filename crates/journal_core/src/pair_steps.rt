@@ -1,4 +1,5 @@
-// Steps of both parts, of a pair that is tied: each makes at most one call of the device, and where that fails both parts
+// Steps of both parts for one thread, of a pair that is tied: the same holds as threads make, one
+// after the other. Each step makes at most one call of the device, and where that fails both parts
 // know of it.
 ghost use Rattle.std.specs.Prelude.{◌≡◌, ◌<◌, false, true, map, IsTrue, IfOk, IfErr, OnOk, OnErr, All};
 ghost use Rattle.journal_objlog.specs.ObjectLogs.{OnlyReads};
@@ -8,6 +9,7 @@ ghost use Rattle.journal_core.specs.Interleavings.{AnswersFetch};
 ghost use Rattle.journal_core.specs.Steps.{LogAnswers, IsLogRefusal, InstallAnswers, IsInstallRefusal, LeavesLog, TriesToLog, TriesToInstall};
 
 use crate::cause::Cause;
+use crate::due::{InstallCall, InstallFault, LogCall};
 use crate::durable::Durable;
 use crate::fetched::Fetched;
 use crate::step::LogStep;
@@ -15,7 +17,7 @@ use crate::volatile::Volatile;
 use journal_block::Update;
 use journal_disk::BlockDisk;
 use journal_history::Naming;
-use journal_wal::{GroupStep, InstallStep};
+use journal_wal::InstallStep;
 use journal_world::{MapRule, Refusal};
 
 impl<'b, D: BlockDisk, R: MapRule, J: Naming> Durable<'b, D, R, J> {
@@ -37,25 +39,11 @@ impl<'b, D: BlockDisk, R: MapRule, J: Naming> Durable<'b, D, R, J> {
         ensures crash { Crashes (core_of memory.old self.old) (core_of memory.new self.new) }
     {
         match self.log_call() {
-            Ok(GroupStep::Put) => {
-                self.keeps();
-                Ok(LogStep::Put)
-            }
-            Ok(GroupStep::Logged) => {
-                self.keeps();
-                Ok(LogStep::Logged)
-            }
-            Ok(GroupStep::Idle) => {
-                let answer = self.settle(memory);
-                self.keeps();
-                memory.keeps();
-                answer
-            }
-            // There is no tail in the durable part's log.
-            Ok(GroupStep::Cut) => unreachable!(),
-            Err(why) => {
-                memory.fail();
-                self.keeps();
+            Ok(LogCall::Put) => Ok(LogStep::Put),
+            Ok(LogCall::Logged) => Ok(LogStep::Logged),
+            Ok(LogCall::AtRest(rest)) => self.settle(memory, rest),
+            Err(fault) => {
+                let why = self.note_fault(memory, fault);
                 Err(why)
             }
         }
@@ -77,22 +65,14 @@ impl<'b, D: BlockDisk, R: MapRule, J: Naming> Durable<'b, D, R, J> {
         ensures crash { Crashes (core_of memory.old self.old) (core_of memory.new self.new) }
     {
         match self.install_call() {
-            Ok(InstallStep::Freed(upto)) => {
-                self.trim(memory, upto);
-                self.keeps();
-                memory.keeps();
-                Ok(InstallStep::Freed(upto))
+            Ok(InstallCall::Idle) => Ok(InstallStep::Idle),
+            Ok(InstallCall::Put) => Ok(InstallStep::Put),
+            Ok(InstallCall::Freed(freed)) => Ok(self.trim(memory, freed)),
+            Err(InstallFault::NoMemory) => Err(Refusal::NoMemory),
+            Err(InstallFault::Failed(fault)) => {
+                let why = self.note_fault(memory, fault);
+                Err(why)
             }
-            Ok(step) => {
-                self.keeps();
-                Ok(step)
-            }
-            Err(Refusal::DeviceFailed(cause)) => {
-                memory.fail();
-                self.keeps();
-                Err(Refusal::DeviceFailed(cause))
-            }
-            Err(why) => Err(why),
         }
     }
 
@@ -118,14 +98,9 @@ impl<'b, D: BlockDisk, R: MapRule, J: Naming> Durable<'b, D, R, J> {
         ensures event { AnswersFetch J.blocks (core_of memory.old self.old) (map (λ u. u.block) updates.items) result (core_of memory.new self.new) }
     {
         match self.fetch(updates) {
-            Ok(fetched) => {
-                self.keeps();
-                fetched.holds();
-                Ok(fetched)
-            }
-            Err(why) => {
-                memory.fail();
-                self.keeps();
+            Ok(fetched) => Ok(fetched),
+            Err(fault) => {
+                let why = self.note_fault(memory, fault);
                 Err(why)
             }
         }

@@ -1,6 +1,7 @@
 // The core's two parts, apart: for a lock of each.
 ghost use Rattle.std.specs.Prelude.{◌≡◌};
 ghost use Rattle.journal_core.specs.Cores.{IsPair, core_of};
+ghost use Rattle.journal_core.specs.Holds.{IsBetween};
 
 use crate::durable::Durable;
 use crate::state::Core;
@@ -12,9 +13,11 @@ use journal_world::MapRule;
 impl<'b, D: BlockDisk, R: MapRule, J: Naming> Core<'b, D, R, J> {
     /// Its two parts, for a lock of each. What ties them is asked for by none of their own calls: each looks at what it
     /// needs of the other where both are held.
+    #[tactic(auto, using(crate::proofs::Between::between_pair))]
     pub fn into_parts(self) -> (Durable<'b, D, R, J>, Volatile<'b, R, J>)
         ensures parts { core_of result.1 result.0 ≡ self.entry }
         ensures pair { IsPair J.blocks result.1 result.0 }
+        ensures between { IsBetween J.blocks result.1 result.0 }
     {
         let Core {
             durable,

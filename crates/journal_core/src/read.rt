@@ -108,41 +108,6 @@ impl<'b, D: BlockDisk, R: MapRule, J: Naming> Core<'b, D, R, J> {
             Err(_) => unreachable!(),
         }
     }
-
-    /// Looks and refuses a read as `read_step` does, by what is known before the value is looked for: J13, J6 of an
-    /// earlier fault, J2 and J9. Nothing changes. It is no device call.
-    pub fn check_read<W: Wait>(
-        &mut self,
-        rt: &W,
-        transaction: &Transaction<'b, J, R>,
-        held: &mut [Held<J>],
-        addr: Addr,
-    ) -> Result<(), Refusal<Cause<'b, J, R>>>
-        requires under { AreUnder held.old transaction.now.seen transaction.now.reads }
-        ensures agree { AgreeWith self.new.history held.new }
-        ensures held { held.new ≡ held.old }
-        ensures same { self.new ≡ self.old }
-        ensures may { OnOk result (MayRead J.blocks self.old transaction.now addr) }
-        ensures refusal { IfErr result (IsReadRefusal J.blocks self.old transaction.now addr self.old) }
-        ensures crash { Crashes self.old self.old }
-    {
-        self.look(rt, held);
-        self.check_unmoved(transaction, addr)
-    }
-
-    // Refuses a read as `check_read` does, once a look has shown that what was read has not moved.
-    fn check_unmoved(
-        &self,
-        transaction: &Transaction<'b, J, R>,
-        addr: Addr,
-    ) -> Result<(), Refusal<Cause<'b, J, R>>>
-        requires unmoved { AreUnmoved self.now.history transaction.now }
-        ensures may { OnOk result (MayRead J.blocks self.now transaction.now addr) }
-        ensures refusal { IfErr result (IsReadRefusal J.blocks self.now transaction.now addr self.now) }
-        ensures crash { Crashes self.now self.now }
-    {
-        self.volatile.check_unmoved(transaction, addr)
-    }
 }
 
 // The memory of one block, as that of this one.

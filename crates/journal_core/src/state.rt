@@ -1,17 +1,16 @@
 // The core, and what it tells without a step.
-ghost use Rattle.std.specs.Prelude.{ℕ, ◌≡◌, ◌↔◌, IsTrue, IfErr, OnOk};
+ghost use Rattle.std.specs.Prelude.{ℕ, ◌≡◌, IsTrue, IfErr, OnOk};
 ghost use Rattle.journal_world.specs.Histories.{opened, is_trusted, count, floor};
 ghost use Rattle.journal_disk.specs.Images.{EveryImage};
 ghost use Rattle.journal_history.specs.Soundness.{IsSound};
 ghost use Rattle.journal_core.specs.SlotCounts.{AgreeWith};
-ghost use Rattle.journal_core.specs.Cores.{Leaves, Crashes, IsRunning, disk_of, tail_length, start_of, end_of};
-ghost use Rattle.journal_core.specs.Steps.{IsLogIdle, IsEndRefusal};
+ghost use Rattle.journal_core.specs.Cores.{Leaves, Crashes, IsRunning, disk_of, start_of, end_of};
+ghost use Rattle.journal_core.specs.Steps.{IsEndRefusal};
 
 use crate::cause::Cause;
 use crate::durable::Durable;
 use crate::volatile::Volatile;
 use journal_block::Update;
-use journal_circ::LOG_POSITIONS;
 use journal_disk::{BlockDisk, MemDisk};
 use journal_history::{Front, Naming};
 use journal_lockmap::Held;
@@ -83,30 +82,6 @@ impl<'b, D: BlockDisk, R: MapRule, J: Naming> Core<'b, D, R, J> {
         ensures crash { Crashes self.now self.now }
     {
         self.volatile.check_running()
-    }
-
-    /// Whether the logger has nothing to do: no group is in flight or unmarked, the tail is empty and all commits
-    /// are marked, or the tail has no place in the log.
-    pub fn is_log_idle(&self) -> bool
-        ensures { IsRunning self.now → IsTrue result ↔ IsLogIdle self.now }
-    {
-        let memory = &self.volatile.memory;
-        if self.durable.objects.is_logging() || memory.floor() < memory.cut() {
-            return false;
-        }
-        let tail = self.tail_len();
-        if tail == 0 {
-            return memory.count() <= memory.floor();
-        }
-        let (start, end) = self.durable.objects.log_range();
-        LOG_POSITIONS.saturating_sub(end.saturating_sub(start)) < tail
-    }
-
-    /// How many blocks stand in the log's tail, which a cut empties: at most 255.
-    pub fn tail_len(&self) -> u64
-        ensures { result ≡ tail_length self.now.objects }
-    {
-        self.volatile.tail.tail_len()
     }
 
     /// Shows that what is held agrees with the history: as many commits touched each slot as its token says. Nothing

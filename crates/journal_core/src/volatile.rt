@@ -7,6 +7,7 @@ ghost use Rattle.journal_core.specs.Memories.{IsNumberRefusal};
 ghost use Rattle.journal_core.specs.SlotCounts.{AgreeWith};
 ghost use Rattle.journal_core.specs.Outsets.{GoesOn, IsEndRefusal};
 ghost use Rattle.journal_core.specs.Volatiles.{IsVolatile, IsFrontRefusal, outset_of};
+ghost use Rattle.journal_core.specs.Holds.{AnswersSession, Stops};
 
 use crate::cause::Cause;
 use crate::memory::Memory;
@@ -106,7 +107,8 @@ impl<'b, R: MapRule, J: Naming> Volatile<'b, R, J> {
         Ok(front)
     }
 
-    /// A session of the next number, that no session had before and that is not fenced. Refuses by J11. It takes no memory.
+    /// A hold of memory alone: a session of the next number, that no session had before and that is
+    /// not fenced. Refuses by J11. It takes no memory.
     pub fn session(&mut self) -> Result<Session<'b, J, R>, Refusal<Cause<'b, J, R>>>
         ensures is { IfOk result (λ session. session ≡ record { number = self.old.memory.next; mine = self.old.memory.history; seen = self.old.memory.history }) }
         ensures fresh { commits_of self.old.memory.next self.old.memory.history ≡ [] }
@@ -114,6 +116,7 @@ impl<'b, R: MapRule, J: Naming> Volatile<'b, R, J> {
         ensures others { OnOk result (self.new ≡ record self.old { memory = record self.old.memory { next = self.old.memory.next + 1 } }) }
         ensures refusal { IfErr result (IsNumberRefusal self.old.memory.next) }
         ensures same { OnErr result (self.new ≡ self.old) }
+        ensures event { AnswersSession self.old result self.new }
     {
         self.memory.session()
     }
@@ -129,15 +132,15 @@ impl<'b, R: MapRule, J: Naming> Volatile<'b, R, J> {
     }
 
     /// Notes that a device call failed.
-    pub fn fail(&mut self)
+    pub(crate) fn fail(&mut self)
         ensures { self.new ≡ record self.old { faulted = true } }
     {
         self.faulted = true;
     }
 
-    /// Stops it. Nothing else changes.
+    /// A hold of memory alone: stops it. Nothing else changes.
     pub fn stop(&mut self)
-        ensures { self.new ≡ record self.old { memory = record self.old.memory { closed = true } } }
+        ensures event { Stops self.old self.new }
     {
         self.memory.stop();
     }

@@ -18,6 +18,7 @@ ghost use Rattle.journal_core.specs.Interleavings.{CommitsTransaction};
 ghost use Rattle.journal_core.specs.Outsets.{CanPrepare, CanCommit, IsCommitRefusal, IsPreparingRefusal};
 ghost use Rattle.journal_core.specs.Volatiles.{outset_of, usable};
 ghost use Rattle.journal_core.specs.VolatileCommits.{IsCommitted, IsAdded, IfDone, IfMissing, with_room};
+ghost use Rattle.journal_core.specs.Holds.{AnswersCommit};
 
 use crate::cause::{Cause, raise};
 use crate::fetched::Fetched;
@@ -42,21 +43,23 @@ pub enum CommitStep<T> {
 }
 
 impl<'b, R: MapRule, J: Naming> Volatile<'b, R, J> {
-    /// Commits the session's next transaction: adds it to the history, which the session has then seen, and overwrites
-    /// the map by its writes, in memory. A block that is written, but not as a whole, has to be in memory, or fetched and
-    /// still usable: where some are not, nothing is committed, and the answer is these.
+    /// A hold of memory alone: commits the session's next transaction. It adds it to the history,
+    /// which the session has then seen, and overwrites the map by its writes, in memory. A block
+    /// that is written, but not as a whole, has to be in memory, or fetched and still usable: where
+    /// some are not, nothing is committed, and the answer is these.
     ///
-    /// What it reads and writes lies under slots that are held, each once. A look at these, which is made first and waits
-    /// for nobody, shows that no other commit touched one since it was read: nothing is compared. What is held agrees
-    /// with the history then too.
+    /// What it reads and writes lies under slots that are held, each once. A look at these, which
+    /// is made first and waits for nobody, shows that no other commit touched one since it was
+    /// read: nothing is compared. What is held agrees with the history then too.
     ///
-    /// The first that applies of these refuses it: J13 `Closed` where it was stopped, J6 `DeviceFailed` where the device
-    /// failed before, J9 `Stale` where the session, the transaction or the fetch has seen more of the history, or it is
-    /// longer, J10 `Stranger` where the history has a commit under the session's number that the session did not make,
-    /// J14 `Fenced` where the session is fenced, J4 `TooLarge` where more than 128 distinct blocks are written, J11
-    /// `Worn` where the history's length, the session's number or a position of the log would reach 2^62, J12 `Full`
-    /// where the tail cannot take the blocks that do not stand in it, then J1 `NoMemory` where memory is refused. The
-    /// history and the objects are then as they were.
+    /// The first that applies of these refuses it: J13 `Closed` where it was stopped, J6
+    /// `DeviceFailed` where the device failed before, J9 `Stale` where the session, the transaction
+    /// or the fetch has seen more of the history, or it is longer, J10 `Stranger` where the history
+    /// has a commit under the session's number that the session did not make, J14 `Fenced` where
+    /// the session is fenced, J4 `TooLarge` where more than 128 distinct blocks are written, J11
+    /// `Worn` where the history's length, the session's number or a position of the log would reach
+    /// 2^62, J12 `Full` where the tail cannot take the blocks that do not stand in it, then J1
+    /// `NoMemory` where memory is refused. The history and the objects are then as they were.
     pub fn commit<W: Wait>(
         &mut self,
         rt: &W,
@@ -88,11 +91,12 @@ impl<'b, R: MapRule, J: Naming> Volatile<'b, R, J> {
         ensures same { OnErr result (self.new ≡ with_room self.old self.new.tail.log.room) }
         ensures session { OnErr result (OnlyExtends session.old session.new) }
         ensures longer { IfErr result (ShowsLonger self.old.memory.history session.new) }
-        ensures event { (d : DurableState) → IsPair J.blocks self.old d → IfOk result (IfDone (λ _.
-            CommitsTransaction (core_of self.old d) session.old transaction.now (core_of self.new d) session.new)) }
+        ensures event { AnswersCommit J.blocks self.old session.old transaction.now fetched.now result self.new session.new }
     {
         self.look(rt, held);
-        self.commit_unmoved(rt, session, transaction, held, spares, fetched)
+        let answer = self.commit_unmoved(rt, session, transaction, held, spares, fetched);
+        self.keeps();
+        answer
     }
 
     // Commits as `commit` does, once a look has shown that what was read has not moved.

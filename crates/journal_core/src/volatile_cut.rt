@@ -1,5 +1,5 @@
 // What is cut from memory, marked, dropped from it, and kept in it.
-ghost use Rattle.std.specs.Prelude.{◌≡◌, ◌≤◌, ◌⊎◌, ◌++◌, ◌∷◌, [], length, IsTrue, IsOkUnless, IfOk, IfErr, OnOk, OnErr};
+ghost use Rattle.std.specs.Prelude.{◌≡◌, ◌<◌, ◌≤◌, ◌⊎◌, ◌++◌, ◌∷◌, [], length, IsTrue, IsOkUnless, IfOk, IfErr, OnOk, OnErr, All};
 ghost use Rattle.journal_world.specs.Histories.{is_trusted, count, floor, latest};
 ghost use Rattle.journal_world.specs.Histories.Entry.{stable};
 ghost use Rattle.journal_memlog.specs.Logs.{HasDistinctBlocks, tail_of};
@@ -8,6 +8,7 @@ ghost use Rattle.journal_wal.specs.Tails.{DropsCuts, cut_after};
 ghost use Rattle.journal_wal.specs.declared.append.TheConstants.{MAX_TAIL};
 ghost use Rattle.journal_core.specs.Memories.{IsMarkRefusal};
 ghost use Rattle.journal_core.specs.Updates.{HaveAllSince, AreObjectsOf};
+ghost use Rattle.journal_core.specs.Holds.{KeepsCopies};
 
 use crate::cause::{Cause, raise};
 use crate::fetched::Fetched;
@@ -38,17 +39,31 @@ impl<'b, R: MapRule, J: Naming> Volatile<'b, R, J> {
         Ok(group)
     }
 
-    /// Makes the copy of the home block the one that was used last, where there is one.
+    /// Of a hold of memory alone: makes the copy of the home block the one that was used last, where there is one.
     pub fn touch(&mut self, block: u64)
+        ensures event { KeepsCopies J.blocks self.old self.new }
+    {
+        self.touch_copy(block);
+        self.keeps();
+    }
+
+    fn touch_copy(&mut self, block: u64)
         ensures { self.new ≡ record self.old { tail = record self.old.tail { home = self.new.tail.home } } }
     {
         self.tail.touch(block);
     }
 
-    /// Keeps copies of the fetched blocks for later reads and commits, unless what commits wrote after them is not in memory
-    /// any more. Where there are too many copies, those go that were used least recently. One for which memory is refused is
-    /// not kept.
+    /// Of a hold of memory alone: keeps copies of the fetched blocks for later reads and commits,
+    /// unless what commits wrote after them is not in memory any more. Where there are too many
+    /// copies, those go that were used least recently. One for which memory is refused is not kept.
     pub fn keep(&mut self, fetched: Fetched<'b, J, R>)
+        ensures event { KeepsCopies J.blocks self.old self.new }
+    {
+        self.keep_copies(fetched);
+        self.keeps();
+    }
+
+    fn keep_copies(&mut self, fetched: Fetched<'b, J, R>)
         ensures { self.new ≡ record self.old { tail = record self.old.tail { home = self.new.tail.home } } }
     {
         if self.can_keep(&fetched) {
@@ -72,6 +87,7 @@ impl<'b, R: MapRule, J: Naming> Volatile<'b, R, J> {
     /// overwritten by them.
     pub(crate) fn trim(&mut self, upto: u64)
         ensures drops { DropsCuts self.old.tail upto self.new.tail }
+        ensures left { All (λ c. upto < c.end) self.new.tail.cuts }
         ensures others { self.new ≡ record self.old { tail = self.new.tail } }
     {
         self.tail.trim(upto);

@@ -4,6 +4,7 @@ ghost use Rattle.journal_world.specs.Histories.{is_fenced};
 ghost use Rattle.journal_history.specs.Tokens.{OnlyExtends};
 ghost use Rattle.journal_core.specs.Fences.{SetsFence, IsFenceRefusal};
 ghost use Rattle.journal_core.specs.Volatiles.{outset_of};
+ghost use Rattle.journal_core.specs.Holds.{AnswersFence};
 
 use crate::cause::Cause;
 use crate::volatile::Volatile;
@@ -11,15 +12,36 @@ use journal_history::{Naming, Session};
 use journal_world::{MapRule, Refusal};
 
 impl<'b, R: MapRule, J: Naming> Volatile<'b, R, J> {
-    /// Fences a session, by an entry of the history, where no fence of it stands: none of its commits is added from then
-    /// on, and no session gets its number. The session that is lent has then seen the whole history. It may be the one that
-    /// is fenced.
+    /// A hold of memory alone: fences a session, by an entry of the history, where no fence of it
+    /// stands: none of its commits is added from then on, and no session gets its number. The
+    /// session that is lent has then seen the whole history. It may be the one that is fenced.
     ///
-    /// The first that applies of these refuses it: J13 `Closed` where it was stopped, J6 `DeviceFailed` where the device
-    /// failed before, J9 `Stale` where the history is longer, and where no fence of it stands J11 `Worn` where the
-    /// history's length or the number that is to be fenced would reach 2^62, then J1 `NoMemory` where memory is refused. The
-    /// history is then as it was, and the session may have seen more.
+    /// The first that applies of these refuses it: J13 `Closed` where it was stopped, J6
+    /// `DeviceFailed` where the device failed before, J9 `Stale` where the history is longer, and
+    /// where no fence of it stands J11 `Worn` where the history's length or the number that is to
+    /// be fenced would reach 2^62, then J1 `NoMemory` where memory is refused. The history is then
+    /// as it was, and the session may have seen more.
     pub fn fence_step(
+        &mut self,
+        session: &mut Session<'b, J, R>,
+        target: u64,
+    ) -> Result<(), Refusal<Cause<'b, J, R>>>
+        ensures did { OnOk result (SetsFence target self.old.memory self.new.memory) }
+        ensures others { self.new ≡ record self.old { memory = self.new.memory } }
+        ensures shown { OnOk result (session.new.seen ≡ self.new.memory.history) }
+        ensures fenced { OnOk result (is_fenced target session.new.seen ≡ true) }
+        ensures refusal { IfErr result (IsFenceRefusal target (outset_of self.old)) }
+        ensures same { OnErr result (self.new ≡ self.old) }
+        ensures session { OnlyExtends session.old session.new }
+        ensures event { AnswersFence J.blocks target self.old result self.new }
+    {
+        let answer = self.set_fence(session, target);
+        self.keeps();
+        answer
+    }
+
+    // Fences a session as `fence_step` does.
+    fn set_fence(
         &mut self,
         session: &mut Session<'b, J, R>,
         target: u64,

@@ -14,6 +14,7 @@ ghost use Rattle.journal_core.specs.Cores.{IsPair, core_of};
 ghost use Rattle.journal_core.specs.Interleavings.{FindsValue};
 ghost use Rattle.journal_core.specs.Outsets.{MayRead, IsLookRefusal};
 ghost use Rattle.journal_core.specs.Volatiles.{IsReadRefusal, IsFrontRefusal, outset_of, usable};
+ghost use Rattle.journal_core.specs.Holds.{AnswersRead};
 
 use crate::cause::{Cause, raise};
 use crate::fetched::Fetched;
@@ -26,16 +27,18 @@ use journal_world::{Addr, MapRule, Refusal};
 use std::sync::Wait;
 
 impl<'b, R: MapRule, J: Naming> Volatile<'b, R, J> {
-    /// Reads what the map after the history gives the address, into bytes that are as many as its object has: as memory
-    /// has it, or where memory has no update of its block, as it was fetched. Answers none where the block is to be
-    /// fetched: it was not, or what commits wrote after the fetch is not in memory any more. It takes no memory.
+    /// A hold of memory alone: reads what the map after the history gives the address, into bytes
+    /// that are as many as its object has: as memory has it, or where memory has no update of its
+    /// block, as it was fetched. Answers none where the block is to be fetched: it was not, or what
+    /// commits wrote after the fetch is not in memory any more. It takes no memory.
     ///
-    /// What was read before lies under slots that are held. A look at these, which is made first and waits for nobody,
-    /// shows that no commit touched one since: nothing is compared. Nothing changes.
+    /// What was read before lies under slots that are held. A look at these, which is made first
+    /// and waits for nobody, shows that no commit touched one since: nothing is compared. Nothing
+    /// changes.
     ///
-    /// The first that applies of these refuses it: J13 `Closed` where it was stopped, J6 `DeviceFailed` where the device
-    /// failed before, J2 `BadAddress` where the address is not valid, J9 `Stale` where the transaction or the fetch
-    /// has seen more of the history.
+    /// The first that applies of these refuses it: J13 `Closed` where it was stopped, J6
+    /// `DeviceFailed` where the device failed before, J2 `BadAddress` where the address is not
+    /// valid, J9 `Stale` where the transaction or the fetch has seen more of the history.
     pub fn read<W: Wait>(
         &mut self,
         rt: &W,
@@ -57,8 +60,7 @@ impl<'b, R: MapRule, J: Naming> Volatile<'b, R, J> {
         ensures lacks { IfOk result (λ found. found ≡ None → known_at (usable self.old fetched.now) self.old.tail addr ≡ None) }
         ensures may { OnOk result (MayRead J.blocks (outset_of self.old) transaction.now addr) }
         ensures refusal { IfErr result (IsReadRefusal J.blocks self.old transaction.now addr fetched.now) }
-        ensures event { (d : DurableState) → IsPair J.blocks self.old d → IfOk result (λ found. IsSome found →
-            FindsValue J.blocks (core_of self.old d) transaction.now addr into.new (core_of self.old d)) }
+        ensures event { AnswersRead J.blocks self.old transaction.now addr fetched.now result into.new self.new }
     {
         self.look(rt, held);
         self.read_unmoved(transaction, addr, fetched, into)

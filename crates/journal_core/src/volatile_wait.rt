@@ -5,6 +5,7 @@ ghost use Rattle.journal_history.specs.Tokens.{IsExact, OnlyExtends};
 ghost use Rattle.journal_core.specs.Memories.{IsStaleRefusal};
 ghost use Rattle.journal_core.specs.Volatiles.{outset_of, used_positions, HasNothingToLog};
 ghost use Rattle.journal_core.specs.Waits.{MayWait, IsWaitRefusal, IsFlushRefusal};
+ghost use Rattle.journal_core.specs.Holds.{AnswersWait, AnswersFlush, AnswersShow};
 
 use crate::cause::Cause;
 use crate::volatile::Volatile;
@@ -13,12 +14,32 @@ use journal_history::{Naming, Session};
 use journal_world::{MapRule, Refusal};
 
 impl<'b, R: MapRule, J: Naming> Volatile<'b, R, J> {
-    /// Whether so many commits are marked as stable. The session has then seen the whole history, and is exact.
+    /// A hold of memory alone: whether so many commits are marked as stable. The session has then
+    /// seen the whole history, and is exact.
     ///
-    /// The first that applies of these refuses it, and leaves the session as it was: J13 `Closed` where it was stopped and
-    /// J6 `DeviceFailed` where the device failed before, both only where so many are not marked; J9 `Stale` where the
-    /// history is longer; J10 `Stranger` where it has a commit under the session's number that the session did not make.
+    /// The first that applies of these refuses it, and leaves the session as it was: J13 `Closed`
+    /// where it was stopped and J6 `DeviceFailed` where the device failed before, both only where
+    /// so many are not marked; J9 `Stale` where the history is longer; J10 `Stranger` where it has
+    /// a commit under the session's number that the session did not make.
     pub fn wait_step(
+        &self,
+        session: &mut Session<'b, J, R>,
+        n: u64,
+    ) -> Result<bool, Refusal<Cause<'b, J, R>>>
+        ensures answer { IfOk result (λ marked. IsTrue marked ↔ (n ≤ floor self.now.memory.history)) }
+        ensures goes_on { OnOk result (MayWait (outset_of self.now) n) }
+        ensures shown { OnOk result (session.new.seen ≡ self.now.memory.history) }
+        ensures exact { OnOk result (IsExact session.new) }
+        ensures extends { OnlyExtends session.old session.new }
+        ensures refusal { IfErr result (IsWaitRefusal (outset_of self.now) session.old n) }
+        ensures stays { OnErr result (session.new ≡ session.old) }
+        ensures event { AnswersWait self.now session.old n result session.new }
+    {
+        self.look_for_mark(session, n)
+    }
+
+    // Looks for a mark as `wait_step` does.
+    fn look_for_mark(
         &self,
         session: &mut Session<'b, J, R>,
         n: u64,
@@ -39,15 +60,33 @@ impl<'b, R: MapRule, J: Naming> Volatile<'b, R, J> {
         Ok(marked)
     }
 
-    /// Whether all commits are marked as stable that the session has seen. If so it has then seen the whole history, and
-    /// is exact, also where it was stopped or the device failed. If not it stays as it was, so that the same is asked again
-    /// later.
+    /// A hold of memory alone: whether all commits are marked as stable that the session has seen.
+    /// If so it has then seen the whole history, and is exact, also where it was stopped or the
+    /// device failed. If not it stays as it was, so that the same is asked again later.
     ///
-    /// The first that applies of these refuses it: J9 `Stale` where the history is longer, or J10 `Stranger` where it has a
-    /// commit under the session's number that the session did not make, and the session stays as it was; J13 `Closed` where
-    /// it was stopped, or J6 `DeviceFailed` where the device failed before, both only where not all of these commits are
-    /// marked, and the session has then seen the whole history.
+    /// The first that applies of these refuses it: J9 `Stale` where the history is longer, or J10
+    /// `Stranger` where it has a commit under the session's number that the session did not make,
+    /// and the session stays as it was; J13 `Closed` where it was stopped, or J6 `DeviceFailed`
+    /// where the device failed before, both only where not all of these commits are marked, and the
+    /// session has then seen the whole history.
     pub fn flush_step(
+        &self,
+        session: &mut Session<'b, J, R>,
+    ) -> Result<bool, Refusal<Cause<'b, J, R>>>
+        ensures answer { IfOk result (λ marked. IsTrue marked ↔ (count session.old.seen ≤ floor self.now.memory.history)) }
+        ensures goes_on { OnOk result (MayWait (outset_of self.now) (count session.old.seen)) }
+        ensures shown { IfOk result (λ marked. IsTrue marked → session.new.seen ≡ self.now.memory.history) }
+        ensures exact { IfOk result (λ marked. IsTrue marked → IsExact session.new) }
+        ensures stays { IfOk result (λ marked. marked ≡ false → session.new ≡ session.old) }
+        ensures extends { OnlyExtends session.old session.new }
+        ensures refusal { IfErr result (IsFlushRefusal (outset_of self.now) session.old session.new) }
+        ensures event { AnswersFlush self.now session.old result session.new }
+    {
+        self.look_for_marks(session)
+    }
+
+    // Looks for the marks of what the session has seen as `flush_step` does.
+    fn look_for_marks(
         &self,
         session: &mut Session<'b, J, R>,
     ) -> Result<bool, Refusal<Cause<'b, J, R>>>
@@ -73,7 +112,7 @@ impl<'b, R: MapRule, J: Naming> Volatile<'b, R, J> {
         }
     }
 
-    /// Shows the session the whole history.
+    /// A hold of memory alone: shows the session the whole history.
     ///
     /// Answers J9 `Stale` where the session had seen more of the history, and nothing else. The session may then have seen
     /// more.
@@ -81,6 +120,7 @@ impl<'b, R: MapRule, J: Naming> Volatile<'b, R, J> {
         ensures extends { OnlyExtends session.old session.new }
         ensures shown { OnOk result (session.new.seen ≡ self.now.memory.history) }
         ensures refusal { IfErr result (IsStaleRefusal self.now.memory.history) }
+        ensures event { AnswersShow self.now session.old result session.new }
     {
         self.memory.show(session)
     }
@@ -99,16 +139,18 @@ impl<'b, R: MapRule, J: Naming> Volatile<'b, R, J> {
         self.memory.floor()
     }
 
-    /// How many positions of the log have updates up to the last cut, where the log starts at this one. That is told by the durable
-    /// part: what was in the log when it was opened stands in no cut of memory.
+    /// How many positions of the log have updates up to the last cut, where the log starts at this
+    /// one. That is told by the durable part: what was in the log when it was opened stands in no
+    /// cut of memory.
     pub fn used_positions(&self, start: u64) -> u64
         ensures { result ≡ used_positions self.now start }
     {
         self.tail.bounds().cut.saturating_sub(start)
     }
 
-    /// Whether the logger has nothing to do, as far as memory alone can tell, where the log starts at this position: the last cut is
-    /// marked, and there is no tail and no commit behind the mark, or there are fewer free positions than the tail has blocks.
+    /// Whether the logger has nothing to do, as far as memory alone can tell, where the log starts
+    /// at this position: the last cut is marked, and there is no tail and no commit behind the
+    /// mark, or there are fewer free positions than the tail has blocks.
     pub fn has_nothing_to_log(&self, start: u64) -> bool
         ensures { IsTrue result ↔ HasNothingToLog self.now start }
     {

@@ -3,3 +3,5 @@ pub mod Looking
 pub mod Committing
 pub mod Fencing
 pub mod Holding
+pub mod Failing
+pub mod Images

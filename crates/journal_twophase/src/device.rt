@@ -1,7 +1,7 @@
 // The disk's lock: device calls, and what needs both parts.
 //
-// A hold of the disk's lock makes at most one device call that changes the disk. Once that is over it may take the memory lock
-// inside: to cut, to mark, to trim, or to note that the device failed.
+// A hold of the disk's lock makes at most one device call that changes the disk. Once that is over
+// it may take the memory lock inside: to cut, to mark, to trim, or to note that the device failed.
 ghost use Rattle.std.specs.Prelude.{◌≡◌, ◌<◌, length, IsTrue, IsOkUnless, IfOk, IfErr, OnOk, OnErr, All};
 ghost use Rattle.journal_world.specs.Addresses.{is_valid};
 ghost use Rattle.journal_world.specs.Maps.{Map, Agrees, is_object, value_at, overwritten};
@@ -11,7 +11,7 @@ ghost use Rattle.journal_disk.specs.Disks.{IsSettled};
 ghost use Rattle.journal_disk.specs.Images.{EveryImage};
 ghost use Rattle.journal_history.specs.Tokens.{OnlyExtends};
 ghost use Rattle.journal_core.specs.Cores.{Leaves};
-ghost use Rattle.journal_core.specs.Durables.{disk_of};
+ghost use Rattle.journal_core.specs.Durables.{disk_of, is_faulted};
 ghost use Rattle.journal_core.specs.SlotCounts.{AgreeWith, AreUnder};
 ghost use Rattle.journal_twophase.specs.Journals.{IsLogRefusal, IsInstallRefusal, IsFetchRefusal, IsCloseRefusal, IsImageRefusal};
 ghost use Rattle.journal_twophase.specs.Transactions.{Finds, KeepsHeld, IsLookRefusal};
@@ -20,8 +20,8 @@ ghost use Rattle.journal_twophase.specs.Commits.{IsCommitted, ShowsFence, IsTryR
 use crate::shared::{Shared, SharedCore, Why, commit_in, is_crowded};
 use journal_block::Block;
 use journal_core::{
-    Cause, CommitStep, Durable, Fetched, Found, GroupStep, InstallStep, LogStep, Spares, Stat,
-    Transaction, Volatile, rooms_of,
+    Cause, CommitStep, Durable, Fetched, Found, InstallCall, InstallFault, InstallStep, LogCall,
+    LogStep, RestingLog, Spares, Stat, Transaction, UnnotedFault, Volatile, rooms_of,
 };
 use journal_disk::{BlockDisk, MemDisk};
 use journal_history::{Naming, Receipt, Session};
@@ -40,8 +40,9 @@ impl<'b, D: BlockDisk, R: MapRule, J: Naming> SharedCore<'b, D, R, J> {
         answer
     }
 
-    // Does the next thing of the logger once as many have committed as the last mark woke, or have had their time to. Else the
-    // first of them that commits again would have a group for itself, and the others would wait for the next.
+    // Does the next thing of the logger once as many have committed as the last mark woke, or have
+    // had their time to. Else the first of them that commits again would have a group for itself,
+    // and the others would wait for the next.
     pub(crate) fn log_gathered<W: Wait + Clock>(&self, rt: &W) -> Result<LogStep, Why<'b, J, R>>
         ensures { IfErr result IsLogRefusal }
     {
@@ -56,27 +57,25 @@ impl<'b, D: BlockDisk, R: MapRule, J: Naming> SharedCore<'b, D, R, J> {
         let mut durable = self.durable.lock(rt);
         self.check_running(rt)?;
         match durable.log_call() {
-            Ok(GroupStep::Put) => Ok(LogStep::Put),
-            Ok(GroupStep::Logged) => Ok(LogStep::Logged),
-            Ok(_) => self.settle(rt, &mut durable),
-            Err(why) => {
-                self.note_fault(rt);
-                Err(why)
-            }
+            Ok(LogCall::Put) => Ok(LogStep::Put),
+            Ok(LogCall::Logged) => Ok(LogStep::Logged),
+            Ok(LogCall::AtRest(rest)) => self.settle(rt, &mut durable, rest),
+            Err(fault) => Err(self.note_fault(rt, &durable, fault)),
         }
     }
 
-    // Marks, cuts, or is idle, in a hold of both locks. Those that a mark is to wake are counted in the same hold, and nobody
-    // is awaited behind a cut.
+    // Marks, cuts, or is idle, in a hold of both locks. Those that a mark is to wake are counted in
+    // the same hold, and nobody is awaited behind a cut.
     fn settle<W: Wait>(
         &self,
         rt: &W,
         durable: &mut Durable<'b, D, R, J>,
+        rest: RestingLog,
     ) -> Result<LogStep, Why<'b, J, R>>
         ensures { IfErr result IsLogRefusal }
     {
         let mut shared = self.shared.lock(rt);
-        let answer = durable.settle(&mut shared.volatile);
+        let answer = durable.settle(&mut shared.volatile, rest);
         let commits = shared.volatile.commits();
         match answer {
             Ok(LogStep::Marked(_)) => shared.sleepers.wake(commits),
@@ -118,17 +117,15 @@ impl<'b, D: BlockDisk, R: MapRule, J: Naming> SharedCore<'b, D, R, J> {
         let mut durable = self.durable.lock(rt);
         self.check_running(rt)?;
         match durable.install_call() {
-            Ok(InstallStep::Freed(upto)) => {
+            Ok(InstallCall::Idle) => Ok(InstallStep::Idle),
+            Ok(InstallCall::Put) => Ok(InstallStep::Put),
+            Ok(InstallCall::Freed(freed)) => {
                 let mut shared = self.shared.lock(rt);
-                durable.trim(&mut shared.volatile, upto);
-                shared.log_start = upto;
-                Ok(InstallStep::Freed(upto))
+                shared.log_start = freed.upto();
+                Ok(durable.trim(&mut shared.volatile, freed))
             }
-            Err(Refusal::DeviceFailed(cause)) => {
-                self.note_fault(rt);
-                Err(Refusal::DeviceFailed(cause))
-            }
-            answer => answer,
+            Err(InstallFault::NoMemory) => Err(Refusal::NoMemory),
+            Err(InstallFault::Failed(fault)) => Err(self.note_fault(rt, &durable, fault)),
         }
     }
 
@@ -145,9 +142,9 @@ impl<'b, D: BlockDisk, R: MapRule, J: Naming> SharedCore<'b, D, R, J> {
         Ok(InstallStep::Idle)
     }
 
-    // Reads an object, and fetches its block where it still is not in memory. The disk's lock is held from the fetch to the next
-    // look in memory, so that of several threads that need one block the first fetches it for all. What was fetched and used is
-    // kept in memory.
+    // Reads an object, and fetches its block where it still is not in memory. The disk's lock is
+    // held from the fetch to the next look in memory, so that of several threads that need one
+    // block the first fetches it for all. What was fetched and used is kept in memory.
     pub(crate) fn read_fetched<W: Wait>(
         &self,
         rt: &W,
@@ -179,7 +176,8 @@ impl<'b, D: BlockDisk, R: MapRule, J: Naming> SharedCore<'b, D, R, J> {
         unreachable!()
     }
 
-    // Commits, and fetches the blocks that still are not in memory, as `read_fetched` does. The memory lock is held in the end.
+    // Commits, and fetches the blocks that still are not in memory, as `read_fetched` does. The
+    // memory lock is held in the end.
     pub(crate) fn commit_fetched<'s, W: Wait>(
         &'s self,
         rt: &W,
@@ -242,16 +240,22 @@ impl<'b, D: BlockDisk, R: MapRule, J: Naming> SharedCore<'b, D, R, J> {
     {
         match durable.fetch(rooms_of(self.alloc, blocks)?) {
             Ok(fetched) => Ok(fetched),
-            Err(why) => {
-                self.note_fault(rt);
-                Err(why)
-            }
+            Err(fault) => Err(self.note_fault(rt, durable, fault)),
         }
     }
 
-    // Notes that a device call failed, in the hold of the disk's lock in which it did.
-    fn note_fault<W: Wait>(&self, rt: &W) {
-        self.shared.lock(rt).volatile.fail();
+    // Notes in memory that a device call failed, in the hold of the disk's lock in which it did, and gives the refusal.
+    fn note_fault<W: Wait>(
+        &self,
+        rt: &W,
+        durable: &Durable<'b, D, R, J>,
+        fault: UnnotedFault<'b, J, R>,
+    ) -> Why<'b, J, R>
+        requires fault { IsTrue (is_faulted durable.now) }
+        ensures { result ≡ fault.entry }
+    {
+        let mut shared = self.shared.lock(rt);
+        durable.note_fault(&mut shared.volatile, fault)
     }
 
     // The numbers of commits and of marks, and where the log on the disk lies.
@@ -341,6 +345,7 @@ impl<'b, R: MapRule, J: Naming> SharedCore<'b, MemDisk, R, J> {
         ensures size { IfOk result (λ image. image.past.size ≡ J.blocks) }
         ensures settled { IfOk result (λ image. IsSettled image.past) }
         ensures stands { IfOk result (λ image. IsTrue (is_trusted session.new.seen) → Leaves session.new.seen image.past.first) }
+        ensures images { IfOk result (λ image. IsTrue (is_trusted session.new.seen) → EveryImage image.past (Leaves session.new.seen)) }
         ensures refusal { IfErr result IsImageRefusal }
     {
         let durable = self.durable.lock(rt);
@@ -355,8 +360,8 @@ impl<'b, R: MapRule, J: Naming> SharedCore<'b, MemDisk, R, J> {
     }
 }
 
-// Shows the session the whole history, whose marks are all the disk's: each image that a crash may leave of it opens as the map
-// after a front of what the session has then seen. Answers J9.
+// Shows the session the whole history, whose marks are all the disk's: each image that a crash may
+// leave of it opens as the map after a front of what the session has then seen. Answers J9.
 fn show_images<'b, D: BlockDisk, R: MapRule, J: Naming>(
     durable: &Durable<'b, D, R, J>,
     volatile: &Volatile<'b, R, J>,
@@ -367,7 +372,8 @@ fn show_images<'b, D: BlockDisk, R: MapRule, J: Naming>(
     ensures images { OnOk result (IsTrue (disk_of durable.now).honest → EveryImage (disk_of durable.now).past (Leaves session.new.seen)) }
     ensures refusal { IfErr result IsCloseRefusal }
 {
-    volatile.show_step(session)?;
-    let _disk = durable.disk_under(volatile)?;
-    Ok(())
+    match durable.show_disk(volatile, session) {
+        Ok(_disk) => Ok(()),
+        Err(why) => Err(why),
+    }
 }

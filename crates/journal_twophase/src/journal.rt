@@ -1,5 +1,5 @@
 // The journal, and what is no transaction's.
-ghost use Rattle.std.specs.Prelude.{◌≡◌, ◌≤◌, ◌<◌, true, IsTrue, IfOk, IfErr, OnOk, IsOkUnless};
+ghost use Rattle.std.specs.Prelude.{◌≡◌, ◌≤◌, ◌<◌, true, false, IsTrue, IfOk, IfErr, OnOk, IsOkUnless};
 ghost use mathlib.Core.List.{IsPrefix};
 ghost use Rattle.journal_world.specs.Histories.{is_trusted, is_fenced, count};
 ghost use Rattle.journal_disk.specs.Disks.{IsSettled};
@@ -135,6 +135,7 @@ impl<'b, D: BlockDisk, R: MapRule, J: Naming> Journal<'b, D, R, J> {
     pub fn session<W: Wait>(&self, rt: &W) -> Result<Session<'b, J, R>, Why<'b, J, R>>
         ensures made { IfOk result (λ session. made session ≡ 0) }
         ensures exact { IfOk result IsExact }
+        ensures unfenced { IfOk result (λ session. is_fenced session.number session.seen ≡ false) }
         ensures start { IfOk result (λ session. IsPrefix self.now.start session.seen) }
         ensures known { IfOk result (λ session. IsKnown R.statement J.blocks session.seen) }
         ensures refusal { IfErr result IsSessionRefusal }
@@ -144,14 +145,20 @@ impl<'b, D: BlockDisk, R: MapRule, J: Naming> Journal<'b, D, R, J> {
         Ok(session)
     }
 
-    /// Fences a session by its number, by an entry of the history where no fence of it stands: none of its commits is
-    /// added from then on, and no session gets the number. Reads and aborts go on. The session that is lent has then
-    /// seen the fence. It may be the one that is fenced. Whoever waits for room under it is refused by J14 `Fenced`.
+    /// Fences a session by its number, by an entry of the history where no fence of it stands: none
+    /// of its commits is added from then on, and no session gets the number. Reads and aborts go
+    /// on. The session that is lent has then seen the fence. It may be the one that is fenced.
+    /// Whoever waits for room under it is refused by J14 `Fenced`. The call adds this fence alone,
+    /// and no other session's.
     ///
-    /// The first that applies of these refuses it: J13 `Closed` where the journal was stopped, J6 `DeviceFailed` where the
-    /// device failed before, J9 `Stale` where the history is longer than the core's, and where no fence of it stands J11
-    /// `Worn` where the history's length or the number that is to be fenced would reach 2^62, then J1 `NoMemory` where
-    /// memory is refused. No fence is then added.
+    /// Sessions have later numbers than any that is fenced: after a fence of 2^62 - 1, the greatest
+    /// number that can be fenced, each later `session` answers J11 `Worn`.
+    ///
+    /// The first that applies of these refuses it: J13 `Closed` where the journal was stopped, J6
+    /// `DeviceFailed` where the device failed before, J9 `Stale` where the history is longer than
+    /// the core's, and where no fence of it stands J11 `Worn` where the history's length or the
+    /// number that is to be fenced would reach 2^62, then J1 `NoMemory` where memory is refused. No
+    /// fence is then added.
     pub fn fence<W: Wait>(
         &self,
         rt: &W,
@@ -191,21 +198,22 @@ impl<'b, D: BlockDisk, R: MapRule, J: Naming> Journal<'b, D, R, J> {
         Txn::new(self, alloc, session)
     }
 
-    /// Does the next thing of the logger, as `Core::log_step` says, with at most one device call that changes
-    /// the disk. It is idle where there is nothing to log and to mark.
+    /// Does the next thing of the logger, as `Core::log_step` says, with at most one device call
+    /// that changes the disk. It is idle where there is nothing to log and to mark.
     ///
-    /// Answers J13 `Closed` where the journal was stopped, J6 `DeviceFailed` where the device failed in this call or before, J9 `Stale` where the history is
-    /// longer than the core's, J11 `Worn` where its length would reach 2^62, and J1 `NoMemory` where memory is
-    /// refused.
+    /// Answers J13 `Closed` where the journal was stopped, J6 `DeviceFailed` where the device
+    /// failed in this call or before, J9 `Stale` where the history is longer than the core's, J11
+    /// `Worn` where its length would reach 2^62, and J1 `NoMemory` where memory is refused.
     pub fn log_step<W: Wait>(&self, rt: &W) -> Result<Step, Why<'b, J, R>>
         ensures { IfErr result IsLogRefusal }
     {
         Ok(log_moved(self.core.log_step(rt)?))
     }
 
-    /// Does the next thing of the logger as `log_step` does, but first waits until as many commits came as threads were woken
-    /// by the last mark, or as many wait for the next one, so that their next commits share a group. It waits at most 200
-    /// microseconds, since a thread may have nothing to commit. A stop or a device that failed ends the wait too.
+    /// Does the next thing of the logger as `log_step` does, but first waits until as many commits
+    /// came as threads were woken by the last mark, or as many wait for the next one, so that their
+    /// next commits share a group. It waits at most 200 microseconds, since a thread may have
+    /// nothing to commit. A stop or a device that failed ends the wait too.
     ///
     /// It is refused as `log_step` is.
     pub fn log_gathered<W: Wait + Clock>(&self, rt: &W) -> Result<Step, Why<'b, J, R>>
@@ -341,7 +349,7 @@ impl<'b, R: MapRule, J: Naming> Journal<'b, MemDisk, R, J> {
         self.core.inspect(rt, block, into);
     }
 
-    /// Each block that has pending writes and their number, blocks ascending.
+    /// Each block that has pending writes and their number, blocks ascending. It takes the disk's lock alone.
     ///
     /// Answers J1 `NoMemory`, and nothing else, where memory for the list is refused.
     pub fn pending<W: Wait>(&self, rt: &W) -> Result<Vec<(u64, u64)>, Why<'b, J, R>>
@@ -365,6 +373,7 @@ impl<'b, R: MapRule, J: Naming> Journal<'b, MemDisk, R, J> {
         ensures size { IfOk result (λ image. image.past.size ≡ J.blocks) }
         ensures settled { IfOk result (λ image. IsSettled image.past) }
         ensures stands { IfOk result (λ image. IsTrue (is_trusted session.new.seen) → Leaves session.new.seen image.past.first) }
+        ensures images { IfOk result (λ image. IsTrue (is_trusted session.new.seen) → EveryImage image.past (Leaves session.new.seen)) }
         ensures refusal { IfErr result IsImageRefusal }
     {
         self.core.image(rt, session, choice)

@@ -3,7 +3,7 @@
 // The memory lock stands here and in `device.rt` and `waiting.rt`, the disk's in `device.rt` alone, and neither a part nor a guard
 // of it leaves these three. What the functions tell is told of sessions, transactions and receipts, since nothing stays true
 // of a part once its lock is let go.
-ghost use Rattle.std.specs.Prelude.{◌≡◌, ◌<◌, true, length, IsTrue, IsSome, IfOk, IfErr, IfSome, OnOk, OnErr, All};
+ghost use Rattle.std.specs.Prelude.{◌≡◌, ◌<◌, true, false, length, IsTrue, IsSome, IfOk, IfErr, IfSome, OnOk, OnErr, All};
 ghost use Rattle.journal_world.specs.Addresses.{is_valid};
 ghost use Rattle.journal_world.specs.Maps.{Map, Agrees, is_object, value_at, overwritten};
 ghost use Rattle.journal_object.specs.Objects.{size_at};
@@ -76,8 +76,14 @@ impl<'b, R: MapRule, J: Naming> Shared<'b, R, J> {
 #[derive(Drop)]
 pub(crate) struct SharedCore<'b, D: BlockDisk, R: MapRule, J: Naming> {
     pub(crate) alloc: Global,
-    // The disk's lock, which is taken before the memory lock and never behind it.
+    // Order of locks: `durable`, then `shared`. A thread that has `shared` takes neither.
+    //
+    // Between any two holds the two parts are as `IsBetween` of journal_core says: `IsDurable`,
+    // `IsVolatile`, and `Tied`, which no type keeps, but each hold of both does.
+    //
+    // The disk's lock. Invariant: `IsDurable`.
     pub(crate) durable: Mutex<Durable<'b, D, R, J>>,
+    // The memory lock. Invariant: `IsVolatile` of its `volatile`.
     pub(crate) shared: Mutex<Shared<'b, R, J>>,
     // A commit waits for room in the log's tail, which a cut makes.
     pub(crate) room: Condvar,
@@ -145,6 +151,7 @@ impl<'b, D: BlockDisk, R: MapRule, J: Naming> SharedCore<'b, D, R, J> {
     pub(crate) fn session<W: Wait>(&self, rt: &W) -> Result<Session<'b, J, R>, Why<'b, J, R>>
         ensures made { IfOk result (λ session. made session ≡ 0) }
         ensures exact { IfOk result IsExact }
+        ensures unfenced { IfOk result (λ session. is_fenced session.number session.seen ≡ false) }
         ensures refusal { IfErr result IsSessionRefusal }
     {
         self.shared.lock(rt).volatile.session()

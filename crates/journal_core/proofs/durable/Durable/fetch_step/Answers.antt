@@ -1,36 +1,69 @@
-use Rattle.std.proofs.Common.{◌≡◌, false, map, sym, subst, rules}
+use Rattle.std.proofs.Common.{◌≡◌, ◌∙◌, List, ℕ, false, map, refl, ap, sym, subst}
+use Rattle.journal_world.specs.declared.refusal.Refusal.{Refusal}
+use Rattle.journal_world.specs.Histories.{Entry}
 use Rattle.journal_block.specs.declared.update.Update.{Update}
+use Rattle.journal_core.specs.Causes.{Told}
 use Rattle.journal_core.specs.Volatiles.{VolatileState}
-use Rattle.journal_core.specs.Durables.{is_faulted}
+use Rattle.journal_core.specs.Durables.{DurableState, IsCallRefusal, is_faulted}
 use Rattle.journal_core.specs.Cores.{IsPair, core_of}
-use Rattle.journal_core.proofs.CallsOfLogs.{stays_read}
-use Rattle.journal_core.proofs.Joining.{pair_fetched, pair_failed, call_faulted}
+use Rattle.journal_core.specs.Holds.{FetchesBlocks, RefusesFetch as RefusesFetchOf}
 use Rattle.journal_core.specs.Interleavings.{RefusesFetch}
+use Rattle.journal_core.proofs.CallsOfLogs.{stays_read}
+use Rattle.journal_core.proofs.Joining.{failed, pair_fetched, pair_failed, call_faulted}
 use Rattle.journal_core.proofs.Events.{fetches_blocks, fetch_refused}
 use Rattle.journal_core.proofs.durable.Durable.fetch_step.Goals as goal
 
-pub returns-in-Ok-clause-pair : goal.returns-in-Ok-clause-pair
-returns-in-Ok-clause-pair g c =
-    pair_fetched g.J.Naming.blocks c.args.memory.now c.args.self.now c.requires.pair c.requires.running c.fetch.new.self c.keeps.ensures c.fetch.ensures.others c.fetch.ensures.reads
-    (search rules)
+pub returns-in-Ok : goal.returns-in-Ok
+returns-in-Ok g c =
+    let n = g.J.Naming.blocks in
+    let v = c.args.memory.now in
+    let d = c.args.self.now in
+    let e = c.fetch.new.self in
+    let numbers : List ℕ = map (λ (u : Update). u.block) c.args.updates.items in
+    let was = c.requires.pair in
+    let on = c.requires.running in
+    let it : FetchesBlocks n d numbers c.in-Ok.fetched e = c.in-Ok.ensures.event in
+    let fine : is_faulted e ≡ false = it.fine on.1 in
+    let pair : IsPair n v e = pair_fetched n v d was on e it.kept it.others it.reads fine in
+    record {
+      front = it.front ∙ sym (ap (λ (x : DurableState). x.front) it.others);
+      commits = it.commits ∙ sym (ap (λ (x : DurableState). x.logged) it.others);
+      named = it.named;
+      memory = refl;
+      failed = tt;
+      refusal = tt;
+      reads = it.reads;
+      others = it.others;
+      pair = pair;
+      crash = it.crash;
+      event = fetches_blocks n v d was on e it.reads it.others it.crash numbers c.in-Ok.fetched it.named it.front it.commits it.objects fine pair;
+    }
 
-pub returns-in-Err-clause-pair : goal.returns-in-Err-clause-pair
-returns-in-Err-clause-pair g c =
-    let was = call_faulted g.J.Naming.blocks c.args.memory.now c.args.self.now c.requires.pair c.requires.running c.fetch.new.self c.in-Err.why c.in-Err.ensures.refusal in
-    subst (λ (w : VolatileState). IsPair g.J.Naming.blocks w c.fetch.new.self) (sym c.fail.ensures)
-    (pair_failed g.J.Naming.blocks c.args.memory.now c.args.self.now c.requires.pair c.requires.running c.fetch.new.self c.keeps-in-Err.ensures was.1
-    (stays_read c.args.self.now.objects c.fetch.new.self.objects c.fetch.ensures.reads) was.0)
-
-pub returns-in-Ok-clause-event : goal.returns-in-Ok-clause-event
-returns-in-Ok-clause-event g c =
-    let fine : is_faulted c.fetch.new.self ≡ false = search rules in
-    fetches_blocks g.J.Naming.blocks c.args.memory.now c.args.self.now c.requires.pair c.requires.running c.fetch.new.self c.fetch.ensures.reads c.fetch.ensures.others c.fetch.ensures.crash
-    (map (λ (u : Update). u.block) c.args.updates.items) c.in-Ok.fetched c.in-Ok.ensures.named c.in-Ok.ensures.front c.in-Ok.ensures.commits c.holds.ensures fine
-    (returns-in-Ok-clause-pair g c)
-
-pub returns-in-Err-clause-event : goal.returns-in-Err-clause-event
-returns-in-Err-clause-event g c =
-    subst (λ (w : VolatileState). RefusesFetch (core_of c.args.memory.now c.args.self.now) c.in-Err.why (core_of w c.fetch.new.self)) (sym c.fail.ensures)
-    (fetch_refused g.J.Naming.blocks c.args.memory.now c.args.self.now c.requires.pair c.requires.running c.fetch.new.self c.fetch.ensures.reads c.fetch.ensures.others c.fetch.ensures.crash
-    c.in-Err.why c.in-Err.ensures.refusal
-    (subst (λ (w : VolatileState). IsPair g.J.Naming.blocks w c.fetch.new.self) c.fail.ensures (returns-in-Err-clause-pair g c)))
+pub returns-in-Err : goal.returns-in-Err
+returns-in-Err g c =
+    let n = g.J.Naming.blocks in
+    let v = c.args.memory.now in
+    let d = c.args.self.now in
+    let e = c.fetch.new.self in
+    let w = c.note_fault-why.new.memory in
+    let fault = c.in-Err.fault in
+    let was = c.requires.pair in
+    let on = c.requires.running in
+    let it : RefusesFetchOf n d fault e = c.in-Err.ensures.event in
+    let faulted = call_faulted n v d was on e fault it.refusal in
+    let pair : IsPair n (failed v) e = pair_failed n v d was on e it.kept faulted.1 (stays_read d.objects e.objects it.reads) faulted.0 in
+    record {
+      front = tt;
+      commits = tt;
+      named = tt;
+      memory = tt;
+      failed = c.note_fault-why.ensures.event.noted;
+      refusal = subst (IsCallRefusal d e) (sym c.note_fault-why.ensures.refusal) it.refusal;
+      reads = it.reads;
+      others = it.others;
+      pair = subst (λ (x : VolatileState). IsPair n x e) (sym c.note_fault-why.ensures.event.noted) pair;
+      crash = it.crash;
+      event = subst (λ (x : VolatileState). RefusesFetch (core_of v d) c.note_fault-why.result (core_of x e)) (sym c.note_fault-why.ensures.event.noted)
+          (subst (λ (x : Refusal Told). RefusesFetch (core_of v d) x (core_of (failed v) e)) (sym c.note_fault-why.ensures.refusal)
+          (fetch_refused n v d was on e it.reads it.others it.crash fault it.refusal pair));
+    }

@@ -1,11 +1,57 @@
-use Rattle.journal_core.proofs.Enduring.{kept_call, crashes_call}
-use Rattle.journal_core.proofs.CallsOfLogs.{stays_install}
+use Rattle.std.proofs.Common.{subst, rules}
+use Rattle.journal_world.specs.declared.refusal.Refusal.{Refusal}
+use Rattle.journal_wal.specs.declared.step.InstallStep.{InstallStep}
+use Rattle.journal_core.specs.Causes.{Told}
+use Rattle.journal_core.specs.Durables.{InstallAnswers, IsInstallRefusal}
+use Rattle.journal_core.proofs.Between.{home_faulted, freed_to}
 use Rattle.journal_core.proofs.durable.Durable.install_call.Goals as goal
 
-pub invariant_of-self : goal.invariant_of-self
-invariant_of-self g c =
-    kept_call g.J.Naming.blocks _ c.self.invariant c.install_step.new.self c.install_step.ensures.crash c.install_step.ensures.maps
-    (stays_install c.self.inside.objects c.install_step.new.self c.install_step.result c.install_step.ensures.ok c.install_step.ensures.refusal c.install_step.ensures.faulted)
+pub returns-in-Ok-Idle-clause-event : goal.returns-in-Ok-Idle-clause-event
+returns-in-Ok-Idle-clause-event g c = record {
+  did = subst (λ (s : InstallStep). InstallAnswers c.args.self.now s c.advance_install.new.self) c.in-Ok-Idle.field-0-is c.in-Ok-Idle.ensures.ok;
+  fine = c.in-Ok-Idle.ensures.fine;
+  kept = c.keeps.ensures;
+  crash = c.advance_install.ensures.crash;
+}
 
-pub returns-clause-crash : goal.returns-clause-crash
-returns-clause-crash g c = crashes_call g.J.Naming.blocks _ _ _ c.self.invariant c.self.view_is (invariant_of-self g c) c.install_step.ensures.crash
+pub returns-in-Ok-Put-clause-event : goal.returns-in-Ok-Put-clause-event
+returns-in-Ok-Put-clause-event g c = record {
+  did = subst (λ (s : InstallStep). InstallAnswers c.args.self.now s c.advance_install.new.self) c.in-Ok-Put.field-0-is c.in-Ok-Put.ensures.ok;
+  fine = c.in-Ok-Put.ensures.fine;
+  kept = c.keeps-in-Ok-Put.ensures;
+  crash = c.advance_install.ensures.crash;
+}
+
+pub returns-in-Ok-Freed-clause-event : goal.returns-in-Ok-Freed-clause-event
+returns-in-Ok-Freed-clause-event g c = record {
+  did = subst (λ (s : InstallStep). InstallAnswers c.args.self.now s c.advance_install.new.self) c.in-Ok-Freed.field-0-is c.in-Ok-Freed.ensures.ok;
+  fine = c.in-Ok-Freed.ensures.fine;
+  kept = c.keeps-in-Ok-Freed.ensures;
+  crash = c.advance_install.ensures.crash;
+}
+
+pub returns-in-Ok-Freed-clause-home : goal.returns-in-Ok-Freed-clause-home
+returns-in-Ok-Freed-clause-home g c =
+    freed_to c.args.self.now c.advance_install.new.self c.in-Ok-Freed.upto
+    (subst (λ (s : InstallStep). InstallAnswers c.args.self.now s c.advance_install.new.self) c.in-Ok-Freed.field-0-is c.in-Ok-Freed.ensures.ok)
+
+pub returns-in-Err-NoMemory-clause-event : goal.returns-in-Err-NoMemory-clause-event
+returns-in-Err-NoMemory-clause-event g c = record {
+  refusal = subst (λ (why : Refusal Told). IsInstallRefusal c.args.self.now c.advance_install.new.self why) c.in-Err-NoMemory.field-0-is c.in-Err-NoMemory.ensures.refusal;
+  left = c.in-Err-NoMemory.ensures.left;
+  tries = c.in-Err-NoMemory.ensures.tries;
+  kept = c.keeps-in-Err-NoMemory.ensures;
+  crash = c.advance_install.ensures.crash;
+}
+
+pub returns-in-Err-clause-event : goal.returns-in-Err-clause-event
+returns-in-Err-clause-event g c = record {
+  refusal = c.in-Err.ensures.refusal;
+  left = c.in-Err.ensures.left;
+  tries = c.in-Err.ensures.tries;
+  kept = c.keeps-in-Err.ensures;
+  crash = c.advance_install.ensures.crash;
+}
+
+pub returns-in-Err-clause-fault : goal.returns-in-Err-clause-fault
+returns-in-Err-clause-fault g c = home_faulted c.args.self.now c.advance_install.new.self c.in-Err.why (λ is. search rules) c.in-Err.ensures.refusal

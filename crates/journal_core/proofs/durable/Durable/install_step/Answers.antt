@@ -1,81 +1,137 @@
-use Rattle.std.proofs.Common.{refl, sym, ap, subst, rules}
-use Rattle.journal_wal.specs.declared.step.InstallStep.TheVariants.{Freed}
-use Rattle.journal_world.specs.declared.refusal.Refusal.TheVariants.{DeviceFailed}
+use Rattle.std.proofs.Common.{◌≡◌, ◌≤◌, true, refl, ap, sym, subst, ◌∙◌}
+use Rattle.journal_world.specs.declared.refusal.Refusal.{Refusal}
+use Rattle.journal_world.specs.declared.refusal.Refusal.TheVariants.{NoMemory}
+use Rattle.journal_objlog.specs.ObjectLogs.{end_of}
+use Rattle.journal_wal.specs.declared.step.InstallStep.{InstallStep}
+use Rattle.journal_wal.specs.declared.step.InstallStep.TheVariants.{Idle, Put, Freed}
+use Rattle.journal_core.specs.declared.due.InstallCall.{InstallCall}
+use Rattle.journal_core.specs.declared.due.InstallFault.{InstallFault}
+use Rattle.journal_core.specs.Causes.{Told}
 use Rattle.journal_core.specs.Volatiles.{VolatileState}
-use Rattle.journal_core.specs.Durables.{DurableState, InstallAnswers as DurableInstalls, IsInstallRefusal as IsDurableRefusal}
-use Rattle.journal_core.specs.Cores.{IsPair, Crashes, core_of}
+use Rattle.journal_core.specs.Durables.{DurableState, is_faulted}
+use Rattle.journal_core.specs.CallAnswers.{install_step_of, install_refusal_of, IfFreed, IfFailed}
+use Rattle.journal_core.specs.Cores.{IsPair, core_of}
+use Rattle.journal_core.specs.Steps.{InstallAnswers, IsInstallRefusal}
+use Rattle.journal_core.specs.Holds.{MakesHomeCall, FailsHomeCall}
 use Rattle.journal_core.proofs.CallsOfLogs.{stays_fault}
-use Rattle.journal_core.proofs.Joining.{failed, crashes_pair, pair_on, pair_failed, pair_trimmed, installs_tied, installs_as, freed_logged, trims_as, install_unmade, leaves_as}
+use Rattle.journal_core.proofs.Joining.{failed, crashes_pair, pair_on, pair_failed, pair_trimmed, installs_tied, installs_as, trims_as, leaves_as}
+use Rattle.journal_core.proofs.OneThread.{install_failed, install_starved}
 use Rattle.journal_core.proofs.durable.Durable.install_step.Goals as goal
 
-pub returns-in-Ok-Freed-clause-pair : goal.returns-in-Ok-Freed-clause-pair
-returns-in-Ok-Freed-clause-pair g c =
+pub returns-in-Ok-Idle : goal.returns-in-Ok-Idle
+returns-in-Ok-Idle g c =
+    let n = g.J.Naming.blocks in
     let v = c.args.memory.now in
     let d = c.args.self.now in
     let e = c.install_call.new.self in
-    let did : DurableInstalls d (Freed c.in-Ok-Freed.upto) e = search rules in
-    pair_trimmed g.J.Naming.blocks v d c.requires.pair c.requires.running e c.trim.new.memory c.keeps-in-Ok-Freed.ensures c.keeps.ensures
-    (c.trim.ensures.tied (freed_logged g.J.Naming.blocks v d c.requires.pair c.requires.running e c.in-Ok-Freed.upto did)
-    (installs_tied g.J.Naming.blocks v d c.requires.pair c.requires.running e (Freed c.in-Ok-Freed.upto) did))
-    c.trim.ensures.others (search rules)
-
-pub returns-in-Ok-Freed-clause-ok : goal.returns-in-Ok-Freed-clause-ok
-returns-in-Ok-Freed-clause-ok g c =
-    let v = c.args.memory.now in
-    let d = c.args.self.now in
-    let e = c.install_call.new.self in
-    let did : DurableInstalls d (Freed c.in-Ok-Freed.upto) e = search rules in
-    installs_as g.J.Naming.blocks v d c.requires.pair c.requires.running e c.trim.new.memory (Freed c.in-Ok-Freed.upto) did
-    (trims_as g.J.Naming.blocks v d c.requires.pair c.requires.running e c.trim.new.memory c.in-Ok-Freed.upto c.keeps-in-Ok-Freed.ensures c.trim.ensures.drops c.trim.ensures.others)
-
-pub returns-in-Ok-Freed-clause-crash : goal.returns-in-Ok-Freed-clause-crash
-returns-in-Ok-Freed-clause-crash g c =
-    crashes_pair g.J.Naming.blocks c.args.memory.now c.trim.new.memory c.args.self.now c.install_call.new.self c.requires.pair (returns-in-Ok-Freed-clause-pair g c) c.install_call.ensures.crash
-
-pub returns-in-Ok : goal.returns-in-Ok
-returns-in-Ok g c =
-    let v = c.args.memory.now in
-    let d = c.args.self.now in
-    let e = c.install_call.new.self in
-    let did : DurableInstalls d c.in-Ok.step e = search rules in
-    let pair : IsPair g.J.Naming.blocks v e = pair_on g.J.Naming.blocks v d c.requires.pair c.requires.running e c.keeps-in-Ok.ensures
-    (installs_tied g.J.Naming.blocks v d c.requires.pair c.requires.running e c.in-Ok.step did) (search rules) in
+    let was = c.requires.pair in
+    let on = c.requires.running in
+    let it : MakesHomeCall n d Idle e = subst (λ (call : InstallCall). MakesHomeCall n d (install_step_of call) e) c.in-Ok-Idle.field-0-is c.in-Ok-Idle.ensures.event in
+    let pair : IsPair n v e = pair_on n v d was on e it.kept (installs_tied n v d was on e Idle it.did) it.fine.1 in
     record {
-      ok = installs_as g.J.Naming.blocks v d c.requires.pair c.requires.running e v c.in-Ok.step did refl;
-      running = (c.requires.running.0, search rules);
+      ok = installs_as n v d was on e v Idle it.did refl;
+      running = (on.0, it.fine.1);
       refusal = tt;
       left = tt;
       tries = tt;
       pair = pair;
-      crash = crashes_pair g.J.Naming.blocks v v d e c.requires.pair pair c.install_call.ensures.crash;
+      crash = crashes_pair n v v d e was pair it.crash;
     }
 
-pub returns-in-Err-DeviceFailed-clause-crash : goal.returns-in-Err-DeviceFailed-clause-crash
-returns-in-Err-DeviceFailed-clause-crash g c =
+pub returns-in-Ok-Put : goal.returns-in-Ok-Put
+returns-in-Ok-Put g c =
+    let n = g.J.Naming.blocks in
     let v = c.args.memory.now in
     let d = c.args.self.now in
     let e = c.install_call.new.self in
-    let why : IsDurableRefusal d e (DeviceFailed c.in-Err-DeviceFailed.cause) = search rules in
-    let pair : IsPair g.J.Naming.blocks (failed v) e = pair_failed g.J.Naming.blocks v d c.requires.pair c.requires.running e c.keeps-in-Err-DeviceFailed.ensures why.others
-    (stays_fault d.objects e.objects c.in-Err-DeviceFailed.ensures.left.log why.faulted) why.faulted in
-    subst (λ (w : VolatileState). Crashes (core_of v d) (core_of w e)) (sym c.fail.ensures)
-    (crashes_pair g.J.Naming.blocks v (failed v) d e c.requires.pair pair c.install_call.ensures.crash)
+    let was = c.requires.pair in
+    let on = c.requires.running in
+    let it : MakesHomeCall n d Put e = subst (λ (call : InstallCall). MakesHomeCall n d (install_step_of call) e) c.in-Ok-Put.field-0-is c.in-Ok-Put.ensures.event in
+    let pair : IsPair n v e = pair_on n v d was on e it.kept (installs_tied n v d was on e Put it.did) it.fine.1 in
+    record {
+      ok = installs_as n v d was on e v Put it.did refl;
+      running = (on.0, it.fine.1);
+      refusal = tt;
+      left = tt;
+      tries = tt;
+      pair = pair;
+      crash = crashes_pair n v v d e was pair it.crash;
+    }
 
-pub returns-in-Err : goal.returns-in-Err
-returns-in-Err g c =
+pub trim-requires : goal.trim-requires
+trim-requires g c = record {
+  home = subst (λ (call : InstallCall). IfFreed (λ upto. upto ≤ end_of c.install_call.new.self.objects) call) c.in-Ok-Freed.field-0-is c.in-Ok-Freed.ensures.home;
+}
+
+pub returns-in-Ok-Freed : goal.returns-in-Ok-Freed
+returns-in-Ok-Freed g c =
+    let n = g.J.Naming.blocks in
     let v = c.args.memory.now in
     let d = c.args.self.now in
     let e = c.install_call.new.self in
-    let unmade = install_unmade g.J.Naming.blocks v d c.requires.pair c.requires.running e c.in-Err.why
-    (λ cause is. search rules) c.in-Err.ensures.refusal in
-    let pair : IsPair g.J.Naming.blocks v e = subst (IsPair g.J.Naming.blocks v) (sym unmade.1) c.requires.pair in
+    let w = c.trim.new.memory in
+    let upto = c.in-Ok-Freed.freed in
+    let was = c.requires.pair in
+    let on = c.requires.running in
+    let trims = c.trim.ensures.event in
+    let it : MakesHomeCall n d (Freed upto) e = subst (λ (call : InstallCall). MakesHomeCall n d (install_step_of call) e) c.in-Ok-Freed.field-0-is c.in-Ok-Freed.ensures.event in
+    let pair : IsPair n w e = pair_trimmed n v d was on e w trims.kept it.kept (trims.tied (installs_tied n v d was on e (Freed upto) it.did)) trims.others it.fine.1 in
+    record {
+      ok = subst (λ (step : InstallStep). InstallAnswers (core_of v d) step (core_of w e)) (sym c.trim.ensures.told)
+          (installs_as n v d was on e w (Freed upto) it.did (trims_as n v d was on e w upto trims.kept trims.drops trims.others));
+      running = (ap (λ (x : VolatileState). x.memory.closed) trims.others ∙ on.0, it.fine.1);
+      refusal = tt;
+      left = tt;
+      tries = tt;
+      pair = pair;
+      crash = crashes_pair n v w d e was pair it.crash;
+    }
+
+pub returns-in-Err-NoMemory : goal.returns-in-Err-NoMemory
+returns-in-Err-NoMemory g c =
+    let n = g.J.Naming.blocks in
+    let v = c.args.memory.now in
+    let d = c.args.self.now in
+    let e = c.install_call.new.self in
+    let was = c.requires.pair in
+    let on = c.requires.running in
+    let it : FailsHomeCall n d NoMemory e =
+    subst (λ (fault : InstallFault (Refusal Told)). FailsHomeCall n d (install_refusal_of fault) e) c.in-Err-NoMemory.field-0-is c.in-Err-NoMemory.ensures.event in
+    let unmade = install_starved n v d was on e it.refusal in
+    let pair : IsPair n v e = subst (IsPair n v) (sym unmade.1) was in
     record {
       ok = tt;
       running = tt;
       refusal = unmade.0;
-      left = leaves_as g.J.Naming.blocks v d c.requires.pair c.requires.running e v c.in-Err.ensures.left
-          (ap (λ (x : DurableState). record x { objects = e.objects }) unmade.1) refl;
-      tries = c.in-Err.ensures.tries;
+      left = leaves_as n v d was on e v it.left (ap (λ (x : DurableState). record x { objects = e.objects }) unmade.1) refl;
+      tries = it.tries;
       pair = pair;
-      crash = crashes_pair g.J.Naming.blocks v v d e c.requires.pair pair c.install_call.ensures.crash;
+      crash = crashes_pair n v v d e was pair it.crash;
+    }
+
+pub returns-in-Err-Failed : goal.returns-in-Err-Failed
+returns-in-Err-Failed g c =
+    let n = g.J.Naming.blocks in
+    let v = c.args.memory.now in
+    let d = c.args.self.now in
+    let e = c.install_call.new.self in
+    let w = c.note_fault-why.new.memory in
+    let fault = c.in-Err-Failed.fault in
+    let was = c.requires.pair in
+    let on = c.requires.running in
+    let it : FailsHomeCall n d fault e =
+    subst (λ (fault : InstallFault (Refusal Told)). FailsHomeCall n d (install_refusal_of fault) e) c.in-Err-Failed.field-0-is c.in-Err-Failed.ensures.event in
+    let faulted : is_faulted e ≡ true = subst (IfFailed (is_faulted e ≡ true)) c.in-Err-Failed.field-0-is c.in-Err-Failed.ensures.fault in
+    let refused = install_failed n v d was on e fault faulted it.refusal in
+    let pair : IsPair n (failed v) e = pair_failed n v d was on e it.kept refused.1 (stays_fault d.objects e.objects it.left.log faulted) faulted in
+    let after : IsPair n w e = subst (λ (x : VolatileState). IsPair n x e) (sym c.note_fault-why.ensures.event.noted) pair in
+    record {
+      ok = tt;
+      running = tt;
+      refusal = subst (λ (x : VolatileState). IsInstallRefusal (core_of v d) (core_of x e) c.note_fault-why.result) (sym c.note_fault-why.ensures.event.noted)
+          (subst (λ (x : Refusal Told). IsInstallRefusal (core_of v d) (core_of (failed v) e) x) (sym c.note_fault-why.ensures.refusal) refused.0);
+      left = leaves_as n v d was on e w it.left refused.1 (ap (λ (x : VolatileState). core_of x e) c.note_fault-why.ensures.event.noted);
+      tries = it.tries;
+      pair = after;
+      crash = crashes_pair n v w d e was after it.crash;
     }

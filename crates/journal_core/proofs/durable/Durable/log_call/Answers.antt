@@ -1,48 +1,41 @@
-use Rattle.std.proofs.Common.{IsErr, refl}
+use Rattle.std.proofs.Common.{subst}
 use Rattle.journal_wal.specs.declared.step.GroupStep.{GroupStep}
-use Rattle.journal_wal.specs.declared.step.GroupStep.TheVariants.{Logged}
-use Rattle.journal_wal.specs.Wal.{LogAnswers as WalLogs}
-use Rattle.journal_objlog.specs.ObjectLogs.{LogsMaps}
-use Rattle.journal_core.proofs.Enduring.{kept_call, kept_logged, crashes_call}
-use Rattle.journal_core.proofs.CallsOfLogs.{stays_fault, stays_logging, keeps_logging, answers_logging}
-use Rattle.journal_core.proofs.Stepping.{of_err, of_ok}
+use Rattle.journal_core.specs.Durables.{LogAnswers}
+use Rattle.journal_core.proofs.Between.{call_fault}
 use Rattle.journal_core.proofs.durable.Durable.log_call.Goals as goal
 
--- the device failed
+pub returns-in-Ok-Put-clause-event : goal.returns-in-Ok-Put-clause-event
+returns-in-Ok-Put-clause-event g c = record {
+  did = subst (λ (s : GroupStep). LogAnswers c.args.self.now s c.advance_log.new.self) c.in-Ok-Put.field-0-is c.in-Ok-Put.ensures.ok;
+  fine = c.in-Ok-Put.ensures.fine;
+  kept = c.keeps.ensures;
+  crash = c.advance_log.ensures.crash;
+}
 
-pub invariant_of-self : goal.invariant_of-self
-invariant_of-self g c =
-    let err : IsErr c.log_step.result = c.in_err-step.ensures.only_err refl in
-    kept_call g.J.Naming.blocks _ c.self.invariant c.log_step.new.self c.log_step.ensures.crash
-    (λ honest. of_err c.log_step.result err (c.log_step.ensures.err_maps honest))
-    (stays_fault c.self.inside.objects c.log_step.new.self (of_err c.log_step.result err c.log_step.ensures.err_log) (of_err c.log_step.result err c.log_step.ensures.err))
+pub returns-in-Ok-Logged-clause-event : goal.returns-in-Ok-Logged-clause-event
+returns-in-Ok-Logged-clause-event g c = record {
+  did = subst (λ (s : GroupStep). LogAnswers c.args.self.now s c.advance_log.new.self) c.in-Ok-Logged.field-0-is c.in-Ok-Logged.ensures.ok;
+  fine = c.in-Ok-Logged.ensures.fine;
+  kept = c.keeps-in-Ok-Logged.ensures;
+  crash = c.advance_log.ensures.crash;
+}
 
-pub returns-in_err-step-clause-crash : goal.returns-in_err-step-clause-crash
-returns-in_err-step-clause-crash g c = crashes_call g.J.Naming.blocks _ _ _ c.self.invariant c.self.view_is (invariant_of-self g c) c.log_step.ensures.crash
+pub returns-in-Ok-Idle-clause-event : goal.returns-in-Ok-Idle-clause-event
+returns-in-Ok-Idle-clause-event g c = record {
+  did = subst (λ (s : GroupStep). LogAnswers c.args.self.now s c.advance_log.new.self) c.in-Ok-Idle.field-0-is c.in-Ok-Idle.ensures.ok;
+  fine = c.in-Ok-Idle.ensures.fine;
+  kept = c.keeps-in-Ok-Idle.ensures;
+  crash = c.advance_log.ensures.crash;
+}
 
--- the call that ends the group
+pub returns-in-Err-clause-event : goal.returns-in-Err-clause-event
+returns-in-Err-clause-event g c = record {
+  refusal = c.in-Err.ensures.refusal;
+  left = c.in-Err.ensures.left;
+  tries = c.in-Err.ensures.tries;
+  kept = c.keeps-in-Err.ensures;
+  crash = c.advance_log.ensures.crash;
+}
 
-pub returns-in-Logged-clause-crash : goal.returns-in-Logged-clause-crash
-returns-in-Logged-clause-crash g c =
-    crashes_call g.J.Naming.blocks _ _ _ c.self.invariant c.self.view_is
-    (kept_logged g.J.Naming.blocks _ c.self.invariant c.log_step.new.self c.log_step.ensures.crash
-    (λ honest. of_ok (λ (step : GroupStep). LogsMaps c.self.inside.objects step c.log_step.new.self) c.log_step.result c.in_ok-step.step Logged c.in_ok-step.ensures.only_ok c.in-Logged.is (c.log_step.ensures.maps honest))
-    (of_ok (λ (step : GroupStep). WalLogs c.self.inside.objects step c.log_step.new.self) c.log_step.result c.in_ok-step.step Logged c.in_ok-step.ensures.only_ok c.in-Logged.is c.log_step.ensures.ok))
-    c.log_step.ensures.crash
-
--- none, or another call
-
-pub returns-in_default-clause-ok : goal.returns-in_default-clause-ok
-returns-in_default-clause-ok g c =
-    let answers = of_ok (λ (step : GroupStep). WalLogs c.self.inside.objects step c.log_step.new.self) c.log_step.result c.in_ok-step.step c.in_ok-step.step c.in_ok-step.ensures.only_ok refl c.log_step.ensures.ok in
-    answers_logging c.self.inside.objects c.log_step.new.self c.self.invariant.tail _ c.args.self.now c.self.view_is refl c.in_ok-step.step c.in_default.not-Logged answers
-
-pub returns-in_default-clause-crash : goal.returns-in_default-clause-crash
-returns-in_default-clause-crash g c =
-    let answers = of_ok (λ (step : GroupStep). WalLogs c.self.inside.objects step c.log_step.new.self) c.log_step.result c.in_ok-step.step c.in_ok-step.step c.in_ok-step.ensures.only_ok refl c.log_step.ensures.ok in
-    crashes_call g.J.Naming.blocks _ _ _ c.self.invariant c.self.view_is
-    (kept_call g.J.Naming.blocks _ c.self.invariant c.log_step.new.self c.log_step.ensures.crash
-    (λ honest. keeps_logging c.self.inside.objects c.log_step.new.self c.self.invariant.tail c.in_ok-step.step c.in_default.not-Logged answers
-    (of_ok (λ (step : GroupStep). LogsMaps c.self.inside.objects step c.log_step.new.self) c.log_step.result c.in_ok-step.step c.in_ok-step.step c.in_ok-step.ensures.only_ok refl (c.log_step.ensures.maps honest)))
-    (stays_logging c.self.inside.objects c.log_step.new.self c.self.invariant.tail c.in_ok-step.step c.in_default.not-Logged answers))
-    c.log_step.ensures.crash
+pub returns-in-Err-clause-fault : goal.returns-in-Err-clause-fault
+returns-in-Err-clause-fault g c = (call_fault c.args.self.now c.advance_log.new.self c.in-Err.why c.in-Err.ensures.refusal).0

@@ -1,77 +1,110 @@
-use Rattle.std.proofs.Common.{◌≡◌, IfOk, IfErr, sym, subst, rules}
-use Rattle.journal_core.specs.Cores.{IsPair}
-use Rattle.journal_core.proofs.CallsOfLogs.{stays_fault}
-use Rattle.journal_core.proofs.Pairing.{tied_logged}
+use Rattle.std.proofs.Common.{◌≡◌, inr, false, true, ap, sym, subst, ◌∙◌}
+use Rattle.journal_world.specs.declared.refusal.Refusal.{Refusal}
+use Rattle.journal_wal.specs.Wal.{log_steps}
+use Rattle.journal_wal.specs.declared.step.GroupStep.TheVariants.{Idle, Put, Logged}
+use Rattle.journal_core.specs.declared.due.LogCall.{LogCall}
 use Rattle.journal_core.specs.Causes.{Told}
 use Rattle.journal_core.specs.Volatiles.{VolatileState}
-use Rattle.journal_core.specs.Durables.{DurableState, LogAnswers as DurableAnswers, Crashes as CrashesDurable}
-use Rattle.journal_core.specs.Pairs.{Tied, DoesWhatIsDue, IsDueRefusal}
-use Rattle.journal_core.specs.declared.step.LogStep.{LogStep}
-use Rattle.journal_world.specs.declared.refusal.Refusal.{Refusal}
-use Rattle.journal_core.specs.Cores.{Crashes, core_of}
-use Rattle.journal_wal.specs.declared.step.GroupStep.{GroupStep}
-use Rattle.journal_wal.specs.declared.step.GroupStep.TheVariants.{Idle, Put, Logged}
-use Rattle.journal_core.proofs.Joining.{failed, crashes_pair, pair_on, pair_failed, call_faulted, pair_due, due_ok, due_err, due_kept}
+use Rattle.journal_core.specs.Durables.{DurableState, Crashes as CrashesDurable}
+use Rattle.journal_core.specs.CallAnswers.{log_step_of}
+use Rattle.journal_core.specs.Cores.{IsPair, IsRunning, core_of}
+use Rattle.journal_core.specs.Steps.{IsLogRefusal, LeavesLog, TriesToLog}
+use Rattle.journal_core.specs.Holds.{MakesGroupCall, FailsGroupCall, AnswersSettling}
+use Rattle.journal_core.proofs.CallsOfLogs.{stays_fault}
+use Rattle.journal_core.proofs.Pairing.{tied_logged}
+use Rattle.journal_core.proofs.Joining.{failed, crashes_pair, pair_on, pair_failed, call_faulted, logs_put, logs_end, log_fails, leaves_as}
+use Rattle.journal_core.proofs.OneThread.{settled_ok, settled_running, settled_fine, settled_refusal, settled_left, settled_tries, settled_pair, settled_crash}
 use Rattle.journal_core.proofs.durable.Durable.log_step.Goals as goal
 
-pub returns-in-Ok-Put-clause-crash : goal.returns-in-Ok-Put-clause-crash
-returns-in-Ok-Put-clause-crash g c =
-    let pair : IsPair g.J.Naming.blocks c.args.memory.now c.log_call.new.self =
-    pair_on g.J.Naming.blocks c.args.memory.now c.args.self.now c.requires.pair c.requires.running c.log_call.new.self c.keeps.ensures
-    (tied_logged g.J.Naming.blocks c.args.memory.now c.args.self.now c.log_call.new.self Put c.requires.pair.volatile c.requires.pair.durable (search rules) c.requires.pair.tied)
-    (search rules) in
-    crashes_pair g.J.Naming.blocks c.args.memory.now c.args.memory.now c.args.self.now c.log_call.new.self c.requires.pair pair c.log_call.ensures.crash
+pub returns-in-Ok-Put : goal.returns-in-Ok-Put
+returns-in-Ok-Put g c =
+    let n = g.J.Naming.blocks in
+    let v = c.args.memory.now in
+    let d = c.args.self.now in
+    let e = c.log_call.new.self in
+    let was = c.requires.pair in
+    let it : MakesGroupCall n d Put e = subst (λ (call : LogCall). MakesGroupCall n d (log_step_of call) e) c.in-Ok-Put.field-0-is c.in-Ok-Put.ensures.event in
+    let pair : IsPair n v e = pair_on n v d was c.requires.running e it.kept (tied_logged n v d e Put was.volatile was.durable it.did was.tied) it.fine.1 in
+    record {
+      ok = logs_put n v d was c.requires.running e it.did;
+      running = (c.requires.running.0, it.fine.1);
+      refusal = tt;
+      left = tt;
+      tries = tt;
+      pair = pair;
+      fine = was.fault ∙ c.requires.running.1;
+      crash = crashes_pair n v v d e was pair it.crash;
+    }
 
-pub returns-in-Ok-Logged-clause-crash : goal.returns-in-Ok-Logged-clause-crash
-returns-in-Ok-Logged-clause-crash g c =
-    let pair : IsPair g.J.Naming.blocks c.args.memory.now c.log_call.new.self =
-    pair_on g.J.Naming.blocks c.args.memory.now c.args.self.now c.requires.pair c.requires.running c.log_call.new.self c.keeps-in-Ok-Logged.ensures
-    (tied_logged g.J.Naming.blocks c.args.memory.now c.args.self.now c.log_call.new.self Logged c.requires.pair.volatile c.requires.pair.durable (search rules) c.requires.pair.tied)
-    (search rules) in
-    crashes_pair g.J.Naming.blocks c.args.memory.now c.args.memory.now c.args.self.now c.log_call.new.self c.requires.pair pair c.log_call.ensures.crash
+pub returns-in-Ok-Logged : goal.returns-in-Ok-Logged
+returns-in-Ok-Logged g c =
+    let n = g.J.Naming.blocks in
+    let v = c.args.memory.now in
+    let d = c.args.self.now in
+    let e = c.log_call.new.self in
+    let was = c.requires.pair in
+    let it : MakesGroupCall n d Logged e = subst (λ (call : LogCall). MakesGroupCall n d (log_step_of call) e) c.in-Ok-Logged.field-0-is c.in-Ok-Logged.ensures.event in
+    let pair : IsPair n v e = pair_on n v d was c.requires.running e it.kept (tied_logged n v d e Logged was.volatile was.durable it.did was.tied) it.fine.1 in
+    record {
+      ok = logs_end n v d was c.requires.running e it.did;
+      running = (c.requires.running.0, it.fine.1);
+      refusal = tt;
+      left = tt;
+      tries = tt;
+      pair = pair;
+      fine = was.fault ∙ c.requires.running.1;
+      crash = crashes_pair n v v d e was pair it.crash;
+    }
 
-pub returns-in-Ok-Idle-clause-ok : goal.returns-in-Ok-Idle-clause-ok
-returns-in-Ok-Idle-clause-ok g c =
-    let answers : DurableAnswers c.args.self.now Idle c.log_call.new.self =
-    subst (λ (s : GroupStep). DurableAnswers c.args.self.now s c.log_call.new.self) c.in-Ok-Idle.field-0-is c.in-Ok-Idle.ensures.ok in
-    let is : c.log_call.new.self ≡ c.args.self.now = answers.1 in
-    due_ok g.J.Naming.blocks c.args.memory.now c.args.self.now c.requires.pair c.requires.running c.settle-answer.new.self answers.0 c.settle-answer.new.memory
-    c.settle-answer.result (subst (λ (x : DurableState). IfOk c.settle-answer.result (λ (step : LogStep). DoesWhatIsDue c.args.memory.now x step c.settle-answer.new.memory c.settle-answer.new.self)) is c.settle-answer.ensures.ok)
+pub returns-in-Ok-AtRest : goal.returns-in-Ok-AtRest
+returns-in-Ok-AtRest g c =
+    let n = g.J.Naming.blocks in
+    let v = c.args.memory.now in
+    let d = c.args.self.now in
+    let w = c.settle.new.memory in
+    let e = c.settle.new.self in
+    let r = c.settle.result in
+    let was = c.requires.pair in
+    let on = c.requires.running in
+    let it : MakesGroupCall n d Idle c.log_call.new.self =
+    subst (λ (call : LogCall). MakesGroupCall n d (log_step_of call) c.log_call.new.self) c.in-Ok-AtRest.field-0-is c.in-Ok-AtRest.ensures.event in
+    let none : log_steps d.objects ≡ 0 = it.did.0 in
+    let settles : AnswersSettling n v d r w e = subst (λ (x : DurableState). AnswersSettling n v x r w e) it.did.1 c.settle.ensures.event in
+    let pair : IsPair n w e = settled_pair n v d was on none w e r settles in
+    record {
+      ok = settled_ok n v d was on none w e r settles;
+      running = settled_running n v d was on none w e r settles;
+      refusal = settled_refusal n v d was on none w e r settles;
+      left = settled_left n v d was on none w e r settles;
+      tries = settled_tries n v d was on none w e r settles;
+      pair = pair;
+      fine = settled_fine n v d was on none w e r settles;
+      crash = crashes_pair n v w d e was pair (settled_crash n v d w e r settles);
+    }
 
-pub returns-in-Ok-Idle-clause-refusal : goal.returns-in-Ok-Idle-clause-refusal
-returns-in-Ok-Idle-clause-refusal g c =
-    let answers : DurableAnswers c.args.self.now Idle c.log_call.new.self =
-    subst (λ (s : GroupStep). DurableAnswers c.args.self.now s c.log_call.new.self) c.in-Ok-Idle.field-0-is c.in-Ok-Idle.ensures.ok in
-    let is : c.log_call.new.self ≡ c.args.self.now = answers.1 in
-    due_err g.J.Naming.blocks c.args.memory.now c.args.self.now c.requires.pair c.requires.running c.settle-answer.new.self answers.0 c.settle-answer.new.memory
-    c.settle-answer.result (subst (λ (x : DurableState). IfErr c.settle-answer.result (λ (why : Refusal Told). IsDueRefusal c.args.memory.now x why c.settle-answer.new.self)) is c.settle-answer.ensures.refusal)
-    c.settle-answer.ensures.memory
-
-pub returns-in-Ok-Idle-clause-pair : goal.returns-in-Ok-Idle-clause-pair
-returns-in-Ok-Idle-clause-pair g c =
-    let answers : DurableAnswers c.args.self.now Idle c.log_call.new.self =
-    subst (λ (s : GroupStep). DurableAnswers c.args.self.now s c.log_call.new.self) c.in-Ok-Idle.field-0-is c.in-Ok-Idle.ensures.ok in
-    let is : c.log_call.new.self ≡ c.args.self.now = answers.1 in
-    let kept = due_kept g.J.Naming.blocks c.args.memory.now c.args.self.now c.requires.pair c.requires.running c.settle-answer.new.self answers.0 c.settle-answer.new.memory
-    c.settle-answer.result
-    (subst (λ (x : DurableState). IfOk c.settle-answer.result (λ (step : LogStep). DoesWhatIsDue c.args.memory.now x step c.settle-answer.new.memory c.settle-answer.new.self)) is c.settle-answer.ensures.ok)
-    (subst (λ (x : DurableState). IfErr c.settle-answer.result (λ (why : Refusal Told). IsDueRefusal c.args.memory.now x why c.settle-answer.new.self)) is c.settle-answer.ensures.refusal)
-    c.settle-answer.ensures.memory in
-    pair_due g.J.Naming.blocks c.args.memory.now c.args.self.now c.requires.pair c.requires.running c.settle-answer.new.self c.settle-answer.new.memory
-    (search rules) (search rules) (c.settle-answer.ensures.tied (subst (Tied c.args.memory.now) (sym is) c.requires.pair.tied)) kept.0 kept.1
-
-pub returns-in-Ok-Idle-clause-crash : goal.returns-in-Ok-Idle-clause-crash
-returns-in-Ok-Idle-clause-crash g c =
-    let answers : DurableAnswers c.args.self.now Idle c.log_call.new.self =
-    subst (λ (s : GroupStep). DurableAnswers c.args.self.now s c.log_call.new.self) c.in-Ok-Idle.field-0-is c.in-Ok-Idle.ensures.ok in
-    crashes_pair g.J.Naming.blocks c.args.memory.now c.settle-answer.new.memory c.args.self.now c.settle-answer.new.self c.requires.pair (returns-in-Ok-Idle-clause-pair g c)
-    (subst (λ (x : DurableState). CrashesDurable x c.settle-answer.new.self) answers.1 c.settle-answer.ensures.crash)
-
-pub returns-in-Err-clause-crash : goal.returns-in-Err-clause-crash
-returns-in-Err-clause-crash g c =
-    let was = call_faulted g.J.Naming.blocks c.args.memory.now c.args.self.now c.requires.pair c.requires.running c.log_call.new.self c.in-Err.why c.in-Err.ensures.refusal in
-    let pair : IsPair g.J.Naming.blocks (failed c.args.memory.now) c.log_call.new.self =
-    pair_failed g.J.Naming.blocks c.args.memory.now c.args.self.now c.requires.pair c.requires.running c.log_call.new.self c.keeps-in-Err.ensures was.1
-    (stays_fault c.args.self.now.objects c.log_call.new.self.objects c.in-Err.ensures.left.log was.0) was.0 in
-    subst (λ (w : VolatileState). Crashes (core_of c.args.memory.now c.args.self.now) (core_of w c.log_call.new.self)) (sym c.fail.ensures)
-    (crashes_pair g.J.Naming.blocks c.args.memory.now (failed c.args.memory.now) c.args.self.now c.log_call.new.self c.requires.pair pair c.log_call.ensures.crash)
+pub returns-in-Err : goal.returns-in-Err
+returns-in-Err g c =
+    let n = g.J.Naming.blocks in
+    let v = c.args.memory.now in
+    let d = c.args.self.now in
+    let e = c.log_call.new.self in
+    let w = c.note_fault-why.new.memory in
+    let why = c.note_fault-why.result in
+    let was = c.requires.pair in
+    let on = c.requires.running in
+    let it : FailsGroupCall n d c.in-Err.fault e = c.in-Err.ensures.event in
+    let faulted = call_faulted n v d was on e c.in-Err.fault it.refusal in
+    let pair : IsPair n (failed v) e = pair_failed n v d was on e it.kept faulted.1 (stays_fault d.objects e.objects it.left.log faulted.0) faulted.0 in
+    let after : IsPair n w e = subst (λ (x : VolatileState). IsPair n x e) (sym c.note_fault-why.ensures.event.noted) pair in
+    let same : core_of w e ≡ core_of v e = ap (λ (x : VolatileState). core_of x e) c.note_fault-why.ensures.event.noted in
+    record {
+      ok = tt;
+      running = tt;
+      refusal = subst (λ (x : VolatileState). IsLogRefusal (core_of v d) (core_of x e) why) (sym c.note_fault-why.ensures.event.noted)
+          (subst (λ (x : Refusal Told). IsLogRefusal (core_of v d) (core_of (failed v) e) x) (sym c.note_fault-why.ensures.refusal) (log_fails n v d was on e c.in-Err.fault it.refusal));
+      left = leaves_as n v d was on e w it.left faulted.1 same;
+      tries = inr it.tries;
+      pair = after;
+      fine = tt;
+      crash = crashes_pair n v w d e was after it.crash;
+    }

@@ -1,10 +1,15 @@
-use Rattle.std.proofs.Common.{sym, subst}
-use Rattle.journal_core.specs.Volatiles.{VolatileState}
-use Rattle.journal_core.specs.Pairs.{Tied}
-use Rattle.journal_core.proofs.Pairing.{tied_trim}
+use Rattle.std.proofs.Common.{◌≡◌, ◌≤◌, ℕ, sym, subst}
+use Rattle.journal_objlog.specs.ObjectLogs.{end_of}
+use Rattle.journal_core.specs.Holds.{Trims}
 use Rattle.journal_core.proofs.durable.Durable.trim.Goals as goal
 
-pub returns-clause-tied : goal.returns-clause-tied
-returns-clause-tied g c = λ home tied.
-    subst (λ (v : VolatileState). Tied v c.args.self.now) (sym c.trim.ensures.others)
-    (tied_trim c.args.memory.now c.args.self.now c.args.upto c.trim.new.self.tail c.trim.ensures.drops home tied)
+pub returns-clause-event : goal.returns-clause-event
+returns-clause-event g c =
+    let home : c.freed.inside.upto ≤ end_of c.args.self.now.objects = subst (λ (n : ℕ). n ≤ end_of c.args.self.now.objects) (sym c.freed.view_is) c.requires.home in
+    subst (λ (n : ℕ). Trims g.J.Naming.blocks c.args.memory.now c.args.self.now n c.trim_memory.new.memory) c.freed.view_is (record {
+      drops = c.trim_memory.ensures.drops;
+      left = c.trim_memory.ensures.left;
+      others = c.trim_memory.ensures.others;
+      kept = c.keeps.ensures;
+      tied = c.trim_memory.ensures.tied home;
+    })

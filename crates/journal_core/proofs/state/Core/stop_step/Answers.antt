@@ -6,7 +6,7 @@ use Rattle.journal_core.proofs.state.Core.stop_step.Goals as goal
 
 pub invariant_of-self : goal.invariant_of-self
 invariant_of-self g c = record {
-  pair = subst (λ (v : VolatileState). IsPair g.J.Naming.blocks v c.self.inside.durable) (sym c.stop.ensures)
+  pair = subst (λ (v : VolatileState). IsPair g.J.Naming.blocks v c.self.inside.durable) (sym c.stop.ensures.event)
       (pair_noted g.J.Naming.blocks c.self.inside.volatile c.self.inside.durable c.self.invariant.pair c.self.inside.volatile.memory.next true);
   room = c.self.invariant.room;
 }
@@ -14,7 +14,7 @@ invariant_of-self g c = record {
 pub returns : goal.returns
 returns g c = record {
   stops = record {
-    closed = ap (λ (v : VolatileState). core_of v c.self.inside.durable) c.stop.ensures ∙ ap (λ (s : CoreState). record s { closed = true }) c.self.view_is;
+    closed = ap (λ (v : VolatileState). core_of v c.self.inside.durable) c.stop.ensures.event ∙ ap (λ (s : CoreState). record s { closed = true }) c.self.view_is;
     crash = crashes_noticed g.J.Naming.blocks c.self.inside.volatile c.self.inside.durable c.args.self.now c.self.invariant.pair c.self.view_is c.stop.new.self (invariant_of-self g c).pair;
   };
 }

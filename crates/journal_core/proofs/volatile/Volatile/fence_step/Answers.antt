@@ -1,5 +1,7 @@
-use Rattle.journal_core.proofs.Fencing.{kept_fenced}
+use Rattle.journal_core.proofs.Answering.{answers_fence_in}
 use Rattle.journal_core.proofs.volatile.Volatile.fence_step.Goals as goal
 
-pub invariant_of-self : goal.invariant_of-self
-invariant_of-self g c = kept_fenced g.J.Naming.blocks _ c.self.invariant c.args.target c.fence.new.self c.fence.result c.fence.ensures.did c.fence.ensures.same
+pub returns-clause-event : goal.returns-clause-event
+returns-clause-event g c =
+    answers_fence_in g.J.Naming.blocks c.args.self.now c.set_fence-answer.new.self c.args.target c.set_fence-answer.result c.keeps.ensures
+    c.set_fence-answer.ensures.did c.set_fence-answer.ensures.others c.set_fence-answer.ensures.refusal c.set_fence-answer.ensures.same

@@ -1,19 +1,7 @@
-use Rattle.std.proofs.Common.{◌++◌, IsTrue, sym, subst}
-use Rattle.journal_world.specs.Histories.{is_trusted, latest}
-use Rattle.journal_wal.specs.Tails.{TailState}
-use Rattle.journal_core.specs.Updates.{AreObjectsOf}
-use Rattle.journal_core.specs.Durables.{FetchedState}
-use Rattle.journal_core.specs.Volatiles.{VolatileState, IsVolatile}
-use Rattle.journal_core.proofs.Staying.{kept_copies}
 use Rattle.journal_core.proofs.volatile.Volatile.keep.Goals as goal
 
-pub invariant_of-self : goal.invariant_of-self
-invariant_of-self g c =
-    let blocks = g.J.Naming.blocks in
-    let held : IsTrue (is_trusted c.args.self.now.memory.history) → AreObjectsOf blocks (latest c.args.self.now.memory.history) (c.args.fetched.updates ++ c.args.self.now.tail.log.updates) =
-    c.can_keep.ensures c.if-can_keep.true in
-    let inside : IsTrue (is_trusted c.self.inside.memory.history) → AreObjectsOf blocks (latest c.self.inside.memory.history) (c.fetched.inside.updates.items ++ c.self.inside.tail.log.updates) =
-    subst (λ (f : FetchedState). IsTrue (is_trusted c.self.inside.memory.history) → AreObjectsOf blocks (latest c.self.inside.memory.history) (f.updates ++ c.self.inside.tail.log.updates)) (sym c.fetched.view_is)
-    (subst (λ (v : VolatileState). IsTrue (is_trusted v.memory.history) → AreObjectsOf blocks (latest v.memory.history) (c.args.fetched.updates ++ v.tail.log.updates)) (sym c.self.view_is) held) in
-    subst (λ (t : TailState). IsVolatile blocks (record { memory = c.self.inside.memory; tail = t; faulted = c.self.inside.faulted })) (sym c.keep.ensures.others)
-    (kept_copies blocks _ c.self.invariant c.keep.new.self.home c.fetched.inside.updates.items inside c.keep.ensures.known)
+pub returns : goal.returns
+returns g c = record {
+  event =
+      record { others = c.keep_copies.ensures; kept = c.keeps.ensures };
+}

@@ -5,11 +5,9 @@ use Rattle.journal_objlog.specs.ObjectTails.{known_at}
 use Rattle.journal_lockmap.specs.Numbers.{HeldState}
 use Rattle.journal_core.specs.SlotCounts.{AgreeWith}
 use Rattle.journal_core.specs.Transactions.{AreUnmoved}
-use Rattle.journal_core.specs.Durables.{DurableState}
 use Rattle.journal_core.specs.Outsets.{MayRead}
 use Rattle.journal_core.specs.Volatiles.{VolatileState, IsReadRefusal, outset_of, usable}
-use Rattle.journal_core.specs.Cores.{IsPair, core_of}
-use Rattle.journal_core.specs.Interleavings.{FindsValue}
+use Rattle.journal_core.proofs.Answering.{answers_read}
 use Rattle.journal_core.proofs.Remembering.{unmoved_under}
 use Rattle.journal_core.proofs.volatile.Volatile.read.Goals as goal
 
@@ -50,5 +48,5 @@ returns-clause-refusal g c =
 
 pub returns-clause-event : goal.returns-clause-event
 returns-clause-event g c =
-    subst (λ (s : VolatileState). (d : DurableState) → IsPair g.J.Naming.blocks s d → IfOk c.read_unmoved.result (λ found. IsSome found →
-    FindsValue g.J.Naming.blocks (core_of s d) c.args.transaction.now c.args.addr c.read_unmoved.new.into (core_of s d))) c.look.ensures.same c.read_unmoved.ensures.event
+    answers_read g.J.Naming.blocks c.args.self.now c.look.new.self c.args.transaction.now c.args.addr c.args.fetched.now c.read_unmoved.result c.read_unmoved.new.into
+    c.look.ensures.same (returns-clause-may g c) (returns-clause-found g c) (returns-clause-value g c) c.read_unmoved.ensures.object (returns-clause-lacks g c) (returns-clause-refusal g c)

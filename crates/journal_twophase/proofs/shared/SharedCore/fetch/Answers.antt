@@ -1,6 +1,7 @@
 use Rattle.std.proofs.Common.{◌≡◌, ◌<◌, List, ℕ, All, map, subst, sym, rules}
 use Rattle.journal_block.specs.declared.update.Update.{Update}
 use Rattle.journal_twophase.proofs.Looking.{rooms_below}
+use Rattle.journal_twophase.proofs.Failing.{noted_fetch}
 use Rattle.journal_twophase.proofs.shared.SharedCore.fetch.Goals as goal
 
 pub fetch-requires : goal.fetch-requires
@@ -10,3 +11,6 @@ fetch-requires g c =
     record {
       blocks = rooms_below g.J.Naming.blocks rooms (subst (λ (bs : List ℕ). All (λ b. b < g.J.Naming.blocks) bs) (sym named) c.requires.below);
     }
+
+pub returns-in-Err : goal.returns-in-Err
+returns-in-Err g c = record { refusal = noted_fetch _ _ _ _ c.in-Err.ensures.event.refusal c.note_fault.ensures }

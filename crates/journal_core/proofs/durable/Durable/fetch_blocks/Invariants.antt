@@ -3,7 +3,7 @@ use Rattle.std.specs.List.{AllWithin}
 use Rattle.journal_world.specs.Histories.{is_trusted}
 use Rattle.journal_objlog.specs.ObjectLogs.{OnlyReads, is_faulted}
 use Rattle.journal_core.specs.Durables.{IsBlockAfter}
-use Rattle.journal_core.proofs.durable.Durable.fetch.Given as goal
+use Rattle.journal_core.proofs.durable.Durable.fetch_blocks.Given as goal
 
 -- the log was only read, without a fault, and the updates before the place have their blocks as they are logged
 abbrev pub invariant-loop-place : goal.invariant-loop-place

@@ -1,0 +1,10 @@
+use Rattle.std.proofs.Common.{sym, subst}
+use Rattle.journal_wal.specs.Tails.{TailState}
+use Rattle.journal_core.specs.Volatiles.{IsVolatile}
+use Rattle.journal_core.proofs.Staying.{kept_touched}
+use Rattle.journal_core.proofs.volatile.Volatile.touch_copy.Goals as goal
+
+pub invariant_of-self : goal.invariant_of-self
+invariant_of-self g c =
+    subst (λ (t : TailState). IsVolatile g.J.Naming.blocks (record { memory = c.self.inside.memory; tail = t; faulted = c.self.inside.faulted })) (sym c.touch.ensures.others)
+    (kept_touched g.J.Naming.blocks _ c.self.invariant c.touch.new.self.home c.touch.ensures.same)

@@ -1,0 +1,281 @@
+-- The holds of the two locks, each as one event: what a hold of memory alone, of the disk alone,
+-- and of both answers and leaves. What a hold has not locked is not spoken of.
+use Rattle.std.specs.Prelude.{ℕ, ◌≡◌, ◌⊎◌, ◌<◌, ◌≤◌, ◌+◌, Bool, true, false, IsTrue, List, [], map, All, Option, Some, None, Result, Ok, Err}
+use Rattle.journal_world.specs.declared.address.Addr.{Addr}
+use Rattle.journal_world.specs.declared.refusal.Refusal.{Refusal}
+use Rattle.journal_world.specs.Addresses.{Value}
+use Rattle.journal_world.specs.Maps.{Pair, Agrees, value_at, is_object}
+use Rattle.journal_world.specs.Histories.{Entry, is_trusted, latest, count, floor, commits_of, is_fenced}
+use Rattle.journal_block.specs.declared.update.Update.{Update}
+use Rattle.journal_block.specs.Block.{Bytes}
+use Rattle.journal_disk.specs.Images.{EveryImage}
+use Rattle.journal_wal.specs.Wal.{TriesDueCall, TriesAhead, log_call}
+use Rattle.journal_wal.specs.Tails.{DropsCuts}
+use Rattle.journal_wal.specs.declared.step.GroupStep.{GroupStep}
+use Rattle.journal_wal.specs.declared.step.InstallStep.{InstallStep}
+use Rattle.journal_objlog.specs.ObjectLogs.{OnlyReads as OnlyReadsLog, end_of}
+use Rattle.journal_objlog.specs.ObjectTails.{known_at, known_updates, missing_blocks}
+use Rattle.journal_history.specs.Tokens.{SessionState, CommitPlace, IsExact, OnlyExtends}
+use Rattle.journal_core.specs.declared.volatile_commit.CommitStep.{CommitStep}
+use Rattle.journal_core.specs.declared.volatile_commit.CommitStep.TheVariants.{Done, Missing}
+use Rattle.journal_core.specs.declared.step.LogStep.{LogStep}
+use Rattle.journal_core.specs.Causes.{Told}
+use Rattle.journal_core.specs.Transactions.{TransactionState, FoundState}
+use Rattle.journal_core.specs.Memories.{IsNumberRefusal, IsStaleRefusal}
+use Rattle.journal_core.specs.Fences.{SetsFence, IsFenceRefusal}
+use Rattle.journal_core.specs.Outsets.{MayRead, CanCommit, IsCommitRefusal, GoesOn}
+use Rattle.journal_core.specs.Waits.{IsWaitRefusal, IsFlushRefusal}
+use Rattle.journal_core.specs.Durables.{DurableState, IsDurable, FetchedState, IsFetched, Crashes, LogAnswers, InstallAnswers, IsCallRefusal, IsInstallRefusal, LeavesLog, is_faulted, disk_of}
+use Rattle.journal_core.specs.Volatiles.{VolatileState, IsVolatile, IsReadRefusal, outset_of, usable}
+use Rattle.journal_core.specs.VolatileCommits.{IsCommitted, with_room}
+use Rattle.journal_core.specs.Pairs.{Tied, DoesWhatIsDue, IsDueRefusal, IsUntied}
+use Rattle.journal_core.specs.Cores.{Leaves}
+
+-- What holds of the two parts between any two holds of their locks, whoever made them: what each
+-- keeps by itself, what ties them, and that memory knows of no fault that was none. The disk's part
+-- may know of one that memory does not know yet
+pub record IsBetween (blocks : ℕ) (v : VolatileState) (d : DurableState) : Type 0 where
+  pub volatile : IsVolatile blocks v
+  pub durable : IsDurable blocks d
+  pub tied : Tied v d
+  pub noted : IsTrue v.faulted → IsTrue (is_faulted d)
+
+-- ---- holds of memory alone
+
+-- An object was read in memory
+pub record FindsInMemory (blocks : ℕ) (old : VolatileState) (t : TransactionState) (a : Addr) (answer : FoundState) (x : Value) (new : VolatileState) : Type 0 where
+  pub may : MayRead blocks (outset_of old) t a
+  pub found : answer ≡ record { addr = a; seen = old.memory.history }
+  pub value : IsTrue (is_trusted old.memory.history) → x ≡ value_at (latest old.memory.history) a
+  pub object : IsTrue (is_object blocks (a, x))
+  pub same : new ≡ old
+
+-- or its block is to be fetched
+pub record LacksBlock (blocks : ℕ) (old : VolatileState) (t : TransactionState) (a : Addr) (f : FetchedState) (new : VolatileState) : Type 0 where
+  pub may : MayRead blocks (outset_of old) t a
+  pub lacks : known_at (usable old f) old.tail a ≡ None
+  pub same : new ≡ old
+
+-- or it was refused
+pub record RefusesRead (blocks : ℕ) (old : VolatileState) (t : TransactionState) (a : Addr) (f : FetchedState) (why : Refusal Told) (new : VolatileState) : Type 0 where
+  pub refusal : IsReadRefusal blocks old t a f why
+  pub same : new ≡ old
+
+-- what is answered, with what was fetched before, where the bytes read are these
+abbrev pub AnswersRead : ℕ → VolatileState → TransactionState → Addr → FetchedState → Result (Option FoundState) (Refusal Told) → Value → VolatileState → Type 0
+AnswersRead blocks old t a f (Ok (Some found)) x new = FindsInMemory blocks old t a found x new
+AnswersRead blocks old t a f (Ok None) x new = LacksBlock blocks old t a f new
+AnswersRead blocks old t a f (Err why) x new = RefusesRead blocks old t a f why new
+
+-- The session's next transaction was committed in memory, as it is
+pub record CommitsInMemory (blocks : ℕ) (old : VolatileState) (session : SessionState) (t : TransactionState) (new : VolatileState) (after : SessionState) : Type 0 where
+  pub can : CanCommit (outset_of old) session t
+  pub committed : IsCommitted t.reads t.writes session after old new
+  pub agrees : IsTrue (is_trusted old.memory.history) → Agrees (latest old.memory.history) t.reads
+  pub kept : IsVolatile blocks new
+
+-- or blocks are to be fetched for it
+pub record LacksBlocks (blocks : ℕ) (old : VolatileState) (session : SessionState) (t : TransactionState) (f : FetchedState) (asked : List ℕ) (new : VolatileState) : Type 0 where
+  pub can : CanCommit (outset_of old) session t
+  pub missing : asked ≡ missing_blocks blocks (known_updates (usable old f) old.tail) t.writes
+  pub same : new ≡ with_room old new.tail.log.room
+  pub kept : IsVolatile blocks new
+
+-- or it was refused
+pub record RefusesCommit (blocks : ℕ) (old : VolatileState) (session : SessionState) (t : TransactionState) (why : Refusal Told) (new : VolatileState) : Type 0 where
+  pub refusal : IsCommitRefusal (outset_of old) session t why
+  pub same : new ≡ with_room old new.tail.log.room
+  pub kept : IsVolatile blocks new
+
+abbrev pub AnswersCommit : ℕ → VolatileState → SessionState → TransactionState → FetchedState → Result (CommitStep CommitPlace) (Refusal Told) → VolatileState → SessionState → Type 0
+AnswersCommit blocks old session t f (Ok (Done place)) new after = CommitsInMemory blocks old session t new after
+AnswersCommit blocks old session t f (Ok (Missing missing)) new after = LacksBlocks blocks old session t f missing.items new
+AnswersCommit blocks old session t f (Err why) new after = RefusesCommit blocks old session t why new
+
+-- There are other copies of blocks that are at home, and nothing else was done
+pub record KeepsCopies (blocks : ℕ) (old new : VolatileState) : Type 0 where
+  pub others : new ≡ record old { tail = record old.tail { home = new.tail.home } }
+  pub kept : IsVolatile blocks new
+
+-- A session began
+pub record BeginsSession (old : VolatileState) (session : SessionState) (new : VolatileState) : Type 0 where
+  pub is : session ≡ record { number = old.memory.next; mine = old.memory.history; seen = old.memory.history }
+  pub fresh : commits_of old.memory.next old.memory.history ≡ []
+  pub unfenced : is_fenced old.memory.next old.memory.history ≡ false
+  pub others : new ≡ record old { memory = record old.memory { next = old.memory.next + 1 } }
+
+-- or was refused
+pub record RefusesSession (old : VolatileState) (why : Refusal Told) (new : VolatileState) : Type 0 where
+  pub refusal : IsNumberRefusal old.memory.next why
+  pub same : new ≡ old
+
+abbrev pub AnswersSession : VolatileState → Result SessionState (Refusal Told) → VolatileState → Type 0
+AnswersSession old (Ok session) new = BeginsSession old session new
+AnswersSession old (Err why) new = RefusesSession old why new
+
+-- A session is fenced, by one entry more, or by one that stands
+pub record FencesSession (blocks : ℕ) (session : ℕ) (old new : VolatileState) : Type 0 where
+  pub did : SetsFence session old.memory new.memory
+  pub others : new ≡ record old { memory = new.memory }
+  pub kept : IsVolatile blocks new
+
+-- or that was refused
+pub record RefusesFence (session : ℕ) (old : VolatileState) (why : Refusal Told) (new : VolatileState) : Type 0 where
+  pub refusal : IsFenceRefusal session (outset_of old) why
+  pub same : new ≡ old
+
+abbrev pub AnswersFence : ℕ → ℕ → VolatileState → Result (Unit {0}) (Refusal Told) → VolatileState → Type 0
+AnswersFence blocks session old (Ok done) new = FencesSession blocks session old new
+AnswersFence blocks session old (Err why) new = RefusesFence session old why new
+
+-- It was stopped, and nothing else was done
+abbrev pub Stops : VolatileState → VolatileState → Type 0
+Stops old new = new ≡ record old { memory = record old.memory { closed = true } }
+
+-- Marks: none of these holds changes a part
+
+-- The session has then seen the whole history, and is exact
+pub record SeesWhole (v : VolatileState) (session after : SessionState) : Type 0 where
+  pub shown : after.seen ≡ v.memory.history
+  pub exact : IsExact after
+  pub extends : OnlyExtends session after
+
+-- So many commits are not marked yet, and nothing ends the wait for them
+pub record LacksMark (v : VolatileState) (n : ℕ) : Type 0 where
+  pub unmarked : floor v.memory.history < n
+  pub goes_on : GoesOn (outset_of v)
+
+-- whether so many commits are marked
+abbrev pub AnswersWait : VolatileState → SessionState → ℕ → Result Bool (Refusal Told) → SessionState → Type 0
+AnswersWait v session n (Ok true) after = (n ≤ floor v.memory.history) × SeesWhole v session after
+AnswersWait v session n (Ok false) after = LacksMark v n × SeesWhole v session after
+AnswersWait v session n (Err why) after = IsWaitRefusal (outset_of v) session n why × (after ≡ session)
+
+-- whether all commits are marked that the session has seen
+abbrev pub AnswersFlush : VolatileState → SessionState → Result Bool (Refusal Told) → SessionState → Type 0
+AnswersFlush v session (Ok true) after = (count session.seen ≤ floor v.memory.history) × SeesWhole v session after
+AnswersFlush v session (Ok false) after = LacksMark v (count session.seen) × (after ≡ session)
+AnswersFlush v session (Err why) after = IsFlushRefusal (outset_of v) session after why × OnlyExtends session after
+
+-- a session is shown the whole history
+abbrev pub AnswersShow : VolatileState → SessionState → Result (Unit {0}) (Refusal Told) → SessionState → Type 0
+AnswersShow v session (Ok done) after = (after.seen ≡ v.memory.history) × OnlyExtends session after
+AnswersShow v session (Err why) after = IsStaleRefusal v.memory.history why × OnlyExtends session after
+
+-- ---- holds of the disk alone: each makes at most one call of the device that changes the disk
+
+-- Blocks were read as they are logged: they are what the first commits of a front of the history
+-- left
+pub record FetchesBlocks (blocks : ℕ) (old : DurableState) (numbers : List ℕ) (f : FetchedState) (new : DurableState) : Type 0 where
+  pub named : map (λ (u : Update). u.block) f.updates ≡ numbers
+  pub front : f.front ≡ old.front
+  pub commits : f.commits ≡ old.logged
+  pub objects : IsFetched blocks f
+  pub fine : is_faulted old ≡ false → is_faulted new ≡ false
+  pub reads : OnlyReadsLog old.objects new.objects
+  pub others : new ≡ record old { objects = new.objects }
+  pub kept : IsDurable blocks new
+  pub crash : Crashes old new
+
+-- or the device failed
+pub record RefusesFetch (blocks : ℕ) (old : DurableState) (why : Refusal Told) (new : DurableState) : Type 0 where
+  pub refusal : IsCallRefusal old new why
+  pub reads : OnlyReadsLog old.objects new.objects
+  pub others : new ≡ record old { objects = new.objects }
+  pub kept : IsDurable blocks new
+  pub crash : Crashes old new
+
+abbrev pub AnswersFetch : ℕ → DurableState → List ℕ → Result FetchedState (Refusal Told) → DurableState → Type 0
+AnswersFetch blocks old numbers (Ok f) new = FetchesBlocks blocks old numbers f new
+AnswersFetch blocks old numbers (Err why) new = RefusesFetch blocks old why new
+
+-- The device call of the group in flight that was due was made, or none is in flight
+pub record MakesGroupCall (blocks : ℕ) (old : DurableState) (step : GroupStep) (new : DurableState) : Type 0 where
+  pub did : LogAnswers old step new
+  pub fine : (is_faulted old ≡ false) × (is_faulted new ≡ false)
+  pub kept : IsDurable blocks new
+  pub crash : Crashes old new
+
+-- or the device failed, in the call that was due or before
+pub record FailsGroupCall (blocks : ℕ) (old : DurableState) (why : Refusal Told) (new : DurableState) : Type 0 where
+  pub refusal : IsCallRefusal old new why
+  pub left : LeavesLog old new
+  pub tries : TriesDueCall (log_call old.objects) (disk_of old) (disk_of new)
+  pub kept : IsDurable blocks new
+  pub crash : Crashes old new
+
+abbrev pub AnswersGroupCall : ℕ → DurableState → Result GroupStep (Refusal Told) → DurableState → Type 0
+AnswersGroupCall blocks old (Ok step) new = MakesGroupCall blocks old step new
+AnswersGroupCall blocks old (Err why) new = FailsGroupCall blocks old why new
+
+-- The installer's next device call was made, or nothing is logged that is not at home
+pub record MakesHomeCall (blocks : ℕ) (old : DurableState) (step : InstallStep) (new : DurableState) : Type 0 where
+  pub did : InstallAnswers old step new
+  pub fine : (is_faulted old ≡ false) × (is_faulted new ≡ false)
+  pub kept : IsDurable blocks new
+  pub crash : Crashes old new
+
+-- or the device failed, or memory for the list of addresses was refused
+pub record FailsHomeCall (blocks : ℕ) (old : DurableState) (why : Refusal Told) (new : DurableState) : Type 0 where
+  pub refusal : IsInstallRefusal old new why
+  pub left : LeavesLog old new
+  pub tries : TriesAhead old.objects new.objects
+  pub kept : IsDurable blocks new
+  pub crash : Crashes old new
+
+abbrev pub AnswersHomeCall : ℕ → DurableState → Result InstallStep (Refusal Told) → DurableState → Type 0
+AnswersHomeCall blocks old (Ok step) new = MakesHomeCall blocks old step new
+AnswersHomeCall blocks old (Err why) new = FailsHomeCall blocks old why new
+
+-- ---- holds of both: no device call is made in any
+
+-- The first was done that was due of a mark, a cut, and a mark of the rest, or none is due
+pub record Settles (blocks : ℕ) (v : VolatileState) (d : DurableState) (step : LogStep) (w : VolatileState) (e : DurableState) : Type 0 where
+  pub did : DoesWhatIsDue v d step w e
+  pub volatile : IsVolatile blocks w
+  pub durable : IsDurable blocks e
+  pub tied : Tied v d → Tied w e
+  pub crash : Crashes d e
+
+-- or that was refused, and the log on the disk may have other room in memory
+pub record RefusesToSettle (blocks : ℕ) (v : VolatileState) (d : DurableState) (why : Refusal Told) (w : VolatileState) (e : DurableState) : Type 0 where
+  pub refusal : IsDueRefusal v d why e
+  pub memory : w ≡ v
+  pub durable : IsDurable blocks e
+  pub tied : Tied v d → Tied w e
+  pub crash : Crashes d e
+
+abbrev pub AnswersSettling : ℕ → VolatileState → DurableState → Result LogStep (Refusal Told) → VolatileState → DurableState → Type 0
+AnswersSettling blocks v d (Ok step) w e = Settles blocks v d step w e
+AnswersSettling blocks v d (Err why) w e = RefusesToSettle blocks v d why w e
+
+-- What is at home was dropped from memory, and nothing else was done. Each cut that is left ends
+-- above the freed positions
+pub record Trims (blocks : ℕ) (v : VolatileState) (d : DurableState) (upto : ℕ) (w : VolatileState) : Type 0 where
+  pub drops : DropsCuts v.tail upto w.tail
+  pub left : All (λ c. upto < c.end) w.tail.cuts
+  pub others : w ≡ record v { tail = w.tail }
+  pub kept : IsVolatile blocks w
+  pub tied : Tied v d → Tied w d
+
+-- A fault of the device was noted in memory, and nothing else was done
+pub record NotesFault (v : VolatileState) (d : DurableState) (w : VolatileState) : Type 0 where
+  pub fault : IsTrue (is_faulted d)
+  pub noted : w ≡ record v { faulted = true }
+
+-- The disk was lent under both, to a session that has then seen the whole history, which has no
+-- mark that the disk lacks. Neither part changes
+pub record ShowsDisk (v : VolatileState) (d : DurableState) (session after : SessionState) : Type 0 where
+  pub shown : after.seen ≡ v.memory.history
+  pub extends : OnlyExtends session after
+  pub trusted : is_trusted v.memory.history ≡ (disk_of d).honest
+  pub images : IsTrue (disk_of d).honest → EveryImage (disk_of d).past (Leaves v.memory.history)
+
+-- or that was refused, which no pair is that is tied, unless the session has seen more
+pub record RefusesDisk (v : VolatileState) (d : DurableState) (session : SessionState) (why : Refusal Told) (after : SessionState) : Type 0 where
+  pub refusal : IsStaleRefusal v.memory.history why ⊎ (IsUntied v d d.marked why × (Tied v d → ⊥))
+  pub extends : OnlyExtends session after
+
+abbrev pub AnswersDisk : {A : Type 0} → VolatileState → DurableState → SessionState → Result A (Refusal Told) → SessionState → Type 0
+AnswersDisk v d session (Ok disk) after = ShowsDisk v d session after
+AnswersDisk v d session (Err why) after = RefusesDisk v d session why after
