@@ -5,8 +5,7 @@ use journal_daemon::{OpenGate, start};
 use journal_disk::BlockDisk;
 use journal_history::{Naming, Session};
 use journal_twophase::{Journal, Txn, Why};
-use journal_world::{AnyMap, slot_of};
-use rand_core::Rng;
+use journal_world::AnyMap;
 use rand_pcg::Pcg32;
 use std::alloc::Global;
 use std::rt::Clock;
@@ -79,21 +78,10 @@ fn commit_all<'b, D: BlockDisk, J: Naming, W: Wait>(
     };
     let mut random = Pcg32::new(u64::from(thread), 1);
     for _ in 0..load.commits {
-        let pair = draw_pair(&mut random, load);
+        let pair = load.draw_pair(&mut random);
         if !commit_pair(rt, alloc, journal, &mut session, pair, load.ending) {
             return;
         }
-    }
-}
-
-// Two objects at random, in the order of their slots, so that no transaction finds a lower slot held.
-fn draw_pair(random: &mut Pcg32, load: Load) -> [Target; 2] {
-    let one = Target::new(random.next_u32() % load.objects);
-    let other = Target::new(random.next_u32() % load.objects);
-    if slot_of(one.addr) <= slot_of(other.addr) {
-        [one, other]
-    } else {
-        [other, one]
     }
 }
 

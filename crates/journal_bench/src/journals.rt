@@ -2,19 +2,17 @@
 ghost use Rattle.std.specs.Prelude.{◌≡◌, IsTrue};
 ghost use Rattle.journal_disk.specs.Disks.{IsSettled};
 
-use crate::counting_disk::{CountingDisk, Counts};
-use crate::device::time_groups;
-use crate::fault::refused;
-use crate::load::Load;
-use crate::place::{Place, make_file};
-use crate::{clients, memory};
-use anyhow::Result;
-use journal_disk::{BlockDisk, FileDisk, MemDisk};
+use crate::clients;
+use crate::disks::{CountingDisk, Counts, LatestDisk, make_file, time_groups};
+use crate::load::{Load, Place};
+use anyhow::{Error, Result, anyhow};
+use journal_disk::{BlockDisk, FileDisk};
 use journal_history::{Book, Naming};
 use journal_lockmap::SlotCell;
 use journal_twophase::Journal;
-use journal_world::{AnyMap, Refused};
+use journal_world::{AnyMap, Refusal, Refused};
 use std::alloc::Global;
+use std::fs;
 use std::fs::File;
 use std::marker::Brand;
 use std::rt::{Clock, Files};
@@ -25,6 +23,9 @@ use std::time::{Duration, Instant};
 // The most groups by which the device's own limit is measured.
 const MOST_GROUPS: u64 = 5_000;
 
+// The line in which Linux tells the most memory that the process ever had.
+const PEAK: &str = "VmHWM:";
+
 /// What a load took.
 #[derive(Clone, Copy, Debug)]
 pub struct Figures {
@@ -33,33 +34,26 @@ pub struct Figures {
     pub took: Duration,
     /// What the disk was asked to do in that time.
     pub counts: Counts,
-    /// The most memory that the process had until then, in units of 1024 bytes.
+    /// The most memory that the process had until then, in units of 1024 bytes, where the system tells it.
     pub peak: Option<u64>,
-    /// The device's own limit.
-    pub device: Limit,
-}
-
-/// Groups on the disk alone, of as many log blocks as the journal's had.
-#[derive(Clone, Copy, Debug)]
-pub struct Limit {
-    pub groups: u64,
-    pub log_blocks: u64,
-    pub took: Duration,
+    /// How many groups were then made on the disk alone, of as many log blocks as the journal's had, and how long they took.
+    pub device_groups: u64,
+    pub device_took: Duration,
 }
 
 /// Measures a load over a new disk at the place.
 pub fn measure<R: Threads + Wait + Clock + Files<File = File> + Alloc<A = Global> + Sync>(
     rt: &R,
     load: Load,
-    place: &Place,
+    place: Place<'_>,
 ) -> Result<Figures> {
     match place {
         Place::Memory => {
-            let disk = MemDisk::new::<()>(rt.alloc(), load.blocks()).map_err(refused)?;
+            let disk = LatestDisk::new(rt.alloc(), load.blocks())?;
             measure_on(rt, load, CountingDisk::over(disk))
         }
         Place::File(path) => {
-            let file = make_file(rt, path.as_str(), load.blocks())?;
+            let file = make_file(rt, path, load.blocks())?;
             measure_on(rt, load, CountingDisk::over(FileDisk::over(file)?))
         }
     }
@@ -76,14 +70,22 @@ fn measure_on<
     let cell = SlotCell::open(rt.alloc())?;
     let (took, disk) = time_load::<D, Brand, R>(rt, &book, cell, disk, load)?;
     let CountingDisk { mut disk, counts } = disk;
-    let peak = memory::peak(rt);
-    let device = time_device(rt, &mut disk, counts)?;
+    let peak = peak_memory(rt);
+    let device_groups = counts.groups.min(MOST_GROUPS);
+    let half = counts.groups / 2;
+    let log_blocks = counts
+        .log_blocks
+        .saturating_add(half)
+        .checked_div(counts.groups)
+        .unwrap_or(0);
+    let device_took = time_groups(rt, rt.alloc(), &mut disk, device_groups, log_blocks)?;
     Ok(Figures {
         load,
         took,
         counts,
         peak,
-        device,
+        device_groups,
+        device_took,
     })
 }
 
@@ -129,22 +131,14 @@ fn time_clients<
     Ok(start.elapsed(rt)?)
 }
 
-// How long groups take on the disk alone, of as many log blocks as those that were counted.
-fn time_device<D: BlockDisk, R: Clock + Alloc<A = Global>>(
-    rt: &R,
-    disk: &mut D,
-    counts: Counts,
-) -> Result<Limit> {
-    let groups = counts.groups.min(MOST_GROUPS);
-    let log_blocks = counts
-        .log_blocks
-        .saturating_add(counts.groups / 2)
-        .checked_div(counts.groups)
-        .unwrap_or(0);
-    let took = time_groups(rt, rt.alloc(), disk, groups, log_blocks)?;
-    Ok(Limit {
-        groups,
-        log_blocks,
-        took,
-    })
+// A layer of the journal refused.
+fn refused<C: Drop>(why: Refusal<C>) -> Error {
+    anyhow!("refused {}", why.name())
+}
+
+fn peak_memory<R: Files + Alloc<A = Global>>(rt: &R) -> Option<u64> {
+    let status = fs::read_to_string(rt, "/proc/self/status").ok()?;
+    let amount = status.lines().find_map(|line| line.strip_prefix(PEAK))?;
+    let number = amount.split_ascii_whitespace().next()?;
+    number.parse().ok()
 }

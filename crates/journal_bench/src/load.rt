@@ -3,14 +3,16 @@ ghost use Rattle.std.specs.Prelude.{◌≤◌};
 ghost use Rattle.journal_bench.specs.declared.load.TheConstants.{MOST_OBJECTS};
 
 use journal_inode::{INODES, block_addr, inode_addr};
-use journal_world::{Addr, BLOCK_BYTES, FIRST_DATA};
+use journal_world::{Addr, BLOCK_BYTES, FIRST_DATA, slot_of};
+use rand_core::Rng;
+use rand_pcg::Pcg32;
 use std::fmt;
 
 /// The most objects that transactions are spread over.
 pub const MOST_OBJECTS: u32 = 20_000;
 
 /// How a commit becomes stable.
-#[derive(Clone, Copy, Debug, PartialEq, Eq)]
+#[derive(Clone, Copy, Debug)]
 pub enum Ending {
     /// Each commit waits until it is.
     Waits,
@@ -25,6 +27,14 @@ impl fmt::Display for Ending {
             Ending::OneFlush => f.write_str("with one flush"),
         }
     }
+}
+
+/// Where the disk that is measured lies.
+#[derive(Clone, Copy, Debug)]
+pub enum Place<'p> {
+    Memory,
+    /// In the file at this path, which is made anew.
+    File(&'p str),
 }
 
 /// Transactions that are measured: each overwrites two objects at random.
@@ -51,6 +61,17 @@ impl Load {
     pub fn blocks(&self) -> u64 {
         600 + u64::from(self.objects.saturating_sub(INODES))
     }
+
+    /// Two objects at random, in the order of their slots, so that no transaction finds a lower slot held.
+    pub fn draw_pair(self, random: &mut Pcg32) -> [Target; 2] {
+        let one = target(random.next_u32() % self.objects);
+        let other = target(random.next_u32() % self.objects);
+        if slot_of(one.addr) <= slot_of(other.addr) {
+            [one, other]
+        } else {
+            [other, one]
+        }
+    }
 }
 
 /// An object, and what it is overwritten with.
@@ -64,18 +85,16 @@ static INODE: [u8; 128] = [0x5a; 128];
 
 static BLOCK: [u8; BLOCK_BYTES] = [0x5a; BLOCK_BYTES];
 
-impl Target {
-    /// The object of a number.
-    pub fn new(number: u32) -> Target {
-        if number < INODES {
-            return Target {
-                addr: inode_addr(number),
-                bytes: &INODE,
-            };
-        }
-        Target {
-            addr: block_addr(FIRST_DATA + u64::from(number - INODES)),
-            bytes: &BLOCK,
-        }
+// The object of a number.
+fn target(number: u32) -> Target {
+    if number < INODES {
+        return Target {
+            addr: inode_addr(number),
+            bytes: &INODE,
+        };
+    }
+    Target {
+        addr: block_addr(FIRST_DATA + u64::from(number - INODES)),
+        bytes: &BLOCK,
     }
 }

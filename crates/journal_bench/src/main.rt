@@ -1,30 +1,20 @@
-//! How fast the journal is: transactions of two objects in threads beside the daemon, the device's own limit in the
-//! same run, and calls of the file service.
+//! How fast the journal is: transactions of two objects in threads beside the daemon, and the device's own limit in
+//! the same run.
 //!
 //! With no words a short run tells whether all was done, and prints no figure, so that it prints the same each time.
 //! `docs/SPEED.md` says what the figures mean and how they were taken.
 #![tactic(auto)]
 
-mod ask;
-mod calls;
+ghost use Rattle.std.specs.Prelude.{◌≤◌, IfOk};
+
 mod clients;
-mod counting_disk;
-mod device;
-mod fault;
-mod home_reads;
+mod disks;
 mod journals;
 mod load;
-mod memory;
-mod place;
-mod reads;
-mod records;
 mod report;
 
-use anyhow::Result;
-use ask::Ask;
-use load::{Ending, Load};
-use place::Place;
-use reads::ReadLoad;
+use anyhow::{Result, bail};
+use load::{Ending, Load, MOST_OBJECTS, Place};
 use std::alloc::Global;
 use std::env;
 use std::fs::File;
@@ -33,17 +23,13 @@ use std::rt::{Clock, Files};
 use std::sync::Wait;
 use std::thread::Threads;
 
-// How much the short run does.
-const SHORT_COMMITS: u32 = 200;
+const USAGE: &str =
+    "usage: journal_bench | journal_bench commits THREADS OBJECTS COMMITS wait|flush memory|FILE";
 
-const SHORT_READS: ReadLoad = ReadLoad {
-    readers: 2,
-    reads: 200,
-};
+// The most threads that commit, and the most transactions of one.
+const MOST_THREADS: u32 = 64;
 
-const SHORT_HOME_READS: u32 = 100;
-
-const SHORT_CALLS: u32 = 20;
+const MOST_COMMITS: u32 = 100_000_000;
 
 /// Does what the program's words ask for, and prints what came of it.
 pub fn run<R: Threads + Wait + Clock + Files<File = File> + Alloc<A = Global> + Sync, O: Write>(
@@ -51,24 +37,19 @@ pub fn run<R: Threads + Wait + Clock + Files<File = File> + Alloc<A = Global> + 
     words: &[String],
     output: &mut O,
 ) -> Result<()> {
-    match Ask::read(words)? {
-        Ask::Short => run_short(rt, output),
-        Ask::Commits { load, place } => {
-            let figures = journals::measure(rt, load, &place)?;
+    match words {
+        [] => run_short(rt, output),
+        [what, threads, objects, commits, ending, place] if what.as_str() == "commits" => {
+            let load = Load {
+                threads: number(threads, MOST_THREADS)?,
+                objects: number(objects, MOST_OBJECTS)?,
+                commits: number(commits, MOST_COMMITS)?,
+                ending: read_ending(ending)?,
+            };
+            let figures = journals::measure(rt, load, read_place(place))?;
             report::print_commits(&figures, output)
         }
-        Ask::Reads { load, place } => {
-            let figures = reads::measure(rt, load, &place)?;
-            report::print_reads(&figures, output)
-        }
-        Ask::HomeReads { reads, place } => {
-            let figures = home_reads::measure(rt, reads, &place)?;
-            report::print_home_reads(&figures, output)
-        }
-        Ask::Calls { calls } => {
-            let figures = calls::measure(rt, rt.alloc(), calls)?;
-            report::print_calls(&figures, output)
-        }
+        _ => bail!("{USAGE}"),
     }
 }
 
@@ -82,20 +63,39 @@ fn run_short<R: Threads + Wait + Clock + Files<File = File> + Alloc<A = Global> 
             let load = Load {
                 threads,
                 objects: 512,
-                commits: SHORT_COMMITS,
+                commits: 200,
                 ending,
             };
-            journals::measure(rt, load, &Place::Memory)?;
+            journals::measure(rt, load, Place::Memory)?;
             writeln!(output, "{threads} {ending}: all stable")?;
         }
     }
-    reads::measure(rt, SHORT_READS, &Place::Memory)?;
-    writeln!(output, "reads: all made")?;
-    home_reads::measure(rt, SHORT_HOME_READS, &Place::Memory)?;
-    writeln!(output, "reads of home blocks: all made")?;
-    calls::measure(rt, rt.alloc(), SHORT_CALLS)?;
-    writeln!(output, "calls: all answered")?;
     Ok(())
+}
+
+// A number from 1 on.
+fn number(word: &String, most: u32) -> Result<u32>
+    ensures { IfOk result (λ n. (1 ≤ n) × (n ≤ most)) }
+{
+    match word.as_str().parse::<u32>() {
+        Ok(n) if 1 <= n && n <= most => Ok(n),
+        _ => bail!("{USAGE}"),
+    }
+}
+
+fn read_ending(word: &String) -> Result<Ending> {
+    match word.as_str() {
+        "wait" => Ok(Ending::Waits),
+        "flush" => Ok(Ending::OneFlush),
+        _ => bail!("{USAGE}"),
+    }
+}
+
+fn read_place(word: &String) -> Place<'_> {
+    match word.as_str() {
+        "memory" => Place::Memory,
+        path => Place::File(path),
+    }
 }
 
 fn main(rt: HostRuntime) -> Result<()> {

@@ -1,8 +1,5 @@
 // What is printed of figures.
-use crate::calls::CallFigures;
-use crate::home_reads::HomeFigures;
 use crate::journals::Figures;
-use crate::reads::ReadFigures;
 use std::io::Write;
 use std::time::Duration;
 use std::{fmt, io};
@@ -42,11 +39,12 @@ pub fn print_commits<O: Write>(figures: &Figures, output: &mut O) -> anyhow::Res
         took,
         counts,
         peak,
-        device,
+        device_groups,
+        device_took,
     } = *figures;
     let commits = load.all_commits();
     let groups = a_second(counts.groups, took);
-    let limit = a_second(device.groups, device.took);
+    let limit = a_second(device_groups, device_took);
     print(output, "commits a second", a_second(commits, took))?;
     print(output, "groups a second", groups)?;
     print(
@@ -64,57 +62,6 @@ pub fn print_commits<O: Write>(figures: &Figures, output: &mut O) -> anyhow::Res
         output,
         "share of the device",
         Hundredths::ratio(groups, limit),
-    )?;
-    output.flush()?;
-    Ok(())
-}
-
-/// Prints what reads took, a figure a line.
-pub fn print_reads<O: Write>(figures: &ReadFigures, output: &mut O) -> anyhow::Result<()> {
-    let ReadFigures {
-        load,
-        alone,
-        beside,
-        commits,
-    } = *figures;
-    let reads = u64::from(load.readers).saturating_mul(u64::from(load.reads));
-    let rates = (a_second(reads, alone), a_second(reads, beside));
-    print(output, "reads a second", rates.0)?;
-    print(output, "reads a second beside commits", rates.1)?;
-    print(
-        output,
-        "of those alone",
-        Hundredths::ratio(rates.1, rates.0),
-    )?;
-    print(output, "commits a second", a_second(commits, beside))?;
-    output.flush()?;
-    Ok(())
-}
-
-/// Prints what reads of home blocks took, a figure a line.
-pub fn print_home_reads<O: Write>(figures: &HomeFigures, output: &mut O) -> anyhow::Result<()> {
-    let reads = u64::from(figures.reads);
-    let few = a_second(reads, figures.few);
-    let enough = a_second(reads, figures.enough);
-    print(output, "reads a second with 64 copies", few)?;
-    print(output, "reads a second with 4096 copies", enough)?;
-    output.flush()?;
-    Ok(())
-}
-
-/// Prints what calls took, a figure a line.
-pub fn print_calls<O: Write>(figures: &CallFigures, output: &mut O) -> anyhow::Result<()> {
-    let calls = u64::from(figures.calls);
-    print(output, "GETATTR a second", a_second(calls, figures.getattr))?;
-    print(
-        output,
-        "READ of 4096 bytes a second",
-        a_second(calls, figures.read),
-    )?;
-    print(
-        output,
-        "WRITE of 4096 bytes a second",
-        a_second(calls, figures.write),
     )?;
     output.flush()?;
     Ok(())
