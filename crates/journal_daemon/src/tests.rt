@@ -3,6 +3,7 @@ mod barriers;
 mod beside_daemon;
 mod copies;
 mod crashes;
+mod ended_waits;
 mod fences;
 mod gated_disk;
 mod one_thread;
@@ -72,12 +73,21 @@ enum Trial {
     GoOn,
     EndASession,
     EndTheWaitForRoom,
-    WaitForRoom,
-    BreakTheWaitForRoom,
+    WaitForRoom(RoomEnd),
+    EndAWait(ended_waits::Waiting, bool),
+    MarkReads,
     AnswerWaits,
     FlushAfterTheEnd(bool),
     LeaveEither,
     RecoverAFullLog,
+}
+
+/// How a wait for room ends.
+#[derive(Clone, Copy, PartialEq, Eq, Drop)]
+enum RoomEnd {
+    Cut,
+    Fault,
+    Stop,
 }
 
 /// Wants the two to be equal. An assertion is dear to prove wherever it stands, so almost all are made here.
@@ -134,8 +144,11 @@ fn try_on<J: Naming + Send + Sync, H: Abort + Threads + Wait + Clock + Sync>(
         Trial::GoOn => threads::go_on(rt, alloc, journal),
         Trial::EndASession => fences::end_a_session(rt, alloc, journal),
         Trial::EndTheWaitForRoom => fences::end_the_wait_for_room(rt, alloc, journal),
-        Trial::WaitForRoom => threads::wait_for_room(rt, alloc, journal, false, 0),
-        Trial::BreakTheWaitForRoom => threads::wait_for_room(rt, alloc, journal, true, 6),
+        Trial::WaitForRoom(end) => threads::wait_for_room(rt, alloc, journal, end),
+        Trial::EndAWait(waiting, by_fault) => {
+            ended_waits::end_a_wait(rt, alloc, journal, waiting, by_fault);
+        }
+        Trial::MarkReads => ended_waits::mark_reads(rt, alloc, journal),
         Trial::AnswerWaits => waits::answer_waits(rt, alloc, journal),
         Trial::FlushAfterTheEnd(by_fault) => {
             waits::flush_after_the_end(rt, alloc, journal, by_fault);

@@ -45,12 +45,18 @@ impl<'j, 'b, D: BlockDisk, R: MapRule, J: Naming> Txn<'j, 'b, D, R, J> {
             began: _,
             transaction,
             held,
+            has_writes,
         } = self;
         let mut held = held;
         let mut spares = transaction.spares(alloc);
-        let answer = journal
-            .core
-            .commit(rt, session, &transaction, &mut held, &mut spares);
+        let answer = journal.core.commit(
+            rt,
+            session,
+            &transaction,
+            &mut held,
+            &mut spares,
+            has_writes,
+        );
         release_all(rt, &journal.slots, held);
         answer
     }
@@ -77,12 +83,18 @@ impl<'j, 'b, D: BlockDisk, R: MapRule, J: Naming> Txn<'j, 'b, D, R, J> {
             began: _,
             transaction,
             held,
+            has_writes,
         } = self;
         let mut held = held;
         let mut spares = transaction.spares(alloc);
-        let answer = journal
-            .core
-            .try_commit(rt, session, &transaction, &mut held, &mut spares);
+        let answer = journal.core.try_commit(
+            rt,
+            session,
+            &transaction,
+            &mut held,
+            &mut spares,
+            has_writes,
+        );
         release_all(rt, &journal.slots, held);
         answer
     }
@@ -109,8 +121,17 @@ impl<'j, 'b, D: BlockDisk, R: MapRule, J: Naming> Txn<'j, 'b, D, R, J> {
             began: _,
             transaction,
             held,
+            has_writes,
         } = self;
         let mut spares = transaction.spares(alloc);
-        journal.core.commit_wait(rt, session, &transaction, &mut spares, &journal.slots, held)
+        journal.core.commit_wait(
+            rt,
+            session,
+            &transaction,
+            &mut spares,
+            &journal.slots,
+            held,
+            has_writes,
+        )
     }
 }

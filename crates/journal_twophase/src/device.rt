@@ -46,7 +46,7 @@ impl<'b, D: BlockDisk, R: MapRule, J: Naming> SharedCore<'b, D, R, J> {
     pub(crate) fn log_gathered<W: Wait + Clock>(&self, rt: &W) -> Result<LogStep, Why<'b, J, R>>
         ensures { IfErr result IsLogRefusal }
     {
-        self.await_company(rt);
+        self.wait_for_group(rt);
         self.log_step(rt)
     }
 
@@ -55,7 +55,7 @@ impl<'b, D: BlockDisk, R: MapRule, J: Naming> SharedCore<'b, D, R, J> {
         ensures { IfErr result IsLogRefusal }
     {
         let mut durable = self.durable.lock(rt);
-        self.check_running(rt)?;
+        self.check_step(rt)?;
         match durable.log_call() {
             Ok(LogCall::Put) => Ok(LogStep::Put),
             Ok(LogCall::Logged) => Ok(LogStep::Logged),
@@ -74,12 +74,19 @@ impl<'b, D: BlockDisk, R: MapRule, J: Naming> SharedCore<'b, D, R, J> {
     ) -> Result<LogStep, Why<'b, J, R>>
         ensures { IfErr result IsLogRefusal }
     {
-        let mut shared = self.shared.lock(rt);
+        let mut shared = self.lock_memory(rt);
         let answer = durable.settle(&mut shared.volatile, rest);
         let commits = shared.volatile.commits();
         match answer {
-            Ok(LogStep::Marked(_)) => shared.sleepers.wake(commits),
-            Ok(LogStep::Cut) => shared.sleepers.cut(),
+            Ok(LogStep::Marked(_)) => {
+                shared.waiters.wake(commits);
+                self.group_in_flight.set(false);
+            }
+            Ok(LogStep::Cut) => {
+                shared.waiters.cut();
+                shared.has_unlogged_writes = false;
+                self.group_in_flight.set(true);
+            }
             _ => {}
         }
         answer
@@ -115,7 +122,7 @@ impl<'b, D: BlockDisk, R: MapRule, J: Naming> SharedCore<'b, D, R, J> {
         ensures { IfErr result IsInstallRefusal }
     {
         let mut durable = self.durable.lock(rt);
-        self.check_running(rt)?;
+        self.check_step(rt)?;
         match durable.install_call() {
             Ok(InstallCall::Idle) => Ok(InstallStep::Idle),
             Ok(InstallCall::Put) => Ok(InstallStep::Put),
@@ -255,6 +262,7 @@ impl<'b, D: BlockDisk, R: MapRule, J: Naming> SharedCore<'b, D, R, J> {
         ensures { result ≡ fault.entry }
     {
         let mut shared = self.shared.lock(rt);
+        self.ended.set(true);
         durable.note_fault(&mut shared.volatile, fault)
     }
 
@@ -306,14 +314,18 @@ impl<'b, D: BlockDisk, R: MapRule, J: Naming> SharedCore<'b, D, R, J> {
             room: _,
             marked: _,
             logging: _,
-            gathered: _,
+            group_full: _,
             installing: _,
+            ended: _,
+            group_in_flight: _,
         } = self;
         let Shared {
             volatile,
             log_start: _,
             logger_sleeps: _,
-            sleepers: _,
+            logger_delays: _,
+            has_unlogged_writes: _,
+            waiters: _,
         } = shared.into_inner();
         (durable.into_inner(), volatile)
     }

@@ -23,10 +23,11 @@
 
 mod commit;
 mod device;
+mod hint;
 mod journal;
 mod shared;
-mod sleepers;
 mod txn;
+mod waiters;
 mod waiting;
 
 pub use journal::{CACHED_BLOCKS, Journal, MAX_CACHED_BLOCKS};

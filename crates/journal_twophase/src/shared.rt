@@ -17,7 +17,8 @@ ghost use Rattle.journal_twophase.specs.Journals.{BeginsWith, IsSessionRefusal, 
 ghost use Rattle.journal_twophase.specs.Transactions.{Finds, KeepsHeld, IsLookRefusal, IsEndRefusal};
 ghost use Rattle.journal_twophase.specs.Commits.{IsCommitted, ShowsFence, IsTryRefusal, IsCommitRefusal};
 
-use crate::sleepers::Sleepers;
+use crate::hint::Hint;
+use crate::waiters::MarkWaiters;
 use journal_core::{
     Cause, CommitStep, Core, Durable, Fetched, Found, Spares, Transaction, Volatile,
 };
@@ -26,6 +27,7 @@ use journal_history::{Book, Front, Naming, Receipt, Session};
 use journal_lockmap::{Held, SlotCell, Slots};
 use journal_world::{Addr, MapRule, Refusal, Refused};
 use std::alloc::Global;
+use std::hint::spin_loop;
 use std::rt::Clock;
 use std::sync::{Condvar, CondvarTimeouts, Mutex, MutexGuard, Wait};
 use std::time::Duration;
@@ -39,32 +41,61 @@ pub(crate) struct Shared<'b, R: MapRule, J: Naming> {
     pub(crate) volatile: Volatile<'b, R, J>,
     // Where the log on the disk starts. What was in it when it was opened stands in no part of memory, but takes room.
     pub(crate) log_start: u64,
-    // The logger sleeps until a commit wakes it.
+    // The logger sleeps until a commit wakes it, and none did yet.
     pub(crate) logger_sleeps: bool,
+    // The logger delays a mark, and nobody ended the delay yet.
+    pub(crate) logger_delays: bool,
+    // A commit behind the last cut wrote something.
+    pub(crate) has_unlogged_writes: bool,
     // Those that wait for a mark.
-    pub(crate) sleepers: Sleepers,
+    pub(crate) waiters: MarkWaiters,
 }
 
-// What the logger waited for that has come.
+// For which of its waits the logger is to be woken.
 #[derive(Clone, Copy, Drop)]
-pub(crate) enum LoggerWait {
-    Nothing,
-    // A commit.
+pub(crate) enum LoggerWake {
+    None,
+    // There is a commit.
     Work,
-    // That those whom a mark woke commit again.
-    Company,
+    // There are as many commits as the next group is to have, or one that wrote something, or one that is waited for.
+    GroupFull,
 }
 
 impl<'b, R: MapRule, J: Naming> Shared<'b, R, J> {
-    // Which wait of the logger ended with the last commit.
-    pub(crate) fn ended_wait(&self) -> LoggerWait {
-        if self.logger_sleeps {
-            LoggerWait::Work
-        } else if self.sleepers.is_enough(self.volatile.commits()) {
-            LoggerWait::Company
-        } else {
-            LoggerWait::Nothing
+    // For which wait the logger is to be woken behind this answer to a commit. Who asks has to wake it: the next commit does not
+    // wake it for the same sleep again.
+    pub(crate) fn wake_after<T>(
+        &mut self,
+        answer: &Result<T, Why<'b, J, R>>,
+        has_writes: bool,
+    ) -> LoggerWake {
+        if answer.is_err() {
+            return LoggerWake::None;
         }
+        self.has_unlogged_writes = self.has_unlogged_writes || has_writes;
+        if self.logger_sleeps && may_log(self) {
+            self.logger_sleeps = false;
+            return LoggerWake::Work;
+        }
+        if (has_writes && self.ends_delay()) || self.waiters.fills_group(self.volatile.commits()) {
+            return LoggerWake::GroupFull;
+        }
+        LoggerWake::None
+    }
+
+    // Ends the delay of a mark. Who asks has to wake the logger, if there was one.
+    pub(crate) fn ends_delay(&mut self) -> bool {
+        let delays = self.logger_delays;
+        self.logger_delays = false;
+        delays
+    }
+
+    // Whether a mark may be delayed: nothing is to be logged, and nobody waits.
+    fn may_delay_mark(&self) -> bool {
+        self.volatile.check_running().is_ok()
+            && !self.has_unlogged_writes
+            && self.waiters.are_none()
+            && self.volatile.floor() < self.volatile.commits()
     }
 }
 
@@ -91,10 +122,15 @@ pub(crate) struct SharedCore<'b, D: BlockDisk, R: MapRule, J: Naming> {
     pub(crate) marked: Condvar,
     // The logger waits for a commit, or for positions that are free.
     pub(crate) logging: Condvar,
-    // The logger waits until as many commits have come as a mark woke threads, or as many sleep again.
-    pub(crate) gathered: Condvar,
+    // The logger waits until there are as many commits as a mark woke threads, or as many of them sleep again, or delays a mark.
+    pub(crate) group_full: Condvar,
     // The installer waits for a crowded log.
     pub(crate) installing: Condvar,
+    // It was stopped, or the device failed. It is set before the memory lock is let go under which that was noted, so whoever has
+    // learned of it finds it set: a step that finds it unset may be thought of as made before.
+    pub(crate) ended: Hint,
+    // A group is cut and not marked. The logger waits for nothing then: the group's commits wait for it.
+    pub(crate) group_in_flight: Hint,
 }
 
 // What an opening gives: the core, the history that it begins with, and the slots, all free.
@@ -136,15 +172,32 @@ impl<'b, D: BlockDisk, R: MapRule, J: Naming> SharedCore<'b, D, R, J> {
                 volatile,
                 log_start,
                 logger_sleeps: false,
-                sleepers: Sleepers::default(),
+                logger_delays: false,
+                has_unlogged_writes: false,
+                waiters: MarkWaiters::default(),
             }),
             room: Condvar::new(),
             marked: Condvar::new(),
             logging: Condvar::new(),
-            gathered: Condvar::new(),
+            group_full: Condvar::new(),
             installing: Condvar::new(),
+            ended: Hint::new(),
+            group_in_flight: Hint::new(),
         };
         Ok(OpenedCore { core, start, slots })
+    }
+
+    // The memory lock. A hold of it is shorter than a sleep and a wake, so it is tried for a while before the thread sleeps.
+    pub(crate) fn lock_memory<W: Wait>(&self, rt: &W) -> MutexGuard<'_, Shared<'b, R, J>> {
+        for turn in 0..LOCK_TURNS {
+            if let Some(guard) = self.shared.try_lock() {
+                return guard;
+            }
+            for _ in 0..(1u32 << turn.min(5)) {
+                spin_loop();
+            }
+        }
+        self.shared.lock(rt)
     }
 
     // A further session, which has seen the whole history. Answers J11.
@@ -179,6 +232,17 @@ impl<'b, D: BlockDisk, R: MapRule, J: Naming> SharedCore<'b, D, R, J> {
         ensures { IfErr result IsEndRefusal }
     {
         self.shared.lock(rt).volatile.check_running()
+    }
+
+    // Answers as `check_running` does, and takes the memory lock only where something may be refused. A step is asked for this
+    // inside the disk's lock, so the hold of the memory lock would be one for each device call.
+    pub(crate) fn check_step<W: Wait>(&self, rt: &W) -> Result<(), Why<'b, J, R>>
+        ensures { IfErr result IsEndRefusal }
+    {
+        if self.ended.is_set() {
+            return self.check_running(rt);
+        }
+        Ok(())
     }
 
     // Refuses a read as `read` does, but for a new J6: J13, J6 of an earlier fault, and J9.
@@ -272,7 +336,7 @@ impl<'b, D: BlockDisk, R: MapRule, J: Naming> SharedCore<'b, D, R, J> {
         ensures below { addr.block < J.blocks }
         ensures refusal { IfErr result (IsLookRefusal transaction.now) }
     {
-        let mut shared = self.shared.lock(rt);
+        let mut shared = self.lock_memory(rt);
         // Called for its contract: how many blocks there are at least.
         let _layout = shared.volatile.layout();
         let answer = shared
@@ -304,7 +368,7 @@ impl<'b, D: BlockDisk, R: MapRule, J: Naming> SharedCore<'b, D, R, J> {
         ensures size { length into.new.items ≡ length into.old.items }
         ensures refusal { IfErr result (IsLookRefusal transaction.now) }
     {
-        let mut shared = self.shared.lock(rt);
+        let mut shared = self.lock_memory(rt);
         shared.volatile.check_read(rt, transaction, held, addr)?;
         match shared
             .volatile
@@ -334,6 +398,7 @@ impl<'b, D: BlockDisk, R: MapRule, J: Naming> SharedCore<'b, D, R, J> {
         transaction: &Transaction<'b, J, R>,
         held: &mut [Held<J>],
         spares: &mut Spares,
+        has_writes: bool,
     ) -> Result<Receipt<'b, J, R>, Why<'b, J, R>>
         requires rule { (m : Map) → m.blocks ≡ J.blocks → R.statement m → Agrees m transaction.now.reads
             → R.statement (overwritten m transaction.now.writes) }
@@ -343,11 +408,10 @@ impl<'b, D: BlockDisk, R: MapRule, J: Naming> SharedCore<'b, D, R, J> {
         ensures fenced { IfErr result (ShowsFence session.new) }
         ensures session { OnErr result (OnlyExtends session.old session.new) }
     {
-        let (answer, ended) = {
-            let (shared, answer) = self.commit_with_room(rt, session, transaction, held, spares);
-            (answer, shared.ended_wait())
-        };
-        self.tell_of_commit(&answer, ended);
+        let (mut shared, answer) = self.commit_with_room(rt, session, transaction, held, spares);
+        let wake = shared.wake_after(&answer, has_writes);
+        drop(shared);
+        self.wake_after_commit(&answer, wake);
         answer
     }
 
@@ -359,6 +423,7 @@ impl<'b, D: BlockDisk, R: MapRule, J: Naming> SharedCore<'b, D, R, J> {
         transaction: &Transaction<'b, J, R>,
         held: &mut [Held<J>],
         spares: &mut Spares,
+        has_writes: bool,
     ) -> Result<Receipt<'b, J, R>, Why<'b, J, R>>
         requires rule { (m : Map) → m.blocks ≡ J.blocks → R.statement m → Agrees m transaction.now.reads
             → R.statement (overwritten m transaction.now.writes) }
@@ -368,11 +433,18 @@ impl<'b, D: BlockDisk, R: MapRule, J: Naming> SharedCore<'b, D, R, J> {
         ensures fenced { IfErr result (ShowsFence session.new) }
         ensures session { OnErr result (OnlyExtends session.old session.new) }
     {
-        let shared = self.shared.lock(rt);
-        let (shared, answer) = self.commit_or_fetch(rt, shared, session, transaction, held, spares);
-        let ended = shared.ended_wait();
+        let shared = self.lock_memory(rt);
+        let (mut shared, answer) = self.commit_or_fetch(
+            rt,
+            shared,
+            session,
+            transaction,
+            held,
+            spares,
+        );
+        let wake = shared.wake_after(&answer, has_writes);
         drop(shared);
-        self.tell_of_commit(&answer, ended);
+        self.wake_after_commit(&answer, wake);
         answer
     }
 
@@ -397,7 +469,7 @@ impl<'b, D: BlockDisk, R: MapRule, J: Naming> SharedCore<'b, D, R, J> {
         ensures session { OnErr result.1 (OnlyExtends session.old session.new) }
         ensures held { OnErr result.1 (held.new ≡ held.old) }
     {
-        let mut shared = self.shared.lock(rt);
+        let mut shared = self.lock_memory(rt);
         for _ in rt.forever() {
             let (guard, answer) = self.commit_or_fetch(
                 rt,
@@ -457,16 +529,16 @@ impl<'b, D: BlockDisk, R: MapRule, J: Naming> SharedCore<'b, D, R, J> {
         }
     }
 
-    // Wakes the logger where a commit was made that it waited for, and all where the device failed.
-    pub(crate) fn tell_of_commit(
+    // Wakes the logger where it is to be woken behind a commit, and all where the device failed.
+    pub(crate) fn wake_after_commit(
         &self,
         answer: &Result<Receipt<'b, J, R>, Why<'b, J, R>>,
-        ended: LoggerWait,
+        wake: LoggerWake,
     ) {
-        match ended {
-            LoggerWait::Work if answer.is_ok() => self.logging.notify_all(),
-            LoggerWait::Company if answer.is_ok() => self.gathered.notify_all(),
-            _ => self.tell_of_fault(answer),
+        match wake {
+            LoggerWake::Work => self.logging.notify_all(),
+            LoggerWake::GroupFull => self.group_full.notify_all(),
+            LoggerWake::None => self.tell_of_fault(answer),
         }
     }
 
@@ -483,14 +555,24 @@ impl<'b, D: BlockDisk, R: MapRule, J: Naming> SharedCore<'b, D, R, J> {
         }
     }
 
-    // Waits until as many commits have come as the last mark woke threads, or as many wait for the next one, but not for long:
-    // one of them may have nothing to commit. Who is woken too early cuts too early, which harms nobody.
-    pub(crate) fn await_company<W: Wait + Clock>(&self, rt: &W) {
-        let shared = self.shared.lock(rt);
-        if shared.sleepers.are_too_few(shared.volatile.commits()) {
+    // Waits until there are as many commits as the last mark woke threads, or as many wait for the next one, but not for long: one
+    // of them may have nothing to commit. Where there is nothing but commits to mark that wrote nothing, and nobody waits for one, it
+    // delays the mark, so that many share it. Who is woken too early cuts or marks too early, which harms nobody.
+    pub(crate) fn wait_for_group<W: Wait + Clock>(&self, rt: &W) {
+        if self.group_in_flight.is_set() {
+            return;
+        }
+        let mut shared = self.shared.lock(rt);
+        if shared.waiters.should_delay(shared.volatile.commits()) {
             let _ended = self
-                .gathered
-                .wait_timeout(rt, shared, Duration::from_micros(COMPANY));
+                .group_full
+                .wait_timeout(rt, shared, Duration::from_micros(GROUP_DELAY_MICROS));
+        } else if shared.may_delay_mark() {
+            shared.logger_delays = true;
+            let (mut shared, _) = self
+                .group_full
+                .wait_timeout(rt, shared, Duration::from_micros(MARK_DELAY_MICROS));
+            shared.logger_delays = false;
         }
     }
 
@@ -512,7 +594,10 @@ impl<'b, D: BlockDisk, R: MapRule, J: Naming> SharedCore<'b, D, R, J> {
 
     // Stops the core, and wakes all.
     pub(crate) fn stop<W: Wait>(&self, rt: &W) {
-        self.shared.lock(rt).volatile.stop();
+        let mut shared = self.shared.lock(rt);
+        self.ended.set(true);
+        shared.volatile.stop();
+        drop(shared);
         self.wake_all();
     }
 
@@ -527,14 +612,20 @@ impl<'b, D: BlockDisk, R: MapRule, J: Naming> SharedCore<'b, D, R, J> {
         self.room.notify_all();
         self.marked.notify_all();
         self.logging.notify_all();
-        self.gathered.notify_all();
+        self.group_full.notify_all();
         self.installing.notify_all();
     }
 }
 
 // How long the logger waits at most before it cuts a group for fewer than the last one was for, in microseconds: some barriers
 // of a fast device, or what a client at the other end of a connection takes from a reply to its next call.
-const COMPANY: u64 = 200;
+const GROUP_DELAY_MICROS: u64 = 200;
+
+// How often the memory lock is tried before a thread sleeps.
+const LOCK_TURNS: u32 = 40;
+
+// How long the logger delays a mark at most where nobody waits for it and nothing is to be logged.
+const MARK_DELAY_MICROS: u64 = 2000;
 
 // The installer waits until so many positions of the log are used. A tail has at most 255 blocks, so it fits then. So many are
 // those of two groups at least, of which one is logged, so that the installer has something to do.

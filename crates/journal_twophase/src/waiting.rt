@@ -45,7 +45,7 @@ impl<'b, D: BlockDisk, R: MapRule, J: Naming> SharedCore<'b, D, R, J> {
         ensures session { OnlyExtends session.old session.new }
         ensures refusal { IfErr result (IsWaitRefusal session.new) }
     {
-        let shared = self.shared.lock(rt);
+        let shared = self.lock_memory(rt);
         self.wait_in(rt, shared, session, commits)
     }
 
@@ -61,7 +61,7 @@ impl<'b, D: BlockDisk, R: MapRule, J: Naming> SharedCore<'b, D, R, J> {
         ensures refusal { IfErr result (IsWaitRefusal session.new) }
         ensures unmarked { IfErr result (IsEndedUnmarked session.old session.new) }
     {
-        let mut shared = self.shared.lock(rt);
+        let mut shared = self.lock_memory(rt);
         for _ in rt.forever() {
             if let Some(note) = flush_step(&shared.volatile, session)? {
                 return Ok(note);
@@ -103,11 +103,12 @@ impl<'b, D: BlockDisk, R: MapRule, J: Naming> SharedCore<'b, D, R, J> {
         shared: MutexGuard<'s, Shared<'b, R, J>>,
     ) -> MutexGuard<'s, Shared<'b, R, J>> {
         let mut shared = shared;
-        if shared.sleepers.count_in() {
-            self.gathered.notify_all();
+        let fills_group = shared.waiters.add();
+        if shared.ends_delay() || fills_group {
+            self.group_full.notify_all();
         }
         let mut shared = self.marked.wait(rt, shared);
-        shared.sleepers.count_out();
+        shared.waiters.remove();
         shared
     }
 
@@ -120,6 +121,7 @@ impl<'b, D: BlockDisk, R: MapRule, J: Naming> SharedCore<'b, D, R, J> {
         spares: &mut Spares,
         slots: &LockMap<J>,
         held: Vec<Held<J>>,
+        has_writes: bool,
     ) -> Waited<'b, J, R>
         requires rule { (m : Map) → m.blocks ≡ J.blocks → R.statement m → Agrees m transaction.now.reads
             → R.statement (overwritten m transaction.now.writes) }
@@ -129,9 +131,16 @@ impl<'b, D: BlockDisk, R: MapRule, J: Naming> SharedCore<'b, D, R, J> {
         ensures fault { IfErr result (IsWaitFault R.statement J.blocks transaction.now.seen transaction.now session.old session.new) }
     {
         let mut held = held;
-        let (shared, answer) = self.commit_with_room(rt, session, transaction, &mut held, spares);
+        let (mut shared, answer) = self.commit_with_room(
+            rt,
+            session,
+            transaction,
+            &mut held,
+            spares,
+        );
         release_all(rt, slots, held);
-        self.tell_of_commit(&answer, shared.ended_wait());
+        let wake = shared.wake_after(&answer, has_writes);
+        self.wake_after_commit(&answer, wake);
         let receipt = match answer {
             Ok(receipt) => receipt,
             Err(why) => return Err(WaitFault::Refused(why)),

@@ -227,30 +227,31 @@ pub(super) fn lets_wait(asks: &AtomicBool) {
     }
 }
 
-/// Lets the other thread wait for a while, and cuts the tail, which makes room, or makes the device fail.
+/// Lets the other thread wait for a while, and cuts the tail, which makes room, or makes the device fail, or stops the journal.
+/// Answers the refusal's number of what it did, or of a step behind the stop.
 fn ends_the_wait<J: Naming, H: Abort + Wait>(
     rt: &H,
     alloc: Global,
     journal: &Open<MemDisk, J>,
     asks: &AtomicBool,
-    fails: bool,
+    end: RoomEnd,
 ) -> u64 {
     lets_wait(asks);
-    if fails {
-        breaks(rt, alloc, journal)
-    } else {
-        log_number(rt, journal)
+    match end {
+        RoomEnd::Fault => return breaks(rt, alloc, journal),
+        RoomEnd::Stop => journal.stop(rt),
+        RoomEnd::Cut => {}
     }
+    log_number(rt, journal)
 }
 
-/// A commit waits for room, until there is some or the device fails. It and the other thread are refused by
-/// this number then.
+/// A commit waits for room, until there is some, the device fails or the journal is stopped. It and the other thread are
+/// refused by one number then.
 pub(super) fn wait_for_room<J: Naming + Send + Sync, H: Abort + Threads + Wait + Clock + Sync>(
     rt: &H,
     alloc: Global,
     journal: &Open<MemDisk, J>,
-    fails: bool,
-    refused: u64,
+    end: RoomEnd,
 ) {
     let bytes = vec![in alloc; 1u8; 4096].expect(rt, "bytes");
     fills_up(rt, alloc, journal, &bytes);
@@ -258,17 +259,27 @@ pub(super) fn wait_for_room<J: Naming + Send + Sync, H: Abort + Threads + Wait +
     let ended = join(
         rt,
         || waits_for_room(rt, alloc, journal, &bytes, &asks),
-        || ends_the_wait(rt, alloc, journal, &asks, fails),
+        || ends_the_wait(rt, alloc, journal, &asks, end),
     );
+    let refused = match end {
+        RoomEnd::Cut => 0,
+        RoomEnd::Fault => 6,
+        RoomEnd::Stop => 13,
+    };
     wants(rt, &ended, &((true, refused), refused));
 }
 
 #[test]
 fn a_commit_waits_for_room(rt: HostRuntime) {
-    try_out(&rt, rt.alloc(), Trial::WaitForRoom);
+    try_out(&rt, rt.alloc(), Trial::WaitForRoom(RoomEnd::Cut));
 }
 
 #[test]
 fn a_fault_ends_the_wait_for_room(rt: HostRuntime) {
-    try_out(&rt, rt.alloc(), Trial::BreakTheWaitForRoom);
+    try_out(&rt, rt.alloc(), Trial::WaitForRoom(RoomEnd::Fault));
+}
+
+#[test]
+fn a_stop_ends_the_wait_for_room(rt: HostRuntime) {
+    try_out(&rt, rt.alloc(), Trial::WaitForRoom(RoomEnd::Stop));
 }

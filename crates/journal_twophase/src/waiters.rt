@@ -10,7 +10,7 @@ ghost use Rattle.std.specs.Prelude.{◌≡◌, ◌+◌, ◌-◌, ◌^◌, ◌<�
 // again, or as many commits have come. One of the commits may be of somebody who makes several before he sleeps: then there
 // is enough for a group too.
 #[derive(Default, Drop)]
-pub(crate) struct Sleepers {
+pub(crate) struct MarkWaiters {
     asleep: u64,
     woken: u64,
     awaited: u64,
@@ -18,9 +18,9 @@ pub(crate) struct Sleepers {
     enough: u64,
 }
 
-impl Sleepers {
+impl MarkWaiters {
     // Counts a thread in that is to sleep. Says whether as many sleep then as are awaited.
-    pub(crate) fn count_in(&mut self) -> bool
+    pub(crate) fn add(&mut self) -> bool
         ensures enough { IsTrue result ↔ (self.new.asleep ≡ self.old.awaited) }
         ensures asleep { self.old.asleep + 1 < 2 ^ 64 → self.new.asleep ≡ self.old.asleep + 1 }
         ensures woken { self.new.woken ≡ self.old.woken }
@@ -53,21 +53,28 @@ impl Sleepers {
     }
 
     // Whether fewer sleep than are awaited, and with so many commits not as many have come either.
-    pub(crate) fn are_too_few(&self, commits: u64) -> bool
+    pub(crate) fn should_delay(&self, commits: u64) -> bool
         ensures { IsTrue result ↔ (self.now.asleep < self.now.awaited × commits < self.now.enough) }
     {
         self.asleep < self.awaited && commits < self.enough
     }
 
     // Whether with the last of so many commits as many have come as are awaited.
-    pub(crate) fn is_enough(&self, commits: u64) -> bool
+    pub(crate) fn fills_group(&self, commits: u64) -> bool
         ensures { IsTrue result ↔ (commits ≡ self.now.enough) }
     {
         commits == self.enough
     }
 
+    // Whether nobody sleeps.
+    pub(crate) fn are_none(&self) -> bool
+        ensures { IsTrue result ↔ (self.now.asleep ≡ 0) }
+    {
+        self.asleep == 0
+    }
+
     // Counts a thread out that has the lock again.
-    pub(crate) fn count_out(&mut self)
+    pub(crate) fn remove(&mut self)
         ensures woken { self.new.woken ≡ self.old.woken - 1 }
         ensures asleep { self.old.woken ≡ 0 → self.new.asleep ≡ self.old.asleep - 1 }
         ensures same { 0 < self.old.woken → self.new.asleep ≡ self.old.asleep }

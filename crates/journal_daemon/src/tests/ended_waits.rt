@@ -1,0 +1,264 @@
+// What ends each wait: a stop, a fault of the device, and a mark of commits that wrote nothing.
+use super::beside_daemon::{Work, beside, in_two};
+use super::threads::lets_wait;
+use super::*;
+use crate::OpenGate;
+use std::sync::atomic::{AtomicBool, Ordering};
+use std::thread::yield_now;
+
+/// What a thread waits for, where no daemon runs.
+#[derive(Clone, Copy, Drop)]
+pub(super) enum Waiting {
+    /// A mark of its own commit.
+    Mark,
+    /// A mark of all that it has seen.
+    Flush,
+    /// A commit that is to be logged.
+    LogWork,
+    /// A crowded log.
+    InstallWork,
+    /// More commits, before it marks one that wrote nothing.
+    Group,
+}
+
+impl Waiting {
+    /// The first device call behind those that it makes before it waits: it may read a block that is not in memory.
+    fn next_call(self) -> u64 {
+        match self {
+            Waiting::LogWork | Waiting::InstallWork => 1,
+            _ => 2,
+        }
+    }
+}
+
+/// The first of two threads waits, and the second ends that.
+#[derive(Drop)]
+struct EndedWait {
+    waiting: Waiting,
+    by_fault: bool,
+    asks: AtomicBool,
+}
+
+impl EndedWait {
+    /// Waits. Answers by which number it, or what comes behind it, is refused.
+    fn waits<D: BlockDisk, J: Naming, H: Abort + Wait + Clock>(
+        &self,
+        rt: &H,
+        alloc: Global,
+        journal: &Open<D, J>,
+    ) -> u64 {
+        match self.waiting {
+            Waiting::Mark => self.waits_for_mark(rt, alloc, journal),
+            Waiting::Flush => self.flushes(rt, alloc, journal),
+            Waiting::LogWork => {
+                self.asks.store(true, Ordering::SeqCst);
+                journal.await_log_work(rt);
+                log_number(rt, journal)
+            }
+            Waiting::InstallWork => {
+                self.asks.store(true, Ordering::SeqCst);
+                journal.await_install_work(rt);
+                install_number(rt, journal)
+            }
+            Waiting::Group => self.logs_groups(rt, alloc, journal),
+        }
+    }
+
+    fn waits_for_mark<D: BlockDisk, J: Naming, H: Abort + Wait>(
+        &self,
+        rt: &H,
+        alloc: Global,
+        journal: &Open<D, J>,
+    ) -> u64 {
+        let mut session = client(rt, journal);
+        let mut txn = journal.begin(alloc, &mut session);
+        let read = reads(rt, &mut txn, INODE);
+        self.asks.store(true, Ordering::SeqCst);
+        let (ending, number) = commit_ending(rt, txn, &mut session);
+        if read == 0 && ending == Ending::Unsure {
+            number
+        } else {
+            15
+        }
+    }
+
+    fn flushes<D: BlockDisk, J: Naming, H: Abort + Wait>(
+        &self,
+        rt: &H,
+        alloc: Global,
+        journal: &Open<D, J>,
+    ) -> u64 {
+        let mut session = client(rt, journal);
+        let committed = put(rt, alloc, journal, &mut session, INODE, &[1; 128]);
+        self.asks.store(true, Ordering::SeqCst);
+        let number = number_of(journal.flush(rt, &mut session));
+        if committed == (0, 1) { number } else { 15 }
+    }
+
+    /// Makes steps that wait for a group first, until one is refused.
+    fn logs_groups<D: BlockDisk, J: Naming, H: Abort + Wait + Clock>(
+        &self,
+        rt: &H,
+        alloc: Global,
+        journal: &Open<D, J>,
+    ) -> u64 {
+        let mut session = client(rt, journal);
+        let committed = commits_a_read(rt, alloc, journal, &mut session);
+        self.asks.store(true, Ordering::SeqCst);
+        for _ in 0..1_000_000 {
+            let number = number_of(journal.log_gathered(rt));
+            if number != 0 {
+                return if committed == 1 { number } else { 15 };
+            }
+            yield_now();
+        }
+        0
+    }
+
+    /// Lets the other wait for a while, and stops the journal, or reads what the device fails at. Answers the refusal's number.
+    fn ends<D: BlockDisk, J: Naming, H: Abort + Wait>(
+        &self,
+        rt: &H,
+        alloc: Global,
+        journal: &Open<D, J>,
+    ) -> u64 {
+        lets_wait(&self.asks);
+        let mut session = client(rt, journal);
+        if !self.by_fault {
+            journal.stop(rt);
+        }
+        let (number, _, _) = look_at(rt, alloc, journal, &mut session, BIT);
+        number
+    }
+}
+
+impl Work for EndedWait {
+    type Answer = u64;
+
+    fn work<D: BlockDisk + Send, J: Naming + Send + Sync, H: Abort + Threads + Wait + Clock + Sync>(
+        &self,
+        rt: &H,
+        alloc: Global,
+        journal: &Open<D, J>,
+        number: u8,
+    ) -> u64 {
+        if number == 0 {
+            self.waits(rt, alloc, journal)
+        } else {
+            self.ends(rt, alloc, journal)
+        }
+    }
+}
+
+/// Commits a transaction that reads an inode and writes nothing. Answers the receipt's count, or 0.
+fn commits_a_read<'b, D: BlockDisk, J: Naming, W: Wait>(
+    rt: &W,
+    alloc: Global,
+    journal: &Open<'b, D, J>,
+    session: &mut Client<'b, J>,
+) -> u64 {
+    let mut txn = journal.begin(alloc, session);
+    let read = reads(rt, &mut txn, INODE);
+    let count = commit_count(rt, txn, session);
+    if read == 0 { count } else { 0 }
+}
+
+pub(super) fn end_a_wait<J: Naming + Send + Sync, H: Abort + Threads + Wait + Clock + Sync>(
+    rt: &H,
+    alloc: Global,
+    journal: &Open<MemDisk, J>,
+    waiting: Waiting,
+    by_fault: bool,
+) {
+    if by_fault {
+        journal.fail_in(rt, waiting.next_call());
+    }
+    let asks = AtomicBool::new(false);
+    let work = EndedWait {
+        waiting,
+        by_fault,
+        asks,
+    };
+    let ended = in_two(rt, alloc, journal, &work, (0, 1));
+    let number = if by_fault { 6 } else { 13 };
+    wants(rt, &ended, &(number, number));
+}
+
+/// A wait for each, ended by a fault or by a stop.
+fn end_each_wait<H: Abort + Threads + Wait + Clock + Sync>(rt: &H, alloc: Global, by_fault: bool) {
+    for waiting in [
+        Waiting::Mark,
+        Waiting::Flush,
+        Waiting::LogWork,
+        Waiting::InstallWork,
+        Waiting::Group,
+    ] {
+        try_out(rt, alloc, Trial::EndAWait(waiting, by_fault));
+    }
+}
+
+#[test]
+fn a_stop_ends_a_wait_for_anything(rt: HostRuntime) {
+    end_each_wait(&rt, rt.alloc(), false);
+}
+
+#[test]
+fn a_fault_ends_a_wait_for_anything(rt: HostRuntime) {
+    end_each_wait(&rt, rt.alloc(), true);
+}
+
+/// Commits that write nothing, each of which is to be marked: one is waited for, one is flushed, and of one it is asked again and
+/// again whether it is stable, which takes no lock and wakes nobody.
+#[derive(Drop)]
+struct MarkReads;
+
+impl Work for MarkReads {
+    type Answer = (Ended, u64, bool);
+
+    fn work<D: BlockDisk + Send, J: Naming + Send + Sync, H: Abort + Threads + Wait + Clock + Sync>(
+        &self,
+        rt: &H,
+        alloc: Global,
+        journal: &Open<D, J>,
+        _number: u8,
+    ) -> (Ended, u64, bool) {
+        let mut session = client(rt, journal);
+        let mut txn = journal.begin(alloc, &mut session);
+        let _read = reads(rt, &mut txn, INODE);
+        let ended = commit_ending(rt, txn, &mut session);
+        let _flushed = commits_a_read(rt, alloc, journal, &mut session);
+        let flushed = number_of(journal.flush(rt, &mut session));
+        let count = commits_a_read(rt, alloc, journal, &mut session);
+        (ended, flushed, count == 3 && is_told(&mut session, count))
+    }
+}
+
+/// Whether so many commits are said to be stable within a million turns.
+fn is_told<J: Naming>(session: &mut Client<J>, count: u64) -> bool {
+    for _ in 0..1_000_000 {
+        if session.is_stable(count) {
+            return true;
+        }
+        yield_now();
+    }
+    false
+}
+
+pub(super) fn mark_reads<J: Naming + Send + Sync, H: Abort + Threads + Wait + Clock + Sync>(
+    rt: &H,
+    alloc: Global,
+    journal: &Open<MemDisk, J>,
+) {
+    let ended = beside(rt, alloc, journal, &OpenGate, &MarkReads, 0);
+    let groups = journal.stat(rt).end;
+    wants(
+        rt,
+        &(ended, groups),
+        &((true, ((Ending::Stable, 1), 0, true)), 0),
+    );
+}
+
+#[test]
+fn commits_that_write_nothing_are_marked(rt: HostRuntime) {
+    try_out(&rt, rt.alloc(), Trial::MarkReads);
+}
