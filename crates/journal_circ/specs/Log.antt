@@ -9,7 +9,7 @@ use Rattle.journal_block.specs.Updates.{Content}
 use Rattle.journal_disk.specs.Disks.{block_at}
 use Rattle.journal_circ.specs.declared.layout.TheConstants.{FIRST_HOME, LOG_POSITIONS}
 
--- the block that a position's content lies in
+-- the block that has the content of a position: 2 + p mod 511
 abbrev pub log_block : ℕ → ℕ
 log_block p = 2 + p % LOG_POSITIONS
 
@@ -134,5 +134,7 @@ pub record DescribesLog (header : Bytes) (start end n : ℕ) : Type 0 where
   pub small : end < 2 ^ 62
   pub addresses : (p : ℕ) → start ≤ p → p < end → (FIRST_HOME ≤ home_by header p) × (home_by header p < n)
 
+-- start and end of the image's log are in order, at most 511 apart and below 2^62, and each address
+-- in use is that of a home block
 abbrev pub IsWellFormed : List Bytes → Type 0
 IsWellFormed image = DescribesLog (block_at image 0) (start_in image) (end_in image) (length image)

@@ -21,6 +21,9 @@ pub record ObjectsState : Type 0 where
   pub wal : WalState
   pub tail : List Update
 
+-- What contracts see of a core: the map of objects with its log, the history, the numbers of
+-- commits at the last cut and at that of the last group whose cycle ended, the next session's
+-- number, and the stop
 pub record CoreState : Type 0 where
   -- the map of objects, and the log that it is kept in
   pub objects : ObjectsState

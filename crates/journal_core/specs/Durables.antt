@@ -25,6 +25,7 @@ use Rattle.journal_objlog.specs.ObjectLogs.{map_cut, map_logged, MayOpenAs, IsCu
 use Rattle.journal_core.specs.declared.refusal_number.RefusalNumber.TheVariants.{J6, J11}
 use Rattle.journal_core.specs.Causes.{Told, IsUnexplained}
 
+-- What contracts see of the durable part
 pub record DurableState : Type 0 where
   -- the log on the disk, with copies of the logged blocks and of the group in flight
   pub objects : WalState
@@ -65,7 +66,10 @@ pub record IsLoggedAt (objects : WalState) (front : List Entry) (n m : ℕ) : Ty
   pub logged : SameMap (map_logged objects) (at front n)
   pub coming : SameMap (map_cut objects) (at front m)
 
--- What it keeps by itself, on a disk of so many blocks
+-- What it keeps by itself, on a disk of so many blocks: marked <= logged <= coming; what is logged
+-- is the map after `logged` commits, and with the group in flight that after `coming`. In `maps`
+-- the log is the one in memory, which between the write of block 0 and its barrier says more than a
+-- crash leaves; `images` says what a crash leaves
 pub record IsDurable (blocks : ℕ) (d : DurableState) : Type 0 where
   pub size : size_of d.objects ≡ blocks
   pub begun : d.front ≢ []

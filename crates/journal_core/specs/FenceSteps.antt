@@ -29,12 +29,13 @@ pub record FencesSession (session : ℕ) (old new : CoreState) : Type 0 where
   pub did : SetsFence session old new
   pub crash : Crashes old new
 
--- or that was refused
+-- A session's fence was refused
 pub record RefusesFence (session : ℕ) (old : CoreState) (why : Refusal Told) (new : CoreState) : Type 0 where
   pub refusal : IsFenceRefusal session old why
   pub same : new ≡ old
   pub crash : Crashes old new
 
+-- what a fence did, or why it was refused
 abbrev pub AnswersFence : ℕ → CoreState → Result (Unit {0}) (Refusal Told) → CoreState → Type 0
 AnswersFence session old (Ok done) new = FencesSession session old new
 AnswersFence session old (Err why) new = RefusesFence session old why new

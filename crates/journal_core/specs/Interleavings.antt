@@ -103,7 +103,7 @@ pub record FindsValue (blocks : ℕ) (old : CoreState) (t : TransactionState) (a
   pub others : new ≡ record old { objects = new.objects }
   pub crash : Crashes old new
 
--- and what it found is remembered by its transaction, which no one else has
+-- A read was answered, and its transaction, which no one else has, remembers it
 pub record ReadsValue (blocks : ℕ) (old : CoreState) (t : TransactionState) (a : Addr) (v : Value) (new : CoreState) (after : TransactionState) : Type 0 where
   pub finds : FindsValue blocks old t a v new
   pub remembers : Remembers t a v old.history after
@@ -143,6 +143,7 @@ pub record RefusesCommit (old : CoreState) (session : SessionState) (d : Transac
   pub others : new ≡ record old { objects = new.objects }
   pub crash : Crashes old new
 
+-- what a commit did, or why it was refused
 abbrev pub AnswersCommit : CoreState → SessionState → TransactionState → Result CommitPlace (Refusal Told) → CoreState → SessionState → Type 0
 AnswersCommit old session d (Ok place) new after = CommitsTransaction old session d new after
 AnswersCommit old session d (Err why) new after = RefusesCommit old session d why new
@@ -175,11 +176,12 @@ pub record LogsStep (old : CoreState) (step : LogStep) (new : CoreState) : Type 
   pub running : IsRunning old × IsRunning new
   pub crash : Crashes old new
 
--- or was refused one
+-- The logger was refused a step
 pub record RefusesLog (old : CoreState) (why : Refusal Told) (new : CoreState) : Type 0 where
   pub refusal : IsLogRefusal old new why
   pub crash : Crashes old new
 
+-- what a step of the logger did, or why it was refused
 abbrev pub AnswersLog : CoreState → Result LogStep (Refusal Told) → CoreState → Type 0
 AnswersLog old (Ok step) new = LogsStep old step new
 AnswersLog old (Err why) new = RefusesLog old why new
@@ -190,11 +192,12 @@ pub record InstallsStep (old : CoreState) (step : InstallStep) (new : CoreState)
   pub running : IsRunning old × IsRunning new
   pub crash : Crashes old new
 
--- or was refused one
+-- The installer was refused a step
 pub record RefusesInstall (old : CoreState) (why : Refusal Told) (new : CoreState) : Type 0 where
   pub refusal : IsInstallRefusal old new why
   pub crash : Crashes old new
 
+-- what a step of the installer did, or why it was refused
 abbrev pub AnswersInstall : CoreState → Result InstallStep (Refusal Told) → CoreState → Type 0
 AnswersInstall old (Ok step) new = InstallsStep old step new
 AnswersInstall old (Err why) new = RefusesInstall old why new
@@ -204,12 +207,13 @@ pub record Joins (old : CoreState) (session : SessionState) (new : CoreState) : 
   pub begins : BeginsSession old session new
   pub crash : Crashes old new
 
--- or was refused
+-- A session was refused
 pub record RefusesSession (old : CoreState) (why : Refusal Told) (new : CoreState) : Type 0 where
   pub refusal : IsSessionRefusal old why
   pub same : new ≡ old
   pub crash : Crashes old new
 
+-- a session began, or why it was refused
 abbrev pub AnswersSession : CoreState → Result SessionState (Refusal Told) → CoreState → Type 0
 AnswersSession old (Ok session) new = Joins old session new
 AnswersSession old (Err why) new = RefusesSession old why new
@@ -349,8 +353,9 @@ pub record IsUndisturbed (c : CoreState) (t : TransactionState) : Type 0 where
   pub agrees : Agrees (latest c.history) t.reads
   pub never_behind : (cause : Told) → IsBehind c.history t cause → ⊥
 
--- What was fetched, however long ago, is what the first commits of the history left: it goes from a hold of one lock to a later hold
--- of another. No step is refused since the fetch had seen more of the history
+-- What was fetched, however long ago, is what the first commits of the history left, so that it can
+-- be used in a later hold of another lock. No step is refused because the fetch had seen more of
+-- the history
 pub record StaysFetched (c : CoreState) (f : FetchedState) : Type 0 where
   pub begins : IsPrefix f.front c.history
   pub made : f.commits ≤ count c.history

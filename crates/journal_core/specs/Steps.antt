@@ -127,6 +127,7 @@ IsLogRefusal old new refusal =
 abbrev pub InstallAnswers : CoreState → InstallStep → CoreState → Type 0
 InstallAnswers old step new = WalInstalls old.objects.wal step new.objects.wal × (new ≡ with_wal old new.objects.wal)
 
+-- why the installer's step is refused: J13, J6, or J1 where it plans
 abbrev pub IsInstallRefusal : CoreState → CoreState → Refusal Told → Type 0
 IsInstallRefusal old new (Closed cause) = IsStopped old new cause
 IsInstallRefusal old new NoMemory =

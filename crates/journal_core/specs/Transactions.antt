@@ -19,7 +19,8 @@ begun seen = record { reads = []; writes = []; seen = seen }
 abbrev pub AreUnmoved : List Entry → TransactionState → Type 0
 AreUnmoved history t = All (λ p. touched history (slot_of p.0) ≡ touched t.seen (slot_of p.0)) t.reads
 
--- What a transaction keeps, on a disk of so many blocks
+-- What a transaction keeps, on a disk of so many blocks: its pairs are objects, and its reads agree
+-- with the map at the end of what it has seen
 pub record IsTransaction (blocks : ℕ) (t : TransactionState) : Type 0 where
   pub begun : t.seen ≢ []
   pub on_disk : (opened t.seen).blocks ≡ blocks

@@ -37,11 +37,12 @@ pub record IsAdded (t : Transaction) (prepared : List Update) (session after : S
     tail = new.tail;
   }
 
--- of an answer: what holds where the commit was made, and where blocks are to be fetched
+-- of an answer: what holds where the commit was made
 abbrev pub IfDone : {A : Type 0} → (A → Type 0) → CommitStep A → Type 0
 IfDone holds (Done value) = holds value
 IfDone holds (Missing blocks) = Unit {0}
 
+-- of an answer: what holds where blocks have to be fetched first
 abbrev pub IfMissing : {A : Type 0} → (List ℕ → Type 0) → CommitStep A → Type 0
 IfMissing holds (Done value) = Unit {0}
 IfMissing holds (Missing blocks) = holds blocks.items

@@ -20,6 +20,7 @@ use Rattle.journal_core.specs.Updates.{HaveAllSince, AreObjectsOf}
 use Rattle.journal_core.specs.Outsets.{Outset, MayRead, IsLookRefusal}
 use Rattle.journal_core.specs.Durables.{FetchedState}
 
+-- What contracts see of the volatile part
 pub record VolatileState : Type 0 where
   -- the history, and who may go on
   pub memory : MemoryState

@@ -12,7 +12,7 @@ pub(crate) struct Covered {
 }
 
 impl Covered {
-    /// One entry more behind so many, which is no commit: a front of all of them is longer by it.
+    /// An entry that is no commit was added after `len` entries: a front that had all of them is longer by one.
     pub(crate) fn add_quiet(&mut self, len: u64)
         requires { len < 2 ^ 62 }
         ensures { self.new ≡ record { marked = with_quiet len self.old.marked; cut = with_quiet len self.old.cut } }

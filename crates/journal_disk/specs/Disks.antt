@@ -50,6 +50,7 @@ pending_of p b = pending_in p.events b
 abbrev pub stable_of : Past → ℕ → Bytes
 stable_of p b = stable_in (block_at p.first b) p.events b
 
+-- what a read of the block gives: the last pending write, else the stable block
 abbrev pub read_of : Past → ℕ → Bytes
 read_of p b = read_in (block_at p.first b) p.events b
 

@@ -17,7 +17,7 @@ pub record IsImage (p : Past) (image : List Bytes) : Type 0 where
 abbrev pub EveryImage : Past → (List Bytes → Type 0) → Type 0
 EveryImage p Q = (image : List Bytes) → IsImage p image → Q image
 
--- the disk as it reads
+-- the disk as it reads, which is one of its images
 abbrev pub reading : Past → List Bytes
 reading p = map (read_of p) (range_with_len 0 p.size)
 

@@ -68,7 +68,7 @@ with_file F i d = with_entry F i (record { generation = (F.at i).generation; fil
 abbrev pub changed : Files → ℕ → FileData → FileData → Outcome Changed
 changed F i old new = (Ok (record { before = attributes i old; after = attributes i new }), with_file F i new)
 
--- GETATTR
+-- the cases of GETATTR: the first that holds is answered
 abbrev pub getattr_case : Files → FileTarget → Outcome Attributes
 getattr_case F gone = refused Stale F
 getattr_case F root = (Ok (root_attributes F), F)
@@ -256,7 +256,7 @@ remove_number F (Some i) = remove_entry F i (F.at i)
 abbrev pub remove_case : List ℕ → Files → FileTarget → Outcome Attributes
 remove_case name F dir = in_root F dir (remove_number F (number_of_name name))
 
--- COMMIT
+-- the cases of COMMIT: the first that holds is answered
 abbrev pub commit_case : Files → FileTarget → Outcome Attributes
 commit_case F gone = refused Stale F
 commit_case F root = refused Invalid F

@@ -70,7 +70,7 @@ fn are_clear<'j, 'b, D: BlockDisk, J: Naming, V: Version, W: Wait>(
     Ok(true)
 }
 
-// Takes so many blocks that no file has, if they are handed out: their bits are clear. That needs some to be asked for.
+// Takes `count` blocks that no file has, if as many are handed out: their bits are clear. `count` is above 0.
 pub(crate) fn take_blocks<'j, 'b, D: BlockDisk, J: Naming, V: Version, W: Wait>(
     rt: &W,
     txn: &mut FileTxn<'j, 'b, D, J, V>,

@@ -1,14 +1,14 @@
 //! The history of a mount, which only grows, and its beginnings, which any thread may hold.
 //!
-//! The history is a list of entries: the opening of a map, commits, and marks that tell how many commits are
-//! stable. It stands in proofs alone. What threads share is a `Book` of two words: HEAD, the history's
+//! The history is a list of entries: the opening of a map, commits, marks that say how many commits are
+//! stable, and fences, after each of which no commit of a session stands. It stands in proofs alone. What threads share is a `Book` of two words: HEAD, the history's
 //! length, and FLOOR, the greatest stable count that was told. They change by four kinds of step and no
 //! other, and each step keeps the law: HEAD is the length, the history is legal where the disk was honest and
 //! settled when it was opened, and FLOOR is at most its greatest mark.
 //!
 //! - load HEAD: `Session::observe`
-//! - exchange HEAD from n to n + 1, with one entry added: `Writer::begin`, `Writer::commit`, `Writer::mark`.
-//!   That it succeeds shows that the writer's n entries were the whole history
+//! - exchange HEAD from n to n + 1, with one entry added: `Writer::begin`, `Writer::commit`, `Writer::mark`,
+//!   `Writer::fence`. That it succeeds shows that the writer's n entries were the whole history
 //! - load FLOOR, and then HEAD: `Session::is_stable`
 //! - exchange FLOOR: `Writer::tell`
 //!

@@ -97,7 +97,8 @@ abbrev pub trimmed : LogState → ℕ → LogState
 trimmed log upto =
     record log { start = upto; updates = drop (upto - log.start) log.updates; room = log.room + (upto - log.start) }
 
--- The log can take the updates without taking memory
+-- The log can take the updates without memory: they are of blocks of the disk, there is room, and
+-- positions stay below 2^62
 pub record CanTake (log : LogState) (updates : List Update) : Type 0 where
   pub on_disk : AreOnDisk log.blocks updates
   pub room : length (absorbed (tail_of log) updates) ≤ length (tail_of log) + log.room

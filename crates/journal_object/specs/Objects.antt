@@ -30,7 +30,8 @@ value_size (Some kind) = bytes_of kind
 abbrev pub size_at : ℕ → Addr → ℕ
 size_at blocks a = value_size (kind_of blocks a.block)
 
--- the object that the address names, where its block holds these bytes
+-- the object that the address names, cut from these bytes of its block: one byte 0 or 1 for a bit,
+-- 128 bytes, or all 4096
 abbrev pub object_at : ℕ → Bytes → Addr → Value
 object_at blocks bytes a = object_of (kind_of blocks a.block) bytes a.off
 

@@ -96,11 +96,12 @@ IsTailWriteRefusal b writes refusal = IsWriteRefusal false b writes refusal ⊎ 
 abbrev pub with_tail_room : TailState → ℕ → TailState
 with_tail_room t room = record t { log = record t.log { room = room } }
 
--- of an answer: what holds where the writes are prepared, and where blocks are to be fetched
+-- of an answer: what holds where the writes are prepared
 abbrev pub IfReady : (List Update → Type 0) → Preparation → Type 0
 IfReady holds (Ready prepared) = holds prepared
 IfReady holds (Missing blocks) = Unit {0}
 
+-- of an answer: what holds where blocks have to be fetched first
 abbrev pub IfMissing : (List ℕ → Type 0) → Preparation → Type 0
 IfMissing holds (Ready prepared) = Unit {0}
 IfMissing holds (Missing blocks) = holds blocks.items

@@ -20,6 +20,7 @@ auth_of a = record { flavor = a.flavor; body = a.body.now }
 abbrev pub target_of : code_target.Target → Target
 target_of t = record { program = t.program; version = t.version; procedure = t.procedure; credential = auth_of t.credential; verifier = auth_of t.verifier }
 
+-- what the code's call asks, in these words
 abbrev pub asked_of : code_asked.Asked → Asked
 asked_of asks.OtherVersion = OtherVersion
 asked_of (asks.Procedure program version procedure arguments) = Procedure program version procedure arguments.now
@@ -39,6 +40,7 @@ routed program version OtherVersion = Err RpcMismatch
 routed program version (Procedure asked_program asked_version procedure arguments) =
     if asked_program == program then (if asked_version == version then Ok (procedure, arguments) else Err (ProgramMismatch version)) else Err ProgramUnavailable
 
+-- the code's request, in these words
 abbrev pub request_of : Result code_request.Request CallRefused → Result (ℕ × List ℕ) CallRefused
 request_of (Ok request) = Ok (request.procedure, request.arguments.now)
 request_of (Err why) = Err why

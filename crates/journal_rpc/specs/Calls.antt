@@ -8,6 +8,7 @@ pub record Beginning : Type 0 where
   pub xid : ℕ
   pub rpc_version : ℕ
 
+-- how the beginning of a call is spelled
 unfoldable pub beginning : Item Beginning
 beginning = mapped_item (pair word (pair (constant 0) word)) (λ p. record { xid = p.0; rpc_version = p.1.1 }) (λ b. (b.xid, (tt, b.rpc_version)))
 
@@ -16,6 +17,7 @@ pub record Auth : Type 0 where
   pub flavor : ℕ
   pub body : List ℕ
 
+-- how a credential or a verifier is spelled
 unfoldable pub auth : Item Auth
 auth = mapped_item (pair word (opaque 400)) (λ p. record { flavor = p.0; body = p.1 }) (λ a. (a.flavor, a.body))
 
@@ -27,6 +29,7 @@ pub record Target : Type 0 where
   pub credential : Auth
   pub verifier : Auth
 
+-- how the rest of the header is spelled
 unfoldable pub target : Item Target
 target = mapped_item (pair word (pair word (pair word (pair auth auth))))
     (λ p. record { program = p.0; version = p.1.0; procedure = p.1.1.0; credential = p.1.1.1.0; verifier = p.1.1.1.1 })
@@ -38,6 +41,7 @@ pub data Asked : Type 0 where
   OtherVersion : Asked
   Procedure : (program version procedure : ℕ) → (arguments : List ℕ) → Asked
 
+-- A call: its number, and what it asks
 pub record Message : Type 0 where
   pub xid : ℕ
   pub asked : Asked

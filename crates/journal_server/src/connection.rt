@@ -99,9 +99,9 @@ pub fn serve<
     number: u64,
 ) -> Result<Served, ConnFault>
     // What was written is the replies to the records of what was read, in order, up to the first that is no call. Each
-    // is what its call comes to at a moment of the clock, and it leads from what the session had seen after the one
-    // before it to what it saw then. What of a reply is to be stable is marked in what the session had seen behind the last of
-    // them. It has only seen more since, the fence.
+    // is its call's reply at a moment of the clock, between the history that the session had seen after the reply before it
+    // and the one that it saw then. A change that has to be stable is marked in the history that the session had seen after
+    // the last reply. It has only seen more since, the fence.
     ensures replies { IfOk result (λ served. Exchanges (R.remaining reader.old) (R.remaining reader.new) (W.contents writer.old) (W.contents writer.new)
         (λ input text. IsBefore session.new (λ last. RepliesUpToBad (IsReply V.VERSION (C.tells clock.now) verifier.0 last.seen) (records_of input) session.old last text))) }
 

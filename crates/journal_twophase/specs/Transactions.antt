@@ -28,7 +28,7 @@ pub record TxnState : Type 0 where
 abbrev pub begun : List Entry → TxnState
 begun seen = record { began = seen; reads = []; writes = []; seen = seen; held = [] }
 
--- the same, as the core has it
+-- an open transaction as the core has it
 abbrev pub core_of : TxnState → TransactionState
 core_of t = record { reads = t.reads; writes = t.writes; seen = t.seen }
 

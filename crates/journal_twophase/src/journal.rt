@@ -198,8 +198,8 @@ impl<'b, D: BlockDisk, R: MapRule, J: Naming> Journal<'b, D, R, J> {
         Txn::new(self, alloc, session)
     }
 
-    /// Does the next thing of the logger, as `Core::log_step` says, with at most one device call
-    /// that changes the disk. It is idle where there is nothing to log and to mark.
+    /// Does the next thing of the logger: the device call of the group in flight that is due, else a
+    /// mark, else a cut, with at most one device call that changes the disk. It is idle where there is nothing to log and to mark.
     ///
     /// Answers J13 `Closed` where the journal was stopped, J6 `DeviceFailed` where the device
     /// failed in this call or before, J9 `Stale` where the history is longer than the core's, J11
@@ -213,7 +213,9 @@ impl<'b, D: BlockDisk, R: MapRule, J: Naming> Journal<'b, D, R, J> {
     /// Does the next thing of the logger as `log_step` does, but first waits until as many commits
     /// came as threads were woken by the last mark, or as many wait for the next one, so that their
     /// next commits share a group. It waits at most 200 microseconds, since a thread may have
-    /// nothing to commit. A stop or a device that failed ends the wait too.
+    /// nothing to commit. Where all that is to be done is to mark commits that wrote nothing, and
+    /// nobody waits for a mark, it waits at most 2 milliseconds, so that many share one. A stop or a
+    /// device that failed ends the wait too.
     ///
     /// It is refused as `log_step` is.
     pub fn log_gathered<W: Wait + Clock>(&self, rt: &W) -> Result<Step, Why<'b, J, R>>
@@ -222,8 +224,7 @@ impl<'b, D: BlockDisk, R: MapRule, J: Naming> Journal<'b, D, R, J> {
         Ok(log_moved(self.core.log_gathered(rt)?))
     }
 
-    /// Does the next thing of the installer, as `Core::install_step` says, with at most one device call that
-    /// changes the disk. It is idle where nothing is logged that is not at home.
+    /// Does the next thing of the installer, with at most one device call that changes the disk. It is idle where nothing is logged that is not at home.
     ///
     /// Answers J13 `Closed` where the journal was stopped, J6 `DeviceFailed` where the device failed in this call or
     /// before, and J1 `NoMemory` where memory is refused.

@@ -102,8 +102,8 @@ impl<'b, R: MapRule, J: Naming> Shared<'b, R, J> {
 /// The core of a journal, a part under each of two locks.
 ///
 /// There is one condition variable for each reason to wait, so that nobody is woken for another's. All are the memory
-/// lock's, so that nobody who waits has the disk's. Each is notified once the lock is let go, but by a thread that keeps it
-/// for its own wait.
+/// lock's, so that nobody who waits has the disk's. Each is notified after unlocking, unless the notifying thread is
+/// about to wait itself and still holds the lock.
 #[derive(Drop)]
 pub(crate) struct SharedCore<'b, D: BlockDisk, R: MapRule, J: Naming> {
     pub(crate) alloc: Global,

@@ -3,8 +3,8 @@ ghost use Rattle.std.specs.Prelude.{◌≡◌, ◌+◌, ◌-◌, ◌^◌, ◌<�
 
 // How many sleep until a mark is made, and how many a mark woke that have not gone on: that have not had the lock again.
 //
-// A thread is counted in before it sleeps, and out once it has the lock again. One that wakes without a mark may be
-// counted out in the place of one that a mark woke, which is then counted out in its place.
+// A thread is counted in before it sleeps, and out once it has the lock again. A spurious wake may be counted out in place
+// of a real one; the totals still balance.
 //
 // Those whom a mark woke are likely to commit again at once, so that many are awaited until a group is cut: until as many sleep
 // again, or as many commits have come. One of the commits may be of somebody who makes several before he sleeps: then there

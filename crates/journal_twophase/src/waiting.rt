@@ -95,8 +95,8 @@ impl<'b, D: BlockDisk, R: MapRule, J: Naming> SharedCore<'b, D, R, J> {
         unreachable!()
     }
 
-    // Sleeps until a mark is made or all are woken. The logger waits for those whom a mark woke: the last that sleeps again lets
-    // it go on, where no commit did before.
+    // Sleeps until a mark is made or all are woken. The logger waits for those whom a mark woke: the last waiter that
+    // sleeps again wakes the logger, if no commit already did.
     fn sleep<'s, W: Wait>(
         &'s self,
         rt: &W,

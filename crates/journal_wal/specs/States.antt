@@ -86,6 +86,8 @@ pub record AreTied (ring : Ring) (log : LogState) : Type 0 where
   -- block 0 has the last end or that of the last cut, the latter only once the whole group was put
   pub coming : (ring.extent.coming ≡ log.logged) ⊎ ((ring.extent.coming ≡ log.cut) × (ring.next ≡ log.cut))
 
+-- What the type keeps: the two logs go together, the cycles are where their states say, and each
+-- image is possible
 pub record IsWal (w : WalState) : Type 0 where
   pub tied : AreTied w.ring w.log
   -- what was put is what memory has

@@ -142,6 +142,8 @@ log_call_by log_end group left put after header = Some (write 0 header)
 log_call_by log_sync group left put after header = Some barrier
 log_call_by log_spent group left put after header = None
 
+-- the logger's next device call, if one is due: a log block of the group in flight, a barrier,
+-- block 0 with the end, a barrier
 abbrev pub log_call : WalState → Option DiskEvent
 log_call w = log_call_by w.logging (w.log.cut - w.log.logged) (w.log.cut - w.ring.next)
     (write (log_block w.ring.next) (bytes_put w.ring (bytes_at w.log w.ring.next))) (call_after_blocks w.ring w.log) (with_end w.ring.header w.log.cut)
@@ -353,7 +355,8 @@ pub record HasBoundsIn (image : List Bytes) (w : WalState) : Type 0 where
   pub start : w.log.start ≡ start_in image
   pub end : w.log.logged ≡ end_in image
 
--- Nothing is in flight, and the tail is empty: the next position is the one after the last cut
+-- Nothing is in flight, the tail is empty, and no device call failed: the next position is the one
+-- after the last cut, and below 2^62
 pub record IsAtRest (w : WalState) : Type 0 where
   pub fine : w.ring.faulted ≡ false
   pub logging : log_steps w ≡ 0

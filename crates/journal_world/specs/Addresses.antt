@@ -11,7 +11,8 @@ use Rattle.journal_world.specs.declared.layout.TheConstants.{SUPERBLOCK, BITMAP,
 abbrev pub Value : Type 0
 Value = List ℕ
 
--- what the objects of a block are, on a disk of so many blocks
+-- what the objects of a block are, on a disk of so many blocks: bits in block 514, inodes in 515 to
+-- 530, whole blocks in 513 and from 531 to the last; other blocks have none
 abbrev pub kind_of : ℕ → ℕ → Option Kind
 kind_of blocks block =
     if block == BITMAP then Some Bit
@@ -19,7 +20,7 @@ kind_of blocks block =
     else if block == SUPERBLOCK || nat_le FIRST_DATA block && nat_lt block blocks then Some Block
     else None
 
--- how many bits the objects of a kind are apart
+-- how many bits the objects of a kind are apart in their block: 1, 1024, 32768
 abbrev pub bits_of : Kind → ℕ
 bits_of Bit = 1
 bits_of Inode = 1024
@@ -29,7 +30,8 @@ abbrev pub starts_object : Option Kind → ℕ → Bool
 starts_object None off = false
 starts_object (Some kind) off = nat_lt off BLOCK_BITS && off % bits_of kind == 0
 
--- the address names an object of a disk of so many blocks
+-- the address names an object: its block has a kind, and its bit offset is below 32768 and a
+-- multiple of the kind's bits
 abbrev pub is_valid : ℕ → Addr → Bool
 is_valid blocks a = starts_object (kind_of blocks a.block) a.off
 
@@ -57,6 +59,7 @@ zeros_of kind = replicate (bytes_of kind) 0
 abbrev pub is_same : Addr → Addr → Bool
 is_same a b = a.block == b.block && a.off == b.off
 
--- the slot of an address: those of one slot exclude one another
+-- the slot of an address: (block * 32768 + off) mod 257. Transactions that use addresses of one
+-- slot exclude one another
 abbrev pub slot_of : Addr → ℕ
 slot_of a = (a.block * BLOCK_BITS + a.off) % SLOTS

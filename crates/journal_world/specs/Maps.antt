@@ -27,7 +27,7 @@ abbrev pub zeros_at : Option Kind → Value
 zeros_at None = []
 zeros_at (Some kind) = zeros_of kind
 
--- what a map gives an address
+-- what a map gives an address: the value that its first pair gives, else the zeros of its kind
 abbrev pub value_at : Map → Addr → Value
 value_at m a = unwrap_or (value_among m.pairs a) (zeros_at (kind_of m.blocks a.block))
 
@@ -36,6 +36,7 @@ pub record SameMap (m n : Map) : Type 0 where
   pub blocks : m.blocks ≡ n.blocks
   pub values : (a : Addr) → IsTrue (is_valid m.blocks a) → value_at m a ≡ value_at n a
 
+-- the value is one of this kind; where there is no kind, none is
 abbrev pub is_value_at : Option Kind → Value → Bool
 is_value_at None v = false
 is_value_at (Some kind) v = is_value_of kind v
@@ -58,7 +59,8 @@ pub record Transaction : Type 0 where
 abbrev pub Agrees : Map → List Pair → Type 0
 Agrees m reads = All (λ p. value_at m p.0 ≡ p.1) reads
 
--- A transaction that may be committed where the map is m
+-- A transaction that may be committed where the map is m: it reads and writes objects of the map's
+-- disk, and what it read agrees with the map
 pub record IsLegalAt (m : Map) (t : Transaction) : Type 0 where
   pub reads : IsTrue (are_objects m.blocks t.reads)
   pub writes : IsTrue (are_objects m.blocks t.writes)
