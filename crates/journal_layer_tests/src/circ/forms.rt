@@ -1,7 +1,7 @@
 // An empty log whose form is changed, and what a crash leaves of it.
 ghost use Rattle.journal_disk.specs.Disks.{IsSettled};
 
-use crate::runs::{Run, number, told};
+use crate::runs::{Run, told};
 use crate::wal::{SEALED, disk_with_log, open};
 use journal_circ::{Circ, MAX_SEALED_BLOCKS};
 use journal_disk::{BlockDisk, MemDisk};
@@ -28,7 +28,7 @@ fn change_form(
     rt: &impl Abort,
     alloc: Global,
     disk: MemDisk,
-    change: &Change,
+    change: Change,
 ) -> Result<MemDisk, Refused<MemDisk, ()>>
     requires { IsSettled disk.past }
 {
@@ -44,7 +44,7 @@ fn change_form(
 }
 
 // Where the log ends that a crash leaves, and 1000 more where it is sealed.
-fn end_left(rt: &impl Abort, alloc: Global, changed: &Change) -> Run<u64> {
+fn end_left(rt: &impl Abort, alloc: Global, changed: Change) -> Run<u64> {
     let disk = disk_with_log(rt, alloc, END, changed.header)?;
     let disk = match change_form(rt, alloc, disk, changed) {
         Ok(disk) => disk,
@@ -53,125 +53,36 @@ fn end_left(rt: &impl Abort, alloc: Global, changed: &Change) -> Run<u64> {
     let wal = open(rt, alloc, disk.crash(&[changed.keeps]))?;
     let end = wal.log_range().1;
     assert!(rt; end < 1 << 62);
-    Ok(number(wal.is_sealed()) * 1000 + end)
+    Ok(if wal.is_sealed() { end + 1000 } else { end })
 }
 
-static CHANGES: [(Change, u64); 12] = [
-    (
-        Change {
-            header: END,
-            seals: true,
-            fails: 0,
-            keeps: 0,
-        },
-        1510,
-    ),
-    (
-        Change {
-            header: END,
-            seals: true,
-            fails: 1,
-            keeps: 0,
-        },
-        510,
-    ),
-    (
-        Change {
-            header: END,
-            seals: true,
-            fails: 1,
-            keeps: 1,
-        },
-        1510,
-    ),
-    (
-        Change {
-            header: END,
-            seals: true,
-            fails: 2,
-            keeps: 0,
-        },
-        510,
-    ),
-    (
-        Change {
-            header: END,
-            seals: true,
-            fails: 2,
-            keeps: 1,
-        },
-        1510,
-    ),
-    (
-        Change {
-            header: END,
-            seals: false,
-            fails: 0,
-            keeps: 0,
-        },
-        510,
-    ),
-    (
-        Change {
-            header: SEALED + END,
-            seals: false,
-            fails: 0,
-            keeps: 0,
-        },
-        510,
-    ),
-    (
-        Change {
-            header: SEALED + END,
-            seals: false,
-            fails: 1,
-            keeps: 0,
-        },
-        1510,
-    ),
-    (
-        Change {
-            header: SEALED + END,
-            seals: false,
-            fails: 1,
-            keeps: 1,
-        },
-        510,
-    ),
-    (
-        Change {
-            header: SEALED + END,
-            seals: false,
-            fails: 2,
-            keeps: 0,
-        },
-        1510,
-    ),
-    (
-        Change {
-            header: SEALED + END,
-            seals: false,
-            fails: 2,
-            keeps: 1,
-        },
-        510,
-    ),
-    (
-        Change {
-            header: SEALED + END,
-            seals: true,
-            fails: 0,
-            keeps: 0,
-        },
-        1510,
-    ),
+// Each change, and where the log then ends, and 1000 more where it is sealed.
+static CHANGES: [(u64, bool, u64, u32, u64); 12] = [
+    (END, true, 0, 0, 1510),
+    (END, true, 1, 0, 510),
+    (END, true, 1, 1, 1510),
+    (END, true, 2, 0, 510),
+    (END, true, 2, 1, 1510),
+    (END, false, 0, 0, 510),
+    (SEALED + END, false, 0, 0, 510),
+    (SEALED + END, false, 1, 0, 1510),
+    (SEALED + END, false, 1, 1, 510),
+    (SEALED + END, false, 2, 0, 1510),
+    (SEALED + END, false, 2, 1, 510),
+    (SEALED + END, true, 0, 0, 1510),
 ];
 
 // The first change that leaves something else, also where it is made again, and that.
 fn wrong_change(rt: &impl Abort, alloc: Global) -> Option<(usize, u64)> {
-    for (number, (changed, want)) in CHANGES.iter().enumerate() {
-        if told(end_left(rt, alloc, changed)) != *want {
-            let got = told(end_left(rt, alloc, changed));
+    for (number, (header, seals, fails, keeps, want)) in CHANGES.iter().enumerate() {
+        let change = Change {
+            header: *header,
+            seals: *seals,
+            fails: *fails,
+            keeps: *keeps,
+        };
+        if told(end_left(rt, alloc, change)) != *want {
+            let got = told(end_left(rt, alloc, change));
             if got != *want {
                 return Some((number, got));
             }

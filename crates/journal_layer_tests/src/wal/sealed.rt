@@ -90,12 +90,12 @@ fn three_torn(rt: &impl Abort, alloc: Global, choice: usize) -> Run<u64> {
     digits(rt, alloc, disk, AT_THE_END, &[531, 532, 533])
 }
 
-// Those groups stand whose two bits are set.
+// Those groups stand whose two bits are set: each has a position, and its number.
 fn three_wanted(choice: usize) -> u64 {
-    let first = number(choice % 4 == 3);
-    let second = number(choice / 4 % 4 == 3);
-    let third = number(choice / 16 % 4 == 3);
-    (first + second + third) * 1000 + first * 100 + second * 20 + third * 3
+    let first = if choice % 4 == 3 { 1100 } else { 0 };
+    let second = if choice / 4 % 4 == 3 { 1020 } else { 0 };
+    let third = if choice / 16 % 4 == 3 { 1003 } else { 0 };
+    first + second + third
 }
 
 // Two groups of two blocks each. Each has a choice of three bits.
@@ -106,11 +106,11 @@ fn two_torn(rt: &impl Abort, alloc: Global, choice: usize) -> Run<u64> {
     digits(rt, alloc, disk, AT_THE_END, &[531, 532, 533, 534])
 }
 
-// Those groups stand whose three bits are set.
+// Those groups stand whose three bits are set: each has two positions, and its numbers.
 fn two_wanted(choice: usize) -> u64 {
-    let first = number(choice % 8 == 7);
-    let second = number(choice / 8 % 8 == 7);
-    (first + second) * 20000 + first * 1200 + second * 34
+    let first = if choice % 8 == 7 { 21200 } else { 0 };
+    let second = if choice / 8 % 8 == 7 { 20034 } else { 0 };
+    first + second
 }
 
 // A group of two blocks one of whose device calls fails, the first, second, third or fourth of them: two log blocks,
@@ -127,13 +127,20 @@ fn failed(rt: &impl Abort, alloc: Global, choice: usize) -> Run<u64> {
     let Pair { tail: _, wal } = pair;
     let disk = wal.into_disk().crash(&bits(choice % 8));
     let digits = digits(rt, alloc, disk, AT_THE_END, &[531, 532])?;
-    Ok(digits * 10 + number(refused == DEVICE_FAILED))
+    Ok(
+        digits
+            .wrapping_mul(10)
+            .wrapping_add(number(refused == DEVICE_FAILED)),
+    )
 }
 
 // The group stands where all writes were made and kept. The write that fails on a disk in memory is pending.
 fn failed_wanted(choice: usize) -> u64 {
-    let whole = number(choice / 8 % 4 >= 2 && choice % 8 == 7);
-    whole * 2120 + 1
+    if choice / 8 % 4 >= 2 && choice % 8 == 7 {
+        2121
+    } else {
+        1
+    }
 }
 
 #[derive(Clone, Copy)]
