@@ -6,10 +6,12 @@
 //! for a further call, and few are kept for a client that reads none.
 //! `specs/Output.antt` says which text belongs to which input, `specs/Holding.antt` what is told of replies that are held back, and `specs/Connections.antt` when a connection ends.
 //!
-//! `run_workers` hands connections to four threads, by a queue that holds sixteen. A worker serves one connection at a
-//! time, so a peer that is slow or dead holds back its own worker alone. `serve_all` does the same, and keeps nothing of a
-//! connection that has ended. `Source` and `Connection` are what they take connections from; `Listening` takes them from a
-//! TCP port, and its connections fail where a peer is silent for long, or for some seconds while another one waits.
+//! `run_workers` hands connections to four threads, by a queue that holds sixteen. A worker serves
+//! one connection at a time, so a peer that is slow or dead holds back its own worker alone.
+//! `serve_all` does the same, and keeps nothing of a connection that has ended. `Source` and
+//! `Connection` are what they take connections from; `Listening` takes them from a TCP port, and
+//! its connections fail where a peer makes no call for long, or for some seconds while another one
+//! waits.
 #![tactic(auto)]
 
 mod connection;
@@ -29,5 +31,5 @@ pub use connection::{ConnFault, End, Served, serve};
 pub use laws::what_was_stable_stays_stable;
 pub use service::Clock;
 pub use source::{Connection, Source};
-pub use tcp::{Crowd, Listening, Peer};
+pub use tcp::{Crowd, Listening, Peer, Port};
 pub use workers::{Outcome, run_workers, serve_all};

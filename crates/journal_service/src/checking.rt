@@ -3,8 +3,11 @@ ghost use Rattle.std.specs.Prelude.{◌≡◌};
 
 use crate::fault::ServiceFault;
 use crate::file;
+use crate::file::ToCheck;
 use crate::mounting::{Tried, mount, slot_cell};
-use crate::serving::{close, print_line};
+use crate::printing::print_line;
+use crate::serving::close;
+use crate::settled::Settled;
 use journal_disk::FileDisk;
 use journal_filestore::{Fault, FileStore, Handle};
 use journal_history::{Book, Naming, Session};
@@ -22,20 +25,35 @@ const ROOT: u32 = 1;
 /// Mounts the disk in the file, and prints that it is sound, its version and how many files it has. The files are not
 /// changed, and nothing is written to the disk.
 ///
+/// Where the file may only be read, and the system locks or syncs no such file, that is told as a
+/// fault, and the disk is checked all the same.
+///
 /// Refused as a mount is: J7 `BadLog` where its log is not well formed, J8 `BadSuper` where its files are sound in no version.
-pub fn check<R: Files<File = File> + Wait, O: Write>(
+pub fn check<R: Files<File = File> + Wait, O: Write, E: Write>(
     rt: &R,
     alloc: Global,
     path: &str,
     output: &mut O,
+    faults: &mut E,
 ) -> Result<(), ServiceFault> {
-    let disk = file::open(rt, path)?;
-    match count_in::<VersionOne, R>(rt, alloc, disk)? {
-        Tried::Sound(files) => print_line(output, "sound version 1 files", files),
+    let opened = file::open_to_check(rt, path)?;
+    tell_what_lacks(&opened, path, faults);
+    match count_in::<VersionTwo, R>(rt, alloc, opened.disk)? {
+        Tried::Sound(files) => print_line(output, "sound version 2 files", files),
         Tried::Other(disk) => {
-            let files = count_in::<VersionTwo, R>(rt, alloc, disk)?.sound()?;
-            print_line(output, "sound version 2 files", files)
+            let files = count_in::<VersionOne, R>(rt, alloc, disk)?.sound()?;
+            print_line(output, "sound version 1 files", files)
         }
+    }
+}
+
+// Tells what of a check the system refused. Where this cannot be printed, there is nobody to tell.
+fn tell_what_lacks<E: Write>(opened: &ToCheck, path: &str, faults: &mut E) {
+    if !opened.is_locked {
+        let _ = writeln!(faults, "{path} is checked without a lock");
+    }
+    if !opened.is_synced {
+        let _ = writeln!(faults, "{path} is checked without a sync");
     }
 }
 
@@ -43,11 +61,11 @@ pub fn check<R: Files<File = File> + Wait, O: Write>(
 fn count_in<V: Version, W: Wait>(
     rt: &W,
     alloc: Global,
-    disk: FileDisk,
+    settled: Settled,
 ) -> Result<Tried<u64>, ServiceFault> {
     let book: Book<SoundFiles<V>> = Book::open::<()>().unwrap();
     let cell = slot_cell(alloc)?;
-    files_of::<Brand, V, W>(rt, alloc, &book, cell, disk)
+    files_of::<Brand, V, W>(rt, alloc, &book, cell, settled.disk())
 }
 
 // Mounts the disk, and answers how many files it has.

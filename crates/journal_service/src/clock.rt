@@ -4,6 +4,7 @@ ghost use Rattle.std.specs.Int.{w32, to_be_bytes};
 
 use journal_nfs3::Verifier;
 use journal_world::Moment;
+use std::io::Write;
 use std::time::{Clock, SystemTime, UNIX_EPOCH};
 
 // A moment has the seconds modulo this.
@@ -24,9 +25,25 @@ impl<'r, R: Clock> journal_server::Clock for WallClock<'r, R> {
     }
 }
 
+// The moment where the clock cannot be read.
+const UNKNOWN: Moment = Moment { secs: 0, nanos: 0 };
+
 /// The moment now, or 0 where the clock cannot be read.
 pub fn now<R: Clock>(rt: &R) -> Moment {
-    read(rt).unwrap_or(Moment { secs: 0, nanos: 0 })
+    read(rt).unwrap_or(UNKNOWN)
+}
+
+/// The moment now, of which a mount makes its verifier. Where the clock cannot be read it is 0, and
+/// that is told, since two such mounts have one verifier.
+pub fn moment_of_mount<R: Clock, E: Write>(rt: &R, faults: &mut E) -> Moment {
+    match read(rt) {
+        Some(moment) => moment,
+        None => {
+            // Where even this cannot be printed, there is nobody to tell.
+            let _ = writeln!(faults, "cannot read the clock, so that all times are 0");
+            UNKNOWN
+        }
+    }
 }
 
 // The moment now.

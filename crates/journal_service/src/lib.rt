@@ -5,8 +5,8 @@
 //! connections that come to a port of this machine. It ends by a flush, a stop, a close and a barrier, so that all commits
 //! are stable in the file then.
 //!
-//! A disk is mounted under the rule of version 1, and where that refuses it by J8 `BadSuper` under the rule of version 2: each
-//! with a book of its own, since a book is of one rule.
+//! A disk is mounted under the rule of version 2, and where that refuses it by J8 `BadSuper` under
+//! the rule of version 1: each with a book of its own, since a book is of one rule.
 //!
 //! Of what a file holds no contract says anything, since no proof can say that a file keeps what was written to it.
 #![tactic(auto)]
@@ -18,7 +18,12 @@ mod fault;
 mod file;
 mod migrating;
 mod mounting;
+mod printing;
+mod room;
 mod serving;
+mod settled;
+mod streams;
+mod system;
 
 pub use checking::check;
 pub use fault::ServiceFault;

@@ -4,7 +4,7 @@ ghost use Rattle.std.specs.Prelude.{◌≡◌};
 use crate::fault::ServiceFault;
 use crate::file;
 use crate::mounting::slot_cell;
-use crate::serving::print_line;
+use crate::settled::Settled;
 use journal_disk::FileDisk;
 use journal_history::{Book, Naming};
 use journal_inode::FormatVersion;
@@ -31,11 +31,8 @@ pub fn migrate<R: Files<File = File> + Wait, O: Write>(
     let disk = file::open(rt, path)?;
     let book: Book<EitherVersion> = Book::open::<()>().unwrap();
     let cell = slot_cell(alloc)?;
-    let mut disk = migrated::<Brand, R>(rt, alloc, &book, cell, disk)?;
-    file::sync(&mut disk)?;
-    // Whoever reads the line may use the file at once.
-    drop(disk);
-    print_line(output, "version", FormatVersion::Two.number())
+    let disk = migrated::<Brand, R>(rt, alloc, &book, cell, disk.disk())?;
+    Settled::by_barrier(disk)?.give_up(output, "version", FormatVersion::Two.number())
 }
 
 // The disk, as one of version 2.

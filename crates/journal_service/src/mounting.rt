@@ -2,6 +2,7 @@
 ghost use Rattle.std.specs.Prelude.{◌≡◌};
 
 use crate::fault::ServiceFault;
+use crate::settled::Settled;
 use journal_disk::FileDisk;
 use journal_filestore::FileStore;
 use journal_history::{Book, Naming};
@@ -16,7 +17,7 @@ pub(crate) enum Tried<T> {
     /// Its files are sound in the version, and this came of them.
     Sound(T),
     /// They are not. The disk is as it was.
-    Other(FileDisk),
+    Other(Settled),
 }
 
 impl<T: Drop> Tried<T> {
@@ -55,7 +56,7 @@ pub(crate) fn mount<'b, J: Naming, V: Version>(
                 refusal: Refusal::BadSuper,
                 disk,
             },
-        ) => Ok(Tried::Other(disk)),
+        ) => Ok(Tried::Other(Settled::unwritten(disk))),
         Err(Refused { refusal, .. }) => Err(ServiceFault::refused(refusal)),
     }
 }

@@ -5,6 +5,8 @@ use crate::clock::{WallClock, verifier_of};
 use crate::daemon::Daemon;
 use crate::fault::ServiceFault;
 use crate::mounting::{Tried, mount, slot_cell};
+use crate::printing::print_line;
+use crate::settled::Settled;
 use crate::{clock, file};
 use journal_daemon::OpenGate;
 use journal_disk::FileDisk;
@@ -36,8 +38,9 @@ pub struct Service<'w> {
     pub connections: u64,
 }
 
-/// Serves the files of the disk in the file, of either version, and prints the port before the first connection is taken,
-/// and how many were taken once all is stable and the disk is given up.
+/// Serves the files of the disk in the file, of either version, and prints the port before the
+/// first connection is taken, and how many were taken once all is stable and the disk is given up.
+/// Where the clock cannot be read, that is told as a fault, and the disk is served all the same.
 ///
 /// Refused as a mount is: J7 `BadLog` where its log is not well formed, J8 `BadSuper` where its files are sound in no version.
 pub fn serve<
@@ -48,18 +51,22 @@ pub fn serve<
         + Wait
         + Sync,
     O: Write,
->(rt: &R, alloc: Global, service: Service<'_>, output: &mut O) -> Result<(), ServiceFault> {
+    E: Write,
+>(
+    rt: &R,
+    alloc: Global,
+    service: Service<'_>,
+    output: &mut O,
+    faults: &mut E,
+) -> Result<(), ServiceFault> {
     let disk = file::open(rt, service.path)?;
-    let mut disk = match serve_in::<VersionOne, R, O>(rt, alloc, disk, service, output)? {
+    let disk = match serve_in::<VersionTwo, R, O, E>(rt, alloc, disk, service, output, faults)? {
         Tried::Sound(disk) => disk,
         Tried::Other(disk) => {
-            serve_in::<VersionTwo, R, O>(rt, alloc, disk, service, output)?.sound()?
+            serve_in::<VersionOne, R, O, E>(rt, alloc, disk, service, output, faults)?.sound()?
         }
     };
-    file::sync(&mut disk)?;
-    // Whoever reads the line may use the file at once.
-    drop(disk);
-    print_line(output, "served", service.connections)
+    Settled::by_barrier(disk)?.give_up(output, "served", service.connections)
 }
 
 // Serves the files of the disk, where they are sound in a version, and gives it up.
@@ -67,16 +74,27 @@ fn serve_in<
     V: Version + Send + Sync,
     R: Net<Listener = TcpListener, Stream = TcpStream> + Clock + Threads + Wait + Sync,
     O: Write,
+    E: Write,
 >(
     rt: &R,
     alloc: Global,
-    disk: FileDisk,
+    settled: Settled,
     service: Service<'_>,
     output: &mut O,
+    faults: &mut E,
 ) -> Result<Tried<FileDisk>, ServiceFault> {
     let book: Book<SoundFiles<V>> = Book::open::<()>().unwrap();
     let cell = slot_cell(alloc)?;
-    serve_mounted::<Brand, V, R, O>(rt, alloc, &book, cell, disk, service, output)
+    serve_mounted::<Brand, V, R, O, E>(
+        rt,
+        alloc,
+        &book,
+        cell,
+        settled.disk(),
+        service,
+        output,
+        faults,
+    )
 }
 
 // Mounts the disk, serves its files, and gives it up, with all commits stable. Of two faults the first is told.
@@ -85,6 +103,7 @@ fn serve_mounted<
     V: Version + Send + Sync,
     R: Net<Listener = TcpListener, Stream = TcpStream> + Clock + Threads + Wait + Sync,
     O: Write,
+    E: Write,
 >(
     rt: &R,
     alloc: Global,
@@ -93,17 +112,18 @@ fn serve_mounted<
     disk: FileDisk,
     service: Service<'_>,
     output: &mut O,
+    faults: &mut E,
 ) -> Result<Tried<FileDisk>, ServiceFault>
     requires book { book.now ≡ J.book }
     requires cell { cell ≡ J.cell }
     requires blocks { disk.size ≡ J.blocks }
 {
-    let moment = clock::now(rt);
     let files: FileStore<FileDisk, J, V> = match mount(alloc, book, cell, disk)? {
         Tried::Sound(files) => files,
         Tried::Other(disk) => return Ok(Tried::Other(disk)),
     };
-    let served = serve_beside_daemon(rt, alloc, &files, service, verifier_of(moment), output);
+    let verifier = verifier_of(clock::moment_of_mount(rt, faults));
+    let served = serve_beside_daemon(rt, alloc, &files, service, verifier, output);
     let closed = close(rt, files);
     served?;
     Ok(Tried::Sound(closed?))
@@ -166,7 +186,7 @@ fn listen<
     };
     print_line(output, "listening", u64::from(there.port()))?;
     let crowd = Crowd::new();
-    let source = Listening::new(listener, service.connections, &crowd);
+    let source = Listening::new(rt, listener, service.connections, &crowd);
     let clock = WallClock(rt);
     let (served, source) = serve_all(rt, alloc, source, files, &clock, verifier, &OpenGate);
     if source.has_failed() {
@@ -205,17 +225,5 @@ pub(crate) fn close<'b, J: Naming, V: Version, W: Wait>(
     match files.close(&mut session) {
         Ok(disk) => Ok(disk),
         Err(Refused { refusal, .. }) => Err(ServiceFault::refused(refusal)),
-    }
-}
-
-/// Prints a line for whoever waits for it.
-pub(crate) fn print_line<O: Write>(
-    output: &mut O,
-    word: &str,
-    number: u64,
-) -> Result<(), ServiceFault> {
-    match writeln!(output, "{word} {number}").and_then(|()| output.flush()) {
-        Ok(()) => Ok(()),
-        Err(_) => Err(ServiceFault::CannotWrite),
     }
 }

@@ -6,4 +6,4 @@ mod refusals;
 mod statuses;
 mod versions;
 
-pub(crate) use refusals::{Cause, call_while};
+pub(crate) use refusals::{Cause, call_while, fail_behind};

@@ -36,6 +36,8 @@ pub(crate) enum Wrong {
     Memory,
     // The journal refused.
     Refused,
+    // No session number is left.
+    Worn,
     // The disk has no superblock. It was handed back, and has so many blocks.
     BadSuper(u64),
 }

@@ -1,9 +1,10 @@
 // What is done with a store that another function owns.
 use crate::calls::{ask, ask_cut};
 use crate::filestore::{fill_all, storm};
-use crate::nfs3::{Cause, call_while};
+use crate::nfs3::{Cause, call_while, fail_behind};
 use crate::server::{
-    Before, Team, Visit, create_behind, serve_all, serve_team, serve_visit, write_in_one_piece,
+    Before, Broken, Team, Visit, create_behind, serve_all, serve_broken, serve_team, serve_visit,
+    serve_worn, write_in_one_piece,
 };
 use crate::stores::{Files, Told, beside};
 use journal_history::Naming;
@@ -29,6 +30,8 @@ pub(crate) enum Story {
     Create(Before),
     // Connections over memory that are served side by side.
     Team(Team),
+    // A connection where no session number is left.
+    Worn,
     // Connections over TCP.
     Visit(Visit),
 }
@@ -44,6 +47,10 @@ pub(crate) enum Errand {
     Fill,
     // A file is made, and written by calls that come in one piece.
     Moments,
+    // A file is made, and then the device fails behind the commit of each call of a table.
+    FailBehind(&'static str),
+    // A connection that makes a file and writes it, one of whose streams fails.
+    Broken(Broken),
 }
 
 pub(crate) fn tell<
@@ -59,6 +66,7 @@ pub(crate) fn tell<
         Story::Connections(table) => serve_all(rt, alloc, files, table),
         Story::Create(before) => create_behind(rt, alloc, files, before),
         Story::Team(team) => serve_team(rt, alloc, files, team),
+        Story::Worn => serve_worn(rt, alloc, files),
         Story::Visit(visit) => serve_visit(rt, alloc, files, visit),
     }
 }
@@ -74,5 +82,7 @@ pub(crate) fn run<'b, J: Naming + Send + Sync, H: Threads + Wait + Sync>(
         Errand::Storm => storm(rt, alloc, files),
         Errand::Fill => fill_all(rt, alloc, files),
         Errand::Moments => write_in_one_piece(rt, alloc, files),
+        Errand::FailBehind(table) => fail_behind(rt, alloc, files, table),
+        Errand::Broken(broken) => serve_broken(rt, alloc, files, broken),
     }
 }

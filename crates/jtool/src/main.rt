@@ -59,7 +59,7 @@ pub fn run<
     ensures script { (n : ℕ) → AsksScript (map string_bytes words.now) n → IsSize n → result ≢ 1
         → IsTranscript (I.remaining input.old) (O.contents output.old) (O.contents output.new) (result == 2) }
 {
-    match obey(rt, alloc, words, input, output) {
+    match obey(rt, alloc, words, input, output, faults) {
         Ok(()) => 0,
         Err(fault) => fault.report(faults),
     }
@@ -76,12 +76,14 @@ fn obey<
         + Sync,
     I: Read,
     O: Write,
+    E: Write,
 >(
     rt: &R,
     alloc: Global,
     words: &'w [String],
     input: &mut I,
     output: &mut O,
+    faults: &mut E,
 ) -> Result<(), Fault<'w>>
     ensures words { ((ask : Ask) → AsksFor (map string_bytes words.now) ask → ⊥)
         → IsErrAnd result (λ fault. status_of fault ≡ 2) }
@@ -91,7 +93,7 @@ fn obey<
     match Ask::read(words)? {
         Ask::Script { blocks } => answer_script(rt, alloc, blocks, input, output),
         Ask::Format { path, blocks } => format(rt, alloc, path, blocks),
-        Ask::Check { path } => check(rt, alloc, path, output),
+        Ask::Check { path } => check(rt, alloc, path, output, faults),
         Ask::Migrate { path } => migrate(rt, alloc, path, output),
         Ask::Serve {
             path,
@@ -103,7 +105,7 @@ fn obey<
                 port,
                 connections,
             };
-            serve(rt, alloc, service, output)
+            serve(rt, alloc, service, output, faults)
         }
     }
 }
@@ -142,15 +144,16 @@ fn format<'w, R: Files<File = File> + Clock>(
 }
 
 // Tells whether the disk in a file is sound.
-fn check<'w, R: Files<File = File> + Wait, O: Write>(
+fn check<'w, R: Files<File = File> + Wait, O: Write, E: Write>(
     rt: &R,
     alloc: Global,
     path: &'w str,
     output: &mut O,
+    faults: &mut E,
 ) -> Result<(), Fault<'w>>
     ensures { IfErr result (λ fault. status_of fault ≡ 1) }
 {
-    match journal_service::check(rt, alloc, path, output) {
+    match journal_service::check(rt, alloc, path, output, faults) {
         Ok(()) => Ok(()),
         Err(fault) => Err(Fault::of_disk(fault, path)),
     }
@@ -166,10 +169,17 @@ fn serve<
         + Wait
         + Sync,
     O: Write,
->(rt: &R, alloc: Global, service: Service<'w>, output: &mut O) -> Result<(), Fault<'w>>
+    E: Write,
+>(
+    rt: &R,
+    alloc: Global,
+    service: Service<'w>,
+    output: &mut O,
+    faults: &mut E,
+) -> Result<(), Fault<'w>>
     ensures { IfErr result (λ fault. status_of fault ≡ 1) }
 {
-    match journal_service::serve(rt, alloc, service, output) {
+    match journal_service::serve(rt, alloc, service, output, faults) {
         Ok(()) => Ok(()),
         Err(fault) => Err(Fault::of_disk(fault, service.path)),
     }

@@ -37,6 +37,12 @@ LOOKUP ROOT f002 = DONE 10006 0
 CREATE ROOT f003 0 NOTHING = DONE 10006 0 0
 ";
 
+// The device fails as the log is put on it, behind the commit of the write, which is done: IO, and
+// not that the client is to call again.
+const UNSURE: &str = "
+WRITE FILE 0 0 1 2 1 0xff000000 = DONE 5 0 0
+";
+
 // What is the matter as calls are made.
 #[derive(Clone, Copy)]
 pub(crate) enum Cause {
@@ -65,6 +71,18 @@ pub(crate) fn call_while<'b, J: Naming + Send + Sync, H: Threads + Wait + Sync>(
         Cause::Device => files.journal().fail_in(rt, 1),
         Cause::Stop => files.journal().stop(rt),
     }
+    ask(rt, alloc, files, table)
+}
+
+// Makes a file, and the calls of a table, whose first device call fails.
+pub(crate) fn fail_behind<'b, J: Naming, W: Wait>(
+    rt: &W,
+    alloc: Global,
+    files: &Files<'b, J>,
+    table: &str,
+) -> Told {
+    ask(rt, alloc, files, MADE)?;
+    files.journal().fail_in(rt, 1);
     ask(rt, alloc, files, table)
 }
 
@@ -106,4 +124,10 @@ fn replies_of_what_is_refused(rt: HostRuntime) {
     tells(&rt, rt.alloc(), 532, &Story::While(Cause::Slot, HELD));
     tells(&rt, rt.alloc(), 532, &Story::While(Cause::Device, FAILED));
     tells(&rt, rt.alloc(), 532, &Story::While(Cause::Stop, STOPPED));
+}
+
+#[test]
+fn a_wait_that_is_refused_is_told_as_a_fault(rt: HostRuntime) {
+    let story = Story::Beside(Errand::FailBehind(UNSURE));
+    tells(&rt, rt.alloc(), 532, &story);
 }

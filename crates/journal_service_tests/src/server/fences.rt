@@ -14,9 +14,9 @@ use std::sync::Wait;
 use std::test::*;
 
 // CREATE of a file, as a record of one fragment, and SERVERFAULT.
-const CREATE: &str = "0x8000005c CREATE ROOT f002 0 NOTHING";
+pub(super) const CREATE: &str = "0x8000005c CREATE ROOT f002 0 NOTHING";
 
-const REFUSED: &str = "0x80000024 DONE 10006 0 0";
+pub(super) const REFUSED: &str = "0x80000024 DONE 10006 0 0";
 
 // What comes before a connection.
 #[derive(Clone, Copy)]
@@ -122,7 +122,7 @@ fn ended(fails: bool, fenced: bool) -> Outcome {
     }
 }
 
-fn serve_one<'b, J: Naming, W: Wait>(
+pub(super) fn serve_one<'b, J: Naming, W: Wait>(
     rt: &W,
     alloc: Global,
     files: &Files<'b, J>,

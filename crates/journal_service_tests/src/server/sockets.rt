@@ -1,4 +1,5 @@
 // Connections over TCP on this machine.
+use super::pace::Pace;
 use super::peers::{CALL, HeldGate, Still, call_of, is_as, replies_of};
 use crate::asserts::tells;
 use crate::calls::{VERIFIER, bytes_of};
@@ -12,6 +13,7 @@ use std::net::{Net, Shutdown, SocketAddr, TcpListener, TcpStream};
 use std::sync::Wait;
 use std::test::*;
 use std::thread::{Threads, join, map_indices};
+use std::time::Duration;
 
 // Reads until the peer sends no more, or resets.
 fn hear(mut stream: &TcpStream, alloc: Global) -> Vec<u8> {
@@ -125,6 +127,46 @@ fn stay_silent<H: Net<Listener = TcpListener, Stream = TcpStream>>(
     call_once(rt, alloc, there, call)
 }
 
+// As many peers that send a byte now and then as there are workers, and one that calls. How long
+// they go on does not matter: the clock goes on a second each time that it is asked.
+fn drip<H: Net<Listener = TcpListener, Stream = TcpStream>>(
+    rt: &H,
+    alloc: Global,
+    there: SocketAddr,
+    call: &[u8],
+) -> Result<Vec<u8>, Wrong> {
+    let dripping = silent_peers(rt, alloc, there, 4)?;
+    let caller = connect(rt, there)?;
+    say(&caller, call)?;
+    match caller.set_read_timeout(Some(Duration::from_millis(20))) {
+        Ok(()) => hear_beside(alloc, &caller, &dripping),
+        Err(_) => Err(Wrong::Refused),
+    }
+}
+
+// What a caller hears while each of the others sends bytes, which are no whole call.
+fn hear_beside(
+    alloc: Global,
+    mut caller: &TcpStream,
+    dripping: &[TcpStream],
+) -> Result<Vec<u8>, Wrong> {
+    let mut heard = [0u8; 28];
+    for _ in 0..200 {
+        drip_once(dripping);
+        if caller.read_exact(&mut heard).is_ok() {
+            return Ok(heard.to_vec(alloc)?);
+        }
+    }
+    Err(Wrong::Refused)
+}
+
+// A peer whose connection was ended cannot send, which is no fault of the test's.
+fn drip_once(dripping: &[TcpStream]) {
+    for peer in dripping {
+        let _ended = send(peer, &[0]);
+    }
+}
+
 // So many peers that send nothing.
 fn silent_peers<H: Net<Listener = TcpListener, Stream = TcpStream>>(
     rt: &H,
@@ -202,6 +244,7 @@ pub(crate) enum Manner {
     CallTwice,
     LeaveEarly,
     StaySilent,
+    Drip,
     CallAtOnce,
 }
 
@@ -226,7 +269,7 @@ pub(crate) fn serve_visit<
 }
 
 // A port of this machine, and where it is.
-fn listen<H: Net<Listener = TcpListener, Stream = TcpStream>>(
+pub(super) fn listen<H: Net<Listener = TcpListener, Stream = TcpStream>>(
     rt: &H,
 ) -> Result<(TcpListener, SocketAddr), Wrong> {
     let Ok(listener) = TcpListener::bind(rt, "127.0.0.1:0") else {
@@ -284,7 +327,7 @@ fn meet<
 ) -> (Option<Vec<(u64, Outcome)>>, Result<Replies, Wrong>) {
     join(
         rt,
-        || serve_port(rt, alloc, files, listener, come.count, gate),
+        || serve_port(rt, alloc, files, listener, come, gate),
         || come_to(rt, alloc, come, gate),
     )
 }
@@ -310,6 +353,7 @@ fn come_last<H: Net<Listener = TcpListener, Stream = TcpStream>>(
 ) -> Result<Vec<u8>, Wrong> {
     match come.manner {
         Manner::LeaveEarly => leave_early(rt, alloc, come.there, come.call, come.other),
+        Manner::Drip => drip(rt, alloc, come.there, come.other),
         _ => stay_silent(rt, alloc, come.there, come.other),
     }
 }
@@ -320,11 +364,12 @@ fn serve_port<'b, J: Naming + Send + Sync, H: Threads + Wait + Sync>(
     alloc: Global,
     files: &Files<'b, J>,
     listener: TcpListener,
-    count: u64,
+    come: &Coming<'_>,
     gate: &HeldGate,
 ) -> Option<Vec<(u64, Outcome)>> {
     let crowd = Crowd::new();
-    let source = Listening::new(listener, count, &crowd);
+    let pace = Pace::new(matches!(come.manner, Manner::Drip));
+    let source = Listening::new(&pace, listener, come.count, &crowd);
     let (outcomes, _) = run_workers(rt, alloc, source, files, &Still, VERIFIER, gate);
     outcomes.ok()
 }
@@ -406,6 +451,18 @@ fn connections_that_leave_early_are_counted(rt: HostRuntime) {
 fn silent_peers_make_room(rt: HostRuntime) {
     let visit = Visit {
         manner: Manner::StaySilent,
+        sent: ("", CALL),
+        ends: &[None, None, None, None, Some((1, End::EndOfInput))],
+        replies: (0, 1),
+    };
+    tells(&rt, rt.alloc(), 532, &Story::Visit(visit));
+}
+
+// The crowd's peer is answered though the others send a byte again and again.
+#[test]
+fn dripping_peers_make_room(rt: HostRuntime) {
+    let visit = Visit {
+        manner: Manner::Drip,
         sent: ("", CALL),
         ends: &[None, None, None, None, Some((1, End::EndOfInput))],
         replies: (0, 1),

@@ -19,7 +19,7 @@ use journal_lockmap::SlotCell;
 use journal_server::{End, Outcome, Served};
 use std::alloc::Global;
 use std::io;
-use std::io::Write;
+use std::io::{Read, Write};
 use std::marker::Brand;
 use std::net::{Net, TcpListener, TcpStream};
 use std::sync::Wait;
@@ -49,11 +49,21 @@ at 5 0
 CREATE ROOT f002 0 NOTHING = DONE 0 1 FILE 1 LOOKS 0 0 USED AT_5 1 ROOT_WAS 1 ROOT_LOOKS
 ";
 
+const MADE_OF_ONE_BYTE: &str = "
+at 5 0
+CREATE ROOT f002 0 0 0 0 1 0 1 0 0 = DONE 0 1 FILE 1 LOOKS 0 1 USED AT_5 1 ROOT_WAS 1 ROOT_LOOKS
+";
+
+// So many turns a barrier is waited for that opens by itself.
+const SLOW_TURNS: u32 = 20;
+
 // What a disk, a gate and threads beside one another tell each other.
 #[derive(Drop)]
 struct Signals {
     // Barriers go through.
     is_open: AtomicBool,
+    // A barrier that does not go through opens itself after some turns.
+    is_slow: AtomicBool,
     // A barrier waited so long that it gave up.
     gave_up: AtomicBool,
     // Barriers fail.
@@ -67,6 +77,7 @@ impl Signals {
     fn new() -> Signals {
         Signals {
             is_open: AtomicBool::new(true),
+            is_slow: AtomicBool::new(false),
             gave_up: AtomicBool::new(false),
             fails: AtomicBool::new(false),
             is_kept: AtomicBool::new(true),
@@ -113,7 +124,10 @@ impl<'s> BlockDisk for GatedDisk<'s> {
 }
 
 fn wait_until_open(signals: &Signals) {
-    for _ in 0..1_000_000 {
+    for turn in 0..1_000_000u32 {
+        if turn >= SLOW_TURNS && signals.is_slow.load(Ordering::SeqCst) {
+            signals.is_open.store(true, Ordering::SeqCst);
+        }
         if signals.is_open.load(Ordering::SeqCst) {
             return;
         }
@@ -164,10 +178,34 @@ fn log_all<'s, 'b, J: Naming, W: Wait>(rt: &W, files: &Gated<'s, 'b, J>) {
     }
 }
 
-// A writer that opens the disk once it was given so many bytes.
+// A reader of two pieces, or of many, that closes the disk before each.
+#[derive(Drop)]
+struct Closer<'a> {
+    rest: &'a [u8],
+    // How many bytes the first piece has, and each further one.
+    first: usize,
+    step: usize,
+    signals: &'a Signals,
+}
+
+impl Read for Closer<'_> {
+    fn read(&mut self, buffer: &mut [u8]) -> io::Result<usize> {
+        self.signals.is_open.store(false, Ordering::SeqCst);
+        let given = self.rest.len().min(buffer.len()).min(self.first);
+        let (front, rest) = self.rest.split_at(given);
+        buffer[..given].copy_from_slice(front);
+        self.rest = rest;
+        self.first = self.step;
+        Ok(given)
+    }
+}
+
+// A writer that opens the disk once it was given so many bytes. It notes how many it had been given
+// when the disk was still closed.
 #[derive(Drop)]
 struct Opener<'s> {
     taken: Vec<u8>,
+    early: usize,
     opens_at: usize,
     signals: &'s Signals,
 }
@@ -175,6 +213,9 @@ struct Opener<'s> {
 impl Write for Opener<'_> {
     fn write(&mut self, bytes: &[u8]) -> io::Result<usize> {
         self.taken.extend_from_slice(bytes)?;
+        if !self.signals.is_open.load(Ordering::SeqCst) {
+            self.early = self.taken.len();
+        }
         if self.taken.len() >= self.opens_at {
             self.signals.is_open.store(true, Ordering::SeqCst);
         }
@@ -195,6 +236,9 @@ enum Way {
     Fails(u64),
     // All at once, and barriers wait until so many bytes are written.
     Waits(usize),
+    // So many bytes first, and then so many at a time. The barriers behind each piece take long,
+    // and so many bytes may go out before.
+    Closes(usize, usize, usize),
 }
 
 // Calls, and what they are to be answered.
@@ -230,8 +274,30 @@ fn serve_piece<'s, 'b, J: Naming, W: Wait>(
             };
             serve_behind(rt, alloc, files, session, (input, step), writer, &gate)
         }
+        Way::Closes(first, step, _) => {
+            let mut reader = Closer {
+                rest: input,
+                first,
+                step,
+                signals,
+            };
+            serve_read(rt, alloc, files, session, &mut reader, writer, &OpenGate)
+        }
         _ => serve_behind(rt, alloc, files, session, (input, step), writer, &OpenGate),
     }
+}
+
+// Serves what a reader gives, behind a gate.
+fn serve_read<'s, 'b, J: Naming, R: Read, G: Gate, W: Wait>(
+    rt: &W,
+    alloc: Global,
+    files: &Gated<'s, 'b, J>,
+    session: &mut Session<'b, J, SoundFiles>,
+    reader: &mut R,
+    writer: &mut Opener<'s>,
+    gate: &G,
+) -> Outcome {
+    serve_as(rt, alloc, reader, writer, files, session, &Still, gate, 0)
 }
 
 // Serves such bytes, so many at a time, behind a gate.
@@ -245,17 +311,7 @@ fn serve_behind<'s, 'b, J: Naming, G: Gate, W: Wait>(
     gate: &G,
 ) -> Outcome {
     let mut reader = Dripping::new(input, step, false);
-    serve_as(
-        rt,
-        alloc,
-        &mut reader,
-        writer,
-        files,
-        session,
-        &Still,
-        gate,
-        0,
-    )
+    serve_read(rt, alloc, files, session, &mut reader, writer, gate)
 }
 
 // Keeps the log while it is asked to, until all is done.
@@ -265,10 +321,16 @@ fn keeps_log<'s, 'b, J: Naming, W: Wait>(rt: &W, files: &Gated<'s, 'b, J>, signa
             return;
         }
         let is_kept = signals.is_kept.load(Ordering::SeqCst);
-        if !is_kept || !has_moved(files.journal().log_step(rt)) {
+        if !is_kept || !keeps_once(rt, files) {
             yield_now();
         }
     }
+}
+
+// A step of the log, and one that makes room. Whether either moved.
+fn keeps_once<'s, 'b, J: Naming, W: Wait>(rt: &W, files: &Gated<'s, 'b, J>) -> bool {
+    let installed = has_moved(files.journal().install_where_crowded(rt));
+    has_moved(files.journal().log_step(rt)) || installed
 }
 
 // How a piece is to end. A device that failed leaves a journal that fences nobody.
@@ -282,7 +344,12 @@ fn end_of(piece: Piece) -> Outcome {
 
 // Makes ready for a way. After how many bytes barriers go through.
 fn make_ready(signals: &Signals, way: Way) -> usize {
+    signals.is_done.store(false, Ordering::SeqCst);
     match way {
+        Way::Closes(..) => {
+            signals.is_slow.store(true, Ordering::SeqCst);
+            usize::MAX
+        }
         Way::Waits(bytes) => {
             signals.is_open.store(false, Ordering::SeqCst);
             bytes
@@ -354,6 +421,7 @@ fn tell_bytes<'s, 'b, J: Naming + Send + Sync, H: Threads + Wait + Sync>(
 ) -> Told {
     let mut writer = Opener {
         taken: Vec::new(alloc),
+        early: 0,
         opens_at: make_ready(signals, piece.way),
         signals,
     };
@@ -367,12 +435,20 @@ fn tell_bytes<'s, 'b, J: Naming + Send + Sync, H: Threads + Wait + Sync>(
         input,
         &mut writer,
     );
-    let is_written = writer.taken.as_slice() == wanted;
+    let is_written = writer.taken.as_slice() == wanted && !is_early(piece.way, writer.early);
     judge(
         outcome == end_of(piece) && is_written,
         signals,
         writer.taken.len(),
     )
+}
+
+// Whether more went out before a barrier than may.
+fn is_early(way: Way, early: usize) -> bool {
+    match way {
+        Way::Closes(_, _, free) => early > free,
+        _ => false,
+    }
 }
 
 fn judge(is_as_wanted: bool, signals: &Signals, written: usize) -> Told {
@@ -411,8 +487,39 @@ fn tell_over<'s, 'b, J: Naming + Send + Sync, H: Threads + Wait + Sync>(
     signals: &'s Signals,
     piece: Piece,
 ) -> Told {
+    match piece.way {
+        Way::Closes(last, _, free) => tell_cuts(rt, alloc, files, signals, piece, (last, free)),
+        _ => tell_once(rt, alloc, files, signals, piece),
+    }
+}
+
+// Tells it in a session of its own.
+fn tell_once<'s, 'b, J: Naming + Send + Sync, H: Threads + Wait + Sync>(
+    rt: &H,
+    alloc: Global,
+    files: &Gated<'s, 'b, J>,
+    signals: &'s Signals,
+    piece: Piece,
+) -> Told {
     let mut session = session_of(rt, files)?;
     tell_piece(rt, alloc, files, &mut session, signals, piece)
+}
+
+// Tells it byte by byte, and then in two pieces, cut at each place up to the last.
+fn tell_cuts<'s, 'b, J: Naming + Send + Sync, H: Threads + Wait + Sync>(
+    rt: &H,
+    alloc: Global,
+    files: &Gated<'s, 'b, J>,
+    signals: &'s Signals,
+    piece: Piece,
+    (last, free): (usize, usize),
+) -> Told {
+    for first in 0..=last {
+        let step = if first == 0 { 1 } else { last };
+        let way = Way::Closes(first.max(1), step, free);
+        tell_once(rt, alloc, files, signals, Piece { way, ..piece })?;
+    }
+    Ok(())
 }
 
 fn on_disk<H: Threads + Wait + Sync>(rt: &H, alloc: Global, disk: MemDisk, piece: Piece) -> Told
@@ -437,7 +544,11 @@ fn run<H: Threads + Wait + Net<Listener = TcpListener, Stream = TcpStream> + Syn
     alloc: Global,
     piece: Piece,
 ) -> Told {
-    match on_formatted(rt, alloc, 532, &Story::Beside(Errand::Table(MADE))) {
+    let made = match piece.way {
+        Way::Closes(..) => MADE_OF_ONE_BYTE,
+        _ => MADE,
+    };
+    match on_formatted(rt, alloc, 532, &Story::Beside(Errand::Table(made))) {
         Ok(disk) => on_disk(rt, alloc, disk, piece),
         Err(wrong) => Err(wrong),
     }
@@ -476,4 +587,26 @@ fn what_need_not_wait_goes_out_first(rt: HostRuntime) {
         way: Way::Waits(116),
     };
     wants(&rt, &run(&rt, rt.alloc(), piece), &Ok(()));
+}
+
+// No reply that waits goes out before the barrier, however the call is cut.
+#[test]
+fn one_reply_goes_out_behind_the_barrier(rt: HostRuntime) {
+    let one = Piece {
+        calls: &[WRITE],
+        replies: &[WROTE],
+        way: Way::Closes(84, 84, 0),
+    };
+    wants(&rt, &run(&rt, rt.alloc(), one), &Ok(()));
+}
+
+// The same where several wait, behind one that need not.
+#[test]
+fn several_replies_go_out_behind_the_barrier(rt: HostRuntime) {
+    let several = Piece {
+        calls: &[GET, WRITE, WRITE],
+        replies: &[GOT, WROTE, WROTE],
+        way: Way::Closes(228, 228, 116),
+    };
+    wants(&rt, &run(&rt, rt.alloc(), several), &Ok(()));
 }

@@ -2,18 +2,23 @@
 ghost use Rattle.std.specs.Prelude.{◌≡◌, IsNone, IsSome};
 
 use super::peers::{HeldGate, Still, calls_of, is_as};
-use crate::asserts::tells;
+use crate::asserts::{tells, wants};
 use crate::calls::VERIFIER;
-use crate::stores::{Files, Told, Wrong};
+use crate::stores::{Files, Told, Wrong, on_new_disk, session_of};
 use crate::stories::Story;
+use journal_daemon::OpenGate;
 use journal_history::Naming;
 use journal_server::{Connection, End, Outcome, Source, run_workers};
+use journal_world::Refusal;
 use std::alloc::Global;
 use std::io;
 use std::sync::Wait;
 use std::sync::atomic::{AtomicUsize, Ordering};
 use std::test::*;
 use std::thread::Threads;
+
+// The last number that a session may have.
+const LAST_SESSION: u64 = (1 << 62) - 1;
 
 // A peer that sends a call of NULL, and takes all that it is told.
 #[derive(Drop)]
@@ -112,6 +117,42 @@ fn serve_callers<'b, J: Naming + Send + Sync, H: Threads + Wait + Sync>(
     outcomes.ok()
 }
 
+// Serves a caller where no session number is left, which is told by J11. The store cannot be closed
+// then.
+pub(crate) fn serve_worn<'b, J: Naming + Send + Sync, H: Threads + Wait + Sync>(
+    rt: &H,
+    alloc: Global,
+    files: &Files<'b, J>,
+) -> Told {
+    let mut session = session_of(rt, files)?;
+    if files
+        .journal()
+        .fence(rt, &mut session, LAST_SESSION)
+        .is_err()
+    {
+        return Err(Wrong::Refused);
+    }
+    let call = calls_of(alloc, 1)?;
+    judge_worn(rt, alloc, files, &call)
+}
+
+fn judge_worn<'b, J: Naming + Send + Sync, H: Threads + Wait + Sync>(
+    rt: &H,
+    alloc: Global,
+    files: &Files<'b, J>,
+    call: &[u8],
+) -> Told {
+    let callers = Callers {
+        call,
+        wanted: 1,
+        given: 0,
+    };
+    match run_workers(rt, alloc, callers, files, &Still, VERIFIER, &OpenGate).0 {
+        Err(Refusal::Worn(_)) => Err(Wrong::Worn),
+        _ => Ok(()),
+    }
+}
+
 // Whether each of so many connections has one outcome: its call was answered, and it ended.
 fn is_each_answered(outcomes: &[(u64, Outcome)], count: usize) -> bool {
     for number in 0..count as u64 {
@@ -140,4 +181,11 @@ fn each_connection_has_an_outcome(rt: HostRuntime) {
         is_held: false,
     };
     tells(&rt, rt.alloc(), 532, &Story::Team(team));
+}
+
+// Where the numbers of sessions are used up the workers say so, and not that memory was refused.
+#[test]
+fn workers_tell_that_sessions_are_worn(rt: HostRuntime) {
+    let told = on_new_disk(&rt, rt.alloc(), 532, &Story::Worn);
+    wants(&rt, &told, &Err(Wrong::Worn));
 }

@@ -23,10 +23,16 @@ const INODE_2: u64 = INODE_1 + 128;
 
 const INODE_3: u64 = INODE_2 + 128;
 
+/// The last inode, which is a file's too.
+const INODE_511: u64 = INODE_1 + 510 * 128;
+
 const FIRST_DATA: u64 = 531 * 4096;
 
 /// The inode of a file of generation 1 that has one byte in block 531.
 const FILE: &[u8] = &[2, 0, 0, 0, 1, 0, 0, 0, 1, 0, 0, 0, 0, 0, 0, 0, 0x13, 0x02];
+
+/// The same in block 532.
+const NEXT_FILE: &[u8] = &[2, 0, 0, 0, 1, 0, 0, 0, 1, 0, 0, 0, 0, 0, 0, 0, 0x14, 0x02];
 
 /// The same of a file that has 4097 bytes, in the blocks 531 and 532.
 const LONG_FILE: &[u8] = &[
@@ -47,6 +53,13 @@ pub(super) const OLDER: Change = (SUPERBLOCK + 8, &[1]);
 
 /// What makes that inode a file's of two blocks, in version 2.
 const TWO_BLOCKS: &[Change] = &[(INODE_2, LONG_FILE), (BITMAP, &[3])];
+
+/// What makes the last inode a file's too.
+const LAST_FILE: &[Change] = &[
+    (INODE_511, NEXT_FILE),
+    (BITMAP, &[3]),
+    (FIRST_DATA + 4096, b"b"),
+];
 
 /// Each leaves files that are not sound in either version of a disk of 600 blocks with a file of one byte.
 const UNSOUND: &[Change] = &[
@@ -192,11 +205,15 @@ fn are_same(before: &[u8], after: &[u8]) -> bool {
 
 /// A disk, with a file of one byte, then of two blocks, and then in version 1; each that is not sound; and one whose log is
 /// none.
-static CHECKED: [Step; 16] = [
+static CHECKED: [Step; 20] = [
     Step::Format("600"),
     Step::Check("sound version 2 files 0\n", "", 0),
     Step::Make(ONE_FILE),
     Step::Leave("sound version 2 files 1\n"),
+    Step::Make(LAST_FILE),
+    Step::Leave("sound version 2 files 2\n"),
+    Step::Format("600"),
+    Step::Make(ONE_FILE),
     Step::Make(TWO_BLOCKS),
     Step::Leave("sound version 2 files 1\n"),
     Step::Format("600"),

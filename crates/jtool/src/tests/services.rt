@@ -83,6 +83,8 @@ const NO_SPACE: &[u32] = &[0x8000_0024, 3, 1, 0, 0, 0, 0, 28, 0, 0];
 /// That it was made, NFS3_OK, and with which handle.
 const MADE: &[u32] = &[0x8000_00fc, 2, 1, 0, 0, 0, 0, 0, 1, 12, 0x4a4e_4c31, 2, 1];
 
+const MADE_F003: &[u32] = &[0x8000_00fc, 3, 1, 0, 0, 0, 0, 0, 1, 12, 0x4a4e_4c31, 3, 1];
+
 /// WRITE UNSTABLE of one byte at the front of the first file (RFC 1813, section 3.3.7).
 const WRITE: &[u32] = &[
     0x8000_0050,
@@ -134,6 +136,10 @@ const READ_BYTE: &[u32] = &[1, 1, 1, 0x6100_0000];
 
 /// Its header, the status, that there are attributes, these, and what was read, of which all are words.
 const READ_REPLY_BYTES: usize = 4 * (7 + 1 + 1 + 21 + 4);
+
+/// Where the seconds of the file's last change stand in it: behind seventeen words of the
+/// attributes.
+const READ_SECS: usize = 4 * (7 + 1 + 1 + 17);
 
 fn bytes_of(alloc: Global, words: &[u32]) -> Result<Vec<u8>, AllocError> {
     let mut bytes = Vec::new(alloc);
@@ -256,10 +262,22 @@ fn call_once<R: Net<Listener = TcpListener, Stream = TcpStream> + Clock>(
     bytes: &[u8],
 ) -> Option<Vec<u8>> {
     let stream = connect(rt, port)?;
-    if sends(&stream, bytes) {
+    if !is_heard_elsewhere(rt, port) && sends(&stream, bytes) {
         hear(&stream, alloc)
     } else {
         None
+    }
+}
+
+/// Whether the port takes connections at another address of this machine, which the system gives to
+/// it alone (RFC 1122, section 3.2.1.3). The service listens on 127.0.0.1 only.
+fn is_heard_elsewhere<R: Net<Listener = TcpListener, Stream = TcpStream>>(
+    rt: &R,
+    port: &AtomicU32,
+) -> bool {
+    match u16::try_from(port.load(Ordering::SeqCst)) {
+        Ok(port) => TcpStream::connect(rt, (Ipv4Addr::new(127, 0, 0, 2), port)).is_ok(),
+        Err(_) => false,
     }
 }
 
@@ -479,6 +497,13 @@ const CREATES_NO_MORE: Exchange = Exchange {
     is_whole: true,
 };
 
+const CREATES_ANOTHER: Exchange = Exchange {
+    peers: ONE_PEER,
+    call: CREATE_F003,
+    reply: MADE_F003,
+    is_whole: false,
+};
+
 /// A disk, and two files in two services, of which there is room for one.
 static SERVED_TWICE: [Step; 4] = [
     Step::MakeDisk,
@@ -490,6 +515,24 @@ static SERVED_TWICE: [Step; 4] = [
 #[test]
 fn what_was_served_is_there_again(rt: HostRuntime) -> Result<(), Fail> {
     at_path(&rt, rt.alloc(), "palkhuveg-served-disk", &SERVED_TWICE)
+}
+
+/// The same where there is room for both, each of which gets a block of its own.
+static SERVED_WITH_ROOM: [Step; 4] = [
+    Step::Format("533"),
+    Step::Answer(CREATES),
+    Step::Answer(CREATES_ANOTHER),
+    Step::Check("sound version 2 files 2\n", "", 0),
+];
+
+#[test]
+fn a_service_knows_which_blocks_are_taken(rt: HostRuntime) -> Result<(), Fail> {
+    at_path(
+        &rt,
+        rt.alloc(),
+        "palkhuveg-disk-with-room",
+        &SERVED_WITH_ROOM,
+    )
 }
 
 /// The same of a disk that is made one of version 1. It stays one.
@@ -537,7 +580,8 @@ fn serves_write<
     verifier_in(rt, &heard)
 }
 
-/// Reads and writes it in a service. Wants that what was written is read, and answers the verifier.
+/// Reads and writes it in a service. Wants that what was written is read, and answers the second in
+/// which it was, and the verifier.
 fn serves_read<
     H: Abort
         + Files<File = File>
@@ -546,11 +590,18 @@ fn serves_read<
         + Threads
         + Wait
         + Sync,
->(rt: &H, alloc: Global, path: &str) -> Result<u64, Fail> {
+>(rt: &H, alloc: Global, path: &str) -> Result<(u32, u64), Fail> {
     let sent = joined(alloc, READ, WRITE)?;
     let heard = calls(rt, alloc, path, ONE_PEER, &sent)?;
     has_read(rt, alloc, &heard)?;
-    verifier_in(rt, &heard)
+    let secs = secs_in(&heard).ok_or("seconds")?;
+    Ok((secs, verifier_in(rt, &heard)?))
+}
+
+/// The seconds of the file's last change.
+fn secs_in(heard: &[u8]) -> Option<u32> {
+    let (_, behind) = heard.split_at_checked(READ_SECS)?;
+    Some(u32::from_be_bytes(*behind.first_chunk::<4>()?))
 }
 
 /// Wants that the byte that was written is what the reply to READ ends with.
@@ -568,6 +619,7 @@ fn is_read(heard: &[u8], wanted: &[u8]) -> bool {
 }
 
 /// Writes in one service of a new disk, and reads in the next one, which tells another verifier.
+/// The file was changed between the two mounts.
 pub(super) fn writes_and_reads<
     H: Abort
         + Files<File = File>
@@ -578,9 +630,15 @@ pub(super) fn writes_and_reads<
         + Sync,
 >(rt: &H, alloc: Global, path: &str) -> Result<(), Fail> {
     let first = serves_write(rt, alloc, path)?;
-    let second = serves_read(rt, alloc, path)?;
+    let (secs, second) = serves_read(rt, alloc, path)?;
     wants(rt, &(first != second), &true);
+    wants(rt, &is_between(first, secs, second), &true);
     Ok(())
+}
+
+/// Whether a moment is between two mounts, whose verifiers begin with their seconds.
+fn is_between(first: u64, secs: u32, second: u64) -> bool {
+    first >> 32 <= u64::from(secs) && u64::from(secs) <= second >> 32
 }
 
 static WRITTEN: [Step; 2] = [Step::MakeDisk, Step::WriteAndRead];
@@ -618,6 +676,77 @@ fn are_ones(bytes: &[u8]) -> bool {
     true
 }
 
+/// Wants that the log of a disk of 533 blocks and its blocks for files are all zeros.
+pub(super) fn is_as_new<R: Abort + Files<File = File> + AllocGlobal>(
+    rt: &R,
+    path: &str,
+) -> Result<(), Fail> {
+    let bytes = fs::read(rt, path)?;
+    let found = (
+        are_zeros(&bytes, 0, 513 * 4096),
+        are_zeros(&bytes, 531 * 4096, 533 * 4096),
+    );
+    wants(rt, &found, &(true, true));
+    Ok(())
+}
+
+fn are_zeros(bytes: &[u8], first: usize, end: usize) -> bool {
+    match bytes.get(first..end) {
+        Some(part) => are_all_zeros(part),
+        None => false,
+    }
+}
+
+fn are_all_zeros(bytes: &[u8]) -> bool {
+    for byte in bytes {
+        if *byte != 0 {
+            return false;
+        }
+    }
+    true
+}
+
+/// A disk whose log was used and that has bytes in a block for files, and that is formatted again.
+static FORMATTED_AGAIN: [Step; 6] = [
+    Step::Format("533"),
+    Step::Answer(CREATES),
+    Step::Make(&[(532 * 4096 + 1, b"old")]),
+    Step::Format("533"),
+    Step::AsNew,
+    Step::Check("sound version 2 files 0\n", "", 0),
+];
+
+#[test]
+fn nothing_is_left_behind_a_format(rt: HostRuntime) -> Result<(), Fail> {
+    at_path(
+        &rt,
+        rt.alloc(),
+        "palkhuveg-disk-made-again",
+        &FORMATTED_AGAIN,
+    )
+}
+
+/// Says that the file may only be read.
+pub(super) fn may_only_be_read<H: Files<File = File>>(rt: &H, path: &str) -> io::Result<()> {
+    let mut rights = fs::metadata(rt, path)?.permissions();
+    rights.set_readonly(true);
+    fs::set_permissions(rt, path, rights)
+}
+
+/// A disk that is checked though its file may only be read. Where the tests run as who may write to
+/// each file, it is checked as any other.
+static READ_ONLY: [Step; 4] = [
+    Step::Format("532"),
+    Step::Answer(CREATES),
+    Step::MayOnlyBeRead,
+    Step::Leave("sound version 2 files 1\n"),
+];
+
+#[test]
+fn a_disk_that_may_only_be_read_is_checked(rt: HostRuntime) -> Result<(), Fail> {
+    at_path(&rt, rt.alloc(), "palkhuveg-read-only-disk", &READ_ONLY)
+}
+
 static PLACED: [Step; 2] = [Step::Format("532"), Step::Bits];
 
 #[test]
@@ -625,7 +754,8 @@ fn each_block_stands_at_its_place(rt: HostRuntime) -> Result<(), Fail> {
     at_path(&rt, rt.alloc(), "palkhuveg-placed-disk", &PLACED)
 }
 
-/// Locks the disk, as who serves it does, and wants that it is refused to who serves it too and to who formats it.
+/// Locks the disk, as who serves it does or as who reads it, and wants that it is refused to
+/// whoever may write to it.
 pub(super) fn is_refused_to_others<
     H: Abort
         + Files<File = File>
@@ -636,9 +766,15 @@ pub(super) fn is_refused_to_others<
         + Sync,
 >(rt: &H, alloc: Global, path: &str) -> Result<(), Fail> {
     let file = OpenOptions::new().read(true).write(true).open(rt, path)?;
-    let locked = os::try_lock_range(file.as_raw_fd(), os::RangeLock::Exclusive, 0, 4096);
-    wants(rt, &locked, &0);
+    takes_lock(rt, &file, os::RangeLock::Exclusive);
+    is_refused(rt, alloc, path)?;
+    takes_lock(rt, &file, os::RangeLock::Shared);
     is_refused(rt, alloc, path)
+}
+
+fn takes_lock(rt: &impl Abort, file: &File, kind: os::RangeLock) {
+    let locked = os::try_lock_range(file.as_raw_fd(), kind, 0, 4096);
+    wants(rt, &locked, &0);
 }
 
 fn is_refused<
@@ -665,6 +801,7 @@ fn are_refused<
 >(rt: &H, alloc: Global, path: &str, faults: &str) -> Result<(), Fail> {
     begins(rt, alloc, &["serve", path, "0", "0"], faults, 1)?;
     begins(rt, alloc, &["check", path], faults, 1)?;
+    begins(rt, alloc, &["migrate", path], faults, 1)?;
     begins(rt, alloc, &["format", path, "533"], faults, 1)
 }
 

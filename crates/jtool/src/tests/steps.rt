@@ -2,8 +2,8 @@
 
 use super::checks::{Change, is_left, make, none_is_sound};
 use super::services::{
-    Exchange, ends, finds_port_in_use, has_bits, is_answered, is_refused_to_others, makes_disk,
-    set_length, writes_and_reads,
+    Exchange, ends, finds_port_in_use, has_bits, is_answered, is_as_new, is_refused_to_others,
+    makes_disk, may_only_be_read, set_length, writes_and_reads,
 };
 use super::{begins, run_with, told_so};
 use std::alloc::Global;
@@ -39,6 +39,10 @@ pub(super) enum Step {
     NoneIsSound(&'static [Change], &'static [Change]),
     /// The block of the bits is as it should be.
     Bits,
+    /// The log and the blocks for files are all zeros.
+    AsNew,
+    /// The file may only be read from then on.
+    MayOnlyBeRead,
     /// A service answers so.
     Answer(Exchange),
     /// What was written in one service is read in the next.
@@ -127,6 +131,8 @@ fn do_once<
         Step::Leave(line) => is_left(rt, alloc, path, line),
         Step::NoneIsSound(changes, others) => none_is_sound(rt, alloc, path, changes, others),
         Step::Bits => has_bits(rt, path),
+        Step::AsNew => is_as_new(rt, path),
+        Step::MayOnlyBeRead => Ok(may_only_be_read(rt, path)?),
         Step::Answer(exchange) => is_answered(rt, alloc, path, exchange),
         Step::WriteAndRead => writes_and_reads(rt, alloc, path),
         Step::RefuseToOthers => is_refused_to_others(rt, alloc, path),
