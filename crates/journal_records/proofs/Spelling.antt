@@ -1,0 +1,329 @@
+-- The laws of requests and answers.
+use Rattle.std.proofs.Common.{◌≡◌, ℕ, ◌+◌, ◌*◌, ◌≤◌, ◌==◌, Bool, true, false, cond, List, [], ◌∷◌, ◌++◌, length, Option, Some, None, Err, refl, sym, ap, ◌∙◌, arith, rules}
+use Rattle.std.specs.List.{flat_map, AllByRecursion}
+use Rattle.std.specs.Prelude.{IsSomeAnd}
+use Rattle.std.proofs.lemmas.List.{length-append, append-nil}
+use Rattle.std.proofs.lemmas.Bool.{eqb-true}
+use Rattle.journal_world.specs.declared.address.Addr.{Addr}
+use Rattle.journal_xdr.specs.Items.{Item, ◌>>=◌, pair, only, variant, IsGrammar}
+use Rattle.journal_xdr.specs.ItemLaws.{bind_some, some_is, pair_laws, made_laws, coded_laws, tagged_laws, only_laws, variant_laws}
+use Rattle.journal_xdr.specs.Basic.{word, hyper, boolean, opaque}
+use Rattle.journal_xdr.specs.BasicLaws.{word_laws, hyper_laws, boolean_laws, opaque_laws, enumeration_laws, length-word, length-hyper, opaque_short}
+use Rattle.journal_records.specs.declared.limits.TheConstants.{PARTS, ADDRESSES, VALUE_BYTES, RECORD_BYTES}
+use Rattle.journal_records.specs.declared.operation.Operation.{Operation}
+use Rattle.journal_records.specs.declared.operation.Operation.TheVariants as operations
+use Rattle.journal_records.specs.declared.refused.Refused as reason
+use Rattle.journal_records.specs.declared.request.Part.{Part}
+use Rattle.journal_records.specs.Operations.{operation, operation_of, operation_number, operation_back, action, action_of, action_number, action_back}
+use Rattle.journal_records.specs.Statuses.{refused_of, refused_number, refused_back}
+use Rattle.journal_records.specs.Arrays.{array, several}
+use Rattle.journal_records.specs.Requests.{Message, value, address, part, request, request_arm, operation_asked}
+use Rattle.journal_records.specs.Requests as asked
+use Rattle.journal_records.specs.Answers.{Told, Status, Done, NotSure, NotDone, status, status_of, status_number, done, done_arm, operation_told, answer, answer_arm, status_told}
+use Rattle.journal_records.specs.Answers as told
+use Rattle.journal_records.specs.Frames.{IsShort}
+use Rattle.journal_records.specs.Readings.{AsksUnknown, SpellsNone, IsSpelling, Reads, ReadsRequest, ReadsAnswer}
+use Rattle.journal_records.specs.declared.fault.ReadFault.{ReadFault}
+use Rattle.journal_records.specs.declared.fault.ReadFault.TheVariants as fault
+use Rattle.journal_records.specs.Requests.{message_of}
+use Rattle.journal_records.specs.Answers.{told_of}
+use Rattle.journal_records.proofs.Lists.{array_laws}
+
+abbrev some_of : {T : Type 0} → T × List ℕ → Option (T × List ℕ)
+some_of x = Some x
+
+-- ---- the tag of a variant's values
+
+variant_tag : {A T X : Type 0} (a : Item A) (make : A → T) (part : T → Option A) (tag_of : T → X) (x : X) → ((v : T) (p : A) → part v ≡ Some p → make p ≡ v) → ((p : A) → tag_of (make p) ≡ x)
+    → (v : T) → (variant a make part).Has v → tag_of v ≡ x
+variant_tag {A} {T} a make part tag_of x back is v has = at (part v) refl has
+  where
+    at : (found : Option A) → part v ≡ found → IsSomeAnd found a.Has → tag_of v ≡ x
+    at (Some p) found has = ap tag_of (sym (back v p found)) ∙ is p
+    at None found has = absurd has
+
+only_tag : {T X : Type 0} (one : T) (tag_of : T → X) (v : T) → (only one).Has v → tag_of v ≡ tag_of one
+only_tag one tag_of v has = ap tag_of has
+
+-- ---- requests
+
+value_laws : IsGrammar value
+unfolding value
+value_laws = opaque_laws VALUE_BYTES
+
+address_laws : IsGrammar address
+unfolding address
+address_laws = made_laws _ _ _ (pair_laws _ _ hyper_laws word_laws) (λ p. refl) (λ a. refl)
+
+action_laws : IsGrammar action
+action_laws = enumeration_laws action_of action_number action_back
+
+part_laws : IsGrammar part
+unfolding part
+part_laws = made_laws _ _ _ (pair_laws _ _ action_laws (pair_laws _ _ address_laws value_laws)) (λ p. refl) (λ a. refl)
+
+operation_laws : IsGrammar operation
+operation_laws = enumeration_laws operation_of operation_number operation_back
+
+hello_is : (m : Message) (p : ℕ) → asked.hello_part m ≡ Some p → asked.Hello p ≡ m
+hello_is (asked.Hello version) p e = cc
+hello_is _ p e = absurd cc
+
+commit_is : (m : Message) (p : Bool × List Part) → asked.commit_part m ≡ Some p → asked.Commit p.1 p.0 ≡ m
+commit_is (asked.Commit parts waits) p e = let is = some_is (waits, parts) p e in rw (← is) refl
+commit_is _ p e = absurd cc
+
+read_is : (m : Message) (p : List Addr) → asked.read_part m ≡ Some p → asked.Read p ≡ m
+read_is (asked.Read addresses) p e = cc
+read_is _ p e = absurd cc
+
+request_arm_laws : (o : Operation) → IsGrammar (request_arm o)
+request_arm_laws operations.Hello = variant_laws _ _ _ word_laws (λ p. refl) hello_is
+request_arm_laws operations.Commit = variant_laws _ _ _ (pair_laws _ _ boolean_laws (array_laws PARTS part part_laws)) (λ p. refl) commit_is
+request_arm_laws operations.Read = variant_laws _ _ _ (array_laws ADDRESSES address address_laws) (λ p. refl) read_is
+request_arm_laws operations.Flush = only_laws asked.Flush
+request_arm_laws operations.Stat = only_laws asked.Stat
+request_arm_laws operations.Stop = only_laws asked.Stop
+
+request_arm_is : (o : Operation) (m : Message) → (request_arm o).Has m → operation_asked m ≡ o
+request_arm_is operations.Hello = variant_tag word (λ version. asked.Hello version) asked.hello_part operation_asked operations.Hello hello_is (λ p. refl)
+request_arm_is operations.Commit = variant_tag (pair boolean (array PARTS part)) (λ p. asked.Commit p.1 p.0) asked.commit_part operation_asked operations.Commit commit_is (λ p. refl)
+request_arm_is operations.Read = variant_tag (array ADDRESSES address) (λ addresses. asked.Read addresses) asked.read_part operation_asked operations.Read read_is (λ p. refl)
+request_arm_is operations.Flush = only_tag asked.Flush operation_asked
+request_arm_is operations.Stat = only_tag asked.Stat operation_asked
+request_arm_is operations.Stop = only_tag asked.Stop operation_asked
+
+pub request_laws : IsGrammar request
+unfolding request
+request_laws = tagged_laws operation request_arm operation_asked operation_laws request_arm_laws request_arm_is
+
+-- what begins with a number of no operation is no request
+unknown_word : (bytes : List ℕ) → AsksUnknown bytes → operation.reading bytes ≡ None
+unknown_word bytes unknown =
+    ap (λ (o : Option (ℕ × List ℕ)). o >>= λ x. operation_of x.0 >>= λ v. Some (v, x.1)) (ap word.reading unknown.2.parts ∙ word_laws.again unknown.0 unknown.1 unknown.2.has)
+    ∙ ap (λ (o : Option Operation). o >>= λ v. Some (v, unknown.1)) unknown.3
+
+pub unknown_reads_none : (bytes : List ℕ) → AsksUnknown bytes → request.reading bytes ≡ None
+unfolding request
+unknown_reads_none bytes unknown = ap (λ (o : Option (Operation × List ℕ)). o >>= λ x. (request_arm x.0).reading x.1) (unknown_word bytes unknown)
+
+-- what is spelled is read, with nothing behind it
+pub spelling_reads : {T : Type 0} (item : Item T) → IsGrammar item → (bytes : List ℕ) (v : T) → IsSpelling item bytes v → item.reading bytes ≡ Some (v, [])
+spelling_reads item laws bytes v is = ap item.reading (is.1 ∙ sym (append-nil (item.spelling v))) ∙ laws.again v [] is.0
+
+pub unknown_is_none : (bytes : List ℕ) → AsksUnknown bytes → SpellsNone request bytes
+unknown_is_none bytes unknown m is = absurd (let a = unknown_reads_none bytes unknown in let b = spelling_reads request request_laws bytes m is in cc)
+
+-- ---- what was read of a request
+
+-- the operation's number stands at the front
+operation_read : (bytes rest : List ℕ) (n : ℕ) (o : Operation) → word.reading bytes ≡ Some (n, rest) → operation_of n ≡ Some o → operation.reading bytes ≡ Some (o, rest)
+operation_read bytes rest n o number is =
+    ap (λ (w : Option (ℕ × List ℕ)). w >>= λ x. operation_of x.0 >>= λ v. Some (v, x.1)) number ∙ ap (λ (m : Option Operation). m >>= λ v. Some (v, rest)) is
+
+request_read : (bytes rest : List ℕ) (n : ℕ) (o : Operation) → word.reading bytes ≡ Some (n, rest) → operation_of n ≡ Some o → request.reading bytes ≡ (request_arm o).reading rest
+unfolding request
+request_read bytes rest n o number is = ap (λ (w : Option (Operation × List ℕ)). w >>= λ x. (request_arm x.0).reading x.1) (operation_read bytes rest n o number is)
+
+pub no_request : (bytes : List ℕ) → request.reading bytes ≡ None → SpellsNone request bytes
+no_request bytes none m is = absurd (let b = spelling_reads request request_laws bytes m is in cc)
+
+known : (bytes rest : List ℕ) (n : ℕ) (o : Operation) → word.reading bytes ≡ Some (n, rest) → operation_of n ≡ Some o → ¬ (AsksUnknown bytes)
+known bytes rest n o number is unknown =
+    let a = operation_read bytes rest n o number is in
+    let b = unknown_word bytes unknown in
+    absurd cc
+
+-- no number stands there
+no_operation : (bytes : List ℕ) → word.reading bytes ≡ None → operation.reading bytes ≡ None
+no_operation bytes none = ap (λ (w : Option (ℕ × List ℕ)). w >>= λ x. operation_of x.0 >>= λ v. Some (v, x.1)) none
+
+no_number : (bytes : List ℕ) → word.reading bytes ≡ None → request.reading bytes ≡ None
+unfolding request
+no_number bytes none = ap (λ (w : Option (Operation × List ℕ)). w >>= λ x. (request_arm x.0).reading x.1) (no_operation bytes none)
+
+word_known : (bytes : List ℕ) → word.reading bytes ≡ None → ¬ (AsksUnknown bytes)
+word_known bytes none unknown = absurd (let a = ap word.reading unknown.2.parts ∙ word_laws.again unknown.0 unknown.1 unknown.2.has in cc)
+
+pub no_word : (bytes : List ℕ) → word.reading bytes ≡ None → SpellsNone request bytes × ¬ (AsksUnknown bytes)
+no_word bytes none = (no_request bytes (no_number bytes none), word_known bytes none)
+
+-- what stands behind the number is not read
+pub asked_fault : (bytes rest new : List ℕ) (n : ℕ) (o : Operation) (why : ReadFault) → word.reading bytes ≡ Some (n, rest) → operation_of n ≡ Some o
+    → Reads (request_arm o) message_of rest new (Err why) → ReadsRequest bytes (Err why)
+asked_fault bytes rest new n o fault.NoMemory number is reads = tt
+asked_fault bytes rest new n o fault.UnknownOperation number is reads = absurd reads
+asked_fault bytes rest new n o fault.Malformed number is reads = (no_request bytes (request_read bytes rest n o number is ∙ reads), known bytes rest n o number is)
+
+-- it is read whole
+pub whole_is_spelled : {T : Type 0} (item : Item T) → IsGrammar item → (bytes : List ℕ) (m : T) → item.reading bytes ≡ Some (m, []) → IsSpelling item bytes m
+whole_is_spelled item laws bytes m is = let s = laws.takes bytes (m, []) is in (s.has, s.parts ∙ append-nil (item.spelling m))
+
+pub asked_whole : (bytes rest new : List ℕ) (n : ℕ) (o : Operation) (m : Message) → word.reading bytes ≡ Some (n, rest) → operation_of n ≡ Some o
+    → (request_arm o).reading rest ≡ Some (m, new) → new ≡ [] → IsSpelling request bytes m
+asked_whole bytes rest new n o m number is reads none =
+    whole_is_spelled request request_laws bytes m (request_read bytes rest n o number is ∙ reads ∙ ap (λ (r : List ℕ). some_of (m, r)) none)
+
+-- something stands behind it
+pub more_is_none : {T : Type 0} (item : Item T) → IsGrammar item → (bytes new : List ℕ) (m : T) → item.reading bytes ≡ Some (m, new) → ¬ (new ≡ []) → SpellsNone item bytes
+more_is_none item laws bytes new m reads more v is =
+    more (ap (λ p. p.1) (some_is (m, new) (v, []) (sym reads ∙ spelling_reads item laws bytes v is)))
+
+pub asked_more : (bytes rest new : List ℕ) (n : ℕ) (o : Operation) (m : Message) → word.reading bytes ≡ Some (n, rest) → operation_of n ≡ Some o
+    → (request_arm o).reading rest ≡ Some (m, new) → ¬ (new ≡ []) → SpellsNone request bytes × ¬ (AsksUnknown bytes)
+asked_more bytes rest new n o m number is reads more =
+    (more_is_none request request_laws bytes new m (request_read bytes rest n o number is ∙ reads) more, known bytes rest n o number is)
+
+-- ---- answers
+
+status_back : (n : ℕ) (s : Status) → status_of n ≡ Some s → status_number s ≡ n
+status_back n s e = at (n == 0) refl (n == 65) refl e
+  where
+    at : (zero : Bool) → (n == 0) ≡ zero → (unsure : Bool) → (n == 65) ≡ unsure → cond zero (Some Done) (cond unsure (Some NotSure) (refused_of n >>= λ why. Some (NotDone why))) ≡ Some s → status_number s ≡ n
+    at true is unsure was e = ap status_number (sym (some_is Done s e)) ∙ sym (eqb-true n 0 is)
+    at false is true was e = ap status_number (sym (some_is NotSure s e)) ∙ sym (eqb-true n 65 was)
+    at false is false was e =
+        let p = bind_some (refused_of n) (λ why. Some (NotDone why)) s e in
+        ap status_number (sym (some_is (NotDone p.0) s p.2)) ∙ refused_back n p.0 p.1
+
+status_laws : IsGrammar status
+status_laws = coded_laws word status_of status_number word_laws (λ n s h e. status_back n s e)
+
+told_hello_is : (m : Told) (p : ℕ × ℕ) → told.hello_part m ≡ Some p → told.Hello p.0 p.1 ≡ m
+told_hello_is (told.Hello a b) p e = let is = some_is (a, b) p e in rw (← is) refl
+told_hello_is _ p e = absurd cc
+
+committed_is : (m : Told) (p : ℕ × ℕ) → told.committed_part m ≡ Some p → told.Committed p.0 p.1 ≡ m
+committed_is (told.Committed a b) p e = let is = some_is (a, b) p e in rw (← is) refl
+committed_is _ p e = absurd cc
+
+values_is : (m : Told) (p : List (List ℕ)) → told.values_part m ≡ Some p → told.Values p ≡ m
+values_is (told.Values vs) p e = cc
+values_is _ p e = absurd cc
+
+flushed_is : (m : Told) (p : ℕ) → told.flushed_part m ≡ Some p → told.Flushed p ≡ m
+flushed_is (told.Flushed n) p e = cc
+flushed_is _ p e = absurd cc
+
+stat_is : (m : Told) (p : ℕ × ℕ) → told.stat_part m ≡ Some p → told.Stat p.0 p.1 ≡ m
+stat_is (told.Stat a b) p e = let is = some_is (a, b) p e in rw (← is) refl
+stat_is _ p e = absurd cc
+
+unsure_is : (m : Told) (p : ℕ × ℕ) → told.unsure_part m ≡ Some p → told.Unsure p.0 p.1 ≡ m
+unsure_is (told.Unsure a b) p e = let is = some_is (a, b) p e in rw (← is) refl
+unsure_is _ p e = absurd cc
+
+done_arm_laws : (o : Operation) → IsGrammar (done_arm o)
+done_arm_laws operations.Hello = variant_laws _ _ _ (pair_laws _ _ word_laws hyper_laws) (λ p. refl) told_hello_is
+done_arm_laws operations.Commit = variant_laws _ _ _ (pair_laws _ _ hyper_laws hyper_laws) (λ p. refl) committed_is
+done_arm_laws operations.Read = variant_laws _ _ _ (array_laws ADDRESSES value value_laws) (λ p. refl) values_is
+done_arm_laws operations.Flush = variant_laws _ _ _ hyper_laws (λ p. refl) flushed_is
+done_arm_laws operations.Stat = variant_laws _ _ _ (pair_laws _ _ hyper_laws hyper_laws) (λ p. refl) stat_is
+done_arm_laws operations.Stop = only_laws told.Stopping
+
+done_arm_is : (o : Operation) (m : Told) → (done_arm o).Has m → operation_told m ≡ o
+done_arm_is operations.Hello = variant_tag (pair word hyper) (λ p. told.Hello p.0 p.1) told.hello_part operation_told operations.Hello told_hello_is (λ p. refl)
+done_arm_is operations.Commit = variant_tag (pair hyper hyper) (λ p. told.Committed p.0 p.1) told.committed_part operation_told operations.Commit committed_is (λ p. refl)
+done_arm_is operations.Read = variant_tag (array ADDRESSES value) (λ values. told.Values values) told.values_part operation_told operations.Read values_is (λ p. refl)
+done_arm_is operations.Flush = variant_tag hyper (λ stable. told.Flushed stable) told.flushed_part operation_told operations.Flush flushed_is (λ p. refl)
+done_arm_is operations.Stat = variant_tag (pair hyper hyper) (λ p. told.Stat p.0 p.1) told.stat_part operation_told operations.Stat stat_is (λ p. refl)
+done_arm_is operations.Stop = only_tag told.Stopping operation_told
+
+done_laws : IsGrammar done
+unfolding done
+done_laws = tagged_laws operation done_arm operation_told operation_laws done_arm_laws done_arm_is
+
+-- what was done has the status of it
+done_status : (m : Told) → done.Has m → status_told m ≡ Done
+unfolding done
+done_status (told.Hello a b) has = refl
+done_status (told.Committed a b) has = refl
+done_status (told.Values vs) has = refl
+done_status (told.Flushed n) has = refl
+done_status (told.Stat a b) has = refl
+done_status told.Stopping has = refl
+done_status (told.Unsure a b) has = absurd (let e : told.Unsure a b ≡ told.Stopping = has.1 in cc)
+done_status (told.Refused why) has = absurd (let e : told.Refused why ≡ told.Stopping = has.1 in cc)
+
+answer_arm_laws : (s : Status) → IsGrammar (answer_arm s)
+answer_arm_laws Done = done_laws
+answer_arm_laws NotSure = variant_laws _ _ _ (pair_laws _ _ hyper_laws hyper_laws) (λ p. refl) unsure_is
+answer_arm_laws (NotDone why) = only_laws (told.Refused why)
+
+answer_arm_is : (s : Status) (m : Told) → (answer_arm s).Has m → status_told m ≡ s
+answer_arm_is Done m has = done_status m has
+answer_arm_is NotSure m has = variant_tag (pair hyper hyper) (λ p. told.Unsure p.0 p.1) told.unsure_part status_told NotSure unsure_is (λ p. refl) m has
+answer_arm_is (NotDone why) m has = only_tag (told.Refused why) status_told m has
+
+pub answer_laws : IsGrammar answer
+unfolding answer
+answer_laws = tagged_laws status answer_arm status_told status_laws answer_arm_laws answer_arm_is
+
+-- ---- what was read of an answer
+
+pub told_fault : (bytes new : List ℕ) (why : ReadFault) → Reads answer told_of bytes new (Err why) → ReadsAnswer bytes (Err why)
+told_fault bytes new fault.NoMemory reads = tt
+told_fault bytes new fault.UnknownOperation reads = reads
+told_fault bytes new fault.Malformed reads = λ m is. absurd (let b = spelling_reads answer answer_laws bytes m is in cc)
+
+pub told_whole : (bytes new : List ℕ) (m : Told) → answer.reading bytes ≡ Some (m, new) → new ≡ [] → IsSpelling answer bytes m
+told_whole bytes new m reads none = whole_is_spelled answer answer_laws bytes m (reads ∙ ap (λ (r : List ℕ). some_of (m, r)) none)
+
+pub told_more : (bytes new : List ℕ) (m : Told) → answer.reading bytes ≡ Some (m, new) → ¬ (new ≡ []) → SpellsNone answer bytes
+told_more bytes new m reads more = more_is_none answer answer_laws bytes new m reads more
+
+-- ---- how long answers are
+
+value_length : (bytes : List ℕ) → value.Has bytes → length (value.spelling bytes) ≤ 4103
+unfolding value opaque
+value_length bytes has =
+    let le : length bytes ≤ VALUE_BYTES = search (rules, has.0.1) in
+    omega (arith, opaque_short VALUE_BYTES bytes, le)
+
+values_length : (vs : List (List ℕ)) → AllByRecursion value.Has vs → length (flat_map value.spelling vs) ≤ 4103 * length vs
+values_length [] all = omega arith
+values_length (v ∷ vs) all = omega (arith, length-append (value.spelling v) (flat_map value.spelling vs), value_length v all.0, values_length vs all.1)
+
+array_length : (vs : List (List ℕ)) → (array ADDRESSES value).Has vs → length ((array ADDRESSES value).spelling vs) ≤ 1050372
+unfolding array several
+array_length vs has =
+    let le : length vs ≤ ADDRESSES = search (rules, has.0.1) in
+    omega (arith, length-append (word.spelling (length vs)) (flat_map value.spelling vs), length-word (length vs), values_length vs has.1.1, le)
+
+-- the spelling of a number before others
+behind_word : (n k : ℕ) (rest : List ℕ) → length rest ≤ k → length (word.spelling n ++ rest) ≤ 4 + k
+behind_word n k rest le = omega (arith, length-append (word.spelling n) rest, length-word n, le)
+
+behind_hyper : (n k : ℕ) (rest : List ℕ) → length rest ≤ k → length (hyper.spelling n ++ rest) ≤ 8 + k
+behind_hyper n k rest le = omega (arith, length-append (hyper.spelling n) rest, length-hyper n, le)
+
+hyper_length : (n : ℕ) → length (hyper.spelling n) ≤ 8
+hyper_length n = omega (arith, length-hyper n)
+
+less : (n m : ℕ) → n ≤ m → m ≤ 1050380 → n ≤ RECORD_BYTES
+less n m a b = omega (arith, a, b)
+
+pub answer_length : (m : Told) → answer.Has m → IsShort (answer.spelling m)
+unfolding answer done
+answer_length (told.Hello a b) has = less _ _ (behind_word 0 _ _ (behind_word 0 _ _ (behind_word a _ _ (hyper_length b)))) (omega arith)
+answer_length (told.Committed a b) has = less _ _ (behind_word 0 _ _ (behind_word 1 _ _ (behind_hyper a _ _ (hyper_length b)))) (omega arith)
+answer_length (told.Values vs) has = less _ _ (behind_word 0 _ _ (behind_word 2 _ _ (array_length vs has.1.1))) (omega arith)
+answer_length (told.Flushed n) has = less _ _ (behind_word 0 _ _ (behind_word 3 _ _ (hyper_length n))) (omega arith)
+answer_length (told.Stat a b) has = less _ _ (behind_word 0 _ _ (behind_word 4 _ _ (behind_hyper a _ _ (hyper_length b)))) (omega arith)
+answer_length told.Stopping has = less _ _ (behind_word 0 _ _ (behind_word 5 0 [] (omega arith))) (omega arith)
+answer_length (told.Unsure a b) has = less _ _ (behind_word 65 _ _ (behind_hyper a _ _ (hyper_length b))) (omega arith)
+answer_length (told.Refused why) has = less _ _ (behind_word (refused_number why) 0 [] (omega arith)) (omega arith)
+
+-- ---- lists that requests and answers have
+
+pub commit_has : (parts : List Part) (waits : Bool) → request.Has (asked.Commit parts waits) → (array PARTS part).Has parts
+unfolding request
+commit_has parts waits has = has.1.1
+
+pub read_has : (addresses : List Addr) → request.Has (asked.Read addresses) → (array ADDRESSES address).Has addresses
+unfolding request
+read_has addresses has = has.1
+
+pub values_has : (vs : List (List ℕ)) → answer.Has (told.Values vs) → (array ADDRESSES value).Has vs
+unfolding answer done
+values_has vs has = has.1.1

@@ -1,0 +1,142 @@
+-- The records of a stream.
+use Rattle.std.proofs.Common.{◌≡◌, ℕ, zero, suc, ◌+◌, ◌-◌, ◌<◌, ◌≤◌, inl, inr, List, [], ◌∷◌, ◌++◌, length, take, drop, get_or, Some, refl, sym, ap, ◌∙◌, append_assoc, arith}
+use Rattle.std.specs.List.{AllByRecursion}
+use Rattle.std.specs.Int.{w32, from_be_bytes}
+use Rattle.std.proofs.lemmas.List.{length-append, take-append-drop, take_at, drop_at, length-take-le}
+use Rattle.std.proofs.lemmas.Nat.{be_bytes_4}
+use Rattle.std.proofs.Math.Nat.{lt_of_not-le}
+use Rattle.journal_xdr.specs.Items.{Spelled}
+use Rattle.journal_xdr.specs.ItemLaws.{some_is}
+use Rattle.journal_xdr.specs.Basic.{word}
+use Rattle.journal_xdr.specs.BasicLaws.{word_laws, length-word}
+use Rattle.journal_records.specs.declared.limits.TheConstants.{RECORD_BYTES}
+use Rattle.journal_records.specs.Frames.{framed, frames, IsShort, BeginsTooLong, IsPartial, HasNoRecord, IsStream}
+
+pub word_has : (n : ℕ) → n ≤ RECORD_BYTES → word.Has n
+unfolding word
+word_has n le = omega (arith, le)
+
+reads_word : (bytes : List ℕ) (n : ℕ) (rest : List ℕ) → Spelled word bytes n rest → word.reading bytes ≡ Some (n, rest)
+reads_word bytes n rest s = ap word.reading s.parts ∙ word_laws.again n rest s.has
+
+reads_framed : (bytes found more : List ℕ) → IsShort found → bytes ≡ framed found ++ more → word.reading bytes ≡ Some (length found, found ++ more)
+reads_framed bytes found more short is =
+    reads_word bytes (length found) (found ++ more) (record { has = word_has (length found) short; parts = is ∙ append_assoc (word.spelling (length found)) found more })
+
+-- ---- where no record is at the front
+
+not_partial : (bytes found more : List ℕ) → IsShort found → bytes ≡ framed found ++ more → IsPartial bytes → ⊥
+not_partial bytes found more short is (inl few) =
+    let long : length bytes ≡ length (framed found) + length more = ap (λ (b : List ℕ). length b) is ∙ length-append (framed found) more in
+    absurd (omega (arith, few, long, length-append (word.spelling (length found)) found, length-word (length found)))
+not_partial bytes found more short is (inr rest) =
+    let same = some_is (rest.0, rest.1) (length found, found ++ more) (sym (reads_word bytes rest.0 rest.1 rest.2) ∙ reads_framed bytes found more short is) in
+    let size : rest.0 ≡ length found = ap (λ (p : ℕ × List ℕ). p.0) same in
+    let left : length rest.1 ≡ length (found ++ more) = ap (λ (p : ℕ × List ℕ). length p.1) same in
+    absurd (omega (arith, size, left, length-append found more, rest.4))
+
+not_too_long : (bytes found more : List ℕ) → IsShort found → bytes ≡ framed found ++ more → BeginsTooLong bytes → ⊥
+not_too_long bytes found more short is rest =
+    let same = some_is (rest.0, rest.1) (length found, found ++ more) (sym (reads_word bytes rest.0 rest.1 rest.2) ∙ reads_framed bytes found more short is) in
+    let size : rest.0 ≡ length found = ap (λ (p : ℕ × List ℕ). p.0) same in
+    absurd (omega (arith, size, short, rest.3))
+
+no_record : (bytes found more : List ℕ) → IsShort found → bytes ≡ framed found ++ more → HasNoRecord bytes → ⊥
+no_record bytes found more short is (inl partial) = not_partial bytes found more short is partial
+no_record bytes found more short is (inr long) = not_too_long bytes found more short is long
+
+-- ---- one way
+
+same_front : (xs ys more others : List ℕ) → length xs ≡ length ys → xs ++ more ≡ ys ++ others → (xs ≡ ys) × (more ≡ others)
+same_front xs ys more others size is = (
+  sym (take_at xs more (length xs) refl) ∙ ap (take (length xs)) is ∙ take_at ys others (length xs) (sym size),
+  sym (drop_at xs more (length xs) refl) ∙ ap (drop (length xs)) is ∙ drop_at ys others (length xs) (sym size),
+)
+
+same_record : (bytes x y more others : List ℕ) → IsShort x → IsShort y → bytes ≡ framed x ++ more → bytes ≡ framed y ++ others → (x ≡ y) × (more ≡ others)
+same_record bytes x y more others sx sy one other =
+    let same = some_is (length x, x ++ more) (length y, y ++ others) (sym (reads_framed bytes x more sx one) ∙ reads_framed bytes y others sy other) in
+    same_front x y more others (ap (λ (p : ℕ × List ℕ). p.0) same) (ap (λ (p : ℕ × List ℕ). p.1) same)
+
+one_way : (rs qs : List (List ℕ)) (bytes rest more : List ℕ) → AllByRecursion IsShort rs → AllByRecursion IsShort qs → HasNoRecord rest → HasNoRecord more
+    → bytes ≡ frames rs ++ rest → bytes ≡ frames qs ++ more → (rs ≡ qs) × (rest ≡ more)
+one_way [] [] bytes rest more short others ends later one other = (refl, sym one ∙ other)
+one_way [] (q ∷ qs) bytes rest more short others ends later one other =
+    absurd (no_record rest q (frames qs ++ more) others.0 (sym one ∙ other ∙ append_assoc (framed q) (frames qs) more) ends)
+one_way (r ∷ rs) [] bytes rest more short others ends later one other =
+    absurd (no_record more r (frames rs ++ rest) short.0 (sym other ∙ one ∙ append_assoc (framed r) (frames rs) rest) later)
+one_way (r ∷ rs) (q ∷ qs) bytes rest more short others ends later one other =
+    let same = same_record bytes r q (frames rs ++ rest) (frames qs ++ more) short.0 others.0 (one ∙ append_assoc (framed r) (frames rs) rest) (other ∙ append_assoc (framed q) (frames qs) more) in
+    let tail = one_way rs qs (frames rs ++ rest) rest more short.1 others.1 ends later refl same.1 in
+    (ap (λ (x : List ℕ). x ∷ rs) same.0 ∙ ap (λ (xs : List (List ℕ)). q ∷ xs) tail.0, tail.1)
+
+pub single : (bytes rest more : List ℕ) (rs qs : List (List ℕ)) → IsStream bytes rs rest → IsStream bytes qs more → (rs ≡ qs) × (rest ≡ more)
+single bytes rest more rs qs one other = one_way rs qs bytes rest more one.each other.each one.ends other.ends one.is other.is
+
+-- ---- in pieces
+
+frames-append : (rs qs : List (List ℕ)) → frames (rs ++ qs) ≡ frames rs ++ frames qs
+frames-append [] qs = refl
+frames-append (r ∷ rs) qs = ap (λ (x : List ℕ). framed r ++ x) (frames-append rs qs) ∙ sym (append_assoc (framed r) (frames rs) (frames qs))
+
+each_append : (rs qs : List (List ℕ)) → AllByRecursion IsShort rs → AllByRecursion IsShort qs → AllByRecursion IsShort (rs ++ qs)
+each_append [] qs all more = more
+each_append (r ∷ rs) qs all more = (all.0, each_append rs qs all.1 more)
+
+pub pieces : (bytes piece rest more : List ℕ) (rs qs : List (List ℕ)) → IsStream bytes rs rest → IsStream (rest ++ piece) qs more → IsStream (bytes ++ piece) (rs ++ qs) more
+pieces bytes piece rest more rs qs one later = record {
+  is = ap (λ (b : List ℕ). b ++ piece) one.is ∙ append_assoc (frames rs) rest piece ∙ ap (λ (b : List ℕ). frames rs ++ b) later.is
+      ∙ sym (append_assoc (frames rs) (frames qs) more) ∙ ap (λ (b : List ℕ). b ++ more) (sym (frames-append rs qs));
+  each = each_append rs qs one.each later.each;
+  ends = later.ends;
+}
+
+-- ---- what is found at the front
+
+front_fits : (n : ℕ) (bytes : List ℕ) → ((i : ℕ) → get_or bytes i 0 < 256) → (i : ℕ) → get_or (take n bytes) i 0 < 256
+front_fits zero bytes fits i = omega arith
+front_fits (suc n) [] fits i = omega arith
+front_fits (suc n) (b ∷ bytes) fits zero = fits 0
+front_fits (suc n) (b ∷ bytes) fits (suc i) = front_fits n bytes (λ j. fits (suc j)) i
+
+-- four bytes are a number
+word_front : (bytes : List ℕ) → ((i : ℕ) → get_or bytes i 0 < 256) → 4 ≤ length bytes → Spelled word bytes (from_be_bytes w32 (take 4 bytes)) (drop 4 bytes)
+unfolding word
+word_front bytes fits long =
+    let head = take 4 bytes in
+    let is : (i : ℕ) → get_or head i 0 < 256 = front_fits 4 bytes fits in
+    record {
+      has = omega (arith, is 0, is 1, is 2, is 3);
+      parts = sym (take-append-drop 4 bytes) ∙ ap (λ (h : List ℕ). h ++ drop 4 bytes) (sym (be_bytes_4 head (from_be_bytes w32 head) (length-take-le 4 bytes long) is refl));
+    }
+
+pub none_is_short : (bytes : List ℕ) → ((i : ℕ) → get_or bytes i 0 < 256) → ((n : ℕ) (rest : List ℕ) → ¬ (Spelled word bytes n rest)) → length bytes < 4
+none_is_short bytes fits none = lt_of_not-le (λ long. none (from_be_bytes w32 (take 4 bytes)) (drop 4 bytes) (word_front bytes fits long))
+
+-- a whole record is found
+pub found_whole : (bytes rest found : List ℕ) (n : ℕ) → Spelled word bytes n rest → n ≤ RECORD_BYTES → n ≤ length rest → found ≡ take n rest → IsShort found × ((more : List ℕ) × (bytes ≡ framed found ++ more))
+found_whole bytes rest found n s short long is =
+    let size : length found ≡ n = ap (λ (f : List ℕ). length f) is ∙ length-take-le n rest long in (
+      omega (arith, size, short),
+      (drop n rest, s.parts ∙ ap (λ k. word.spelling k ++ rest) (sym size) ∙ ap (λ (r : List ℕ). word.spelling (length found) ++ r) (sym (take-append-drop n rest) ∙ ap (λ (f : List ℕ). f ++ drop n rest) (sym is)) ∙ sym (append_assoc (word.spelling (length found)) found (drop n rest))),
+    )
+
+-- ---- what stands behind a record that is taken
+
+pub behind_record : (bytes found more : List ℕ) (n : ℕ) → bytes ≡ framed found ++ more → n ≡ 4 + length found → drop n bytes ≡ more
+behind_record bytes found more n is size =
+    ap (drop n) is ∙ drop_at (framed found) more n (length-append (word.spelling (length found)) found ∙ omega (arith, size, length-word (length found)))
+
+pub record_inside : (bytes found more : List ℕ) → bytes ≡ framed found ++ more → 4 + length found ≤ length bytes
+record_inside bytes found more is =
+    let long : length bytes ≡ length (framed found) + length more = ap (λ (b : List ℕ). length b) is ∙ length-append (framed found) more in
+    omega (arith, long, length-append (word.spelling (length found)) found, length-word (length found))
+
+-- ---- the room for a record's length
+
+pub room_length : (writer found : List ℕ) → writer ≡ word.spelling 0 ++ found → length writer ≡ 4 + length found
+room_length writer found is = ap (λ (w : List ℕ). length w) is ∙ length-append (word.spelling 0) found ∙ ap (λ k. k + length found) (length-word 0)
+
+pub room_filled : (writer found new : List ℕ) (n : ℕ) → writer ≡ word.spelling 0 ++ found → n ≡ length found → new ≡ word.spelling n ++ drop 4 writer → new ≡ framed found
+room_filled writer found new n is size put =
+    put ∙ ap (λ k. word.spelling k ++ drop 4 writer) size ∙ ap (λ (r : List ℕ). word.spelling (length found) ++ r) (ap (drop 4) is ∙ drop_at (word.spelling 0) found 4 (length-word 0))

@@ -1,0 +1,57 @@
+-- The numbers of what may be asked, and of what a part does.
+use Rattle.std.specs.Prelude.{◌≡◌, refl, ℕ, List, [], ◌∷◌, Option, Some}
+use Rattle.journal_xdr.specs.Items.{Item}
+use Rattle.journal_xdr.specs.Basic.{enumeration, listed}
+use Rattle.journal_xdr.specs.BasicLaws.{listed_back}
+use Rattle.journal_records.specs.declared.operation.Operation.{Operation}
+use Rattle.journal_records.specs.declared.operation.Operation.TheVariants.{Hello, Commit, Read, Flush, Stat, Stop}
+use Rattle.journal_records.specs.declared.request.Action.{Action}
+use Rattle.journal_records.specs.declared.request.Action.TheVariants.{Compare, Write}
+
+abbrev pub operations : List (ℕ × Operation)
+operations = (0, Hello) ∷ (1, Commit) ∷ (2, Read) ∷ (3, Flush) ∷ (4, Stat) ∷ (5, Stop) ∷ []
+
+abbrev pub operation_of : ℕ → Option Operation
+operation_of n = listed operations n
+
+abbrev pub operation_number : Operation → ℕ
+operation_number Hello = 0
+operation_number Commit = 1
+operation_number Read = 2
+operation_number Flush = 3
+operation_number Stat = 4
+operation_number Stop = 5
+
+pub operation_is : (o : Operation) → operation_of (operation_number o) ≡ Some o
+operation_is Hello = refl
+operation_is Commit = refl
+operation_is Read = refl
+operation_is Flush = refl
+operation_is Stat = refl
+operation_is Stop = refl
+
+pub operation_back : (n : ℕ) (o : Operation) → operation_of n ≡ Some o → operation_number o ≡ n
+operation_back = listed_back operation_number operations (refl, (refl, (refl, (refl, (refl, (refl, tt))))))
+
+abbrev pub operation : Item Operation
+operation = enumeration operation_of operation_number
+
+abbrev pub actions : List (ℕ × Action)
+actions = (0, Compare) ∷ (1, Write) ∷ []
+
+abbrev pub action_of : ℕ → Option Action
+action_of n = listed actions n
+
+abbrev pub action_number : Action → ℕ
+action_number Compare = 0
+action_number Write = 1
+
+pub action_is : (a : Action) → action_of (action_number a) ≡ Some a
+action_is Compare = refl
+action_is Write = refl
+
+pub action_back : (n : ℕ) (a : Action) → action_of n ≡ Some a → action_number a ≡ n
+action_back = listed_back action_number actions (refl, (refl, tt))
+
+abbrev pub action : Item Action
+action = enumeration action_of action_number

@@ -1,0 +1,68 @@
+-- What reading answers.
+use Rattle.std.specs.Prelude.{◌≡◌, ℕ, List, ◌++◌, Some, None, Result, Ok, Err}
+use Rattle.journal_xdr.specs.Items.{Item, Spelled}
+use Rattle.journal_xdr.specs.Basic.{word}
+use Rattle.journal_records.specs.declared.fault.ReadFault.{ReadFault}
+use Rattle.journal_records.specs.declared.fault.ReadFault.TheVariants as fault
+use Rattle.journal_records.specs.declared.fault.WriteFault.{WriteFault}
+use Rattle.journal_records.specs.declared.fault.WriteFault.TheVariants as refused
+use Rattle.journal_records.specs.declared.input.Front.{Front}
+use Rattle.journal_records.specs.declared.input.Front.TheVariants as front
+use Rattle.journal_records.specs.declared.input.Next.{Next}
+use Rattle.journal_records.specs.declared.input.Next.TheVariants.{Record, Partial, TooLong}
+use Rattle.journal_records.specs.declared.request.Request.{Request}
+use Rattle.journal_records.specs.declared.answer.Answer.{Answer}
+use Rattle.journal_records.specs.Operations.{operation_of}
+use Rattle.journal_records.specs.Requests.{request, message_of}
+use Rattle.journal_records.specs.Answers.{answer, told_of}
+use Rattle.journal_records.specs.Frames.{framed, IsShort, IsPartial, BeginsTooLong}
+
+-- What a reader answers, seen by view, is what the bytes read as: new is what is behind the value
+abbrev pub Reads : {T X : Type 0} → Item T → (X → T) → List ℕ → List ℕ → Result X ReadFault → Type 0
+Reads item view old new (Ok x) = item.reading old ≡ Some (view x, new)
+Reads item view old new (Err fault.Malformed) = item.reading old ≡ None
+Reads item view old new (Err fault.UnknownOperation) = ⊥
+Reads item view old new (Err fault.NoMemory) = Unit {0}
+
+-- the bytes are the value's spelling, and nothing more
+abbrev pub IsSpelling : {T : Type 0} → Item T → List ℕ → T → Type 0
+IsSpelling item bytes value = item.Has value × (bytes ≡ item.spelling value)
+
+abbrev pub SpellsNone : {T : Type 0} → Item T → List ℕ → Type 0
+SpellsNone {T} item bytes = (value : T) → ¬ (IsSpelling item bytes value)
+
+-- the bytes begin with a number that is no operation's
+abbrev pub AsksUnknown : List ℕ → Type 0
+AsksUnknown bytes = (n : ℕ) × (rest : List ℕ) × Spelled word bytes n rest × (operation_of n ≡ None)
+
+-- What reading a record as a request answers
+abbrev pub ReadsRequest : List ℕ → Result Request ReadFault → Type 0
+ReadsRequest bytes (Ok asked) = IsSpelling request bytes (message_of asked)
+ReadsRequest bytes (Err fault.UnknownOperation) = AsksUnknown bytes
+ReadsRequest bytes (Err fault.Malformed) = SpellsNone request bytes × ¬ (AsksUnknown bytes)
+ReadsRequest bytes (Err fault.NoMemory) = Unit {0}
+
+-- What reading a record as an answer answers
+abbrev pub ReadsAnswer : List ℕ → Result Answer ReadFault → Type 0
+ReadsAnswer bytes (Ok told) = IsSpelling answer bytes (told_of told)
+ReadsAnswer bytes (Err fault.UnknownOperation) = ⊥
+ReadsAnswer bytes (Err fault.Malformed) = SpellsNone answer bytes
+ReadsAnswer bytes (Err fault.NoMemory) = Unit {0}
+
+-- What is taken from the front of a stream, where reading says what a record reads as: a whole record, or
+-- nothing, where none is whole or the next is too long
+abbrev pub Takes : {X : Type 0} → (List ℕ → Result X ReadFault → Type 0) → List ℕ → List ℕ → Next X → Type 0
+Takes reading old new (Record found) = (bytes : List ℕ) × IsShort bytes × (old ≡ framed bytes ++ new) × reading bytes found
+Takes reading old new Partial = (new ≡ old) × IsPartial old
+Takes reading old new TooLong = (new ≡ old) × BeginsTooLong old
+
+-- it is refused since no record can hold it
+abbrev pub IsTooLong : {X : Type 0} → Result X WriteFault → Type 0
+IsTooLong (Err refused.TooLong) = Unit {0}
+IsTooLong other = ⊥
+
+-- what stands at the front of some bytes
+abbrev pub IsFront : List ℕ → Front → Type 0
+IsFront bytes (front.Whole found) = IsShort found.now × ((rest : List ℕ) × (bytes ≡ framed found.now ++ rest))
+IsFront bytes front.Partial = IsPartial bytes
+IsFront bytes front.TooLong = BeginsTooLong bytes

@@ -1,0 +1,35 @@
+//! The records of the port: what a program in another language asks the journal, and what it is answered.
+//!
+//! A connection is a stream of records both ways. A record is its length and so many bytes, and these are a
+//! request or an answer, spelled as XDR (RFC 4506). `specs/Requests.antt` and `specs/Answers.antt` say once how
+//! each is spelled, and `specs/Frames.antt` how records stand on a stream.
+//!
+//! `read_request` and `read_answer` say what a record's bytes are, or why they are nothing, and `write_request`
+//! and `write_answer` write a whole record behind what was written. An `Input` takes a stream in pieces, however
+//! it is cut, and gives its records in order.
+#![tactic(auto)]
+
+mod answer;
+mod array;
+mod elements;
+mod fault;
+mod input;
+mod laws;
+mod limits;
+mod operation;
+mod output;
+mod reading;
+mod refused;
+mod request;
+mod writing;
+
+pub use answer::Answer;
+pub use fault::{ReadFault, WriteFault};
+pub use input::{Input, Next};
+pub use laws::{answers_are_spellings, cuttings_do_not_matter, requests_are_spellings};
+pub use limits::{ADDRESSES, PARTS, RECORD_BYTES, VALUE_BYTES, VERSION};
+pub use operation::Operation;
+pub use output::{write_answer, write_request};
+pub use reading::{read_answer, read_request};
+pub use refused::Refused;
+pub use request::{Action, Part, Request};

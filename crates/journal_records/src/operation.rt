@@ -1,0 +1,56 @@
+// What may be asked.
+ghost use Rattle.std.specs.Prelude.{◌≡◌};
+
+use journal_xdr::Enumeration;
+
+/// What a request asks for. Its number is the first word of a request, and of an answer that it was done.
+#[derive(Clone, Copy, Debug, PartialEq, Eq)]
+pub enum Operation {
+    /// Which version of the protocol is spoken, and how many blocks the disk has.
+    Hello,
+    /// To commit a transaction.
+    Commit,
+    /// To read objects at one place of the history.
+    Read,
+    /// To make all commits stable.
+    Flush,
+    /// How many commits there are, and how many of them are stable.
+    Stat,
+    /// To end the service.
+    Stop,
+}
+
+impl Enumeration for Operation {
+    ghost use Rattle.journal_records.specs.Operations.{operation_of, operation_number, operation_is, operation_back};
+
+    ghost meaning = { operation_of };
+
+    ghost code = { operation_number };
+
+    ghost is_listed = { operation_is };
+
+    ghost has_one_number = { operation_back };
+
+    fn from_number(number: u32) -> Option<Operation> {
+        match number {
+            0 => Some(Operation::Hello),
+            1 => Some(Operation::Commit),
+            2 => Some(Operation::Read),
+            3 => Some(Operation::Flush),
+            4 => Some(Operation::Stat),
+            5 => Some(Operation::Stop),
+            _ => None,
+        }
+    }
+
+    fn number(self) -> u32 {
+        match self {
+            Operation::Hello => 0,
+            Operation::Commit => 1,
+            Operation::Read => 2,
+            Operation::Flush => 3,
+            Operation::Stat => 4,
+            Operation::Stop => 5,
+        }
+    }
+}

@@ -1,0 +1,65 @@
+// Whole records.
+ghost use Rattle.std.specs.Prelude.{◌≡◌, ◌++◌, ◌<◌, List, ℕ, IfOk, length};
+ghost use Rattle.journal_xdr.specs.Basic.{word};
+ghost use Rattle.journal_records.specs.Requests.{request as request_item, message_of};
+ghost use Rattle.journal_records.specs.Answers.{answer as answer_item, told_of};
+ghost use Rattle.journal_records.specs.Frames.{framed, IsShort, FitsRecord, IsRecordOf};
+ghost use Rattle.journal_records.specs.Readings.{IsTooLong};
+
+use crate::answer::Answer;
+use crate::fault::WriteFault;
+use crate::limits::{LENGTH_BYTES, RECORD_BYTES};
+use crate::request::Request;
+use crate::writing::{is_answer, is_request, write_asked, write_told};
+use journal_xdr::Writer;
+use std::alloc::Global;
+
+// The room that a record takes at first. Most need no more.
+const ROOM: usize = 64;
+
+/// The record of a request, as it stands on a stream. It is refused as too long exactly where no record can
+/// hold it.
+pub fn write_request(alloc: Global, request: &Request) -> Result<Vec<u8>, WriteFault>
+    ensures record { IfOk result (λ bytes. IsRecordOf request_item (message_of request.now) bytes.items) }
+    ensures too_long { IsTooLong result → ¬ (FitsRecord request_item (message_of request.now)) }
+{
+    if !is_request(request) {
+        return Err(WriteFault::TooLong);
+    }
+    let mut writer = Writer::with_capacity(alloc, ROOM)?;
+    writer.word(0)?;
+    write_asked(&mut writer, request)?;
+    finish(writer)
+}
+
+/// The record of an answer, as it stands on a stream. It is refused as too long exactly where no record can
+/// hold it.
+pub fn write_answer(alloc: Global, answer: &Answer) -> Result<Vec<u8>, WriteFault>
+    ensures record { IfOk result (λ bytes. IsRecordOf answer_item (told_of answer.now) bytes.items) }
+    ensures too_long { IsTooLong result → ¬ (FitsRecord answer_item (told_of answer.now)) }
+{
+    if !is_answer(answer) {
+        return Err(WriteFault::TooLong);
+    }
+    let mut writer = Writer::with_capacity(alloc, ROOM)?;
+    writer.word(0)?;
+    write_told(&mut writer, answer)?;
+    finish(writer)
+}
+
+// The record of what was written behind room for its length.
+fn finish(writer: Writer) -> Result<Vec<u8>, WriteFault>
+    requires { (record_bytes : List ℕ) × (writer ≡ word.spelling 0 ++ record_bytes) }
+    ensures record { IfOk result (λ bytes. (record_bytes : List ℕ) → writer ≡ word.spelling 0 ++ record_bytes
+        → IsShort record_bytes × (bytes.items ≡ framed record_bytes)) }
+    ensures too_long { IsTooLong result → (record_bytes : List ℕ) → writer ≡ word.spelling 0 ++ record_bytes
+        → ¬ (IsShort record_bytes) }
+{
+    let mut writer = writer;
+    let length = writer.len() - LENGTH_BYTES;
+    if length > RECORD_BYTES {
+        return Err(WriteFault::TooLong);
+    }
+    writer.replace_first(length as u32);
+    Ok(writer.into_bytes())
+}

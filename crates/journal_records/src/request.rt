@@ -1,0 +1,74 @@
+// What is asked.
+ghost use Rattle.std.specs.Prelude.{◌≡◌};
+
+use journal_world::{Addr, Value};
+use journal_xdr::Enumeration;
+
+/// What a part of a transaction does at its address.
+#[derive(Clone, Copy, Debug, PartialEq, Eq)]
+pub enum Action {
+    /// The map has to give the address the part's value.
+    Compare,
+    /// The address gets the part's value.
+    Write,
+}
+
+impl Enumeration for Action {
+    ghost use Rattle.journal_records.specs.Operations.{action_of, action_number, action_is, action_back};
+
+    ghost meaning = { action_of };
+
+    ghost code = { action_number };
+
+    ghost is_listed = { action_is };
+
+    ghost has_one_number = { action_back };
+
+    fn from_number(number: u32) -> Option<Action> {
+        match number {
+            0 => Some(Action::Compare),
+            1 => Some(Action::Write),
+            _ => None,
+        }
+    }
+
+    fn number(self) -> u32 {
+        match self {
+            Action::Compare => 0,
+            Action::Write => 1,
+        }
+    }
+}
+
+/// A part of a transaction.
+#[derive(Debug, Drop)]
+pub struct Part {
+    /// What it does.
+    pub action: Action,
+    /// The address.
+    pub addr: Addr,
+    /// The value.
+    pub value: Value,
+}
+
+/// What a client asks.
+#[derive(Debug, Drop)]
+pub enum Request {
+    /// To say the version of the protocol and the number of blocks. It names the client's own version.
+    Hello(u32),
+    /// To commit the parts as one transaction.
+    Commit {
+        /// What it compares and writes.
+        parts: Vec<Part>,
+        /// Whether it is answered once it is stable.
+        waits: bool,
+    },
+    /// To read these addresses.
+    Read(Vec<Addr>),
+    /// To make all commits stable that were made before.
+    Flush,
+    /// To count the commits.
+    Stat,
+    /// To end the service.
+    Stop,
+}
