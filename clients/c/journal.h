@@ -1,0 +1,123 @@
+/* A client of the journal, over its port. docs/PROTOCOL.md has the bytes.
+ *
+ *     jnl *j;
+ *     jnl_txn *t;
+ *     if (jnl_open("/run/disk.sock", &j)) ..
+ *     do {
+ *         jnl_begin(j, &t);
+ *         jnl_read(t, (jnl_addr){515, 0}, from, 128);
+ *         ..
+ *         jnl_write(t, (jnl_addr){515, 0}, from, 128);
+ *     } while ((status = jnl_commit(t, JNL_WAIT, NULL)) == JNL_CONFLICT);
+ *
+ * A jnl is one connection, for one thread at a time. A transaction holds no lock: a thread that
+ * stops in one stops no other. Each call answers a jnl_status. */
+#ifndef JOURNAL_H
+#define JOURNAL_H
+#include <stddef.h>
+#include <stdint.h>
+#ifdef __cplusplus
+extern "C" {
+#endif
+
+typedef struct jnl jnl;
+typedef struct jnl_txn jnl_txn;
+
+/* An object: its block, and its first bit there. Block 514 has bits, at each offset below 32768,
+ * each a byte 0 or 1. Blocks 515 to 530 have objects of 128 bytes, at offsets that are multiples
+ * of 1024. Blocks 513, and 531 to the last, are objects of 4096 bytes, at offset 0. Blocks 0 to
+ * 512 are the journal's own. */
+typedef struct {
+    uint64_t block;
+    uint32_t bit;
+} jnl_addr;
+
+typedef enum {
+    JNL_OK = 0,
+    /* Nothing was done, and nothing will be. */
+    JNL_NO_MEMORY = 1,
+    JNL_BAD_ADDRESS = 2,
+    JNL_BAD_SIZE = 3,
+    JNL_TOO_LARGE = 4,      /* more than 128 distinct blocks are written */
+    JNL_DEVICE_FAILED = 6,  /* the disk has to be opened again; all that was stable is there */
+    JNL_STALE = 9,          /* 9 to 11, 14: the session cannot go on; open again */
+    JNL_STRANGER = 10,
+    JNL_WORN = 11,
+    JNL_CLOSED = 13,        /* the journal was stopped */
+    JNL_FENCED = 14,
+    JNL_CONFLICT = 64,      /* a value that was read is another now: begin again */
+    JNL_OTHER_VERSION = 69,
+    JNL_FORBIDDEN = 70,
+    /* The transaction stands, and is not known to be stable: after a crash it is there whole, or
+     * absent. */
+    JNL_UNSURE = 65,
+    /* No answer came. A commit was done whole, or not at all: read to find out. The next call
+     * connects again. */
+    JNL_LOST = 96,
+    /* Nothing was done. */
+    JNL_NO_PORT = 97,       /* no port answers at the path */
+    JNL_PROTOCOL = 98,      /* the port answers what the protocol does not have */
+    JNL_MISUSE = 99         /* a null pointer */
+} jnl_status;
+
+/* jnl_commit: answer once the transaction is stable, so that no crash takes it back. */
+#define JNL_WAIT 1u
+
+/* Where a commit stands: its place in the history from 0, and how many commits there are up to
+ * it. */
+typedef struct {
+    uint64_t place, commits;
+} jnl_receipt;
+
+/* How many commits there are, and how many of them are stable at least. */
+typedef struct {
+    uint64_t commits, stable;
+} jnl_counts;
+
+/* Connects to the socket at a path. Refused: JNL_NO_PORT, JNL_OTHER_VERSION, JNL_PROTOCOL,
+ * JNL_LOST, JNL_NO_MEMORY; *out is then NULL. */
+int jnl_open(const char *path, jnl **out);
+
+/* Closes the connection. NULL is fine. Its transactions must have ended. */
+void jnl_close(jnl *);
+
+/* How many blocks the disk has. */
+uint64_t jnl_blocks(const jnl *);
+
+/* A transaction that has done nothing. Refused: JNL_NO_MEMORY; *out is then NULL. */
+int jnl_begin(jnl *, jnl_txn **out);
+
+/* Reads an object of this size: what the transaction wrote there, else what it read before, else
+ * what the journal has. Two reads may come from two places of the history: the commit then finds
+ * JNL_CONFLICT. */
+int jnl_read(jnl_txn *, jnl_addr, void *into, size_t size);
+
+/* Has an object overwritten by the commit. A wrong address or size is found by the commit. */
+int jnl_write(jnl_txn *, jnl_addr, const void *bytes, size_t size);
+
+/* Commits: where each object that was read still has its value, all writes are done at one place
+ * of the history, else nothing. It ends the transaction whatever it answers. `receipt` may be
+ * NULL, and is set at JNL_OK and JNL_UNSURE. */
+int jnl_commit(jnl_txn *, unsigned flags, jnl_receipt *receipt);
+
+/* Ends a transaction with nothing done. NULL is fine. */
+void jnl_abort(jnl_txn *);
+
+/* Runs the work in a transaction and commits it, again with a pause at JNL_CONFLICT, up to a
+ * hundred times. Work that answers anything but JNL_OK ends it with that, and nothing done. */
+int jnl_run(jnl *, int (*work)(jnl_txn *, void *context), void *context, unsigned flags);
+
+/* Makes all commits stable that were answered before. `stable`, how many are, may be NULL. */
+int jnl_flush(jnl *, uint64_t *stable);
+int jnl_stat(jnl *, jnl_counts *);
+
+/* Ends the service, after a flush. */
+int jnl_stop(jnl *);
+
+/* A status in words; never NULL. */
+const char *jnl_strerror(int status);
+
+#ifdef __cplusplus
+}
+#endif
+#endif

@@ -1,0 +1,152 @@
+"""Tests of the client against a running port: JOURNAL_SOCKET names its socket.
+
+    JOURNAL_SOCKET=/tmp/disk.sock python3 -m unittest discover -s tests
+"""
+
+import os
+import socket
+import struct
+import sys
+import threading
+import unittest
+
+sys.path.insert(0, os.path.join(os.path.dirname(__file__), ".."))
+
+import journal  # noqa: E402
+
+PATH = os.environ.get("JOURNAL_SOCKET", "")
+
+ACCOUNTS = [(515 + i // 32, 1024 * (i % 32)) for i in range(8)]
+
+
+def number(value: bytes) -> int:
+    return int.from_bytes(value[:8], "little")
+
+
+def value_of(n: int) -> bytes:
+    return n.to_bytes(8, "little") + bytes(120)
+
+
+def exchange(records: bytes) -> bytes:
+    """What the port answers to some bytes, up to its end of the connection."""
+    with socket.socket(socket.AF_UNIX, socket.SOCK_STREAM) as s:
+        s.settimeout(10)
+        s.connect(PATH)
+        s.sendall(records)
+        s.shutdown(socket.SHUT_WR)
+        found = b""
+        while piece := s.recv(65536):
+            found += piece
+        return found
+
+
+@unittest.skipUnless(PATH, "JOURNAL_SOCKET names no socket")
+class Journal(unittest.TestCase):
+    def setUp(self) -> None:
+        self.journal = journal.connect(PATH, timeout=30)
+        self.addCleanup(self.journal.close)
+
+    def test_a_value_is_read_as_it_was_written(self) -> None:
+        block = bytes(range(256)) * 16
+        t = self.journal.begin()
+        t.write(531, 0, block)
+        t.write(514, 3, b"\1")
+        t.write(516, 1024, value_of(7))
+        receipt = t.commit(wait=True)
+        found = self.journal.read([(531, 0), (514, 3), (516, 1024)])
+        self.assertEqual(found, [block, b"\1", value_of(7)])
+        self.assertGreaterEqual(self.journal.stat().stable, receipt.commits)
+
+    def test_a_transaction_reads_what_it_wrote(self) -> None:
+        t = self.journal.begin()
+        t.write(516, 2048, value_of(5))
+        self.assertEqual(number(t.read(516, 2048)), 5)
+        t.commit()
+
+    def test_a_conflict_changes_nothing(self) -> None:
+        self.journal.run(lambda t: t.write(516, 3072, value_of(1)))
+        late = self.journal.begin()
+        late.read(516, 3072)
+        self.journal.run(lambda t: t.write(516, 3072, value_of(2)))
+        late.write(516, 3072, value_of(9))
+        with self.assertRaises(journal.Conflict):
+            late.commit()
+        self.assertEqual(self.journal.read([(516, 3072)]), [value_of(2)])
+
+    def test_refusals(self) -> None:
+        for block, bit, value, status in [
+            (3, 0, bytes(4096), 2),
+            (514, 0, b"\2", 3),
+            (515, 1024, bytes(127), 3),
+        ]:
+            t = self.journal.begin()
+            t.write(block, bit, value)
+            with self.assertRaises(journal.Refused) as caught:
+                t.commit()
+            self.assertEqual(caught.exception.status, status)
+
+    def test_many_distinct_blocks(self) -> None:
+        if self.journal.blocks < 531 + 129:
+            self.skipTest("the disk is too small")
+        t = self.journal.begin()
+        for block in range(531, 531 + 129):
+            t.write(block, 0, bytes(4096))
+        with self.assertRaises(journal.Refused) as caught:
+            t.commit()
+        self.assertEqual(caught.exception.status, 4)
+
+    def test_transfers_keep_the_sum(self) -> None:
+        def begin(t: journal.Transaction) -> None:
+            for account in ACCOUNTS:
+                t.write(*account, value_of(100))
+
+        self.journal.run(begin)
+
+        def transfer(seed: int) -> None:
+            with journal.connect(PATH, timeout=60) as j:
+                for i in range(50):
+                    a, b = ACCOUNTS[(seed + i) % 8], ACCOUNTS[(seed + 3 * i + 1) % 8]
+
+                    def move(t: journal.Transaction) -> None:
+                        if a != b and number(t.read(*a)) > 0:
+                            t.write(*a, value_of(number(t.read(*a)) - 1))
+                            t.write(*b, value_of(number(t.read(*b)) + 1))
+
+                    j.run(move, wait=False)
+
+        threads = [threading.Thread(target=transfer, args=(n,)) for n in range(4)]
+        for thread in threads:
+            thread.start()
+        for thread in threads:
+            thread.join()
+        self.assertEqual(sum(map(number, self.journal.read(ACCOUNTS))), 800)
+
+    def test_the_examples_of_the_page(self) -> None:
+        hello = bytes.fromhex("00000008 00000000 00000001")
+        answer = exchange(hello)
+        self.assertEqual(answer[:16], bytes.fromhex("00000014 00000000 00000000 00000001"))
+        self.assertEqual(int.from_bytes(answer[16:], "big"), self.journal.blocks)
+
+    def test_records_that_are_none(self) -> None:
+        def record(*words: int) -> bytes:
+            return struct.pack(f">{len(words) + 1}I", 4 * len(words), *words)
+
+        records = [record(6), record(3, 0), record(0, 9), record(), record(4, 1)]
+        found = exchange(b"".join(records) + struct.pack(">I", 2097153))
+        statuses = [int.from_bytes(found[i + 4 : i + 8], "big") for i in range(0, len(found), 8)]
+        self.assertEqual(statuses, [66, 67, 69, 67, 67, 68])
+
+    def test_a_record_in_pieces(self) -> None:
+        with socket.socket(socket.AF_UNIX, socket.SOCK_STREAM) as s:
+            s.settimeout(10)
+            s.connect(PATH)
+            for byte in bytes.fromhex("00000008 00000000 00000001 00000004 00000004"):
+                s.sendall(bytes([byte]))
+            found = b""
+            while len(found) < 24 + 28:
+                found += s.recv(65536)
+            self.assertEqual(found[24:36], bytes.fromhex("00000018 00000000 00000004"))
+
+
+if __name__ == "__main__":
+    unittest.main()

@@ -1,0 +1,177 @@
+"""A port over a map in memory, for the tests of the clients: port_in_memory.py SOCKET.
+
+It is written from docs/PROTOCOL.md alone, and knows nothing of the journal. It answers as the page
+says, keeps nothing, and refuses to stop.
+"""
+
+import socket
+import struct
+import sys
+import threading
+
+BLOCKS = 700
+VERSION = 1
+MAX_RECORD, MAX_PARTS, MAX_ADDRESSES, MAX_VALUE, MAX_BLOCKS_WRITTEN = 2097152, 4096, 256, 4096, 128
+HELLO, COMMIT, READ, FLUSH, STAT, STOP = range(6)
+COMPARE, WRITE = range(2)
+
+
+class Malformed(Exception):
+    """A record is spelled as no request."""
+
+
+class Refused(Exception):
+    """Nothing was done, for a reason that has this status."""
+
+
+def size_of(block: int) -> int:
+    """How many bytes the objects of a block have, or 0 where it has none."""
+    if block == 514:
+        return 1
+    if 515 <= block < 531:
+        return 128
+    return 4096 if block == 513 or 531 <= block < BLOCKS else 0
+
+
+def check_address(block: int, bit: int) -> None:
+    size = size_of(block)
+    if size == 0 or bit >= 32768 or bit % {1: 1, 128: 1024, 4096: 32768}[size]:
+        raise Refused(2)
+
+
+def word(n: int) -> bytes:
+    return struct.pack(">I", n)
+
+
+def hyper(n: int) -> bytes:
+    return struct.pack(">Q", n)
+
+
+class Reader:
+    def __init__(self, record: bytes):
+        self.rest = record
+
+    def take(self, size: int) -> bytes:
+        if size > len(self.rest):
+            raise Malformed
+        found, self.rest = self.rest[:size], self.rest[size:]
+        return found
+
+    def word(self, most: int = 0xFFFFFFFF) -> int:
+        n = int.from_bytes(self.take(4), "big")
+        if n > most:
+            raise Malformed
+        return n
+
+    def address(self) -> tuple:
+        return int.from_bytes(self.take(8), "big"), self.word()
+
+    def value(self) -> bytes:
+        found = self.take(self.word(MAX_VALUE))
+        if any(self.take(-len(found) % 4)):
+            raise Malformed
+        return found
+
+    def part(self) -> tuple:
+        return self.word(WRITE), self.address(), self.value()
+
+    def end(self) -> None:
+        if self.rest:
+            raise Malformed
+
+
+class Port:
+    def __init__(self) -> None:
+        self.lock = threading.Lock()
+        self.objects: dict = {}
+        self.commits = 0
+
+    def get(self, address: tuple) -> bytes:
+        return self.objects.get(address, bytes(size_of(address[0])))
+
+    def commit(self, parts: list) -> bytes:
+        for action, address, value in parts:
+            check_address(*address)
+            size = size_of(address[0])
+            if action == WRITE and (len(value) != size or size == 1 and value[0] > 1):
+                raise Refused(3)
+        if any(self.get(a) != value for action, a, value in parts if action == COMPARE):
+            raise Refused(64)
+        written = {a: value for action, a, value in parts if action == WRITE}
+        if len({block for block, _ in written}) > MAX_BLOCKS_WRITTEN:
+            raise Refused(4)
+        self.objects.update(written)
+        self.commits += 1
+        return hyper(self.commits) + hyper(self.commits)
+
+    def values(self, addresses: list) -> bytes:
+        for address in addresses:
+            check_address(*address)
+        found = [self.get(address) for address in addresses]
+        return word(len(found)) + b"".join(word(len(v)) + v + bytes(-len(v) % 4) for v in found)
+
+    def done(self, operation: int, reader: Reader) -> bytes:
+        """Does a request, and gives what stands behind the operation of its answer."""
+        if operation == HELLO:
+            version = reader.word()
+            reader.end()
+            if version != VERSION:
+                raise Refused(69)
+            return word(VERSION) + hyper(BLOCKS)
+        if operation == COMMIT:
+            reader.word(1)
+            parts = [reader.part() for _ in range(reader.word(MAX_PARTS))]
+            reader.end()
+            return self.commit(parts)
+        if operation == READ:
+            addresses = [reader.address() for _ in range(reader.word(MAX_ADDRESSES))]
+            reader.end()
+            return self.values(addresses)
+        reader.end()
+        if operation == STOP:
+            raise Refused(70)
+        return hyper(self.commits) * (2 if operation == STAT else 1)
+
+    def answer(self, record: bytes) -> bytes:
+        reader = Reader(record)
+        try:
+            operation = reader.word()
+            if operation > STOP:
+                raise Refused(66)
+            with self.lock:
+                return word(0) + word(operation) + self.done(operation, reader)
+        except Malformed:
+            return word(67)
+        except Refused as why:
+            return word(why.args[0])
+
+    def serve(self, connection: socket.socket) -> None:
+        came = b""
+        with connection:
+            while piece := connection.recv(65536):
+                came += piece
+                while len(came) >= 4:
+                    size = int.from_bytes(came[:4], "big")
+                    if size > MAX_RECORD:
+                        connection.sendall(word(4) + word(68))
+                        return
+                    if len(came) < 4 + size:
+                        break
+                    answer = self.answer(came[4 : 4 + size])
+                    came = came[4 + size :]
+                    connection.sendall(word(len(answer)) + answer)
+
+
+def main() -> None:
+    port = Port()
+    with socket.socket(socket.AF_UNIX, socket.SOCK_STREAM) as listener:
+        listener.bind(sys.argv[1])
+        listener.listen(64)
+        print("ready", flush=True)
+        while True:
+            connection, _ = listener.accept()
+            threading.Thread(target=port.serve, args=(connection,), daemon=True).start()
+
+
+if __name__ == "__main__":
+    main()
