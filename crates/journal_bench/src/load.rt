@@ -64,8 +64,8 @@ impl Load {
 
     /// Two objects at random, in the order of their slots, so that no transaction finds a lower slot held.
     pub fn draw_pair(self, random: &mut Pcg32) -> [Target; 2] {
-        let one = target(random.next_u32() % self.objects);
-        let other = target(random.next_u32() % self.objects);
+        let one = target_of(random.next_u32() % self.objects);
+        let other = target_of(random.next_u32() % self.objects);
         if slot_of(one.addr) <= slot_of(other.addr) {
             [one, other]
         } else {
@@ -86,7 +86,7 @@ static INODE: [u8; 128] = [0x5a; 128];
 static BLOCK: [u8; BLOCK_BYTES] = [0x5a; BLOCK_BYTES];
 
 // The object of a number.
-fn target(number: u32) -> Target {
+fn target_of(number: u32) -> Target {
     if number < INODES {
         return Target {
             addr: inode_addr(number),
