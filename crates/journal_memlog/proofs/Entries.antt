@@ -1,17 +1,18 @@
 -- How a log's index changes with its entries.
-use Rattle.std.proofs.Common.{◌≡◌, ℕ, ◌+◌, ◌-◌, ◌<◌, ◌^◌, List, [], ◌∷◌, ◌++◌, length, false, drop, set, get_or, replicate, refl, sym, ap, ◌∙◌, arith, subst, length-drop}
+use Rattle.std.proofs.Common.{◌≡◌, ℕ, ◌+◌, ◌-◌, ◌<◌, ◌≤◌, ◌^◌, List, [], ◌∷◌, ◌++◌, length, false, drop, set, get_or, replicate, refl, sym, ap, ◌∙◌, arith, subst, length-drop}
 use Rattle.std.proofs.lemmas.List.{get_or_read, length-map, map-append, map-set, drop-map}
 use Rattle.std.proofs.Math.Seq.{map-set_same}
 use Rattle.std.proofs.lemmas.List.Elements.{All-nil}
 use Rattle.journal_block.specs.declared.update.Update.{Update}
+use Rattle.journal_block.specs.Block.{Bytes}
 use Rattle.journal_block.specs.Updates.{updates_block}
 use Rattle.journal_memlog.specs.declared.entry.Entry.{Entry}
 use Rattle.journal_memlog.specs.declared.entry.TheConstants.{BUCKETS}
 use Rattle.journal_memlog.specs.Logs.{LogState, IsMemLog, next_position, tail_of, empty_log, appended, CanTake}
-use Rattle.journal_memlog.specs.Buckets.{bucket_of, IsLastOf}
+use Rattle.journal_memlog.specs.Buckets.{bucket_of, update_at, IsLastOf}
 use Rattle.journal_memlog.specs.Index.{IsIndexed, updates_of, earlier_of, state_of_fields}
 use Rattle.journal_memlog.proofs.Places.{update_is}
-use Rattle.journal_memlog.proofs.Tails.{distinct_none, sound_roomy, sound_dropped, sound_appended, sound_with_logged, appended_replaced, appended_fresh}
+use Rattle.journal_memlog.proofs.Tails.{distinct_none, sound_roomy, sound_dropped, sound_appended, sound_content, sound_with_logged, appended_replaced, appended_fresh}
 use Rattle.journal_memlog.proofs.Indexed.{bucket_below, indexed_empty, indexed_replaced, indexed_pushed, indexed_dropped}
 
 -- an empty log is indexed
@@ -96,6 +97,40 @@ module _ (blocks start logged cut room : ℕ) (entries : List Entry) (heads : Li
     indexed_there old read can = indexed_changed _ (position - start) old (record { update = u; earlier = old.earlier }) entry_within read refl refl
         (ap (λ (v : Update). v.block) (sym (update_is entries (position - start) old entry_within read)) ∙ last.block)
         (subst IsMemLog appended_there (sound_appended log indexed.sound u can))
+
+  -- other content in an update of the tail
+  module _ (position : ℕ) (above : cut ≤ position) (below : position < next_position log) where
+    there : position - start < length (updates_of entries)
+    there = omega (arith, above, below, indexed.sound.bounds.start_to_logged, indexed.sound.bounds.logged_to_cut)
+
+    pub entry_inside : position - start < length entries
+    entry_inside = omega (arith, there, length-map entries (λ (e : Entry). e.update))
+
+    module _ (old : Entry) (read : old ≡ get_or entries (position - start) old) (bytes : Bytes) where
+      abbrev changed : Update
+      changed = record (update_at (updates_of entries) (position - start)) { bytes = bytes }
+
+      abbrev entry : Entry
+      entry = record { update = record { block = old.update.block; bytes = bytes }; earlier = old.earlier }
+
+      is_changed : entry.update ≡ changed
+      is_changed = ap (λ (u : Update). record u { bytes = bytes }) (sym (update_is entries (position - start) old entry_inside read))
+
+      by_set : appended log (changed ∷ []) ≡ record log { updates = set (updates_of entries) (position - start) changed }
+      by_set = appended_replaced log indexed.sound changed (position - start) (omega (arith, above)) there refl
+
+      pub content_changed : state_of_fields blocks start logged cut (set entries (position - start) entry) room ≡ appended log (changed ∷ [])
+      content_changed =
+          ap (λ (us : List Update). record log { updates = us })
+          (map-set (λ (e : Entry). e.update) entries (position - start) entry
+          ∙ ap (set (updates_of entries) (position - start)) is_changed)
+          ∙ sym by_set
+
+      pub indexed_content : IsIndexed (state_of_fields blocks start logged cut (set entries (position - start) entry) room)
+          (earlier_of (set entries (position - start) entry)) heads
+      indexed_content = indexed_changed _ (position - start) old entry entry_inside read refl refl refl
+          (subst (λ (u : Update). IsMemLog (record log { updates = set (updates_of entries) (position - start) u })) (sym is_changed)
+          (sound_content log indexed.sound (position - start) bytes (omega (arith, above)) there))
 
   -- one that is absorbed at the end
   module _ (u : Update) (fresh : updates_block (tail_of log) u.block ≡ false) (can : CanTake log (u ∷ [])) where

@@ -9,7 +9,7 @@ use Rattle.journal_block.specs.declared.update.Update.{Update}
 use Rattle.journal_block.specs.Block.{Bytes}
 use Rattle.journal_block.specs.Updates.{updated, updates_block}
 use Rattle.journal_memlog.specs.declared.entry.TheConstants.{BUCKETS}
-use Rattle.journal_memlog.specs.Logs.{LogState, IsMemLog, next_position, empty_log}
+use Rattle.journal_memlog.specs.Logs.{LogState, IsMemLog, next_position, tail_of, empty_log}
 use Rattle.journal_memlog.specs.Buckets.{bucket_of, no_update, update_at, updates_from, IsLastOf}
 use Rattle.journal_memlog.specs.Index.{LeadsTo, IsIndexed}
 use Rattle.journal_memlog.proofs.Places.{same_some, stands_at, stands_nowhere, updated_by_last, at_drop}
@@ -74,6 +74,31 @@ latest_is log b position last found at before =
   where
     within : position - log.start < length log.updates
     within = omega (arith, last.within, last.from)
+
+-- and that of the tail says what the block has there
+pub tail_latest_is : (log : LogState) (b position : ℕ) → log.start ≤ log.cut → IsLastOf log b log.cut position → (found : Update)
+    → slice_get log.updates (position - log.start) ≡ Some found → (before : Bytes) → updated (tail_of log) b before ≡ found.bytes
+tail_latest_is log b position from last found at before =
+    updated_by_last (tail_of log) b k before within (ap (λ (u : Update). u.block) place ∙ last.block)
+    (λ j after lt is. last.last (n + j) (omega (arith, size, lt)) (omega (arith, last.from, after))
+    (ap (λ (u : Update). u.block) (sym (at_drop n log.updates j no_update (omega (arith, size, lt)))) ∙ is))
+    ∙ ap (λ (u : Update). u.bytes) (place ∙ same_some (slice_get-get_or log.updates (position - log.start) no_update (omega (arith, last.within, last.from, from))) at)
+  where
+    n : ℕ
+    n = log.cut - log.start
+
+    k : ℕ
+    k = position - log.cut
+
+    size : length (tail_of log) ≡ length log.updates - n
+    size = length-drop n log.updates
+
+    within : k < length (tail_of log)
+    within = omega (arith, size, last.within, last.from, from)
+
+    place : update_at (tail_of log) k ≡ update_at log.updates (position - log.start)
+    place = at_drop n log.updates k no_update (omega (arith, last.within, last.from, from))
+        ∙ ap (update_at log.updates) (omega (arith, last.from, from))
 
 -- An empty log
 

@@ -1,11 +1,12 @@
 -- What holds of the log still does where its tail or its bounds change.
 use Rattle.std.proofs.Common.{◌≡◌, ◌≢◌, ⊎_elim, ℕ, ◌+◌, ◌-◌, ◌<◌, ◌≤◌, ◌^◌, eqb, Bool, true, false, List, [], ◌∷◌, ◌++◌, length, drop, map, set, get_or, refl, sym, ap, ◌∙◌, arith, subst, append_assoc, length-append, length-set, length-drop}
 use Rattle.std.proofs.lemmas.List.{length-map, length-take-le, length_push, take-append-drop, get_or-map, get_or_default, get_or-set_same, get_or-set_other, set-append_right, same_lists}
-use Rattle.std.proofs.lemmas.List.Elements.{All-push, All-drop}
+use Rattle.std.proofs.lemmas.List.Elements.{All-cons, All-nil, All-push, All-drop}
 use Rattle.std.proofs.Math.Seq.{drop-drop}
 use Rattle.std.proofs.lemmas.List.Quantifiers.{all_pairs_push}
 use Rattle.std.proofs.lemmas.Bool.{cond-true, cond-false, eq-eqb, eqb-true, ne_eqb, cases_eq, cases_lt}
 use Rattle.journal_block.specs.declared.update.Update.{Update}
+use Rattle.journal_block.specs.Block.{Bytes}
 use Rattle.journal_block.specs.Updates.{updates_block}
 use Rattle.journal_memlog.specs.Logs.{LogState, HasDistinctBlocks, IsMemLog, next_position, head_of, tail_of, replaced, with_update, with_logged, appended, CanTake}
 use Rattle.journal_memlog.specs.Laws.{All-appended, tail_of-appended}
@@ -165,6 +166,29 @@ module _ (log : LogState) (sound : IsMemLog log) where
 
         room : log.room + length (tail_of log) - length (set (tail_of log) (i - n) u) ≡ log.room
         room = omega (arith, length-set (tail_of log) (i - n) u)
+
+  -- other content in an update of the tail
+
+  pub sound_content : (i : ℕ) (bytes : Bytes) → log.cut - log.start ≤ i → i < length log.updates
+      → IsMemLog (record log { updates = set log.updates i (record (update_at log.updates i) { bytes = bytes }) })
+  sound_content i bytes after within =
+      subst IsMemLog (appended_replaced u i after within refl) (record {
+        bounds = record {
+          start_to_logged = sound.bounds.start_to_logged;
+          logged_to_cut = sound.bounds.logged_to_cut;
+          cut_to_next = omega (arith, from, sound.bounds.cut_to_next, size);
+          below = omega (arith, sound.bounds.below, size);
+        };
+        on_disk = All-appended (λ v. v.block < log.blocks) log (u ∷ []) sound.on_disk
+            (All-cons (λ v. v.block < log.blocks) u [] (sound.on_disk i no_update within) (All-nil (λ v. v.block < log.blocks)));
+        distinct = subst HasDistinctBlocks (sym (tail_of-appended log (u ∷ []) from sound.bounds.cut_to_next)) (distinct_absorbed (tail_of log) u sound.distinct);
+      })
+    where
+      u : Update
+      u = record (update_at log.updates i) { bytes = bytes }
+
+      size : length (appended log (u ∷ [])).updates ≡ length log.updates
+      size = ap (λ (l : LogState). length l.updates) (appended_replaced u i after within refl) ∙ length-set log.updates i u
 
   -- A fresh update at the end
 

@@ -2,3 +2,4 @@ pub mod Logs
 pub mod Buckets
 pub mod Index
 pub mod Laws
+pub mod Lending

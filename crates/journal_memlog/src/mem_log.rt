@@ -1,9 +1,11 @@
 // The log in memory.
 ghost use Rattle.std.specs.Prelude.{ℕ, ◌≡◌, ◌+◌, ◌-◌, ◌<◌, ◌≤◌, ◌^◌, ◌++◌, [], ◌∷◌, length, slice_get, is_some, Some, IfSome, IfOk, OnOk, OnErr, IsOkUnless};
+ghost use Rattle.std.specs.Borrow.{sem};
 ghost use Rattle.journal_block.specs.Block.{Bytes};
 ghost use Rattle.journal_block.specs.Updates.{updated, updates_block};
 ghost use Rattle.journal_memlog.specs.Logs.{LogState, IsMemLog, HasDistinctBlocks, bounds_of, next_position, head_of, tail_of, empty_log, with_logged, appended, trimmed, CanTake};
-ghost use Rattle.journal_memlog.specs.Buckets.{updates_from, IsLastOf};
+ghost use Rattle.journal_memlog.specs.Buckets.{updates_from, update_at, IsLastOf};
+ghost use Rattle.journal_memlog.specs.Lending.{LendsBlock};
 
 use crate::entry::{BUCKETS, Entry, bucket_of};
 use crate::{Bounds, Group};
@@ -123,6 +125,38 @@ impl MemLog {
             place = entry.earlier;
         }
         None
+    }
+
+    /// The content of the block's update in the tail, or `None` where it does not stand there.
+    pub fn in_tail(&self, block: u64) -> Option<&Block>
+        ensures found { is_some result ≡ updates_block (tail_of self.now) block }
+        ensures content { IfSome result (λ found.
+            (before : Bytes) → updated (tail_of self.now) block before ≡ found.now) }
+    {
+        match self.newest(block, self.cut) {
+            Some(position) => Some(&self.at(position).bytes),
+            None => None,
+        }
+    }
+
+    /// The position at which the block stands in the tail, or `None` where it does not.
+    pub fn place_in_tail(&self, block: u64) -> Option<u64>
+        ensures found { is_some result ≡ updates_block (tail_of self.now) block }
+        ensures place { IfSome result (IsLastOf self.now block self.now.cut) }
+    {
+        self.newest(block, self.cut)
+    }
+
+    /// The content of the update at a position of the tail, lent to be overwritten. The log is then what it is with
+    /// that update appended.
+    pub fn tail_block(&mut self, position: u64) -> &mut Block
+        requires from_cut { self.old.cut ≤ position }
+        requires to_next { position < next_position self.old }
+        ensures* lends { sem 𝓛 (LendsBlock self.entry position result) }
+        ensures content { result.now ≡ (update_at self.old.updates (position - self.old.start)).bytes }
+    {
+        let entry = &mut self.entries[(position - self.start) as usize];
+        &mut entry.update.bytes
     }
 
     /// The content of the block's last update in the whole log, or `None` where it has none.
