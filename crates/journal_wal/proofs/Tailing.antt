@@ -1,14 +1,20 @@
 -- Updates in memory, and where they were cut.
-use Rattle.std.proofs.Common.{◌≡◌, inr, ◌<◌, ◌≤◌, ◌+◌, ◌-◌, ◌^◌, ℕ, zero, suc, ◌||◌, Bool, List, [], ◌∷◌, ◌++◌, length, length-drop, append_assoc, take, drop, get_or, Some, Result, Ok, Err, OnOk, sym, ap, subst, ◌∙◌, arith}
+use Rattle.std.proofs.Common.{◌≡◌, inr, ◌<◌, ◌≤◌, ◌+◌, ◌-◌, ◌^◌, ℕ, zero, suc, ◌||◌, Bool, List, [], ◌∷◌, ◌++◌, length, length-drop, length-set, append_assoc, take, drop, set, get_or, Some, Result, Ok, Err, OnOk, refl, sym, ap, subst, ◌∙◌, arith}
 use Rattle.std.specs.List.{All, slice_get}
 use Rattle.std.proofs.Math.Seq.{take-suc}
 use Rattle.std.proofs.lemmas.List.{append-nil, drop-append-le, drop-drop, get_or-drop, length-take-le, take-append-drop}
+use Rattle.std.proofs.lemmas.List.Elements.{All-set}
 use Rattle.std.proofs.lemmas.Option.{get_or_from_slice_get, slice_get_within}
 use Rattle.journal_block.specs.declared.update.Update.{Update}
+use Rattle.journal_block.specs.Block.{Bytes}
 use Rattle.journal_block.specs.Updates.{updated, updates_block}
 use Rattle.journal_block.specs.UpdateLaws.{updated-append}
 use Rattle.journal_memlog.specs.Logs.{LogState, IsMemLog, next_position, head_of, tail_of, with_update, absorbed, appended, fresh_count, trimmed, CanTake}
 use Rattle.journal_memlog.specs.Laws.{updates_block-append, updates_block-with_update, updated-absorbed, tail_of-appended, All-appended, can_take_fresh, length-absorbed_le}
+use Rattle.journal_memlog.specs.Buckets.{no_update, update_at}
+use Rattle.journal_memlog.specs.Lending.{with_content}
+use Rattle.journal_memlog.proofs.Tails.{sound_content, appended_replaced}
+use Rattle.journal_wal.specs.Lending.{with_block}
 use Rattle.journal_wal.specs.Wal.{AreHomes}
 use Rattle.journal_wal.specs.Tails.{TailState, IsTail, MakeTheSame, RisesTo, DropsCuts, TakesUpdates, TakesFresh, updates_from, without_first}
 use Rattle.journal_wal.specs.declared.tail.CutPoint.{CutPoint}
@@ -205,3 +211,34 @@ trimmed_first log upto lt = λ i. record log {
 
     room : log.room + (log.start + 1 - log.start) + (upto - (log.start + 1)) ≡ log.room + (upto - log.start)
     room = omega (arith, lt)
+
+-- A block of the tail is lent
+
+-- what holds of a tail with other content in an update after the cut
+pub tail_content : (t : TailState) (position : ℕ) (bytes : Bytes) → IsTail t → t.log.cut ≤ position → position < next_position t.log
+    → IsTail (with_block t position bytes)
+tail_content t position bytes is above below = subst (λ (l : LogState). IsTail (record t { log = l })) (sym same) (record {
+  log = sound_content t.log is.log i bytes after within;
+  few = omega (arith, is.few, length-drop n t.log.updates, length-drop n (set t.log.updates i u), length-set t.log.updates i u);
+  homes = All-set (λ (v : Update). (513 ≤ v.block) × (v.block < t.log.blocks)) t.log.updates i u (is.homes i no_update within) is.homes;
+  logged = is.logged;
+  cuts = is.cuts;
+})
+  where
+    n : ℕ
+    n = t.log.cut - t.log.start
+
+    i : ℕ
+    i = position - t.log.start
+
+    u : Update
+    u = record (update_at t.log.updates i) { bytes = bytes }
+
+    after : n ≤ i
+    after = omega (arith, above)
+
+    within : i < length t.log.updates
+    within = omega (arith, above, below, start_to_cut t.log [] is.log)
+
+    same : with_content t.log position bytes ≡ record t.log { updates = set t.log.updates i u }
+    same = appended_replaced t.log is.log u i after within refl

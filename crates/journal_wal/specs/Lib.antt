@@ -4,3 +4,4 @@ pub mod Recovery
 pub mod Groups
 pub mod HomeUpdates
 pub mod Tails
+pub mod Lending

@@ -11,9 +11,9 @@ use journal_world::Refusal;
 use std::mem;
 
 impl<D: BlockDisk> Wal<D> {
-    /// Does the next thing of the logger: cuts the whole tail into a group, writes one of its log blocks, of a plain log
-    /// makes a barrier, writes block 0, makes a barrier. For a group of k blocks these are k + 4 steps, and k + 3 of a
-    /// sealed log. It is idle where no group is in flight and the tail is empty or has no place in the log.
+    /// Does the next thing of the logger for the group that `take_reserved` took: writes one of its log blocks, of a
+    /// plain log makes a barrier, writes block 0, makes a barrier. For a group of k blocks these are k + 3 steps, and
+    /// k + 2 of a sealed log. It is idle where no group is in flight.
     ///
     /// Answers J6 `DeviceFailed`, and nothing else, where the device failed in this call or before.
     pub fn log_step(&mut self) -> Result<GroupStep, Refusal<()>>

@@ -1,10 +1,13 @@
 // What lies in memory apart from the log on the disk: updates, and where they were cut.
-ghost use Rattle.std.specs.Prelude.{ℕ, ◌≡◌, ◌≤◌, ◌<◌, ◌+◌, ◌^◌, ◌↔◌, ◌∷◌, ◌++◌, List, length, false, is_some, IsTrue, IsOkUnless, OnOk, OnErr, IfOk, IfErr, IfSome};
+ghost use Rattle.std.specs.Prelude.{ℕ, ◌≡◌, ◌≤◌, ◌<◌, ◌+◌, ◌-◌, ◌^◌, ◌↔◌, ◌∷◌, ◌++◌, List, length, false, is_some, IsTrue, IsOkUnless, OnOk, OnErr, IfOk, IfErr, IfSome};
+ghost use Rattle.std.specs.Borrow.{sem};
 ghost use Rattle.std.specs.List.{All};
 ghost use Rattle.journal_block.specs.declared.update.Update.{Update};
 ghost use Rattle.journal_block.specs.Block.{Bytes};
 ghost use Rattle.journal_block.specs.Updates.{updated, updates_block};
 ghost use Rattle.journal_memlog.specs.Logs.{IsMemLog, HasDistinctBlocks, bounds_of, next_position, tail_of, appended, trimmed};
+ghost use Rattle.journal_memlog.specs.Buckets.{IsLastOf, update_at};
+ghost use Rattle.journal_wal.specs.Lending.{LendsBlock};
 ghost use Rattle.journal_wal.specs.Wal.{AreHomes};
 ghost use Rattle.journal_wal.specs.Tails.{TailState, MakeTheSame, MakesNoOther, DropsCuts, AdmitsBlocks, IsTailRefusal, TakesUpdates, TakesFresh, known_blocks, updates_from, empty_tail, cut_after, without_first};
 ghost use Rattle.journal_wal.specs.declared.append.TheConstants.{MAX_TAIL};
@@ -75,7 +78,8 @@ impl Tail {
 
     /// The positions that bound the parts of the log in memory.
     pub fn bounds(&self) -> Bounds
-        ensures { result ≡ bounds_of self.now.log }
+        ensures bounds { result ≡ bounds_of self.now.log }
+        ensures sound { IsMemLog self.now.log }
     {
         self.memory.bounds()
     }
@@ -129,6 +133,35 @@ impl Tail {
         ensures { result ≡ updates_block (tail_of self.now.log) block }
     {
         self.memory.stands(block)
+    }
+
+    /// The content of the block in the tail, or `None` where it does not stand there.
+    pub fn in_tail(&self, block: u64) -> Option<&Block>
+        ensures found { is_some result ≡ updates_block (tail_of self.now.log) block }
+        ensures content { IfSome result (λ found.
+            (before : Bytes) → updated (tail_of self.now.log) block before ≡ found.now) }
+    {
+        self.memory.in_tail(block)
+    }
+
+    /// The position at which the block stands in the tail, or `None` where it does not.
+    pub fn place_in_tail(&self, block: u64) -> Option<u64>
+        ensures found { is_some result ≡ updates_block (tail_of self.now.log) block }
+        ensures place { IfSome result (IsLastOf self.now.log block self.now.log.cut) }
+        ensures sound { IsMemLog self.now.log }
+    {
+        self.memory.place_in_tail(block)
+    }
+
+    /// The content of the block at a position of the tail, lent to be overwritten. The tail is then what it is with
+    /// that content appended.
+    pub fn tail_block(&mut self, position: u64) -> &mut Block
+        requires from_cut { self.old.log.cut ≤ position }
+        requires to_next { position < next_position self.old.log }
+        ensures* lends { sem 𝓛 (LendsBlock self.entry position result) }
+        ensures content { result.now ≡ (update_at self.old.log.updates (position - self.old.log.start)).bytes }
+    {
+        self.memory.tail_block(position)
     }
 
     /// Refuses updates of so many blocks, of which so many are fresh, that is do not stand in the tail: J4

@@ -61,7 +61,7 @@ impl<D: BlockDisk> Wal<D> {
         (bounds.start, bounds.logged)
     }
 
-    /// Whether the log on the disk is sealed: a group of k blocks takes k + 3 steps, and k + 4 of a plain log.
+    /// Whether the log on the disk is sealed: a group of k blocks takes k + 2 steps, and k + 3 of a plain log.
     pub fn is_sealed(&self) -> bool
         ensures { result ≡ self.now.ring.sealed }
     {
