@@ -14,3 +14,6 @@ pub mod Fetched
 pub mod Missing
 pub mod KnownObjects
 pub mod TailStaging
+pub mod Storing
+pub mod InPlace
+pub mod Whole

@@ -14,7 +14,7 @@ use Rattle.journal_object.specs.Objects.{object_at, ChangesOnly}
 use Rattle.journal_objlog.specs.Maps.{object_or_zeros, HasObjects}
 use Rattle.journal_world.proofs.Lookups.{same_addr}
 
-value_at-first : (n : ℕ) (p : Pair) (ps : List Pair) (a : Addr)
+pub value_at-first : (n : ℕ) (p : Pair) (ps : List Pair) (a : Addr)
     → value_at (record { blocks = n; pairs = p ∷ ps }) a ≡ cond (is_same a p.0) p.1 (value_at (record { blocks = n; pairs = ps }) a)
 value_at-first n p ps a = by (is_same a p.0)
   where

@@ -1,24 +1,30 @@
 -- Staging all writes in memory, from the last on, and what is then prepared.
-use Rattle.std.proofs.Common.{◌≡◌, ◌<◌, ◌≤◌, ℕ, true, false, List, [], ◌∷◌, ◌++◌, length, IsTrue, Some, refl, sym, ap, subst, ◌∙◌, arith, append_assoc}
+use Rattle.std.proofs.Common.{◌≡◌, ◌<◌, ◌≤◌, ◌==◌, ◌||◌, ℕ, Bool, true, false, List, [], ◌∷◌, ◌++◌, length, IsTrue, Some, refl, sym, ap, subst, ◌∙◌, arith, append_assoc}
+use Rattle.std.proofs.lemmas.Bool.{eqb-true, false≢true, cond-true, cond-false}
 use Rattle.std.proofs.lemmas.List.{append-nil}
 use Rattle.std.proofs.lemmas.List.Elements.{All-nil}
+use Rattle.journal_world.specs.declared.address.Kind.TheVariants.{Block}
+use Rattle.journal_world.specs.Addresses.{is_value_of}
 use Rattle.journal_world.specs.Maps.{Pair, is_object, are_objects, overwritten}
 use Rattle.journal_world.specs.Orders.{HasAscendingBlocks}
 use Rattle.journal_block.specs.declared.update.Update.{Update}
-use Rattle.journal_block.specs.Updates.{with_updates}
+use Rattle.journal_block.specs.Updates.{updated, with_updates, updates_block}
 use Rattle.journal_object.specs.Objects.{ChangesOnly}
 use Rattle.journal_memlog.specs.Logs.{tail_of, fresh_count}
 use Rattle.journal_wal.specs.Wal.{AreHomes}
 use Rattle.journal_wal.specs.Tails.{TailState, TakesFresh}
 use Rattle.journal_objlog.specs.Maps.{map_of}
 use Rattle.journal_objlog.specs.ObjectLogs.{Base, map_in}
-use Rattle.journal_objlog.specs.ObjectTails.{IsObjectTail, blocks_of, known_updates, tail_base, is_missing, HasBlocks, OverwritesKnown, TakesPrepared, with_tail_room}
-use Rattle.journal_objlog.specs.Staging.{IsAboveNone, first_update, first_bytes, with_first, IsStaged, IsOpen}
+use Rattle.journal_objlog.specs.ObjectTails.{IsObjectTail, blocks_of, known_updates, tail_base, is_missing, HasBlocks, OverwritesKnown, TakesPrepared, with_tail_room, updates_with}
+use Rattle.journal_objlog.specs.Staging.{IsAboveNone, first_update, first_bytes, with_first, IsStaged, IsOpen, HasWholeBlocks}
+use Rattle.journal_objlog.specs.Applying.{fresh_writes}
 use Rattle.journal_objlog.specs.Writes.{writes_block, fresh_blocks, IsPrepared}
 use Rattle.journal_objlog.proofs.Ascending.{ascending_later, objects_split}
 use Rattle.journal_objlog.proofs.KnownObjects.{overwrites_known}
 use Rattle.journal_objlog.proofs.MapsOfBlocks.{Law, HasObjects-map_of, map_of-is}
 use Rattle.journal_objlog.proofs.Missing.{written_there}
+use Rattle.journal_objlog.proofs.InPlace.{fresh_below}
+use Rattle.journal_objlog.proofs.Whole.{IsWhole, whole, tail_shows}
 use Rattle.journal_objlog.proofs.Staged.{stored}
 
 pub some_first : (us : List Update) (b : ℕ) → first_update us ≡ Some b → 0 < length us
@@ -35,15 +41,16 @@ module _ (n : ℕ) (t : TailState) (sound : IsObjectTail n t) where
 pub record IsTailStaging (b : Base) (writes left done : List Pair) (updates : List Update) : Type 0 where
   pub split : writes ≡ left ++ done
   pub objects : IsTrue (are_objects b.size left)
-  pub staged : IsStaged b done updates
+  pub staged : IsStaged b (fresh_writes b.tail done) updates
+  pub sizes : HasWholeBlocks b.tail done
 
 module _ (b : Base) (writes left rest done : List Pair) (p : Pair) (updates : List Update)
     (ascending : HasAscendingBlocks writes) (took : left ≡ rest ++ p ∷ []) (staging : IsTailStaging b writes left done updates) where
   split : writes ≡ rest ++ p ∷ done
   split = staging.split ∙ ap (λ (ws : List Pair). ws ++ done) took ∙ append_assoc rest (p ∷ []) done
 
-  pub tail_below : IsAboveNone p.0.block done × HasAscendingBlocks done
-  tail_below = ascending_later rest p done (subst HasAscendingBlocks split ascending)
+  pub tail_below : IsAboveNone p.0.block (fresh_writes b.tail done) × HasAscendingBlocks (fresh_writes b.tail done)
+  tail_below = fresh_below b.tail p.0.block done (ascending_later rest p done (subst HasAscendingBlocks split ascending))
 
   parts : IsTrue (are_objects b.size rest) × IsTrue (is_object b.size p)
   parts = objects_split b.size rest p (subst (λ (ws : List Pair). IsTrue (are_objects b.size ws)) took staging.objects)
@@ -51,16 +58,39 @@ module _ (b : Base) (writes left rest done : List Pair) (p : Pair) (updates : Li
   pub tail_present : (known : List Update) → HasBlocks b.size known writes → is_missing b.size known p.0.block ≡ false
   tail_present known has = has p.0.block (ap (λ (ws : List Pair). writes_block ws p.0.block) split ∙ written_there rest p done)
 
-  pub tail_staged_on : (opened later : List Update) → IsOpen b done p.0 opened → later ≡ with_first opened (first_bytes later)
+  -- a write in a block that does not stand in the tail is stored
+  pub tail_staged_on : updates_block b.tail p.0.block ≡ false → (opened later : List Update) → IsOpen b (fresh_writes b.tail done) p.0 opened
+      → later ≡ with_first opened (first_bytes later)
       → (n : ℕ) → n ≡ b.size → ChangesOnly n (first_bytes opened) (first_bytes later) p.0 p.1
       → IsTailStaging b writes rest (p ∷ done) later
-  tail_staged_on opened later first is n size changes = record {
+  tail_staged_on away opened later first is n size changes = record {
     split = split;
     objects = parts.0;
-    staged = stored b done p.0 p.1 opened later first is
+    staged = subst (λ (ws : List Pair). IsStaged b ws later) (sym (cond-false _ (fresh_writes b.tail done) (p ∷ fresh_writes b.tail done) away))
+        (stored b (fresh_writes b.tail done) p.0 p.1 opened later first is
         (subst (λ (k : ℕ). ChangesOnly k (first_bytes opened) (first_bytes later) p.0 p.1) size changes)
-        parts.1;
+        parts.1);
+    sizes = λ k named stands. staging.sizes k (by k named stands (p.0.block == k) refl) stands;
   }
+    where
+      by : (k : ℕ) → writes_block (p ∷ done) k ≡ true → updates_block b.tail k ≡ true → (here : Bool) → (p.0.block == k) ≡ here → writes_block done k ≡ true
+      by k named stands true here = absurd (false≢true (sym away ∙ ap (updates_block b.tail) (eqb-true p.0.block k here) ∙ stands))
+      by k named stands false here = sym (ap (λ (t : Bool). t || writes_block done k) here) ∙ named
+
+  -- one in a block that stands there is passed over
+  pub tail_passed : updates_block b.tail p.0.block ≡ true → IsTrue (is_value_of Block (updated b.tail p.0.block []))
+      → IsTailStaging b writes rest (p ∷ done) updates
+  tail_passed stands size = record {
+    split = split;
+    objects = parts.0;
+    staged = subst (λ (ws : List Pair). IsStaged b ws updates) (sym (cond-true _ (fresh_writes b.tail done) (p ∷ fresh_writes b.tail done) stands)) staging.staged;
+    sizes = λ k named there. by k named there (p.0.block == k) refl;
+  }
+    where
+      by : (k : ℕ) → writes_block (p ∷ done) k ≡ true → updates_block b.tail k ≡ true → (here : Bool) → (p.0.block == k) ≡ here
+          → IsTrue (is_value_of Block (updated b.tail k []))
+      by k named there true here = subst (λ (j : ℕ). IsTrue (is_value_of Block (updated b.tail j []))) (eqb-true p.0.block k here) size
+      by k named there false here = staging.sizes k (sym (ap (λ (t : Bool). t || writes_block done k) here) ∙ named) there
 
 -- before the first
 pub tail_staging_begins : (n : ℕ) (inside start : TailState) (fetched : List Update) (writes left : List Pair) (updates : List Update)
@@ -80,41 +110,51 @@ tail_staging_begins n inside start fetched writes left updates sound is whole em
     };
     objects = HasObjects-map_of (blocks_of start) (subst (λ (t : TailState). Law (blocks_of t)) is (tail_law n inside sound)) (tail_base fetched start).content;
   });
+  sizes = λ b named stands. absurd (false≢true named);
 }
 
-module _ (mid old new : TailState) (fetched : List Update) (writes : List Pair) (updates : List Update) where
-  other_room : mid ≡ old → new ≡ with_tail_room mid new.log.room → new ≡ with_tail_room old new.log.room
-  other_room was is = subst (λ (t : TailState). new ≡ with_tail_room t new.log.room) was is
+module _ (mid old new : TailState) (fetched : List Update) (writes : List Pair) (fresh : List Update) (n : ℕ) (sound : IsObjectTail n mid) (was : mid ≡ old)
+    (staged : IsStaged (tail_base fetched old) (fresh_writes (tail_of old.log) writes) fresh) (sizes : HasWholeBlocks (tail_of old.log) writes)
+    (objects : IsTrue (are_objects (blocks_of old) writes)) (is : new ≡ with_tail_room mid new.log.room) where
+  abbrev b : Base
+  b = tail_base fetched old
+
+  same : IsObjectTail n old
+  same = subst (λ (t : TailState). IsObjectTail n t) was sound
+
+  other_room : new ≡ with_tail_room old new.log.room
+  other_room = subst (λ (t : TailState). new ≡ with_tail_room t new.log.room) was is
+
+  all_of : IsWhole b writes (updates_with old writes fresh)
+  all_of = whole b writes fresh (tail_law n old same) (tail_low n old same) (tail_shows fetched old) objects staged sizes
 
   -- what is staged, and has room, is ready
-  pub tail_ready : (fresh : ℕ) → mid ≡ old → IsStaged (tail_base fetched old) writes updates → fresh ≡ fresh_blocks (tail_base fetched old) writes
-      → new ≡ with_tail_room mid new.log.room → TakesFresh new.log fresh → TakesPrepared new updates
-  tail_ready fresh was staged number is takes = record {
+  pub tail_ready : (places : ℕ) → places ≡ fresh_blocks b writes → TakesFresh new.log places → TakesPrepared new writes fresh
+  tail_ready places number takes = record {
+    objects = subst (λ (t : TailState). IsTrue (are_objects (blocks_of t) writes)) (sym other_room) objects;
     homes = homes;
-    room = takes updates homes (ap (λ (t : TailState). fresh_count (tail_of t.log) updates) (other_room was is) ∙ staged.blocks.fresh ∙ sym number);
+    room = takes (updates_with new writes fresh) homes
+        (ap (λ (t : TailState). fresh_count (tail_of t.log) (updates_with t writes fresh)) other_room ∙ all_of.fresh ∙ sym number);
   }
     where
-      homes : AreHomes (blocks_of new) updates
-      homes = subst (λ (t : TailState). AreHomes (blocks_of t) updates) (sym (other_room was is)) staged.blocks.homes
+      homes : AreHomes (blocks_of new) (updates_with new writes fresh)
+      homes = subst (λ (t : TailState). AreHomes (blocks_of t) (updates_with t writes fresh)) (sym other_room) all_of.homes
 
   -- and overwrites what memory knows
-  pub tail_overwrites : (n : ℕ) → IsObjectTail n mid → mid ≡ old → IsStaged (tail_base fetched old) writes updates
-      → IsTrue (are_objects (blocks_of old) writes) → HasBlocks (blocks_of old) (known_updates fetched old) writes
-      → new ≡ with_tail_room mid new.log.room → OverwritesKnown (blocks_of new) (known_updates fetched new) updates writes
-  tail_overwrites n sound was staged objects present is =
-      subst (λ (t : TailState). OverwritesKnown (blocks_of t) (known_updates fetched t) updates writes) (sym (other_room was is))
-      (overwrites_known (blocks_of old) (tail_law n old (subst (λ (t : TailState). IsObjectTail n t) was sound)) (known_updates fetched old) updates writes
-      staged.objects staged.blocks.named objects present)
+  pub tail_overwrites : HasBlocks (blocks_of old) (known_updates fetched old) writes
+      → OverwritesKnown (blocks_of new) (known_updates fetched new) (updates_with new writes fresh) writes
+  tail_overwrites present =
+      subst (λ (t : TailState). OverwritesKnown (blocks_of t) (known_updates fetched t) (updates_with t writes fresh) writes) (sym other_room)
+      (overwrites_known (blocks_of old) (tail_law n old same) (known_updates fetched old) (updates_with old writes fresh) writes
+      all_of.objects all_of.named objects present)
 
   -- and prepared
-  pub tail_prepared : (n : ℕ) → IsObjectTail n mid → mid ≡ old → IsStaged (tail_base fetched old) writes updates
-      → new ≡ with_tail_room mid new.log.room → IsPrepared true (tail_base fetched new) updates writes
+  pub tail_prepared : IsPrepared true (tail_base fetched new) (updates_with new writes fresh) writes
   unfolding map_of
-  tail_prepared n sound was staged is =
-      let same : IsObjectTail n old = subst (λ (t : TailState). IsObjectTail n t) was sound in
-      subst (λ (t : TailState). IsPrepared true (tail_base fetched t) updates writes) (sym (other_room was is)) (record {
-        map = λ honest. map_of-is (blocks_of old) (tail_law n old same) (tail_low n old same) (with_updates (tail_base fetched old).content updates)
-            (overwritten (map_in (tail_base fetched old)) writes) refl staged.objects;
-        named = staged.blocks.named;
-        number = staged.blocks.number;
+  tail_prepared =
+      subst (λ (t : TailState). IsPrepared true (tail_base fetched t) (updates_with t writes fresh) writes) (sym other_room) (record {
+        map = λ honest. map_of-is (blocks_of old) (tail_law n old same) (tail_low n old same) (with_updates b.content (updates_with old writes fresh))
+            (overwritten (map_in b) writes) refl all_of.objects;
+        named = all_of.named;
+        number = all_of.number;
       })

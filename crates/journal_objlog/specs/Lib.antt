@@ -5,6 +5,7 @@ pub mod ReadLaws
 pub mod CutLaws
 pub mod Reading
 pub mod Writes
+pub mod Applying
 pub mod Soundness
 pub mod Staging
 pub mod Places

@@ -7,7 +7,7 @@ use Rattle.journal_world.specs.declared.address.Kind.TheVariants.{Block}
 use Rattle.journal_world.specs.declared.refusal.Refusal.{Refusal}
 use Rattle.journal_world.specs.declared.refusal.Refusal.TheVariants.{NoMemory}
 use Rattle.journal_world.specs.Addresses.{Value, kind_of, is_valid, is_same}
-use Rattle.journal_world.specs.Maps.{Pair}
+use Rattle.journal_world.specs.Maps.{Pair, are_objects}
 use Rattle.journal_block.specs.declared.update.Update.{Update}
 use Rattle.journal_block.specs.Updates.{Content, updated, with_updates, updates_block}
 use Rattle.journal_memlog.specs.Logs.{next_position, tail_of}
@@ -17,6 +17,7 @@ use Rattle.journal_wal.specs.Tails.{TailState, TakesUpdates, known_blocks}
 use Rattle.journal_objlog.specs.Maps.{object_or_zeros}
 use Rattle.journal_objlog.specs.ObjectLogs.{Base}
 use Rattle.journal_objlog.specs.Writes.{writes_block, CanPrepare, IsWriteRefusal}
+use Rattle.journal_objlog.specs.Applying.{all_updates}
 use Rattle.journal_objlog.specs.declared.tail_prepare.Preparation.{Preparation}
 use Rattle.journal_objlog.specs.declared.tail_prepare.Preparation.TheVariants.{Ready, Missing}
 
@@ -83,10 +84,15 @@ after_writes (p ∷ later) before a = if is_same a p.0 then Some p.1 else after_
 pub record OverwritesKnown (n : ℕ) (known prepared : List Update) (writes : List Pair) : Type 0 where
   pub values : (a : Addr) → IsTrue (is_valid n a) → known_object n (known ++ prepared) a ≡ after_writes writes (known_object n known a) a
 
--- What is prepared can be applied here, without memory and without a refusal
-pub record TakesPrepared (t : TailState) (prepared : List Update) : Type 0 where
-  pub homes : AreHomes (blocks_of t) prepared
-  pub room : TakesUpdates t.log prepared
+-- one update of each written block, where these are prepared for those that do not stand in the tail
+abbrev pub updates_with : TailState → List Pair → List Update → List Update
+updates_with t writes prepared = all_updates (blocks_of t) t.log writes prepared
+
+-- What is prepared can be applied here with the writes, without memory and without a refusal
+pub record TakesPrepared (t : TailState) (writes : List Pair) (prepared : List Update) : Type 0 where
+  pub objects : IsTrue (are_objects (blocks_of t) writes)
+  pub homes : AreHomes (blocks_of t) (updates_with t writes prepared)
+  pub room : TakesUpdates t.log (updates_with t writes prepared)
 
 -- Why writes are not prepared: the first of the refusals that need no memory, or memory alone is refused
 abbrev pub IsTailWriteRefusal : Base → List Pair → Refusal Unit → Type 0

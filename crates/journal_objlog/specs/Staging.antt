@@ -1,13 +1,13 @@
 -- What is kept while writes are stored in updates of their blocks, from the last write on.
-use Rattle.std.specs.Prelude.{ℕ, ◌≡◌, ◌⊎◌, ◌≤◌, List, [], ◌∷◌, length, Option, Some, None}
+use Rattle.std.specs.Prelude.{ℕ, ◌≡◌, ◌⊎◌, ◌≤◌, true, IsTrue, List, [], ◌∷◌, length, Option, Some, None}
 use Rattle.std.specs.List.{AllByRecursion}
 use Rattle.journal_world.specs.declared.address.Addr.{Addr}
 use Rattle.journal_world.specs.declared.address.Kind.TheVariants.{Block}
-use Rattle.journal_world.specs.Addresses.{kind_of}
+use Rattle.journal_world.specs.Addresses.{kind_of, is_value_of}
 use Rattle.journal_world.specs.Maps.{Pair, overwritten}
 use Rattle.journal_block.specs.declared.update.Update.{Update}
 use Rattle.journal_block.specs.Block.{Bytes}
-use Rattle.journal_block.specs.Updates.{Content, updates_block, with_updates}
+use Rattle.journal_block.specs.Updates.{Content, updated, updates_block, with_updates}
 use Rattle.journal_memlog.specs.Logs.{HasDistinctBlocks, fresh_count}
 use Rattle.journal_wal.specs.Wal.{AreHomes}
 use Rattle.journal_objlog.specs.Maps.{HasObjects}
@@ -49,6 +49,11 @@ pub record CoversBlocks (n : ℕ) (tail : List Update) (writes : List Pair) (upd
 pub record IsStaged (b : Base) (writes : List Pair) (updates : List Update) : Type 0 where
   pub blocks : CoversBlocks b.size b.tail writes updates
   pub objects : HasObjects (with_updates b.content updates) (overwritten (map_in b) writes)
+
+-- What is written and stands in the tail has the bytes of a block
+abbrev pub HasWholeBlocks : List Update → List Pair → Type 0
+HasWholeBlocks tail writes =
+    (b : ℕ) → writes_block writes b ≡ true → updates_block tail b ≡ true → IsTrue (is_value_of Block (updated tail b []))
 
 -- In blocks that have the objects of the stored writes, the address's block is the first update, unless all of it is to be overwritten
 pub record IsOpenIn (b : Base) (writes : List Pair) (a : Addr) (updates : List Update) : Type 0 where

@@ -1,8 +1,9 @@
 //! The map of objects, kept in logged blocks, and overwritten whole.
 //!
 //! An object is one bit, an inode or a block, and many share a block. An `ObjectTail` has those that lie in memory. To
-//! overwrite some, `prepare` copies the blocks that they lie in, each once, and stores the objects there; `apply` hands
-//! these blocks to the tail, all or none. In between nothing has changed, and `apply` cannot fail.
+//! overwrite some, `prepare` copies those of their blocks that do not stand in the tail, each once, and stores the objects
+//! there. `apply` stores the others in the tail's blocks in place, and hands the copies to the tail, all or none. In
+//! between nothing has changed, and `apply` cannot fail.
 //!
 //! An `ObjectLog` has the log on the disk, which takes what the tail cuts. Contracts see three maps of it: the map now,
 //! with all groups that it took, and the two that a crash may leave. These are the map at the last cut, and the one at the

@@ -3,7 +3,7 @@ ghost use Rattle.std.specs.Prelude.{◌≡◌, [], IsOkUnless};
 
 use journal_block::{Block, Update};
 use journal_wal::MAX_UPDATES;
-use journal_world::{Objects, Refusal};
+use journal_world::{BLOCK_BYTES, Objects, Refusal};
 use std::alloc::Global;
 use std::marker::Model;
 
@@ -27,15 +27,14 @@ impl Model for Spares {
 }
 
 impl Spares {
-    /// A block for each block that the writes are in, as far as there is memory.
+    /// A block for each whole block that is written, as far as there is memory. A block that is written in part
+    /// mostly stands in the tail, where it is overwritten.
     pub fn for_writes(alloc: Global, writes: &Objects) -> Spares {
         let mut blocks = Vec::new(alloc);
-        let mut last = None;
-        for (addr, _) in writes.iter() {
-            if last == Some(addr.block) {
+        for (_, value) in writes.iter() {
+            if value.bytes().len() < BLOCK_BYTES {
                 continue;
             }
-            last = Some(addr.block);
             if blocks.len() == MAX_UPDATES || !add_block(alloc, &mut blocks) {
                 break;
             }

@@ -10,12 +10,11 @@ use journal_wal::{GroupStep, InstallStep};
 use journal_world::Refusal;
 
 impl<D: BlockDisk> ObjectLog<D> {
-    /// Does the next thing of the logger: cuts the whole tail into a group, writes one of its log blocks, of a plain log
-    /// makes a barrier, writes block 0, makes a barrier. For a group of k blocks these are k + 4 steps, and k + 3 of a
-    /// sealed log. It is idle where no group is in flight and the tail is empty or has no place in the log.
+    /// Does the next thing of the logger for the group that `take_reserved` took: writes one of its log blocks, of a
+    /// plain log makes a barrier, writes block 0, makes a barrier. For a group of k blocks these are k + 3 steps, and
+    /// k + 2 of a sealed log. It is idle where no group is in flight.
     ///
-    /// The map now stays. A cut makes it the map at the last cut, and the last step of a group makes that the
-    /// map which alone a crash may leave.
+    /// The map now stays. The last step of a group makes the map at its cut the one which alone a crash may leave.
     ///
     /// Answers J6 `DeviceFailed`, and nothing else, where the device failed in this call or before. The maps
     /// are then as they were.

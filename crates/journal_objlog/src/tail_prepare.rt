@@ -1,11 +1,12 @@
 // Overwriting objects in memory: all that may fail comes first, and then nothing can.
-ghost use Rattle.std.specs.Prelude.{ℕ, ◌≡◌, ◌≢◌, ◌≤◌, List, [], ◌++◌, false, true, IsTrue, OnOk, IfOk, IfErr};
+ghost use Rattle.std.specs.Prelude.{ℕ, ◌≡◌, ◌≢◌, ◌≤◌, List, [], ◌∷◌, ◌++◌, false, true, IsTrue, OnOk, IfOk, IfErr};
 ghost use Rattle.journal_world.specs.declared.address.Addr.{Addr};
-ghost use Rattle.journal_world.specs.Maps.{are_objects};
+ghost use Rattle.journal_world.specs.Maps.{is_object, are_objects};
 ghost use Rattle.journal_block.specs.declared.update.Update.{Update};
-ghost use Rattle.journal_memlog.specs.Logs.{appended};
+ghost use Rattle.journal_memlog.specs.Logs.{IsMemLog, appended};
 ghost use Rattle.journal_wal.specs.Tails.{MakeTheSame, updates_from};
-ghost use Rattle.journal_objlog.specs.ObjectTails.{blocks_of, known_updates, known_at, known_object, tail_base, missing_blocks, with_tail_room, OverwritesKnown, TakesPrepared, IsTailWriteRefusal, IfReady, IfMissing};
+ghost use Rattle.journal_objlog.specs.ObjectTails.{blocks_of, known_updates, known_at, known_object, tail_base, missing_blocks, with_tail_room, updates_with, OverwritesKnown, TakesPrepared, IsTailWriteRefusal, IfReady, IfMissing};
+ghost use Rattle.journal_objlog.specs.Applying.{stored_log};
 ghost use Rattle.journal_objlog.specs.Places.{places_of};
 ghost use Rattle.journal_objlog.specs.Writes.{written_blocks, fresh_blocks, CanPrepare, IsPrepared, IsWriteRefusal};
 
@@ -13,13 +14,14 @@ use crate::spares::Spares;
 use crate::tail::ObjectTail;
 use crate::writes::{Places, is_block, judge};
 use journal_block::Update;
-use journal_world::{Objects, Refusal};
+use journal_object::store;
+use journal_world::{Addr, Objects, Refusal, Value};
 use std::marker::Model;
 
 /// Overwrites that are ready to be applied, made by [`ObjectTail::prepare`].
 #[derive(Drop)]
 pub struct Prepared {
-    // One for each block that is written, blocks ascending, with its objects stored.
+    // One for each block that is written and does not stand in the tail, blocks ascending, with its objects stored.
     updates: Vec<Update>,
 }
 
@@ -43,8 +45,9 @@ pub enum Preparation {
 
 impl ObjectTail {
     /// Makes the overwriting of objects by these values ready for `apply`, with all the memory that it takes; it
-    /// takes what memory the spares have first. A block that is written, but not as a whole, has to be in memory or
-    /// among the fetched ones: where some are not, the answer is these.
+    /// takes what memory the spares have first. Of a block that stands in the tail nothing is copied: `apply`
+    /// overwrites it there. Another block that is written, but not as a whole, has to be in memory or among the
+    /// fetched ones: where some are not, the answer is these.
     ///
     /// The first that applies of these refuses it: J2 `BadAddress` where an address is not valid, J3 `BadSize` where
     /// a value is not of its address's kind, J4 `TooLarge` where more than 128 distinct blocks are written, J11
@@ -57,11 +60,12 @@ impl ObjectTail {
         spares: &mut Spares,
         fetched: &[Update],
     ) -> Result<Preparation, Refusal<()>>
-        ensures ready { IfOk result (IfReady (TakesPrepared self.new)) }
-        ensures prepared { IfOk result (IfReady (λ prepared. IsPrepared true (tail_base fetched.now self.new) prepared writes.now)) }
+        ensures ready { IfOk result (IfReady (TakesPrepared self.new writes.now)) }
+        ensures prepared { IfOk result (IfReady (λ prepared.
+            IsPrepared true (tail_base fetched.now self.new) (updates_with self.new writes.now prepared) writes.now)) }
         // Each address that is written then has its value, and each other what it had.
         ensures overwrites { IfOk result (IfReady (λ prepared.
-            OverwritesKnown (blocks_of self.new) (known_updates fetched.now self.new) prepared writes.now)) }
+            OverwritesKnown (blocks_of self.new) (known_updates fetched.now self.new) (updates_with self.new writes.now prepared) writes.now)) }
         ensures missing { IfOk result (IfMissing (λ blocks.
             blocks ≡ missing_blocks (blocks_of self.old) (known_updates fetched.now self.old) writes.now)) }
         ensures some { IfOk result (IfMissing (λ blocks. blocks ≢ [])) }
@@ -79,19 +83,45 @@ impl ObjectTail {
         Ok(Preparation::Ready(Prepared { updates }))
     }
 
-    /// Overwrites the objects by what `prepare` made ready, where no call came between that changes them. It takes
-    /// no memory, and moves the blocks.
-    pub fn apply(&mut self, prepared: Prepared)
-        requires { TakesPrepared self.old prepared }
-        ensures log { self.new ≡ record self.old { log = appended self.old.log prepared } }
+    /// Overwrites the objects by these writes, which `prepare` made ready, where no call came between that changes
+    /// them: in place those whose blocks stand in the tail, and the others by appending their blocks. It takes no
+    /// memory, copies no block, and moves the prepared ones.
+    pub fn apply(&mut self, prepared: Prepared, writes: &Objects)
+        requires { TakesPrepared self.old writes.now prepared }
+        ensures log { self.new ≡ record self.old { log = appended self.old.log (updates_with self.old writes.now prepared) } }
         // What was updated since any cut is what was, and then these.
         ensures since { (from : ℕ) → self.old.log.start ≤ from → from ≤ self.old.log.cut →
-            MakeTheSame (updates_from self.new.log from) (updates_from self.old.log from ++ prepared) }
+            MakeTheSame (updates_from self.new.log from) (updates_from self.old.log from ++ updates_with self.old writes.now prepared) }
         // What memory knows of an address is what it knew, with these behind.
-        ensures known { (fetched : List Update) (a : Addr) →
-            known_at fetched self.new a ≡ known_object (blocks_of self.old) (known_updates fetched self.old ++ prepared) a }
+        ensures known { (fetched : List Update) (a : Addr) → known_at fetched self.new a
+            ≡ known_object (blocks_of self.old) (known_updates fetched self.old ++ updates_with self.old writes.now prepared) a }
     {
+        self.store_standing(writes);
         self.tail.append_reserved(prepared.updates);
+    }
+
+    // Overwrites those objects whose blocks stand in the tail. Of two values of one address the first would stand.
+    fn store_standing(&mut self, writes: &Objects)
+        requires { IsTrue (are_objects (blocks_of self.old) writes.now) }
+        ensures stored { self.new ≡ record self.old { log = stored_log (blocks_of self.old) writes.now self.old.log } }
+        ensures sound { IsMemLog self.old.log }
+    {
+        // Called for its contract: the log is sound.
+        let _bounds = self.tail.bounds();
+        for (addr, value) in writes.iter().rev() {
+            self.store_in_tail(*addr, value);
+        }
+    }
+
+    // Overwrites the object in its block, where that stands in the tail.
+    fn store_in_tail(&mut self, addr: Addr, value: &Value)
+        requires { IsTrue (is_object (blocks_of self.old) (addr, value.now)) }
+        ensures { self.new ≡ record self.old { log = stored_log (blocks_of self.old) ((addr, value.now) ∷ []) self.old.log } }
+    {
+        if let Some(position) = self.tail.place_in_tail(addr.block) {
+            let block = self.tail.tail_block(position);
+            store::<()>(&self.layout, block, addr, value.bytes()).unwrap();
+        }
     }
 
     // Refuses what needs no memory: J2, J3, J4, J11 and J12. Tells how many places the writes take.

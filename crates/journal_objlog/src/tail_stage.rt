@@ -1,11 +1,14 @@
 // The blocks that are written in memory: which have to be fetched first, and what they hold with the writes stored.
-ghost use Rattle.std.specs.Prelude.{◌≡◌, ◌⊎◌, ◌≤◌, false, IsTrue, OnOk, IfOk, IsOkUnless, List, Some};
+ghost use Rattle.std.specs.Prelude.{◌≡◌, ◌⊎◌, ◌≤◌, false, IsTrue, OnOk, IfOk, IsOkUnless, List, [], Some};
 ghost use Rattle.journal_world.specs.declared.layout.TheConstants.{MIN_BLOCKS};
-ghost use Rattle.journal_world.specs.Addresses.{kind_of, is_valid};
+ghost use Rattle.journal_world.specs.Addresses.{kind_of, is_valid, is_value_of};
 ghost use Rattle.journal_world.specs.Maps.{Pair, are_objects};
 ghost use Rattle.journal_world.specs.Orders.{HasAscendingBlocks};
+ghost use Rattle.journal_block.specs.Updates.{updated, updates_block};
+ghost use Rattle.journal_memlog.specs.Logs.{tail_of};
 ghost use Rattle.journal_objlog.specs.ObjectTails.{blocks_of, known_updates, tail_base, is_missing, missing_blocks, HasBlocks};
-ghost use Rattle.journal_objlog.specs.Staging.{IsAboveNone, IsStaged, IsOpen};
+ghost use Rattle.journal_objlog.specs.Staging.{IsAboveNone, IsStaged, IsOpen, HasWholeBlocks};
+ghost use Rattle.journal_objlog.specs.Applying.{fresh_writes};
 
 use crate::spares::Spares;
 use crate::stage::Backwards;
@@ -50,7 +53,8 @@ impl ObjectTail {
         self.known(fetched, block).is_none()
     }
 
-    /// One update for each block that is written, blocks ascending, with its objects stored.
+    /// One update for each block that is written and does not stand in the tail, blocks ascending, with its objects
+    /// stored.
     pub(crate) fn stage(
         &self,
         writes: &Objects,
@@ -59,12 +63,18 @@ impl ObjectTail {
     ) -> Result<Vec<Update>, Refusal<()>>
         requires objects { IsTrue (are_objects (blocks_of self.now) writes.now) }
         requires present { HasBlocks (blocks_of self.now) (known_updates fetched.now self.now) writes.now }
-        ensures staged { IfOk result (λ updates. IsStaged (tail_base fetched.now self.now) writes.now updates.items) }
+        ensures staged { IfOk result (λ updates.
+            IsStaged (tail_base fetched.now self.now) (fresh_writes (tail_of self.now.log) writes.now) updates.items) }
+        // The others are 4096 bytes.
+        ensures standing { OnOk result (HasWholeBlocks (tail_of self.now.log) writes.now) }
         ensures refusal { IsOkUnless result Refusal.NoMemory }
     {
         let mut updates = Backwards::new(self.alloc, spares);
         // From the last on: of two values of one address the first would stand.
         for (addr, value) in writes.iter().rev() {
+            if self.is_in_tail(addr.block) {
+                continue;
+            }
             self.open_block(&mut updates, spares, fetched, *addr)?;
             updates.store_first(&self.layout, *addr, value);
         }
@@ -110,10 +120,22 @@ impl ObjectTail {
             (kind_of (blocks_of self.now) block ≡ Some Kind.Block) ⊎ (bytes ≡ (tail_base fetched.now self.now).content block)) }
         ensures refusal { IsOkUnless result Refusal.NoMemory }
     {
-        let mut bytes = spares.take(self.alloc)?;
-        if self.layout.kind(block) != Some(Kind::Block) {
-            bytes.copy_from(self.known(fetched, block).unwrap());
+        if self.layout.kind(block) == Some(Kind::Block) {
+            return spares.take(self.alloc);
         }
-        Ok(bytes)
+        Block::copied_from(self.alloc, self.known(fetched, block).unwrap())
+    }
+
+    // Whether the block stands in the tail, where `apply` then overwrites it.
+    fn is_in_tail(&self, block: u64) -> bool
+        ensures stands { result ≡ updates_block (tail_of self.now.log) block }
+        ensures value { IsTrue result → IsTrue (is_value_of Kind.Block (updated (tail_of self.now.log) block [])) }
+    {
+        let Some(found) = self.tail.in_tail(block) else {
+            return false;
+        };
+        // Called for its contract: the block has 4096 bytes.
+        let _bytes = found.as_bytes();
+        true
     }
 }

@@ -1,18 +1,51 @@
-use Rattle.std.proofs.Common.{rules, ◌≡◌, ◌++◌, List, append_assoc, subst, sym, ap, ◌∙◌}
+use Rattle.std.proofs.Common.{◌≡◌, ◌++◌, List, append_assoc, subst, sym, ap, ◌∙◌}
 use Rattle.journal_block.specs.declared.update.Update.{Update}
-use Rattle.journal_memlog.specs.Logs.{appended}
-use Rattle.journal_wal.specs.Tails.{TailState}
-use Rattle.journal_objlog.specs.ObjectTails.{blocks_of, known_updates, known_at, known_object}
+use Rattle.journal_memlog.specs.Logs.{LogState, appended}
+use Rattle.journal_wal.specs.Tails.{TailState, MakeTheSame, TakesUpdates, updates_from}
+use Rattle.journal_wal.specs.Wal.{AreHomes}
+use Rattle.journal_wal.proofs.Tailing.{since_appended}
+use Rattle.journal_objlog.specs.ObjectTails.{blocks_of, known_updates, known_at, known_object, updates_with}
+use Rattle.journal_objlog.specs.Applying.{stored_log}
 use Rattle.journal_objlog.proofs.KnownObjects.{known_appended}
+use Rattle.journal_objlog.proofs.InPlace.{stored_appended, fresh_homes, fresh_room}
 use Rattle.journal_objlog.proofs.tail.ObjectTail.apply.Goals as goal
+
+pub store_standing-requires : goal.store_standing-requires
+store_standing-requires c = c.requires.objects
+
+pub append_reserved-requires-clause-homes : goal.append_reserved-requires-clause-homes
+append_reserved-requires-clause-homes c =
+    let old = c.args.self.now in
+    subst (λ (t : TailState). AreHomes t.log.blocks c.prepared.inside.updates.items) (sym (c.self.view_is ∙ c.store_standing.ensures.stored))
+    (subst (λ (us : List Update). AreHomes (blocks_of old) us) (sym c.prepared.view_is)
+    (fresh_homes old c.store_standing.ensures.sound c.args.writes.now c.args.prepared c.requires))
+
+pub append_reserved-requires-clause-room : goal.append_reserved-requires-clause-room
+append_reserved-requires-clause-room c =
+    let old = c.args.self.now in
+    subst (λ (t : TailState). TakesUpdates t.log c.prepared.inside.updates.items) (sym (c.self.view_is ∙ c.store_standing.ensures.stored))
+    (subst (λ (us : List Update). TakesUpdates (stored_log (blocks_of old) c.args.writes.now old.log) us) (sym c.prepared.view_is)
+    (fresh_room old c.store_standing.ensures.sound c.args.writes.now c.args.prepared c.requires))
+
+pub returns-clause-log : goal.returns-clause-log
+returns-clause-log c =
+    let old = c.args.self.now in
+    c.append_reserved.ensures.log
+    ∙ ap (λ (us : List Update). record c.self.inside.tail { log = appended c.self.inside.tail.log us }) c.prepared.view_is
+    ∙ ap (λ (t : TailState). record t { log = appended t.log c.args.prepared }) (c.self.view_is ∙ c.store_standing.ensures.stored)
+    ∙ ap (λ (l : LogState). record old { log = l }) (stored_appended (blocks_of old) old.log c.store_standing.ensures.sound c.args.writes.now c.args.prepared)
+
+pub returns-clause-since : goal.returns-clause-since
+returns-clause-since c = λ from above below.
+    let old = c.args.self.now in
+    subst (λ (t : TailState). MakeTheSame (updates_from t.log from) (updates_from old.log from ++ updates_with old c.args.writes.now c.args.prepared)) (sym (returns-clause-log c))
+    (since_appended old.log (updates_with old c.args.writes.now c.args.prepared) c.store_standing.ensures.sound from above below)
 
 pub returns-clause-known : goal.returns-clause-known
 returns-clause-known c = λ fetched a.
     let old = c.args.self.now in
-    subst (λ (t : TailState). known_at fetched t a ≡ known_object (blocks_of old) (known_updates fetched old ++ c.args.prepared) a) (sym returned)
-    (ap (λ (us : List Update). known_object (blocks_of old) us a) (sym (append_assoc fetched old.home (appended old.log c.args.prepared).updates))
-    ∙ known_appended (blocks_of old) (fetched ++ old.home) old.log c.args.prepared a
-    ∙ ap (λ (us : List Update). known_object (blocks_of old) (us ++ c.args.prepared) a) (append_assoc fetched old.home old.log.updates))
-  where
-    returned : c.append_reserved.new.self ≡ record c.args.self.now { log = appended c.args.self.now.log c.args.prepared }
-    returned = search rules
+    let all = updates_with old c.args.writes.now c.args.prepared in
+    subst (λ (t : TailState). known_at fetched t a ≡ known_object (blocks_of old) (known_updates fetched old ++ all) a) (sym (returns-clause-log c))
+    (ap (λ (us : List Update). known_object (blocks_of old) us a) (sym (append_assoc fetched old.home (appended old.log all).updates))
+    ∙ known_appended (blocks_of old) (fetched ++ old.home) old.log all a
+    ∙ ap (λ (us : List Update). known_object (blocks_of old) (us ++ all) a) (append_assoc fetched old.home old.log.updates))

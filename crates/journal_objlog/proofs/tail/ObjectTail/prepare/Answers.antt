@@ -56,8 +56,9 @@ returns-in_err-reserve-clause-refusal c =
 pub returns-clause-ready : goal.returns-clause-ready
 returns-clause-ready c =
     tail_ready c.self.inside.tail c.args.self.now c.reserve.new.self c.args.fetched.now c.args.writes.now c.in_ok-updates.updates.items
-    c.in_ok-places.places.fresh c.self.view_is c.in_ok-updates.ensures.staged (ap (λ (p : Places). p.fresh) (c.in_ok-places.ensures.places c.args.fetched.now))
-    c.in_ok-reserve.ensures.same c.in_ok-reserve.ensures.room
+    c.self.inside.layout.blocks c.self.invariant c.self.view_is c.in_ok-updates.ensures.staged c.in_ok-updates.ensures.standing
+    (c.in_ok-places.ensures.ok c.args.fetched.now).objects c.in_ok-reserve.ensures.same
+    c.in_ok-places.places.fresh (ap (λ (p : Places). p.fresh) (c.in_ok-places.ensures.places c.args.fetched.now)) c.in_ok-reserve.ensures.room
 
 pub returns-clause-overwrites : goal.returns-clause-overwrites
 returns-clause-overwrites c =
@@ -65,13 +66,15 @@ returns-clause-overwrites c =
     let present = none_missing (blocks_of c.args.self.now) (known_updates c.args.fetched.now c.args.self.now) c.args.writes.now
     (sym c.in_ok-missing.ensures.blocks ∙ none_of c.in_ok-missing.missing.items none) in
     tail_overwrites c.self.inside.tail c.args.self.now c.reserve.new.self c.args.fetched.now c.args.writes.now c.in_ok-updates.updates.items
-    c.self.inside.layout.blocks c.self.invariant c.self.view_is c.in_ok-updates.ensures.staged (c.in_ok-places.ensures.ok c.args.fetched.now).objects
-    present c.in_ok-reserve.ensures.same
+    c.self.inside.layout.blocks c.self.invariant c.self.view_is c.in_ok-updates.ensures.staged c.in_ok-updates.ensures.standing
+    (c.in_ok-places.ensures.ok c.args.fetched.now).objects c.in_ok-reserve.ensures.same
+    present
 
 pub returns-clause-prepared : goal.returns-clause-prepared
 returns-clause-prepared c =
     tail_prepared c.self.inside.tail c.args.self.now c.reserve.new.self c.args.fetched.now c.args.writes.now c.in_ok-updates.updates.items
-    c.self.inside.layout.blocks c.self.invariant c.self.view_is c.in_ok-updates.ensures.staged c.in_ok-reserve.ensures.same
+    c.self.inside.layout.blocks c.self.invariant c.self.view_is c.in_ok-updates.ensures.staged c.in_ok-updates.ensures.standing
+    (c.in_ok-places.ensures.ok c.args.fetched.now).objects c.in_ok-reserve.ensures.same
 
 pub returns-clause-ok : goal.returns-clause-ok
 returns-clause-ok c = c.in_ok-places.ensures.ok c.args.fetched.now

@@ -1,8 +1,10 @@
-use Rattle.std.proofs.Common.{◌∷◌, [], ap, ◌∙◌}
+use Rattle.std.proofs.Common.{◌∷◌, [], sym, ap, ◌∙◌}
 use Rattle.std.specs.Iterator.Adapters.{rev_source}
 use Rattle.journal_world.specs.Maps.{Pair}
 use Rattle.journal_objlog.specs.ObjectTails.{blocks_of, known_updates, tail_base}
-use Rattle.journal_objlog.proofs.TailStaging.{some_first, tail_below, tail_present, tail_staged_on, tail_staging_begins}
+use Rattle.journal_objlog.specs.Applying.{fresh_writes}
+use Rattle.journal_memlog.specs.Logs.{tail_of}
+use Rattle.journal_objlog.proofs.TailStaging.{some_first, tail_below, tail_present, tail_staged_on, tail_passed, tail_staging_begins}
 use Rattle.journal_objlog.proofs.tail.ObjectTail.stage.Goals as goal
 
 pub loop-addr-init : goal.loop-addr-init
@@ -27,7 +29,7 @@ store_first-requires-clause-some c =
     let under = tail_below (tail_base c.args.fetched.now c.args.self.now) c.args.writes.now (rev_source c.loop-addr.addr-iterator) (rev_source c.next.new.self) c.loop-addr.invariant.0 p
     c.loop-addr.updates c.iter.ensures.ascending c.in-Some.ensures.steps c.loop-addr.invariant.1 in
     some_first c.open_block.new.updates c.in-Some.addr.now.block
-    (c.in_ok-open_block.ensures.opened c.loop-addr.invariant.0 c.loop-addr.invariant.1.staged under.1 under.0).blocks.first
+    (c.in_ok-open_block.ensures.opened (fresh_writes (tail_of c.args.self.now.log) c.loop-addr.invariant.0) c.loop-addr.invariant.1.staged under.1 under.0).blocks.first
 
 pub loop-addr-preserved : goal.loop-addr-preserved
 loop-addr-preserved c =
@@ -37,9 +39,18 @@ loop-addr-preserved c =
       p ∷ c.loop-addr.invariant.0,
       tail_staged_on (tail_base c.args.fetched.now c.args.self.now) c.args.writes.now (rev_source c.loop-addr.addr-iterator) (rev_source c.next.new.self) c.loop-addr.invariant.0 p
           c.loop-addr.updates c.iter.ensures.ascending c.in-Some.ensures.steps c.loop-addr.invariant.1
-          c.open_block.new.updates c.store_first.new.self
-          (c.in_ok-open_block.ensures.opened c.loop-addr.invariant.0 c.loop-addr.invariant.1.staged under.1 under.0)
+          (sym c.is_in_tail.ensures.stands ∙ c.if-is_in_tail.false) c.open_block.new.updates c.store_first.new.self
+          (c.in_ok-open_block.ensures.opened (fresh_writes (tail_of c.args.self.now.log) c.loop-addr.invariant.0) c.loop-addr.invariant.1.staged under.1 under.0)
           c.store_first.ensures.stored c.self.inside.layout.blocks
           (c.self.invariant.size ∙ ap blocks_of c.self.view_is)
           c.store_first.ensures.only,
+    )
+
+pub loop-addr-preserved-then-is_in_tail : goal.loop-addr-preserved-then-is_in_tail
+loop-addr-preserved-then-is_in_tail c =
+    let p : Pair = (c.in-Some.addr.now, c.in-Some.value.now) in (
+      p ∷ c.loop-addr.invariant.0,
+      tail_passed (tail_base c.args.fetched.now c.args.self.now) c.args.writes.now (rev_source c.loop-addr.addr-iterator) (rev_source c.next.new.self) c.loop-addr.invariant.0 p
+          c.loop-addr.updates c.iter.ensures.ascending c.in-Some.ensures.steps c.loop-addr.invariant.1
+          (sym c.is_in_tail.ensures.stands ∙ c.if-is_in_tail.true) (c.is_in_tail.ensures.value c.if-is_in_tail.true),
     )
