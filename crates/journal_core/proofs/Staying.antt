@@ -17,12 +17,12 @@ use Rattle.journal_block.specs.Updates.{updates_block}
 use Rattle.journal_memlog.specs.Logs.{LogState, next_position, tail_of, appended}
 use Rattle.journal_memlog.specs.Laws.{next_of-appended, length-absorbed_ge}
 use Rattle.journal_wal.specs.declared.tail.CutPoint.{CutPoint}
-use Rattle.journal_wal.specs.Tails.{TailState, MakeTheSame, MakesNoOther, cut_points, known_blocks, updates_from, cut_after, DropsCuts}
+use Rattle.journal_wal.specs.Tails.{TailState, MakeTheSame, MakesNoOther, cut_points, known_blocks, updates_from, cut_after, DropsCuts, TakesUpdates}
 use Rattle.journal_wal.proofs.Kept.{no_other_behind}
 use Rattle.journal_objlog.specs.Writes.{writes_block}
 use Rattle.journal_core.specs.Updates.{HaveAllSince, IsOrNone, AreObjectsOf}
 use Rattle.journal_core.specs.Durables.{FetchedState, IsFetched}
-use Rattle.journal_objlog.specs.ObjectTails.{blocks_of, known_updates, known_at, TakesPrepared}
+use Rattle.journal_objlog.specs.ObjectTails.{blocks_of, known_updates, known_at}
 use Rattle.journal_core.specs.Memories.{MemoryState}
 use Rattle.journal_core.specs.Volatiles.{VolatileState, IsCutOf, HasUpdates, IsVolatile}
 use Rattle.journal_core.proofs.Fronts.{append-some, trusted-longer}
@@ -217,7 +217,7 @@ unfetched_latest blocks v kept trusted = kept.known trusted
 pub kept_added : (blocks : ℕ) (v : VolatileState) (t : Transaction) (prepared : List Update) (memory : MemoryState) (new : TailState) → IsVolatile blocks v
     → memory.history ≡ v.memory.history ++ commit t ∷ [] → memory.cut ≡ v.memory.cut → new ≡ record v.tail { log = appended v.tail.log prepared }
     → ((from : ℕ) → v.tail.log.start ≤ from → from ≤ v.tail.log.cut → MakeTheSame (updates_from new.log from) (updates_from v.tail.log from ++ prepared))
-    → TakesPrepared v.tail prepared → ((b : ℕ) → updates_block prepared b ≡ writes_block t.writes b)
+    → TakesUpdates v.tail.log prepared → ((b : ℕ) → updates_block prepared b ≡ writes_block t.writes b)
     → (IsTrue (is_trusted v.memory.history) → AreObjectsOf blocks (overwritten (latest v.memory.history) t.writes) prepared)
     → IsVolatile blocks (record v { memory = memory; tail = new })
 kept_added blocks v t prepared memory new kept added cut appends since takes named written = record {
@@ -233,7 +233,7 @@ kept_added blocks v t prepared memory new kept added cut appends since takes nam
     next_of-appended v.tail.log prepared,
     length-absorbed_ge (tail_of v.tail.log) prepared,
   );
-  small = omega (arith, ap (λ (s : TailState). next_position s.log) appends, takes.room.can.below);
+  small = omega (arith, ap (λ (s : TailState). next_position s.log) appends, takes.can.below);
   cuts = subst (All (IsCutOf (record v { memory = memory; tail = new }))) (sym points)
       (λ k d lt. let was = kept.cuts k d lt in record {
         above = omega (arith, was.above, ap (λ (s : TailState). s.log.start) appends);

@@ -13,7 +13,7 @@ use Rattle.journal_memlog.specs.Logs.{next_position, tail_of}
 use Rattle.journal_wal.specs.Tails.{TailState}
 use Rattle.journal_objlog.specs.declared.tail_prepare.Preparation.{Preparation}
 use Rattle.journal_objlog.specs.declared.tail_prepare.Preparation.TheVariants.{Ready, Missing}
-use Rattle.journal_objlog.specs.ObjectTails.{blocks_of, known_updates, tail_base, with_tail_room, OverwritesKnown, IsTailWriteRefusal, IfReady}
+use Rattle.journal_objlog.specs.ObjectTails.{blocks_of, known_updates, tail_base, with_tail_room, OverwritesKnown, IsTailWriteRefusal, IfReady, updates_with}
 use Rattle.journal_objlog.specs.Writes.{CanPrepare, IsWriteRefusal, are_valid, written_blocks, fresh_among}
 use Rattle.journal_history.specs.Tokens.{SessionState}
 use Rattle.journal_core.specs.Causes.{Told, raised_of}
@@ -103,17 +103,18 @@ module _ (blocks : ℕ) (v : VolatileState) (fetched : List Update) (writes : Li
 pub raised_written : (blocks : ℕ) (m : Map) (writes : List Pair) (fetched : List Update) (old new : TailState) → blocks_of old ≡ blocks
     → new ≡ with_tail_room old new.log.room → AreObjectsOf blocks m (known_updates fetched old)
     → (answer : Result Preparation (Refusal Unit)) (result : Result Preparation (Refusal Told)) → IfOk result (λ value. answer ≡ Ok value)
-    → IfOk answer (IfReady (λ prepared. OverwritesKnown (blocks_of new) (known_updates fetched new) prepared writes))
-    → IfOk result (IfReady (AreObjectsOf blocks (overwritten m writes)))
+    → IfOk answer (IfReady (λ prepared. OverwritesKnown (blocks_of new) (known_updates fetched new) (updates_with new writes prepared) writes))
+    → IfOk result (IfReady (λ prepared. AreObjectsOf blocks (overwritten m writes) (updates_with new writes prepared)))
 raised_written blocks m writes fetched old new size same are answer (Err why) is over = tt
 raised_written blocks m writes fetched old new size same are answer (Ok (Missing missing)) is over = tt
 raised_written blocks m writes fetched old new size same are answer (Ok (Ready prepared)) is over =
-    let here : OverwritesKnown (blocks_of new) (known_updates fetched new) prepared writes =
-    subst (λ (r : Result Preparation (Refusal Unit)). IfOk r (IfReady (λ prepared. OverwritesKnown (blocks_of new) (known_updates fetched new) prepared writes))) is over in
-    let there : OverwritesKnown (blocks_of old) (known_updates fetched old) prepared writes =
-    subst (λ (t : TailState). OverwritesKnown (blocks_of t) (known_updates fetched t) prepared writes) same here in
-    objects_written blocks m writes (known_updates fetched old) prepared are
-    (subst (λ (n : ℕ). OverwritesKnown n (known_updates fetched old) prepared writes) size there)
+    let all = updates_with new writes prepared in
+    let here : OverwritesKnown (blocks_of new) (known_updates fetched new) all writes =
+    subst (λ (r : Result Preparation (Refusal Unit)). IfOk r (IfReady (λ ready. OverwritesKnown (blocks_of new) (known_updates fetched new) (updates_with new writes ready) writes))) is over in
+    let there : OverwritesKnown (blocks_of old) (known_updates fetched old) all writes =
+    subst (λ (t : TailState). OverwritesKnown (blocks_of t) (known_updates fetched t) all writes) same here in
+    objects_written blocks m writes (known_updates fetched old) all are
+    (subst (λ (n : ℕ). OverwritesKnown n (known_updates fetched old) all writes) size there)
 
 -- what a session has seen that is shown a longer front
 pub shows_front : (history seen : List Entry) (after : SessionState) (why : Refusal Told) → IsFrontRefusal history seen why → IsPrefix seen after.seen

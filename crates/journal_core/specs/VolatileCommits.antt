@@ -28,10 +28,10 @@ pub record IsCommitted (reads writes : List Pair) (session after : SessionState)
     tail = new.tail;
   }
 
--- The transaction was added, and the prepared updates appended
-pub record IsAdded (t : Transaction) (prepared : List Update) (session after : SessionState) (old new : VolatileState) : Type 0 where
+-- The transaction was added, and the updates that its writes make appended
+pub record IsAdded (t : Transaction) (updates : List Update) (session after : SessionState) (old new : VolatileState) : Type 0 where
   pub committed : Commits t session after old.memory.history new.memory.history
-  pub appends : new.tail ≡ record old.tail { log = appended old.tail.log prepared }
+  pub appends : new.tail ≡ record old.tail { log = appended old.tail.log updates }
   pub others : new ≡ record old {
     memory = record old.memory { history = new.memory.history; next = max old.memory.next (session.number + 1) };
     tail = new.tail;

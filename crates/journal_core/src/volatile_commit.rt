@@ -4,7 +4,7 @@ ghost use Rattle.journal_world.specs.declared.refusal.Refusal.TheVariants.{TooLa
 ghost use Rattle.journal_world.specs.Maps.{Map, Agrees, are_objects, overwritten};
 ghost use Rattle.journal_world.specs.Histories.{is_trusted, is_fenced, commits_of, latest};
 ghost use Rattle.journal_block.specs.Updates.{updates_block};
-ghost use Rattle.journal_objlog.specs.ObjectTails.{blocks_of, known_updates, tail_base, missing_blocks, TakesPrepared, IfReady, IfMissing as IfUnready};
+ghost use Rattle.journal_objlog.specs.ObjectTails.{blocks_of, known_updates, tail_base, missing_blocks, updates_with, TakesPrepared, IfReady, IfMissing as IfUnready};
 ghost use Rattle.journal_objlog.specs.Writes.{writes_block, written_blocks, IsPrepared};
 ghost use Rattle.journal_history.specs.Tokens.{made, next_transaction, OnlyExtends, IsReceiptFor};
 ghost use Rattle.journal_lockmap.specs.Numbers.{AreApart, HoldsSlots, slots_of};
@@ -164,10 +164,11 @@ impl<'b, R: MapRule, J: Naming> Volatile<'b, R, J> {
     ) -> Result<Preparation, Refusal<Cause<'b, J, R>>>
         requires objects { IsTrue (are_objects J.blocks writes.now) }
         requires latest { IsTrue (is_trusted self.old.memory.history) → AreObjectsOf J.blocks (latest self.old.memory.history) (known_updates blocks.now self.old.tail) }
-        ensures ready { IfOk result (IfReady (TakesPrepared self.new.tail)) }
-        ensures prepared { IfOk result (IfReady (λ prepared. IsPrepared true (tail_base blocks.now self.new.tail) prepared writes.now)) }
-        ensures written { IsTrue (is_trusted self.old.memory.history) → IfOk result (IfReady
-            (AreObjectsOf J.blocks (overwritten (latest self.old.memory.history) writes.now))) }
+        ensures ready { IfOk result (IfReady (TakesPrepared self.new.tail writes.now)) }
+        ensures prepared { IfOk result (IfReady (λ prepared.
+            IsPrepared true (tail_base blocks.now self.new.tail) (updates_with self.new.tail writes.now prepared) writes.now)) }
+        ensures written { IsTrue (is_trusted self.old.memory.history) → IfOk result (IfReady (λ prepared.
+            AreObjectsOf J.blocks (overwritten (latest self.old.memory.history) writes.now) (updates_with self.new.tail writes.now prepared))) }
         ensures missing { IfOk result (IfUnready (λ missing. missing ≡ missing_blocks J.blocks (known_updates blocks.now self.old.tail) writes.now)) }
         ensures below { IfOk result (IfUnready (λ missing. All (λ b. b < J.blocks) missing)) }
         ensures some { IfOk result (IfUnready (λ missing. missing ≢ [])) }
@@ -206,15 +207,17 @@ impl<'b, R: MapRule, J: Naming> Volatile<'b, R, J> {
         requires unfenced { is_fenced session.old.number self.old.memory.history ≡ false }
         requires room { length self.old.memory.history + 1 < 2 ^ 62 }
         requires small { session.old.number < 2 ^ 62 }
-        requires ready { TakesPrepared self.old.tail prepared }
-        requires named { (b : ℕ) → updates_block prepared b ≡ writes_block transaction.now.writes b }
-        requires written { IsTrue (is_trusted self.old.memory.history) → AreObjectsOf J.blocks (overwritten (latest self.old.memory.history) transaction.now.writes) prepared }
+        requires ready { TakesPrepared self.old.tail transaction.now.writes prepared }
+        requires named { (b : ℕ) → updates_block (updates_with self.old.tail transaction.now.writes prepared) b ≡ writes_block transaction.now.writes b }
+        requires written { IsTrue (is_trusted self.old.memory.history)
+            → AreObjectsOf J.blocks (overwritten (latest self.old.memory.history) transaction.now.writes) (updates_with self.old.tail transaction.now.writes prepared) }
         requires covered { HoldsSlots held.old transaction.now.writes }
         requires apart { AreApart held.old }
         ensures agree { OnOk result (AgreeWith self.new.memory.history held.new) }
         ensures slots { slots_of held.new ≡ slots_of held.old }
         ensures held { OnErr result (held.new ≡ held.old) }
-        ensures added { OnOk result (IsAdded (next_transaction session.old transaction.now.reads transaction.now.writes) prepared session.old session.new self.old self.new) }
+        ensures added { OnOk result (IsAdded (next_transaction session.old transaction.now.reads transaction.now.writes)
+            (updates_with self.old.tail transaction.now.writes prepared) session.old session.new self.old self.new) }
         ensures receipt { IfOk result (IsReceiptFor (next_transaction session.old transaction.now.reads transaction.now.writes) self.new.memory.history (length self.old.memory.history)) }
         ensures refusal { IfErr result (IsAddingRefusal self.old.memory.history) }
         ensures same { OnErr result (self.new ≡ self.old) }
@@ -223,7 +226,7 @@ impl<'b, R: MapRule, J: Naming> Volatile<'b, R, J> {
     {
         let receipt = self.memory.commit(rt, session, transaction, held)?;
         // Nothing fails from here on.
-        self.tail.apply(prepared);
+        self.tail.apply(prepared, &transaction.writes);
         Ok(receipt)
     }
 }

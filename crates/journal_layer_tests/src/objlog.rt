@@ -205,7 +205,7 @@ fn prepare(alloc: Global, pair: &mut Pair, writes: &Objects, fetched: &[Update])
     let mut spares = Spares::for_writes(alloc, writes);
     match tail.prepare(writes, &mut spares, fetched)? {
         Preparation::Ready(prepared) => {
-            tail.apply(prepared);
+            tail.apply(prepared, writes);
             Ok(Vec::new(alloc))
         }
         Preparation::Missing(missing) => Ok(missing),

@@ -98,7 +98,7 @@ fn overwrite(alloc: Global, memory: &mut Memory, fills: &[Fill], is_applied: boo
     match memory.tail.prepare(&writes, &mut spares, &memory.fetched)? {
         Preparation::Ready(prepared) => {
             if is_applied {
-                memory.tail.apply(prepared);
+                memory.tail.apply(prepared, &writes);
             }
             Ok(memory.tail.tail_len())
         }

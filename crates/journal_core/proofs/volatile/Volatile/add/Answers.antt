@@ -1,8 +1,13 @@
-use Rattle.std.proofs.Common.{IsTrue, sym, subst}
-use Rattle.journal_world.specs.Maps.{overwritten}
+use Rattle.std.proofs.Common.{◌≡◌, ◌≤◌, ◌++◌, ℕ, List, IsTrue, ap, sym, subst}
+use Rattle.journal_world.specs.Maps.{Pair, overwritten}
 use Rattle.journal_world.specs.Histories.{is_trusted, latest}
-use Rattle.journal_objlog.specs.ObjectTails.{TakesPrepared}
+use Rattle.journal_block.specs.Updates.{updates_block}
+use Rattle.journal_memlog.specs.Logs.{appended}
+use Rattle.journal_wal.specs.Tails.{MakeTheSame, updates_from}
+use Rattle.journal_objlog.specs.ObjectTails.{updates_with, TakesPrepared}
+use Rattle.journal_objlog.specs.Writes.{writes_block}
 use Rattle.journal_history.specs.Tokens.{next_transaction}
+use Rattle.journal_core.specs.Transactions.{TransactionState}
 use Rattle.journal_core.specs.Updates.{AreObjectsOf}
 use Rattle.journal_core.specs.Volatiles.{VolatileState}
 use Rattle.journal_core.proofs.Staying.{kept_added}
@@ -10,7 +15,16 @@ use Rattle.journal_core.proofs.volatile.Volatile.add.Goals as goal
 
 pub invariant_of-self-2 : goal.invariant_of-self-2
 invariant_of-self-2 g c =
-    kept_added g.J.Naming.blocks _ (next_transaction c.args.session.now c.args.transaction.now.reads c.args.transaction.now.writes) c.args.prepared c.commit.new.self c.apply.new.self
-    c.self.invariant c.in_ok-receipt.ensures.committed.added c.commit.ensures.cut c.apply.ensures.log c.apply.ensures.since (subst (λ (v : VolatileState). TakesPrepared v.tail c.args.prepared) (sym c.self.view_is) c.requires.ready) c.requires.named
-    (subst (λ (v : VolatileState). IsTrue (is_trusted v.memory.history) → AreObjectsOf g.J.Naming.blocks (overwritten (latest v.memory.history) c.args.transaction.now.writes) c.args.prepared)
+    let writes = c.args.transaction.now.writes in
+    let t = c.self.inside.tail in
+    let same = ap (λ (s : TransactionState). s.writes) c.transaction.view_is in
+    kept_added g.J.Naming.blocks _ (next_transaction c.args.session.now c.args.transaction.now.reads writes) (updates_with t writes c.args.prepared) c.commit.new.self c.apply.new.self
+    c.self.invariant c.in_ok-receipt.ensures.committed.added c.commit.ensures.cut
+    (subst (λ (ws : List Pair). c.apply.new.self ≡ record t { log = appended t.log (updates_with t ws c.args.prepared) }) same c.apply.ensures.log)
+    (subst (λ (ws : List Pair). (from : ℕ) → t.log.start ≤ from → from ≤ t.log.cut
+    → MakeTheSame (updates_from c.apply.new.self.log from) (updates_from t.log from ++ updates_with t ws c.args.prepared)) same c.apply.ensures.since)
+    (subst (λ (v : VolatileState). TakesPrepared v.tail writes c.args.prepared) (sym c.self.view_is) c.requires.ready).room
+    (subst (λ (v : VolatileState). (b : ℕ) → updates_block (updates_with v.tail writes c.args.prepared) b ≡ writes_block writes b) (sym c.self.view_is) c.requires.named)
+    (subst (λ (v : VolatileState). IsTrue (is_trusted v.memory.history)
+    → AreObjectsOf g.J.Naming.blocks (overwritten (latest v.memory.history) writes) (updates_with v.tail writes c.args.prepared))
     (sym c.self.view_is) c.requires.written)
