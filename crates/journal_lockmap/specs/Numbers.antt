@@ -1,5 +1,6 @@
 -- What contracts see of the slots' numbers, and of a slot that is held.
-use Rattle.std.specs.Prelude.{ℕ, ◌≡◌, ◌<◌, ◌+◌, ◌==◌, if◌then◌else◌, Bool, false, IsTrue, List, length, map, All, slice_index, slice_index_or}
+use Rattle.std.specs.Prelude.{ℕ, ◌≡◌, ◌<◌, ◌+◌, ◌/◌, ◌%◌, ◌==◌, if◌then◌else◌, Bool, IsTrue, List, length, map, All, slice_index}
+use Rattle.std.specs.Int.{bit_at}
 use Rattle.std.specs.List.{list_any}
 use Rattle.atomic_table.specs.Seated.{TableId}
 use Rattle.journal_world.specs.declared.address.TheConstants.{SLOTS}
@@ -43,9 +44,13 @@ slots_of held = map (λ h. h.slot) held
 abbrev pub is_written : List Pair → ℕ → Bool
 is_written writes slot = list_any (λ p. slot_of p.0 == slot) writes
 
--- for each slot, whether some write is of it
-abbrev pub MarksWrites : List Bool → List Pair → Type 0
-MarksWrites written writes = (slot : ℕ) → slot < SLOTS → slice_index_or written slot false ≡ is_written writes slot
+-- some slots, as words of 64 bits: whether this one is one of them, of which the bit is 1
+abbrev pub is_in : List ℕ → ℕ → Bool
+is_in words slot = bit_at (slice_index words (slot / 64)) (slot % 64) == 1
+
+-- those slots of which some write is
+abbrev pub MarksWrites : List ℕ → List Pair → Type 0
+MarksWrites written writes = (slot : ℕ) → slot < SLOTS → is_in written slot ≡ is_written writes slot
 
 -- One commit more is counted, which writes these
 pub record CountsWrites (writes : List Pair) (old new : List ℕ) : Type 0 where

@@ -7,6 +7,7 @@ ghost use Rattle.journal_lockmap.specs.Numbers.{HasNumber, Agree, AreApart, Hold
 
 use crate::cell::{Cell, SlotPass};
 use crate::held::Held;
+use crate::slot_set::SlotSet;
 use crate::slots::Slots;
 use crate::steps::make;
 use crate::token::Token;
@@ -113,7 +114,7 @@ impl<J: Naming> SlotCounts<J> {
     {
         let written = written_slots(writes);
         for i in 0..held.len() {
-            if written[usize::from(held[i].slot())] {
+            if written.contains(held[i].slot()) {
                 self.touch(rt, &mut held[i]);
             } else {
                 self.look(rt, &mut held[i]);
@@ -141,13 +142,12 @@ impl<J: Naming> SlotCounts<J> {
 }
 
 // Which slots some of the writes are of.
-fn written_slots(writes: &Objects) -> [bool; SLOTS as usize]
-    ensures all { length result ≡ SLOT_COUNT }
+fn written_slots(writes: &Objects) -> SlotSet
     ensures marks { MarksWrites result writes.now }
 {
-    let mut written = [false; SLOTS as usize];
+    let mut written = SlotSet::new();
     for (addr, _) in writes.iter() {
-        written[usize::from(slot_of(*addr))] = true;
+        written.insert(slot_of(*addr));
     }
     written
 }

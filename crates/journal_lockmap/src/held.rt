@@ -1,9 +1,9 @@
 // A slot that its holder took.
 ghost use Rattle.std.specs.Prelude.{◌≡◌, ◌<◌, ◌↔◌, false, IsTrue, IsSome, IfSome};
 ghost use Rattle.journal_world.specs.declared.address.TheConstants.{SLOTS};
-ghost use Rattle.journal_lockmap.specs.Tables.{is_taken, ChangesOnlySlot};
+ghost use Rattle.journal_lockmap.specs.Tables.{is_taken, none_free, ChangesOnlySlot};
 
-use crate::slots::Slots;
+use crate::place::Place;
 use crate::token::Token;
 use journal_history::Naming;
 use std::fmt;
@@ -39,15 +39,15 @@ impl<J: Naming> Held<J> {
         self.token.slot()
     }
 
-    // Takes the slot if it is free in the table.
-    pub(crate) fn take(slots: &mut Slots<J>, slot: u16) -> Option<Held<J>>
+    // Takes the slot if its token lies in the place.
+    pub(crate) fn take(place: &mut Place<J>, slot: u16) -> Option<Held<J>>
         requires in_range { slot < SLOTS }
-        ensures free { IsSome result ↔ (is_taken slots.old slot ≡ false) }
+        ensures free { IsSome result ↔ (is_taken place.old slot ≡ false) }
         ensures held { IfSome result (λ held. held.slot ≡ slot) }
-        ensures taken { IsTrue (is_taken slots.new slot) }
-        ensures others { ChangesOnlySlot slots.old slots.new slot }
+        ensures taken { IsTrue (is_taken place.new slot) }
+        ensures others { ChangesOnlySlot place.old place.new slot }
     {
-        match slots.mark(slot) {
+        match place.mark(slot) {
             Some(token) => {
                 // Called for its contract: the slot is in range.
                 let _slot = token.slot();
@@ -57,13 +57,14 @@ impl<J: Naming> Held<J> {
         }
     }
 
-    // Frees the slot in the table.
-    pub(crate) fn give_back(self, slots: &mut Slots<J>)
-        ensures free { is_taken slots.new self.slot ≡ false }
-        ensures others { ChangesOnlySlot slots.old slots.new self.slot }
+    // Frees the slot: its token lies in the place.
+    pub(crate) fn give_back(self, place: &mut Place<J>)
+        requires empty { place.old ≡ none_free }
+        ensures free { is_taken place.new self.slot ≡ false }
+        ensures others { ChangesOnlySlot place.old place.new self.slot }
     {
         let Held { token } = self;
-        slots.unmark(token);
+        place.unmark(token);
     }
 }
 

@@ -1,54 +1,101 @@
 // The slots, as threads share them.
-ghost use Rattle.std.specs.Prelude.{◌≡◌, ◌<◌, IfOk, IsOkUnless, vec_len};
+ghost use Rattle.std.specs.Prelude.{◌≡◌, ◌<◌, IfOk, IfSome, IsOkUnless, vec_len};
 ghost use Rattle.journal_world.specs.declared.address.TheConstants.{SLOTS};
 
 use crate::held::Held;
+use crate::place::Place;
 use crate::slots::Slots;
+use crossbeam_utils::CachePadded;
 use journal_history::Naming;
 use journal_world::{Refusal, SLOTS};
 use std::alloc::{AllocError, Global};
+use std::fmt;
 use std::fmt::Debug;
+use std::hint::spin_loop;
 use std::sync::{Condvar, Mutex, Wait};
-use std::{array, fmt};
 
-/// A bell for each slot, on which those sleep who wait for it: all the memory that a lock map needs beside its
-/// slots.
+// How often a slot is looked at before whoever waits for it sleeps.
+const LOOKS: u32 = 32;
+
+// How long it waits between two looks: so many of the processor's pauses, each of some tens of nanoseconds.
+const PAUSES: u32 = 16;
+
+// What belongs to one slot: its place, and the condition variable on which those sleep who wait for the slot.
+#[derive(Drop)]
+struct Bell<J: Naming> {
+    place: Mutex<Place<J>>,
+    freed: Condvar,
+}
+
+impl<J: Naming> Bell<J> {
+    // Takes the slot if its token lies here. The lock is let go before anything else is done.
+    fn take<R: Wait>(&self, rt: &R, slot: u16) -> Option<Held<J>>
+        requires in_range { slot < SLOTS }
+        ensures { IfSome result (λ held. held.slot ≡ slot) }
+    {
+        Held::take(&mut self.place.lock(rt), slot)
+    }
+}
+
+/// A bell for each slot, on which those sleep who wait for it, with the place in which its token is to lie: all the
+/// memory that a lock map needs beside its slots.
 ///
 /// It is made before the slots are, so that nothing can be refused between the making of a journal's slots and
 /// their lock map.
-#[derive(Debug, Drop)]
-pub struct Bells {
-    freed: Vec<Condvar>,
-    ghost one_each: { vec_len freed ≡ SLOTS },
+#[derive(Drop)]
+pub struct Bells<J: Naming> {
+    // Each on lines of its own, so that threads that take different slots write no line in common.
+    each: Vec<CachePadded<Bell<J>>>,
+    ghost one_each: { vec_len each ≡ SLOTS },
 }
 
-impl Bells {
+impl<J: Naming> Bells<J> {
     /// A bell for each slot. Where memory is refused nothing was made.
-    pub fn new(alloc: Global) -> Result<Bells, AllocError> {
-        let freed: [Condvar; SLOTS as usize] = array::from_fn(|_| Condvar::new());
-        Ok(Bells {
-            freed: Vec::from_array(alloc, freed)?,
-        })
+    pub fn new(alloc: Global) -> Result<Bells<J>, AllocError> {
+        let mut each = Vec::new(alloc);
+        for _ in 0..SLOTS {
+            each.push(CachePadded::new(Bell {
+                place: Mutex::new(Place::new(None)),
+                freed: Condvar::new(),
+            }))?;
+        }
+        Ok(Bells { each })
+    }
+
+    // The bell of a slot.
+    fn of(&self, slot: u16) -> &Bell<J>
+        requires in_range { slot < SLOTS }
+    {
+        &self.each[usize::from(slot)]
+    }
+}
+
+impl<J: Naming> Debug for Bells<J> {
+    fn fmt<W: fmt::Write>(&self, f: &mut fmt::Formatter<W>) -> fmt::Result {
+        f.debug_struct("Bells").finish_non_exhaustive()
     }
 }
 
 /// The slots of one journal, which threads share. A slot is named by its number, below `SLOTS`.
 ///
-/// Each slot has a condition variable of its own, on which those sleep who wait for it. So a release wakes
-/// no one in vain who waits for another slot, and it need wake only one: that one takes the slot, or finds
-/// it taken by someone whose release wakes the next.
+/// Each slot has a lock of its own, so threads that take different slots do not meet. Each slot has a condition
+/// variable of its own, on which those sleep who wait for it. So a release wakes no one in vain who waits for
+/// another slot, and it need wake only one: that one takes the slot, or finds it taken by someone whose release
+/// wakes the next.
 #[derive(Drop)]
 pub struct LockMap<J: Naming> {
-    slots: Mutex<Slots<J>>,
-    bells: Bells,
+    bells: Bells<J>,
 }
 
 impl<J: Naming> LockMap<J> {
     /// A lock map of these slots. It takes no memory, and neither does any later call.
-    pub fn new(bells: Bells, slots: Slots<J>) -> LockMap<J> {
+    pub fn new(bells: Bells<J>, slots: Slots<J>) -> LockMap<J> {
+        let Bells { mut each } = bells;
+        for (bell, token) in each.iter_mut().zip(slots.free) {
+            *bell.place.get_mut() = Place::new(token);
+        }
         LockMap {
-            slots: Mutex::new(slots),
-            bells,
+            bells: Bells { each },
         }
     }
 
@@ -57,9 +104,29 @@ impl<J: Naming> LockMap<J> {
         requires in_range { slot < SLOTS }
         ensures { result.slot ≡ slot }
     {
-        let freed = &self.bells.freed[usize::from(slot)];
-        let mut slots = freed.wait_while(rt, self.slots.lock(rt), |slots| slots.is_taken(slot));
-        Held::take(&mut slots, slot).unwrap()
+        if let Some(held) = self.look_for(rt, slot) {
+            return held;
+        }
+        let bell = self.bells.of(slot);
+        let place = bell.place.lock(rt);
+        let mut place = bell
+            .freed
+            .wait_while(rt, place, |place| place.is_taken(slot));
+        Held::take(&mut place, slot).unwrap()
+    }
+
+    // Takes the slot if it is free within some microseconds: most are held for less time than a sleep and a wake take.
+    fn look_for<R: Wait>(&self, rt: &R, slot: u16) -> Option<Held<J>>
+        requires in_range { slot < SLOTS }
+        ensures { IfSome result (λ held. held.slot ≡ slot) }
+    {
+        for _ in 0..LOOKS {
+            match self.bells.of(slot).take(rt, slot) {
+                Some(held) => return Some(held),
+                None => pause(),
+            }
+        }
+        None
     }
 
     /// Takes the slot if it is free. It waits for no slot.
@@ -70,21 +137,35 @@ impl<J: Naming> LockMap<J> {
         ensures held { IfOk result (λ held. held.slot ≡ slot) }
         ensures refusal { IsOkUnless result Refusal.Busy }
     {
-        Held::take(&mut self.slots.lock(rt), slot).ok_or_else(|| Refusal::Busy)
+        self.bells
+            .of(slot)
+            .take(rt, slot)
+            .ok_or_else(|| Refusal::Busy)
     }
 
     /// Frees the slot, and wakes one of those who wait for it. It waits for no slot.
     ///
     /// The caller gives a `Held` to the lock map that it came from.
     pub fn release<R: Wait>(&self, rt: &R, held: Held<J>) {
-        let freed = &self.bells.freed[usize::from(held.slot())];
-        held.give_back(&mut self.slots.lock(rt));
-        freed.notify_one();
+        let bell = self.bells.of(held.slot());
+        let place = bell.place.lock(rt);
+        // Each slot has one token, so none lies there, and this waits for nothing.
+        let mut place = bell.freed.wait_while(rt, place, |place| !place.is_empty());
+        held.give_back(&mut place);
+        drop(place);
+        bell.freed.notify_one();
     }
 }
 
 impl<J: Naming> Debug for LockMap<J> {
     fn fmt<W: fmt::Write>(&self, f: &mut fmt::Formatter<W>) -> fmt::Result {
         f.debug_struct("LockMap").finish_non_exhaustive()
+    }
+}
+
+// Lets some time go by.
+fn pause() {
+    for _ in 0..PAUSES {
+        spin_loop();
     }
 }

@@ -1,7 +1,7 @@
 // Which slots are taken.
-ghost use Rattle.std.specs.Prelude.{◌≡◌, ◌<◌, ◌↔◌, false, IsTrue, IsSome, IfSome};
+ghost use Rattle.std.specs.Prelude.{◌≡◌, ◌<◌};
 ghost use Rattle.journal_world.specs.declared.address.TheConstants.{SLOTS};
-ghost use Rattle.journal_lockmap.specs.Tables.{is_taken, ChangesOnlySlot};
+ghost use Rattle.journal_lockmap.specs.Tables.{is_taken};
 
 use crate::token::Token;
 use journal_history::Naming;
@@ -35,26 +35,6 @@ impl<J: Naming> Slots<J> {
         ensures { result ≡ is_taken self.now slot }
     {
         self.free[usize::from(slot)].is_none()
-    }
-
-    // Takes the slot's token, if it is free. Where it is not, nothing changes.
-    pub(crate) fn mark(&mut self, slot: u16) -> Option<Token<J>>
-        requires in_range { slot < SLOTS }
-        ensures free { IsSome result ↔ (is_taken self.old slot ≡ false) }
-        ensures token { IfSome result (λ token. token.slot ≡ slot) }
-        ensures taken { IsTrue (is_taken self.new slot) }
-        ensures others { ChangesOnlySlot self.old self.new slot }
-    {
-        self.free[usize::from(slot)].take()
-    }
-
-    // Frees the slot of the token.
-    pub(crate) fn unmark(&mut self, token: Token<J>)
-        ensures free { is_taken self.new token.slot ≡ false }
-        ensures others { ChangesOnlySlot self.old self.new token.slot }
-    {
-        let slot = usize::from(token.slot());
-        self.free[slot] = Some(token);
     }
 }
 
