@@ -39,10 +39,11 @@ impl<'b, R: MapRule, J: Naming> Memory<'b, R, J> {
         self.catch_up(session, transaction)?;
         // Called for its contract: what it has read.
         let _front = transaction.front();
-        if self.tally.made(session.number()) != session.made() {
+        let kept = self.tally.look_up(session.number());
+        if kept.commits != session.made() {
             return Err(Refusal::Stranger(Cause::of(RefusalNumber::J10, self.writer.front())));
         }
-        if self.tally.is_fenced(session.number()) {
+        if kept.fenced {
             return Err(Refusal::Fenced);
         }
         Ok(())
@@ -100,7 +101,7 @@ impl<'b, R: MapRule, J: Naming> Memory<'b, R, J> {
         // Called for its contract: the history is sound.
         let _len = self.writer.len();
         let number = session.number();
-        self.tally.reserve(number)?;
+        self.tally.reserve_for(number, session.made())?;
         let receipt = match self.writer.commit(session, transaction) {
             Ok(receipt) => receipt,
             Err(front) => {

@@ -29,7 +29,7 @@ impl<'b, R: MapRule, J: Naming> Memory<'b, R, J> {
     {
         session.observe();
         self.show(session)?;
-        if self.tally.is_fenced(target) {
+        if self.tally.look_up(target).fenced {
             return Ok(());
         }
         if self.len() >= LIMIT - 1 || target >= LIMIT {

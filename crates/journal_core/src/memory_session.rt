@@ -80,7 +80,7 @@ impl<'b, R: MapRule, J: Naming> Memory<'b, R, J> {
         if front.len() > self.writer.len() {
             return Err(Refusal::Stale(Cause::of(RefusalNumber::J9, front)));
         }
-        if self.tally.made(session.number()) != session.made() {
+        if self.tally.look_up(session.number()).commits != session.made() {
             return Err(Refusal::Stranger(Cause::of(RefusalNumber::J10, self.writer.front())));
         }
         Ok(())

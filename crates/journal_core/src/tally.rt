@@ -13,11 +13,13 @@ pub(crate) struct Tally {
     made: BTreeMap<u64, Made>,
 }
 
-// How many commits a session has, and whether it is fenced.
+/// What is kept of a session.
 #[derive(Clone, Copy)]
-struct Made {
-    commits: u64,
-    fenced: bool,
+pub(crate) struct Made {
+    /// How many commits it has.
+    pub(crate) commits: u64,
+    /// Whether it is fenced.
+    pub(crate) fenced: bool,
 }
 
 impl Model for Tally {
@@ -38,8 +40,8 @@ impl Tally {
         }
     }
 
-    // What is kept of the session.
-    fn one(&self, session: u64) -> Made
+    /// What is kept of the session: whether a commit of it is refused is known by one look.
+    pub(crate) fn look_up(&self, session: u64) -> Made
         ensures commits { result.commits ≡ made_among self.now session }
         ensures fenced { result.fenced ≡ fenced_among self.now session }
     {
@@ -48,20 +50,6 @@ impl Tally {
             fenced: false,
         };
         self.made.get(&session).copied().unwrap_or(none)
-    }
-
-    /// How many commits the session has.
-    pub(crate) fn made(&self, session: u64) -> u64
-        ensures { result ≡ made_among self.now session }
-    {
-        self.one(session).commits
-    }
-
-    /// Whether the session is fenced.
-    pub(crate) fn is_fenced(&self, session: u64) -> bool
-        ensures { result ≡ fenced_among self.now session }
-    {
-        self.one(session).fenced
     }
 
     /// Makes a place for the session, so that `count_one` and `note_fence` take no memory.
@@ -79,19 +67,27 @@ impl Tally {
         Ok(())
     }
 
+    /// Makes a place for a session of so many commits, as `reserve` does. One that has some has a place, which is not looked for.
+    pub(crate) fn reserve_for(&mut self, session: u64, commits: u64) -> Result<(), AllocError>
+        requires { commits ≡ made_among self.old session }
+        ensures same { SameTally self.old self.new }
+        ensures place { OnOk result (HasPlace self.new session) }
+    {
+        if commits == 0 {
+            return self.reserve(session);
+        }
+        Ok(())
+    }
+
     /// Counts one more commit of the session, where `reserve` made the place.
     pub(crate) fn count_one(&mut self, session: u64)
         requires place { HasPlace self.old session }
         requires small { made_among self.old session < 2 ^ 62 }
         ensures { CountsOne session self.old self.new }
     {
-        let one = self.one(session);
-        let more = Made {
-            commits: one.commits + 1,
-            fenced: one.fenced,
-        };
-        let counted: Result<_, _> = self.made.insert(session, more);
-        counted.unwrap();
+        if let Some(one) = self.made.get_mut(&session) {
+            one.commits += 1;
+        }
     }
 
     /// Keeps that the session is fenced, where `reserve` made the place.
@@ -99,12 +95,8 @@ impl Tally {
         requires place { HasPlace self.old session }
         ensures { NotesFence session self.old self.new }
     {
-        let one = self.one(session);
-        let fenced = Made {
-            commits: one.commits,
-            fenced: true,
-        };
-        let kept: Result<_, _> = self.made.insert(session, fenced);
-        kept.unwrap();
+        if let Some(one) = self.made.get_mut(&session) {
+            one.fenced = true;
+        }
     }
 }

@@ -6,15 +6,15 @@ use Rattle.journal_core.proofs.Committing.{is_strange}
 use Rattle.journal_core.proofs.Remembering.{agrees_later}
 use Rattle.journal_core.proofs.memory.Memory.admit.Goals as goal
 
-pub returns-then-made-clause-refusal : goal.returns-then-made-clause-refusal
-returns-then-made-clause-refusal g c = (
+pub returns-then-kept-made-clause-refusal : goal.returns-then-kept-made-clause-refusal
+returns-then-kept-made-clause-refusal g c = (
   search rules,
   (
     c.of.ensures ∙ ap (explained J10) (c.front.ensures ∙ ap (λ (s : MemoryState). s.history) c.self.view_is),
     subst (λ (s : MemoryState). IsStrange s.history c.args.session.now) c.self.view_is
         (is_strange c.self.inside.writer
-        c.args.session.now c.catch_up.new.session c.self.inside.tally c.number.result c.made.result c.made-2.result c.catch_up.ensures.session
-        (search rules) c.made-2.ensures.own c.self.invariant.counts.tallied c.number.ensures c.made.ensures c.made-2.ensures.made c.if-made.true),
+        c.args.session.now c.catch_up.new.session c.self.inside.tally c.number.result c.look_up-kept.result.commits c.made.result c.catch_up.ensures.session
+        (search rules) c.made.ensures.own c.self.invariant.counts.tallied c.number.ensures c.look_up-kept.ensures.commits c.made.ensures.made c.if-kept-made.true),
   ),
 )
 

@@ -17,7 +17,7 @@ commit-requires-clause-rule g c =
 
 pub count_one-requires-clause-small : goal.count_one-requires-clause-small
 count_one-requires-clause-small g c =
-    few_commits c.self.inside.tally c.reserve.new.self c.self.inside.writer c.number-number.result c.reserve.ensures.same c.self.invariant.counts.tallied
+    few_commits c.self.inside.tally c.reserve_for.new.self c.self.inside.writer c.number-number.result c.reserve_for.ensures.same c.self.invariant.counts.tallied
     (subst (λ (s : MemoryState). length s.history + 1 < 2 ^ 62) (sym c.self.view_is) c.requires.room)
 
 pub count_writes-requires-clause-covered : goal.count_writes-requires-clause-covered
@@ -27,13 +27,13 @@ pub invariant_of-self-in-Err : goal.invariant_of-self-in-Err
 invariant_of-self-in-Err g c =
     memory_reserved c.self.inside.tally c.self.inside.slots c.self.inside.covered
     (record { history = c.self.inside.writer; cut = c.self.inside.cut; next = c.self.inside.next; closed = c.self.inside.closed }) c.self.invariant
-    c.reserve.new.self c.commit.new.self c.reserve.ensures.same c.in-Err.ensures.unchanged.0
+    c.reserve_for.new.self c.commit.new.self c.reserve_for.ensures.same c.in-Err.ensures.unchanged.0
 
 pub invariant_of-self-2 : goal.invariant_of-self-2
 invariant_of-self-2 g c =
     let t = next_transaction c.args.session.now c.args.transaction.now.reads c.args.transaction.now.writes in
-    memory_committed _ _ _ _ c.self.invariant c.reserve.new.self c.count_one.new.self c.count_writes.new.self c.commit.new.self c.max-self-inside.result t c.number-number.result
-    c.in-Ok.ensures.committed.added c.max-self-inside.ensures c.number-number.ensures c.reserve.ensures.same c.count_one.ensures
+    memory_committed _ _ _ _ c.self.invariant c.reserve_for.new.self c.count_one.new.self c.count_writes.new.self c.commit.new.self c.max-self-inside.result t c.number-number.result
+    c.in-Ok.ensures.committed.added c.max-self-inside.ensures c.number-number.ensures c.reserve_for.ensures.same c.count_one.ensures
     (subst (λ (u : TransactionState). CountsWrites u.writes c.self.inside.slots c.count_writes.new.self) c.transaction.view_is c.count_writes.ensures.counts)
 
 pub returns-clause-agree : goal.returns-clause-agree
