@@ -1,7 +1,8 @@
 // What the volatile part tells sessions of marks, and its own numbers.
-ghost use Rattle.std.specs.Prelude.{◌≡◌, ◌≤◌, ◌↔◌, false, IsTrue, IfOk, IfErr, OnOk, OnErr};
+ghost use Rattle.std.specs.Prelude.{◌≡◌, ◌≤◌, ◌↔◌, false, length, IsTrue, IfOk, IfErr, OnOk, OnErr};
 ghost use Rattle.journal_world.specs.Histories.{count, floor};
 ghost use Rattle.journal_history.specs.Tokens.{IsExact, OnlyExtends};
+ghost use Rattle.journal_memlog.specs.Logs.{tail_of};
 ghost use Rattle.journal_core.specs.Memories.{IsStaleRefusal};
 ghost use Rattle.journal_core.specs.Volatiles.{outset_of, used_positions, HasNothingToLog};
 ghost use Rattle.journal_core.specs.Waits.{MayWait, IsWaitRefusal, IsFlushRefusal};
@@ -137,6 +138,13 @@ impl<'b, R: MapRule, J: Naming> Volatile<'b, R, J> {
         ensures { result ≡ floor self.now.memory.history }
     {
         self.memory.floor()
+    }
+
+    /// How many blocks the next cut hands out: those that commits wrote since the last one.
+    pub fn tail_len(&self) -> u64
+        ensures { result ≡ length (tail_of self.now.tail.log) }
+    {
+        self.tail.tail_len()
     }
 
     /// How many positions of the log have updates up to the last cut, where the log starts at this

@@ -75,7 +75,8 @@ enum Trial {
     EndTheWaitForRoom,
     WaitForRoom(RoomEnd),
     EndAWait(ended_waits::Waiting, bool),
-    MarkReads,
+    MarkEach(bool),
+    FillGroups,
     AnswerWaits,
     FlushAfterTheEnd(bool),
     LeaveEither,
@@ -148,7 +149,8 @@ fn try_on<J: Naming + Send + Sync, H: Abort + Threads + Wait + Clock + Sync>(
         Trial::EndAWait(waiting, by_fault) => {
             ended_waits::end_a_wait(rt, alloc, journal, waiting, by_fault);
         }
-        Trial::MarkReads => ended_waits::mark_reads(rt, alloc, journal),
+        Trial::MarkEach(writes) => ended_waits::mark_each(rt, alloc, journal, writes),
+        Trial::FillGroups => ended_waits::fill_groups(rt, alloc, journal),
         Trial::AnswerWaits => waits::answer_waits(rt, alloc, journal),
         Trial::FlushAfterTheEnd(by_fault) => {
             waits::flush_after_the_end(rt, alloc, journal, by_fault);

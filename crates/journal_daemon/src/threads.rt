@@ -62,7 +62,7 @@ impl<'j, 'b, D: BlockDisk, R: MapRule, J: Naming> OneStep for Installer<'j, 'b, 
 /// Runs a logger and an installer for the journal, each in a thread of its own, and returns when both have ended:
 /// after `Journal::stop`, or where a step of each was refused by another refusal than J1. A step that J1 refuses is
 /// tried again. The logger passes the gate as `LOGGER`, the installer as `INSTALLER`. The clock is asked for nothing but
-/// how long the logger gives others to commit again (`Journal::log_gathered`).
+/// how long the logger lets a group grow (`Journal::log_gathered`).
 ///
 /// Answers J1 `NoMemory`, and nothing else, where a thread was refused. The journal is then stopped, and a thread that
 /// was made has ended.

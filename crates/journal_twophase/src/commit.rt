@@ -45,18 +45,11 @@ impl<'j, 'b, D: BlockDisk, R: MapRule, J: Naming> Txn<'j, 'b, D, R, J> {
             began: _,
             transaction,
             held,
-            has_writes,
         } = self;
         let mut held = held;
         let mut spares = transaction.spares(alloc);
-        let answer = journal.core.commit(
-            rt,
-            session,
-            &transaction,
-            &mut held,
-            &mut spares,
-            has_writes,
-        );
+        let core = &journal.core;
+        let answer = core.commit(rt, session, &transaction, &mut held, &mut spares);
         release_all(rt, &journal.slots, held);
         answer
     }
@@ -83,18 +76,11 @@ impl<'j, 'b, D: BlockDisk, R: MapRule, J: Naming> Txn<'j, 'b, D, R, J> {
             began: _,
             transaction,
             held,
-            has_writes,
         } = self;
         let mut held = held;
         let mut spares = transaction.spares(alloc);
-        let answer = journal.core.try_commit(
-            rt,
-            session,
-            &transaction,
-            &mut held,
-            &mut spares,
-            has_writes,
-        );
+        let core = &journal.core;
+        let answer = core.try_commit(rt, session, &transaction, &mut held, &mut spares);
         release_all(rt, &journal.slots, held);
         answer
     }
@@ -121,17 +107,8 @@ impl<'j, 'b, D: BlockDisk, R: MapRule, J: Naming> Txn<'j, 'b, D, R, J> {
             began: _,
             transaction,
             held,
-            has_writes,
         } = self;
         let mut spares = transaction.spares(alloc);
-        journal.core.commit_wait(
-            rt,
-            session,
-            &transaction,
-            &mut spares,
-            &journal.slots,
-            held,
-            has_writes,
-        )
+        journal.core.commit_wait(rt, session, &transaction, &mut spares, &journal.slots, held)
     }
 }

@@ -84,7 +84,6 @@ impl<'b, D: BlockDisk, R: MapRule, J: Naming> SharedCore<'b, D, R, J> {
             }
             Ok(LogStep::Cut) => {
                 shared.waiters.cut();
-                shared.has_unlogged_writes = false;
                 self.group_in_flight.set(true);
             }
             _ => {}
@@ -324,7 +323,6 @@ impl<'b, D: BlockDisk, R: MapRule, J: Naming> SharedCore<'b, D, R, J> {
             log_start: _,
             logger_sleeps: _,
             logger_delays: _,
-            has_unlogged_writes: _,
             waiters: _,
         } = shared.into_inner();
         (durable.into_inner(), volatile)

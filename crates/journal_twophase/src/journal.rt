@@ -213,9 +213,9 @@ impl<'b, D: BlockDisk, R: MapRule, J: Naming> Journal<'b, D, R, J> {
     /// Does the next thing of the logger as `log_step` does, but first waits until as many commits
     /// came as threads were woken by the last mark, or as many wait for the next one, so that their
     /// next commits share a group. It waits at most 200 microseconds, since a thread may have
-    /// nothing to commit. Where all that is to be done is to mark commits that wrote nothing, and
-    /// nobody waits for a mark, it waits at most 2 milliseconds, so that many share one. A stop or a
-    /// device that failed ends the wait too.
+    /// nothing to commit. Where nobody waits for a mark, it waits at most a millisecond, or until
+    /// 128 blocks are to be logged, so that many commits share a group. Whoever then waits for a
+    /// mark ends that, and a stop or a device that failed ends either wait.
     ///
     /// It is refused as `log_step` is.
     pub fn log_gathered<W: Wait + Clock>(&self, rt: &W) -> Result<Step, Why<'b, J, R>>

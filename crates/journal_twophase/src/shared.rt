@@ -43,10 +43,8 @@ pub(crate) struct Shared<'b, R: MapRule, J: Naming> {
     pub(crate) log_start: u64,
     // The logger sleeps until a commit wakes it, and none did yet.
     pub(crate) logger_sleeps: bool,
-    // The logger delays a mark, and nobody ended the delay yet.
+    // The logger delays a group, and nobody ended the delay yet.
     pub(crate) logger_delays: bool,
-    // A commit behind the last cut wrote something.
-    pub(crate) has_unlogged_writes: bool,
     // Those that wait for a mark.
     pub(crate) waiters: MarkWaiters,
 }
@@ -57,45 +55,46 @@ pub(crate) enum LoggerWake {
     None,
     // There is a commit.
     Work,
-    // There are as many commits as the next group is to have, or one that wrote something, or one that is waited for.
+    // There are as many commits, or as many blocks, as the next group is to have.
     GroupFull,
 }
 
 impl<'b, R: MapRule, J: Naming> Shared<'b, R, J> {
     // For which wait the logger is to be woken behind this answer to a commit. Who asks has to wake it: the next commit does not
     // wake it for the same sleep again.
-    pub(crate) fn wake_after<T>(
-        &mut self,
-        answer: &Result<T, Why<'b, J, R>>,
-        has_writes: bool,
-    ) -> LoggerWake {
+    pub(crate) fn wake_after<T>(&mut self, answer: &Result<T, Why<'b, J, R>>) -> LoggerWake {
         if answer.is_err() {
             return LoggerWake::None;
         }
-        self.has_unlogged_writes = self.has_unlogged_writes || has_writes;
         if self.logger_sleeps && may_log(self) {
             self.logger_sleeps = false;
             return LoggerWake::Work;
         }
-        if (has_writes && self.ends_delay()) || self.waiters.fills_group(self.volatile.commits()) {
+        let ends_delay = self.has_full_group() && self.ends_delay();
+        if ends_delay || self.waiters.fills_group(self.volatile.commits()) {
             return LoggerWake::GroupFull;
         }
         LoggerWake::None
     }
 
-    // Ends the delay of a mark. Who asks has to wake the logger, if there was one.
+    // Ends the delay of a group. Who asks has to wake the logger, if there was one.
     pub(crate) fn ends_delay(&mut self) -> bool {
         let delays = self.logger_delays;
         self.logger_delays = false;
         delays
     }
 
-    // Whether a mark may be delayed: nothing is to be logged, and nobody waits.
-    fn may_delay_mark(&self) -> bool {
+    // Whether a group may be delayed: there is one, and nobody waits for its mark, or for the room that its cut makes.
+    fn may_delay_group(&self) -> bool {
         self.volatile.check_running().is_ok()
-            && !self.has_unlogged_writes
             && self.waiters.are_none()
+            && !self.has_full_group()
             && self.volatile.floor() < self.volatile.commits()
+    }
+
+    // Whether there are so many blocks to be cut that the group is delayed no more. With fewer there is room for any commit.
+    fn has_full_group(&self) -> bool {
+        self.volatile.tail_len() >= GROUP_BLOCKS
     }
 }
 
@@ -122,7 +121,8 @@ pub(crate) struct SharedCore<'b, D: BlockDisk, R: MapRule, J: Naming> {
     pub(crate) marked: Condvar,
     // The logger waits for a commit, or for positions that are free.
     pub(crate) logging: Condvar,
-    // The logger waits until there are as many commits as a mark woke threads, or as many of them sleep again, or delays a mark.
+    // The logger waits until there are as many commits as a mark woke threads, or as many of them sleep again, or delays a group
+    // that nobody waits for.
     pub(crate) group_full: Condvar,
     // The installer waits for a crowded log.
     pub(crate) installing: Condvar,
@@ -173,7 +173,6 @@ impl<'b, D: BlockDisk, R: MapRule, J: Naming> SharedCore<'b, D, R, J> {
                 log_start,
                 logger_sleeps: false,
                 logger_delays: false,
-                has_unlogged_writes: false,
                 waiters: MarkWaiters::default(),
             }),
             room: Condvar::new(),
@@ -398,7 +397,6 @@ impl<'b, D: BlockDisk, R: MapRule, J: Naming> SharedCore<'b, D, R, J> {
         transaction: &Transaction<'b, J, R>,
         held: &mut [Held<J>],
         spares: &mut Spares,
-        has_writes: bool,
     ) -> Result<Receipt<'b, J, R>, Why<'b, J, R>>
         requires rule { (m : Map) → m.blocks ≡ J.blocks → R.statement m → Agrees m transaction.now.reads
             → R.statement (overwritten m transaction.now.writes) }
@@ -409,7 +407,7 @@ impl<'b, D: BlockDisk, R: MapRule, J: Naming> SharedCore<'b, D, R, J> {
         ensures session { OnErr result (OnlyExtends session.old session.new) }
     {
         let (mut shared, answer) = self.commit_with_room(rt, session, transaction, held, spares);
-        let wake = shared.wake_after(&answer, has_writes);
+        let wake = shared.wake_after(&answer);
         drop(shared);
         self.wake_after_commit(&answer, wake);
         answer
@@ -423,7 +421,6 @@ impl<'b, D: BlockDisk, R: MapRule, J: Naming> SharedCore<'b, D, R, J> {
         transaction: &Transaction<'b, J, R>,
         held: &mut [Held<J>],
         spares: &mut Spares,
-        has_writes: bool,
     ) -> Result<Receipt<'b, J, R>, Why<'b, J, R>>
         requires rule { (m : Map) → m.blocks ≡ J.blocks → R.statement m → Agrees m transaction.now.reads
             → R.statement (overwritten m transaction.now.writes) }
@@ -442,7 +439,7 @@ impl<'b, D: BlockDisk, R: MapRule, J: Naming> SharedCore<'b, D, R, J> {
             held,
             spares,
         );
-        let wake = shared.wake_after(&answer, has_writes);
+        let wake = shared.wake_after(&answer);
         drop(shared);
         self.wake_after_commit(&answer, wake);
         answer
@@ -556,8 +553,8 @@ impl<'b, D: BlockDisk, R: MapRule, J: Naming> SharedCore<'b, D, R, J> {
     }
 
     // Waits until there are as many commits as the last mark woke threads, or as many wait for the next one, but not for long: one
-    // of them may have nothing to commit. Where there is nothing but commits to mark that wrote nothing, and nobody waits for one, it
-    // delays the mark, so that many share it. Who is woken too early cuts or marks too early, which harms nobody.
+    // of them may have nothing to commit. Where nobody waits it delays the group, so that many commits share it. Who is woken too
+    // early cuts or marks too early, which harms nobody.
     pub(crate) fn wait_for_group<W: Wait + Clock>(&self, rt: &W) {
         if self.group_in_flight.is_set() {
             return;
@@ -567,11 +564,11 @@ impl<'b, D: BlockDisk, R: MapRule, J: Naming> SharedCore<'b, D, R, J> {
             let _ended = self
                 .group_full
                 .wait_timeout(rt, shared, Duration::from_micros(GROUP_DELAY_MICROS));
-        } else if shared.may_delay_mark() {
+        } else if shared.may_delay_group() {
             shared.logger_delays = true;
             let (mut shared, _) = self
                 .group_full
-                .wait_timeout(rt, shared, Duration::from_micros(MARK_DELAY_MICROS));
+                .wait_timeout(rt, shared, Duration::from_micros(UNAWAITED_DELAY_MICROS));
             shared.logger_delays = false;
         }
     }
@@ -624,8 +621,12 @@ const GROUP_DELAY_MICROS: u64 = 200;
 // How often the memory lock is tried before a thread sleeps.
 const LOCK_TURNS: u32 = 40;
 
-// How long the logger delays a mark at most where nobody waits for it and nothing is to be logged.
-const MARK_DELAY_MICROS: u64 = 2000;
+// How long the logger delays a group at most that nobody waits for, in microseconds.
+const UNAWAITED_DELAY_MICROS: u64 = 1000;
+
+// How many blocks end that delay. A tail takes 255 blocks, and a commit has 128 at most, so none waits for room while there are
+// fewer.
+const GROUP_BLOCKS: u64 = 128;
 
 // The installer waits until so many positions of the log are used. A tail has at most 255 blocks, so it fits then. So many are
 // those of two groups at least, of which one is logged, so that the installer has something to do.

@@ -30,8 +30,6 @@ pub struct Txn<'j, 'b, D: BlockDisk, R: MapRule, J: Naming> {
     pub(crate) began: Front<'b, J, R>,
     pub(crate) transaction: Transaction<'b, J, R>,
     pub(crate) held: Vec<Held<J>>,
-    // Whether it has overwritten anything. A commit tells the logger, which has then something to log.
-    pub(crate) has_writes: bool,
 }
 
 impl<'j, 'b, D: BlockDisk, R: MapRule, J: Naming> Model for Txn<'j, 'b, D, R, J> {
@@ -67,7 +65,6 @@ impl<'j, 'b, D: BlockDisk, R: MapRule, J: Naming> Txn<'j, 'b, D, R, J> {
             began: session.front(),
             transaction: Transaction::begin(alloc, session),
             held: Vec::new(alloc),
-            has_writes: false,
         }
     }
 
@@ -263,7 +260,6 @@ impl<'j, 'b, D: BlockDisk, R: MapRule, J: Naming> Txn<'j, 'b, D, R, J> {
     {
         let value = Value::new(bytes.to_vec(self.alloc)?);
         self.transaction.overwrite(addr, value)?;
-        self.has_writes = true;
         Ok(())
     }
 
@@ -330,7 +326,6 @@ impl<'j, 'b, D: BlockDisk, R: MapRule, J: Naming> Txn<'j, 'b, D, R, J> {
             began: _,
             transaction: _,
             held,
-            has_writes: _,
         } = self;
         release_all(rt, &journal.slots, held);
     }

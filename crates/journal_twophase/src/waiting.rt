@@ -121,7 +121,6 @@ impl<'b, D: BlockDisk, R: MapRule, J: Naming> SharedCore<'b, D, R, J> {
         spares: &mut Spares,
         slots: &LockMap<J>,
         held: Vec<Held<J>>,
-        has_writes: bool,
     ) -> Waited<'b, J, R>
         requires rule { (m : Map) → m.blocks ≡ J.blocks → R.statement m → Agrees m transaction.now.reads
             → R.statement (overwritten m transaction.now.writes) }
@@ -139,7 +138,7 @@ impl<'b, D: BlockDisk, R: MapRule, J: Naming> SharedCore<'b, D, R, J> {
             spares,
         );
         release_all(rt, slots, held);
-        let wake = shared.wake_after(&answer, has_writes);
+        let wake = shared.wake_after(&answer);
         self.wake_after_commit(&answer, wake);
         let receipt = match answer {
             Ok(receipt) => receipt,

@@ -1,6 +1,7 @@
-// What ends each wait: a stop, a fault of the device, and a mark of commits that wrote nothing.
+// What ends each wait: a stop, a fault of the device, and a mark. What ends the delay of a group that nobody waits for: a stop, a
+// fault, a wait for a mark, a flush, its time, and as many blocks as a group is to have.
 use super::beside_daemon::{Work, beside, in_two};
-use super::threads::lets_wait;
+use super::threads::{fills, lets_wait};
 use super::*;
 use crate::OpenGate;
 use std::sync::atomic::{AtomicBool, Ordering};
@@ -18,7 +19,9 @@ pub(super) enum Waiting {
     /// A crowded log.
     InstallWork,
     /// More commits, before it marks one that wrote nothing.
-    Group,
+    MarkGroup,
+    /// More commits, before it cuts one that wrote.
+    CutGroup,
 }
 
 impl Waiting {
@@ -60,7 +63,8 @@ impl EndedWait {
                 journal.await_install_work(rt);
                 install_number(rt, journal)
             }
-            Waiting::Group => self.logs_groups(rt, alloc, journal),
+            Waiting::MarkGroup => self.logs_groups(rt, alloc, journal, false),
+            Waiting::CutGroup => self.logs_groups(rt, alloc, journal, true),
         }
     }
 
@@ -101,9 +105,10 @@ impl EndedWait {
         rt: &H,
         alloc: Global,
         journal: &Open<D, J>,
+        writes: bool,
     ) -> u64 {
         let mut session = client(rt, journal);
-        let committed = commits_a_read(rt, alloc, journal, &mut session);
+        let committed = commits_one(rt, alloc, journal, &mut session, writes);
         self.asks.store(true, Ordering::SeqCst);
         for _ in 0..1_000_000 {
             let number = number_of(journal.log_gathered(rt));
@@ -150,17 +155,27 @@ impl Work for EndedWait {
     }
 }
 
-/// Commits a transaction that reads an inode and writes nothing. Answers the receipt's count, or 0.
-fn commits_a_read<'b, D: BlockDisk, J: Naming, W: Wait>(
+/// Overwrites an inode, or reads it and writes nothing. Answers the refusal's number.
+fn touches<D: BlockDisk, J: Naming, W: Wait>(rt: &W, txn: &mut OpenTxn<D, J>, writes: bool) -> u64 {
+    if writes {
+        overwrites(rt, txn, INODE, &[1; 128])
+    } else {
+        reads(rt, txn, INODE)
+    }
+}
+
+/// Commits a transaction that does so. Answers the receipt's count, or 0.
+fn commits_one<'b, D: BlockDisk, J: Naming, W: Wait>(
     rt: &W,
     alloc: Global,
     journal: &Open<'b, D, J>,
     session: &mut Client<'b, J>,
+    writes: bool,
 ) -> u64 {
     let mut txn = journal.begin(alloc, session);
-    let read = reads(rt, &mut txn, INODE);
+    let touched = touches(rt, &mut txn, writes);
     let count = commit_count(rt, txn, session);
-    if read == 0 { count } else { 0 }
+    if touched == 0 { count } else { 0 }
 }
 
 pub(super) fn end_a_wait<J: Naming + Send + Sync, H: Abort + Threads + Wait + Clock + Sync>(
@@ -191,7 +206,8 @@ fn end_each_wait<H: Abort + Threads + Wait + Clock + Sync>(rt: &H, alloc: Global
         Waiting::Flush,
         Waiting::LogWork,
         Waiting::InstallWork,
-        Waiting::Group,
+        Waiting::MarkGroup,
+        Waiting::CutGroup,
     ] {
         try_out(rt, alloc, Trial::EndAWait(waiting, by_fault));
     }
@@ -207,12 +223,14 @@ fn a_fault_ends_a_wait_for_anything(rt: HostRuntime) {
     end_each_wait(&rt, rt.alloc(), true);
 }
 
-/// Commits that write nothing, each of which is to be marked: one is waited for, one is flushed, and of one it is asked again and
-/// again whether it is stable, which takes no lock and wakes nobody.
+/// Commits of one kind, each of which is to be marked: one is waited for, one is flushed, and of one it is asked again and again
+/// whether it is stable, which takes no lock and wakes nobody.
 #[derive(Drop)]
-struct MarkReads;
+struct MarkEach {
+    writes: bool,
+}
 
-impl Work for MarkReads {
+impl Work for MarkEach {
     type Answer = (Ended, u64, bool);
 
     fn work<D: BlockDisk + Send, J: Naming + Send + Sync, H: Abort + Threads + Wait + Clock + Sync>(
@@ -224,11 +242,11 @@ impl Work for MarkReads {
     ) -> (Ended, u64, bool) {
         let mut session = client(rt, journal);
         let mut txn = journal.begin(alloc, &mut session);
-        let _read = reads(rt, &mut txn, INODE);
+        let _touched = touches(rt, &mut txn, self.writes);
         let ended = commit_ending(rt, txn, &mut session);
-        let _flushed = commits_a_read(rt, alloc, journal, &mut session);
+        let _flushed = commits_one(rt, alloc, journal, &mut session, self.writes);
         let flushed = number_of(journal.flush(rt, &mut session));
-        let count = commits_a_read(rt, alloc, journal, &mut session);
+        let count = commits_one(rt, alloc, journal, &mut session, self.writes);
         (ended, flushed, count == 3 && is_told(&mut session, count))
     }
 }
@@ -244,21 +262,71 @@ fn is_told<J: Naming>(session: &mut Client<J>, count: u64) -> bool {
     false
 }
 
-pub(super) fn mark_reads<J: Naming + Send + Sync, H: Abort + Threads + Wait + Clock + Sync>(
+pub(super) fn mark_each<J: Naming + Send + Sync, H: Abort + Threads + Wait + Clock + Sync>(
     rt: &H,
     alloc: Global,
     journal: &Open<MemDisk, J>,
+    writes: bool,
 ) {
-    let ended = beside(rt, alloc, journal, &OpenGate, &MarkReads, 0);
+    let work = MarkEach { writes };
+    let ended = beside(rt, alloc, journal, &OpenGate, &work, 0);
     let groups = journal.stat(rt).end;
+    let logged = if writes { 3 } else { 0 };
     wants(
         rt,
         &(ended, groups),
-        &((true, ((Ending::Stable, 1), 0, true)), 0),
+        &((true, ((Ending::Stable, 1), 0, true)), logged),
     );
 }
 
 #[test]
 fn commits_that_write_nothing_are_marked(rt: HostRuntime) {
-    try_out(&rt, rt.alloc(), Trial::MarkReads);
+    try_out(&rt, rt.alloc(), Trial::MarkEach(false));
+}
+
+#[test]
+fn commits_that_nobody_waits_for_are_marked(rt: HostRuntime) {
+    try_out(&rt, rt.alloc(), Trial::MarkEach(true));
+}
+
+/// Ten commits of 128 blocks each, of two halves in turn. A tail has no room for both halves, so each but the first may wait for a
+/// cut.
+#[derive(Drop)]
+struct FillGroups;
+
+impl Work for FillGroups {
+    type Answer = (u64, u64);
+
+    fn work<D: BlockDisk + Send, J: Naming + Send + Sync, H: Abort + Threads + Wait + Clock + Sync>(
+        &self,
+        rt: &H,
+        alloc: Global,
+        journal: &Open<D, J>,
+        _number: u8,
+    ) -> (u64, u64) {
+        let mut session = client(rt, journal);
+        let mut count = 0;
+        for turn in 0..10u64 {
+            let mut txn = journal.begin(alloc, &mut session);
+            let first = if turn % 2 == 0 { 531 } else { 659 };
+            let _filled = fills(rt, &mut txn, (first, first + 128), &[7; 4096]);
+            count = commit_count(rt, txn, &mut session);
+        }
+        (count, number_of(journal.flush(rt, &mut session)))
+    }
+}
+
+/// All are committed and marked, whether they wait for room or not.
+pub(super) fn fill_groups<J: Naming + Send + Sync, H: Abort + Threads + Wait + Clock + Sync>(
+    rt: &H,
+    alloc: Global,
+    journal: &Open<MemDisk, J>,
+) {
+    let ended = beside(rt, alloc, journal, &OpenGate, &FillGroups, 0);
+    wants(rt, &ended, &(true, (10, 0)));
+}
+
+#[test]
+fn a_full_group_is_cut(rt: HostRuntime) {
+    try_out(&rt, rt.alloc(), Trial::FillGroups);
 }
