@@ -1,5 +1,5 @@
 -- An image of an image is one of the disk that the first was made of.
-use Rattle.std.proofs.Common.{◌≡◌, ⊎_elim, ◌<◌, ℕ, IsTrue, List, [], Contains, Result, Ok, Err, IfOk, refl, sym, ap, subst, ◌∙◌, arith}
+use Rattle.std.proofs.Common.{◌≡◌, ⊎_elim, ◌<◌, ℕ, List, [], Contains, Result, Ok, Err, IfOk, sym, subst, arith}
 use Rattle.journal_block.specs.Block.{Bytes}
 use Rattle.journal_disk.specs.Disks.{Past, block_at, past_from}
 use Rattle.journal_disk.specs.Images.{MayLeave, IsImage, EveryImage}

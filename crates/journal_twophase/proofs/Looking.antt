@@ -1,5 +1,5 @@
 -- What a look-up says to the reader of an address.
-use Rattle.std.proofs.Common.{◌≡◌, ◌<◌, ℕ, Bool, true, false, cond, IsTrue, List, [], ◌∷◌, Option, Some, None, IfSome, Result, Ok, Err, IfOk, IfErr, OnOk, All, map, refl, sym, ap, subst, ◌∙◌, arith}
+use Rattle.std.proofs.Common.{◌≡◌, ◌≢◌, ◌<◌, ℕ, Bool, true, false, cond, IsTrue, List, [], ◌∷◌, Option, Some, None, IfSome, Result, Ok, Err, IfOk, IfErr, OnOk, All, map, refl, sym, ap, subst, ◌∙◌, arith}
 use mathlib.Core.List.{IsPrefix}
 use Rattle.std.proofs.lemmas.Bool.{and_parts}
 use Rattle.std.proofs.lemmas.List.Elements.{All-head, All-tail, All-cons}
@@ -8,7 +8,7 @@ use Rattle.journal_block.specs.declared.update.Update.{Update}
 use Rattle.journal_world.specs.declared.refusal.Refusal.{Refusal}
 use Rattle.journal_world.specs.declared.refusal.Refusal.TheVariants.{NoMemory, BadAddress, BadSize, TooLarge, Busy, DeviceFailed, BadLog, BadSuper, Stale, Stranger, Worn, Full, Closed, Fenced}
 use Rattle.journal_world.specs.Addresses.{Value, is_valid, is_same}
-use Rattle.journal_world.specs.Maps.{Pair, SamePairs, value_among, value_at, is_object, are_objects}
+use Rattle.journal_world.specs.Maps.{Pair, SamePairs, value_among, value_at, is_object, are_objects, Agrees}
 use Rattle.journal_world.specs.Histories.{Entry, is_trusted, latest}
 use Rattle.journal_world.proofs.Prefixes.{IsPrefix-trans}
 use Rattle.journal_world.proofs.Lookups.{same_addr}
@@ -17,6 +17,7 @@ use Rattle.journal_core.specs.Causes.{Told}
 use Rattle.journal_core.specs.SlotCounts.{AgreeWith}
 use Rattle.journal_core.specs.Outsets.{Outset, MayRead}
 use Rattle.journal_core.specs.Transactions.{TransactionState, FoundState, Remembers}
+use Rattle.journal_core.proofs.Remembering.{agrees_later}
 use Rattle.journal_twophase.specs.Transactions.{TxnState, core_of, holding, Finds, Learns, IsLookRefusal, IsReadRefusal}
 
 -- what objects give an address is an object
@@ -82,6 +83,13 @@ pub later_on : (began : List Entry) (t after : TransactionState) (a : Addr) (v :
     → Remembers t found.addr v found.seen after → IsPrefix began after.seen
 later_on began t after a v found begins finds remembers =
     subst (IsPrefix began) (sym (ap (λ (u : TransactionState). u.seen) remembers.others)) (IsPrefix-trans began t.seen found.seen begins finds.later)
+
+-- and what was read before is what the map gives still
+pub reads_stay : (t after : TransactionState) (a : Addr) (v : Value) (found : FoundState) → t.seen ≢ [] → (IsTrue (is_trusted t.seen) → Agrees (latest t.seen) t.reads)
+    → Finds t a found → Remembers t found.addr v found.seen after → IsTrue (is_trusted after.seen) → Agrees (latest after.seen) t.reads
+reads_stay t after a v found some agrees finds remembers =
+    subst (λ (h : List Entry). IsTrue (is_trusted h) → Agrees (latest h) t.reads) (sym (ap (λ (u : TransactionState). u.seen) remembers.others))
+    (agrees_later t.seen found.seen t.reads some finds.later finds.unmoved agrees)
 
 -- what is found in memory is found for the transaction
 pub finds : (o : Outset) (a : Addr) (blocks : ℕ) (t : TransactionState) (answer : Result (Option FoundState) (Refusal Told))

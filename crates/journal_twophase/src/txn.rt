@@ -81,7 +81,7 @@ impl<'j, 'b, D: BlockDisk, R: MapRule, J: Naming> Txn<'j, 'b, D, R, J> {
     /// The address's value: the transaction's own, where it has overwritten it, else what the map gives, which
     /// it remembers. It takes the address's slot: it waits for one that is greater than all that it holds, and
     /// tries a lower one once. All that it has read is what the map gives at the end of one history, which it
-    /// has then seen.
+    /// has then seen: also each value that it had read before this one, of the same address too.
     ///
     /// The first that applies of these refuses it: J13 `Closed` where the journal was stopped, J6 `DeviceFailed` where
     /// the device failed before, J2 `BadAddress` where the address is not valid, J5 `Busy` where another holds the
@@ -92,6 +92,7 @@ impl<'j, 'b, D: BlockDisk, R: MapRule, J: Naming> Txn<'j, 'b, D, R, J> {
         ensures reads { IfOk result (λ value. ReadsValue (holding self.old addr) addr value self.new) }
         ensures object { IfOk result (λ value. IsTrue (is_object J.blocks (addr, value))) }
         ensures agrees { OnOk result (IsTrue (is_trusted self.new.seen) → Agrees (latest self.new.seen) self.new.reads) }
+        ensures kept { OnOk result (IsTrue (is_trusted self.new.seen) → Agrees (latest self.new.seen) self.old.reads) }
         ensures refusal { IfErr result (IsReadRefusal J.blocks self.old addr) }
         ensures same { OnErr result (self.new ≡ self.old) }
     {
@@ -148,10 +149,13 @@ impl<'j, 'b, D: BlockDisk, R: MapRule, J: Naming> Txn<'j, 'b, D, R, J> {
         requires slot { IsTrue (holds self.old.held (slot_number addr)) }
         ensures reads { IfOk result (λ value. ReadsValue self.old addr value self.new) }
         ensures object { IfOk result (λ value. IsTrue (is_object J.blocks (addr, value))) }
+        ensures kept { OnOk result (IsTrue (is_trusted self.new.seen) → Agrees (latest self.new.seen) self.old.reads) }
         ensures refusal { IfErr result (IsLookRefusal (core_of self.old)) }
         ensures same { OnErr result (self.new ≡ self.old) }
     {
         let journal = self.journal;
+        // Called for its contract: all that was read is what one map gives.
+        let _front = self.front();
         if let Some(own) = self.own(addr) {
             journal.core.check_running(rt)?;
             return Ok(own.clone()?);
@@ -187,10 +191,13 @@ impl<'j, 'b, D: BlockDisk, R: MapRule, J: Naming> Txn<'j, 'b, D, R, J> {
         requires slot { IsTrue (holds self.old.held (slot_number addr)) }
         ensures learns { IfOk result (λ value. Learns self.old addr value self.new) }
         ensures object { IfOk result (λ value. IsTrue (is_object J.blocks (addr, value))) }
+        ensures kept { OnOk result (IsTrue (is_trusted self.new.seen) → Agrees (latest self.new.seen) self.old.reads) }
         ensures refusal { IfErr result (IsLookRefusal (core_of self.old)) }
         ensures same { OnErr result (self.new ≡ self.old) }
     {
         let journal = self.journal;
+        // Called for its contract: what was read before is what the map gave.
+        let _before = self.transaction.front();
         let mut bytes = room;
         let Txn {
             transaction,

@@ -1,13 +1,15 @@
 use Rattle.std.proofs.Common.{◌≡◌, IsTrue, List, sym, subst, ◌∙◌, rules}
 use Rattle.journal_world.specs.declared.refusal.Refusal.{Refusal}
 use Rattle.journal_world.specs.Addresses.{slot_of}
+use Rattle.journal_world.specs.Maps.{Agrees}
+use Rattle.journal_world.specs.Histories.{is_trusted, latest}
 use Rattle.journal_objlog.proofs.Refusing.{if_err}
 use Rattle.journal_lockmap.specs.Numbers.{HeldState, slots_of}
 use Rattle.journal_core.specs.Causes.{Told}
 use Rattle.journal_core.specs.SlotCounts.{AgreeWith, AreUnder}
 use Rattle.journal_twophase.specs.Transactions.{TxnState, core_of, holds, Learns, IsLookRefusal}
 use Rattle.journal_twophase.proofs.Holding.{state_of, keeps_read, keeps_lent, lent_back, same_lent, on_err_so}
-use Rattle.journal_twophase.proofs.Looking.{learns, later_on}
+use Rattle.journal_twophase.proofs.Looking.{learns, later_on, reads_stay}
 use Rattle.journal_twophase.proofs.txn.Txn.look_in_map.Goals as goal
 
 pub read-requires-clause-under : goal.read-requires-clause-under
@@ -52,3 +54,9 @@ returns-clause-learns g c =
     (subst (λ (l : List HeldState). Learns (state_of c.self.inside.began t items) c.args.addr c.new-value.result (state_of c.self.inside.began c.remember.new.self l)) (sym back)
     (learns c.self.inside.began (slots_of items) t c.remember.new.self c.args.addr c.new-value.result _ c.in_ok-found.found
     c.in_ok-found.ensures.found c.in_ok-found.ensures.value (search rules) c.in_ok-remember.ensures.ok))
+
+pub returns-clause-kept : goal.returns-clause-kept
+returns-clause-kept g c =
+    subst (λ (s : TxnState). IsTrue (is_trusted c.remember.new.self.seen) → Agrees (latest c.remember.new.self.seen) s.reads) c.self.view_is
+    (reads_stay c.self.inside.transaction c.remember.new.self c.args.addr c.new-value.result c.in_ok-found.found c.front-before.ensures.begun c.front-before.ensures.agrees
+    c.in_ok-found.ensures.found c.in_ok-remember.ensures.ok)

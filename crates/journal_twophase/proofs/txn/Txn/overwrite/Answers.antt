@@ -1,4 +1,4 @@
-use Rattle.std.proofs.Common.{◌≡◌, ◌++◌, ◌∷◌, [], ℕ, List, IsTrue, rules, refl, sym, subst, ◌∙◌}
+use Rattle.std.proofs.Common.{◌≡◌, ◌++◌, ◌∷◌, [], ℕ, List, IsTrue, rules, refl, sym, subst}
 use Rattle.journal_world.specs.Addresses.{slot_of}
 use Rattle.journal_twophase.specs.Transactions.{TxnState, holding, holds, IsClearOf}
 use Rattle.journal_twophase.proofs.Holding.{holds_with, clear_last}

@@ -1,4 +1,4 @@
-use Rattle.std.proofs.Common.{◌≡◌, ◌++◌, ◌∷◌, [], ℕ, List, IsTrue, rules, refl, sym, subst, ◌∙◌}
+use Rattle.std.proofs.Common.{◌≡◌, ◌++◌, ◌∷◌, [], ℕ, List, IsTrue, rules, refl, sym, subst}
 use Rattle.journal_world.specs.Addresses.{is_valid, slot_of}
 use Rattle.journal_twophase.specs.Transactions.{TxnState, core_of, holding, holds, IsClearOf, IsLookRefusal}
 use Rattle.journal_twophase.proofs.Looking.{read_refusal, read_refused}
