@@ -15,6 +15,7 @@ use std::alloc::Global;
 use std::marker::Model;
 use std::process::Abort;
 
+mod changed;
 mod sealed;
 
 /// What a sealed log has in block 0 beside the position at which its last group begins.
@@ -112,7 +113,20 @@ fn put_headers(
 pub(crate) fn disk_with_log(rt: &impl Abort, alloc: Global, start: u64, end: u64) -> Run<MemDisk>
     ensures { IfOk result (λ disk. IsSettled disk.past) }
 {
-    let mut disk = MemDisk::new(alloc, 600)?;
+    sized_disk_with_log(rt, alloc, 600, start, end)
+}
+
+/// The same of so many blocks.
+pub(crate) fn sized_disk_with_log(
+    rt: &impl Abort,
+    alloc: Global,
+    blocks: u64,
+    start: u64,
+    end: u64,
+) -> Run<MemDisk>
+    ensures { IfOk result (λ disk. IsSettled disk.past) }
+{
+    let mut disk = MemDisk::new(alloc, blocks)?;
     put_headers(rt, alloc, &mut disk, start, end)?;
     Ok(disk.crash(&[]))
 }

@@ -1,0 +1,3 @@
+mod Moments
+mod Updating
+mod Steps

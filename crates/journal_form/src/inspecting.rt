@@ -1,0 +1,78 @@
+// What the blocks of a disk tell of it.
+ghost use Rattle.std.specs.Prelude.{◌≡◌, ◌≤◌, ◌↔◌, take, IsTrue, IfOk, IfErr, MatchResult};
+ghost use Rattle.journal_world.specs.declared.layout.TheConstants.{MIN_BLOCKS};
+ghost use Rattle.journal_block.specs.Updates.{Content};
+ghost use Rattle.journal_disk.specs.Disks.{Keeps, IsSettled, read_of};
+ghost use Rattle.journal_disk.specs.Images.{EveryImage};
+ghost use Rattle.journal_circ.specs.StandsFor.{StandsFor};
+ghost use Rattle.journal_circ.specs.Ring.{IsOpenRefusal};
+ghost use Rattle.journal_form.specs.Forms.{form_of};
+ghost use Rattle.journal_form.specs.Inspections.{TellsFiles};
+
+use crate::form::LogForm;
+use journal_block::Block;
+use journal_circ::FIRST_HOME;
+use journal_disk::BlockDisk;
+use journal_wal::Wal;
+use journal_world::{Refusal, Refused};
+use std::alloc::Global;
+
+/// What the first home block of a disk of the file service begins with, in each version of its format.
+pub const FILES_MAGIC: [u8; 8] = *b"GJNLDSK1";
+
+/// A disk, and what its blocks tell of it.
+#[derive(Drop)]
+pub struct Inspected<D> {
+    /// The disk, as it was.
+    pub disk: D,
+    /// The form of its log.
+    pub form: LogForm,
+    /// Whether it is a disk of the file service: its first home block begins with the format's name.
+    pub has_files: bool,
+}
+
+/// Tells the form of the log of a disk on which nothing is pending, and whether it is a disk of the file service. The first
+/// home block is read with the updates that the log has of it. Nothing is written.
+///
+/// Answers J1 `NoMemory` where memory is refused, J7 `BadLog` where the log is not well formed, and J6 `DeviceFailed` where the
+/// device fails, and no other refusal. A refusal hands the disk back.
+pub fn inspect<D: BlockDisk>(alloc: Global, disk: D) -> Result<Inspected<D>, Refused<D, ()>>
+    requires in_range { MIN_BLOCKS ≤ (D.state disk).past.size }
+    requires settled { IsTrue (D.state disk).honest → IsSettled (D.state disk).past }
+    ensures refusal { IfErr result (λ refused. IsOpenRefusal (D.state disk) (D.state refused.disk) refused.refusal) }
+    ensures keeps { MatchResult result
+        (λ told. Keeps (D.state disk) (D.state told.disk))
+        (λ refused. Keeps (D.state disk) (D.state refused.disk)) }
+    ensures same { IsTrue (D.state disk).honest → MatchResult result
+        (λ told. (D.state told.disk).past ≡ (D.state disk).past)
+        (λ refused. (D.state refused.disk).past ≡ (D.state disk).past) }
+    ensures form { IsTrue (D.state disk).honest → IfOk result (λ told. told.form ≡ form_of (read_of (D.state disk).past 0)) }
+    ensures files { IsTrue (D.state disk).honest → IfOk result (λ told. TellsFiles (D.state disk).past told.has_files) }
+{
+    let Ok(mut first) = Block::try_new::<()>(alloc) else {
+        return Err(Refused {
+            refusal: Refusal::NoMemory,
+            disk,
+        });
+    };
+    let mut wal = Wal::open(alloc, disk)?;
+    let form = LogForm::of(wal.is_sealed());
+    match wal.read(FIRST_HOME, &mut first) {
+        Ok(()) => Ok(Inspected {
+            disk: wal.into_disk(),
+            form,
+            has_files: begins_with_magic(&first),
+        }),
+        Err(refusal) => Err(Refused {
+            refusal,
+            disk: wal.into_disk(),
+        }),
+    }
+}
+
+// Whether a block begins as that of a disk of the file service.
+fn begins_with_magic(block: &Block) -> bool
+    ensures { IsTrue result ↔ (take 8 block.now ≡ FILES_MAGIC) }
+{
+    block.as_bytes().starts_with(&FILES_MAGIC)
+}
