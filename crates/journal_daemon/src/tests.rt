@@ -14,9 +14,10 @@ mod steps;
 mod threads;
 mod waits;
 
-ghost use Rattle.std.specs.Prelude.{◌≡◌, IsTrue};
+ghost use Rattle.std.specs.Prelude.{◌≡◌, ◌≤◌, IsTrue};
 ghost use Rattle.journal_disk.specs.Disks.{IsSettled};
 
+use journal_circ::{Circ, MAX_SEALED_BLOCKS};
 use journal_disk::{BlockDisk, MemDisk};
 use journal_history::{Book, Naming, Receipt, Session};
 use journal_lockmap::SlotCell;
@@ -57,6 +58,13 @@ fn inode(number: u8) -> Addr {
         block: 515,
         off: u32::from(number % 32) * 1024,
     }
+}
+
+/// The form of a disk's log.
+#[derive(Clone, Copy, Debug, PartialEq, Eq, Drop)]
+enum Form {
+    Plain,
+    Sealed,
 }
 
 /// What is tried of a journal over a new disk.
@@ -101,11 +109,21 @@ fn wants_at<T: PartialEq + Debug>(rt: &impl Abort, call: u64, found: &T, wanted:
     assert_eq!(rt; found, wanted, "at call {call}");
 }
 
-/// Opens a journal over a new disk, and makes the trial.
+/// Opens a journal over a new disk, whose log is plain, and makes the trial.
 fn try_out<H: Abort + Threads + Wait + Clock + Sync>(rt: &H, alloc: Global, trial: Trial) {
+    try_over(rt, alloc, Form::Plain, trial);
+}
+
+/// The same over a log of either form.
+fn try_over<H: Abort + Threads + Wait + Clock + Sync>(
+    rt: &H,
+    alloc: Global,
+    form: Form,
+    trial: Trial,
+) {
     let book: Book<AnyMap> = Book::open::<()>().ok().expect(rt, "a book");
     let cell = SlotCell::open(alloc).ok().expect(rt, "a cell");
-    try_in_book::<Brand, _>(rt, alloc, &book, cell, trial);
+    try_in_book::<Brand, _>(rt, alloc, &book, cell, form, trial);
 }
 
 // It owns the journal for all trials, and takes it apart at its end: both are dear to prove, and are proved once.
@@ -114,13 +132,14 @@ fn try_in_book<J: Naming + Send + Sync, H: Abort + Threads + Wait + Clock + Sync
     alloc: Global,
     book: &Book<AnyMap>,
     cell: SlotCell,
+    form: Form,
     trial: Trial,
 )
     requires book { book.now ≡ J.book }
     requires cell { cell ≡ J.cell }
     requires blocks { J.blocks ≡ 800 }
 {
-    let journal = opened::<J, _>(rt, alloc, book, cell);
+    let journal = opened::<J, _>(rt, alloc, book, cell, form);
     try_on(rt, alloc, &journal, trial);
     let _disk = journal.into_disk();
 }
@@ -160,18 +179,34 @@ fn try_on<J: Naming + Send + Sync, H: Abort + Threads + Wait + Clock + Sync>(
     }
 }
 
+/// A disk of zeros, but for the form of its log.
+fn new_disk<H: Abort>(rt: &H, alloc: Global, blocks: u64, form: Form) -> MemDisk
+    requires { 532 ≤ blocks }
+    ensures size { result.past.size ≡ blocks }
+    ensures settled { IsSettled result.past }
+{
+    let disk = MemDisk::new::<()>(alloc, blocks).expect(rt, "a disk");
+    if form == Form::Plain {
+        return disk;
+    }
+    let circ = Circ::open(alloc, disk).ok().expect(rt, "a log").circ;
+    assert!(rt; circ.start() == circ.next() && circ.size() <= MAX_SEALED_BLOCKS);
+    circ.seal().ok().expect(rt, "a sealed log")
+}
+
 /// A journal over a new disk.
 fn opened<'b, J: Naming, H: Abort>(
     rt: &H,
     alloc: Global,
     book: &'b Book<AnyMap>,
     cell: SlotCell,
+    form: Form,
 ) -> Open<'b, MemDisk, J>
     requires book { book.now ≡ J.book }
     requires cell { cell ≡ J.cell }
     requires blocks { J.blocks ≡ 800 }
 {
-    let disk = MemDisk::new::<()>(alloc, BLOCKS).expect(rt, "a disk");
+    let disk = new_disk(rt, alloc, BLOCKS, form);
     opened_on(rt, alloc, book, cell, disk)
 }
 

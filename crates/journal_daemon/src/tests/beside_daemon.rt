@@ -392,6 +392,11 @@ fn four_commits_wait_for_one_group(rt: HostRuntime) {
     try_out(&rt, rt.alloc(), Trial::BecomeStable);
 }
 
+#[test]
+fn four_commits_wait_for_one_sealed_group(rt: HostRuntime) {
+    try_over(&rt, rt.alloc(), Form::Sealed, Trial::BecomeStable);
+}
+
 /// Four commits of one object are in one group: each gives up its slots before it waits.
 pub(super) fn wait_together<J: Naming + Send + Sync, H: Abort + Threads + Wait + Clock + Sync>(
     rt: &H,
@@ -483,15 +488,36 @@ pub(super) fn all_end_by_the_fault<
     wants_at(rt, k, &(ended, endings), &([true; 4], endings));
 }
 
+/// The log is crowded after 257 groups of so many calls each, and the installer's calls come among
+/// those behind.
+fn end_by_any_fault<H: Abort + Threads + Wait + Clock + Sync>(
+    rt: &H,
+    alloc: Global,
+    form: Form,
+    calls: u64,
+) {
+    for k in 1..=8 {
+        try_over(rt, alloc, form, Trial::AllEndByTheFault(k));
+    }
+    let first = calls.saturating_mul(257).saturating_add(2);
+    for k in 0..7 {
+        try_over(
+            rt,
+            alloc,
+            form,
+            Trial::AllEndByTheFault(first.saturating_add(k)),
+        );
+    }
+}
+
 #[test]
 fn a_fault_at_any_call_ends_each_thread(rt: HostRuntime) {
-    for k in 1..=8 {
-        try_out(&rt, rt.alloc(), Trial::AllEndByTheFault(k));
-    }
-    // The log is crowded after 257 groups of four calls each, and the installer's calls come among those behind.
-    for k in 1030..=1036 {
-        try_out(&rt, rt.alloc(), Trial::AllEndByTheFault(k));
-    }
+    end_by_any_fault(&rt, rt.alloc(), Form::Plain, 4);
+}
+
+#[test]
+fn a_fault_at_any_call_over_a_sealed_log_ends_each_thread(rt: HostRuntime) {
+    end_by_any_fault(&rt, rt.alloc(), Form::Sealed, 3);
 }
 
 /// A gate that holds nobody, and wants that each thread tells its own number and counts its steps from 0.

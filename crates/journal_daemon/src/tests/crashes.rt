@@ -344,29 +344,40 @@ impl<'w> Work for AddOften<'w> {
     }
 }
 
-/// Makes so many commits, each a group of one block of the log, to the last inodes of sixteen blocks. Answers how many
-/// the session made.
+/// How many steps of the logger a group of one block takes with its mark.
+fn steps_in(form: Form) -> u64 {
+    match form {
+        Form::Plain => 6,
+        Form::Sealed => 5,
+    }
+}
+
+/// Makes commits, each a group of one block of the log, to the last inodes of sixteen blocks.
+/// Answers how many the session made.
 fn fills_log<D: BlockDisk, J: Naming, H: Abort + Wait>(
     rt: &H,
     alloc: Global,
     journal: &Open<D, J>,
-    groups: u64,
+    case: Case,
 ) -> u64 {
     let mut session = client(rt, journal);
-    for group in 0..groups {
+    let steps = steps_in(case.form);
+    for group in 0..case.filled {
         let addr = Addr {
             block: 515 + group % 16,
             off: 31 * 1024,
         };
         let (refused, _) = put(rt, alloc, journal, &mut session, addr, &[1; 128]);
-        wants(rt, &(refused, logs(rt, journal, 100)), &(0, 6));
+        wants(rt, &(refused, logs(rt, journal, 100)), &(0, steps));
     }
     session.made()
 }
 
-/// How many positions of the log are taken first, and which device call fails, or 0.
+/// The form of the log, how many positions of it are taken first, and which device call fails, or
+/// 0.
 #[derive(Clone, Copy, Drop)]
 struct Case {
+    form: Form,
     filled: u64,
     fails_in: u64,
 }
@@ -388,9 +399,9 @@ fn run_watched<'w, J: Naming + Send + Sync, H: Abort + Threads + Wait + Clock + 
     alloc: Global,
     journal: &Watched<'w, '_, J>,
     watch: &Watch,
-    filled: u64,
+    case: Case,
 ) -> Outcome {
-    let first = fills_log(rt, alloc, journal, filled);
+    let first = fills_log(rt, alloc, journal, case);
     watch.is_on.store(true, Ordering::SeqCst);
     let add = AddOften {
         accounts: &watch.accounts,
@@ -429,10 +440,10 @@ fn watched_in<J: Naming + Send + Sync, H: Abort + Threads + Wait + Clock + Sync>
     requires cell { cell ≡ J.cell }
     requires blocks { J.blocks ≡ 532 }
 {
-    let mut disk = MemDisk::new::<()>(alloc, 532).expect(rt, "a disk");
+    let mut disk = new_disk(rt, alloc, 532, case.form);
     disk.fail_in(case.fails_in);
     let journal: Watched<J> = opened_on(rt, alloc, book, cell, WatchedDisk { disk, watch });
-    let ended = run_watched(rt, alloc, &journal, watch, case.filled);
+    let ended = run_watched(rt, alloc, &journal, watch, case);
     let WatchedDisk { disk, .. } = journal.into_disk();
     watch.pass(&disk);
     ended
@@ -452,42 +463,66 @@ fn watched<H: Abort + Threads + Wait + Clock + Sync>(
 /// At each device call each image that a crash may leave opens, and each thread's object counts in it what the thread
 /// was told to be stable or more, and no more than it has begun to commit. The log is almost full, so that the
 /// installer has to make room beside the logger.
-#[test]
-fn each_call_leaves_what_each_thread_was_told(rt: HostRuntime) {
-    let watch = Watch::new(rt.alloc());
+fn look_at_each_call<H: Abort + Threads + Wait + Clock + Sync>(rt: &H, alloc: Global, form: Form) {
+    let watch = Watch::new(alloc);
     let case = Case {
+        form,
         filled: 500,
         fails_in: 0,
     };
-    let ended = watched(&rt, rt.alloc(), &watch, case);
+    let ended = watched(rt, alloc, &watch, case);
     let wrong = watch.wrong.load(Ordering::SeqCst);
     let refused = ended.refused;
     let has_looked = ended.start > 0 && watch.images.load(Ordering::SeqCst) > 100;
     wants(
-        &rt,
+        rt,
         &(refused, ended.are_counted, wrong, has_looked),
         &([0; 4], true, 0, true),
     );
 }
 
+#[test]
+fn each_call_leaves_what_each_thread_was_told(rt: HostRuntime) {
+    look_at_each_call(&rt, rt.alloc(), Form::Plain);
+}
+
+#[test]
+fn each_call_over_a_sealed_log_leaves_what_each_thread_was_told(rt: HostRuntime) {
+    look_at_each_call(&rt, rt.alloc(), Form::Sealed);
+}
+
 /// The device fails at its k-th call while four threads commit. Each ends by J6, and each image has what was told to be
-/// stable. The first two calls are those of the opening.
+/// stable.
+fn fail_at<H: Abort + Threads + Wait + Clock + Sync>(rt: &H, alloc: Global, form: Form, k: u64) {
+    let watch = Watch::new(alloc);
+    let case = Case {
+        form,
+        filled: 0,
+        fails_in: k,
+    };
+    let ended = watched(rt, alloc, &watch, case);
+    let wrong = watch.wrong.load(Ordering::SeqCst);
+    let refused = ended.refused;
+    wants_at(
+        rt,
+        k,
+        &(refused, ended.are_counted, wrong),
+        &([6; 4], true, 0),
+    );
+}
+
+/// The first two calls are those of the opening.
 #[test]
 fn a_fault_takes_nothing_back(rt: HostRuntime) {
     for k in 3..=26 {
-        let watch = Watch::new(rt.alloc());
-        let case = Case {
-            filled: 0,
-            fails_in: k,
-        };
-        let ended = watched(&rt, rt.alloc(), &watch, case);
-        let wrong = watch.wrong.load(Ordering::SeqCst);
-        let refused = ended.refused;
-        wants_at(
-            &rt,
-            k,
-            &(refused, ended.are_counted, wrong),
-            &([6; 4], true, 0),
-        );
+        fail_at(&rt, rt.alloc(), Form::Plain, k);
+    }
+}
+
+/// The opening reads the 511 log blocks too.
+#[test]
+fn a_fault_over_a_sealed_log_takes_nothing_back(rt: HostRuntime) {
+    for k in 514..=537 {
+        fail_at(&rt, rt.alloc(), Form::Sealed, k);
     }
 }

@@ -215,7 +215,7 @@ fn answers<J: Naming, H: Abort + Wait>(rt: &H, alloc: Global, book: &Book<AnyMap
     requires cell { cell ≡ J.cell }
     requires blocks { J.blocks ≡ 800 }
 {
-    let journal = opened::<J, _>(rt, alloc, book, cell);
+    let journal = opened::<J, _>(rt, alloc, book, cell, Form::Plain);
     runs(rt, alloc, &journal);
     // A journal's name is of one cell, so the second has a name of its own.
     let other = SlotCell::open(alloc).ok().expect(rt, "a cell");

@@ -62,3 +62,8 @@ pub(super) fn recover_a_full_log<J: Naming + Send + Sync, H: Abort + Threads + W
 fn a_recovered_log_makes_room(rt: HostRuntime) {
     try_out(&rt, rt.alloc(), Trial::RecoverAFullLog);
 }
+
+#[test]
+fn a_recovered_sealed_log_makes_room(rt: HostRuntime) {
+    try_over(&rt, rt.alloc(), Form::Sealed, Trial::RecoverAFullLog);
+}

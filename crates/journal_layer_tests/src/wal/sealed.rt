@@ -11,6 +11,8 @@ use journal_disk::MemDisk;
 use std::alloc::Global;
 use std::process::Abort;
 
+mod largest;
+
 // A position at which the log begins, so that its first group of two has the log's last block and its first one.
 const AT_THE_END: u64 = 510;
 
@@ -98,19 +100,22 @@ fn three_wanted(choice: usize) -> u64 {
     first + second + third
 }
 
-// Two groups of two blocks each. Each has a choice of three bits.
-fn two_torn(rt: &impl Abort, alloc: Global, choice: usize) -> Run<u64> {
+// Three groups of two blocks each, after each of which comes a crash. Each has a choice of three
+// bits.
+fn three_pairs_torn(rt: &impl Abort, alloc: Global, choice: usize) -> Run<u64> {
     let disk = sealed(rt, alloc, AT_THE_END)?;
     let disk = torn(rt, alloc, disk, 531, &[1, 2], choice % 8)?;
     let disk = torn(rt, alloc, disk, 533, &[3, 4], choice / 8 % 8)?;
-    digits(rt, alloc, disk, AT_THE_END, &[531, 532, 533, 534])
+    let disk = torn(rt, alloc, disk, 535, &[5, 6], choice / 64 % 8)?;
+    digits(rt, alloc, disk, AT_THE_END, &[531, 532, 533, 534, 535, 536])
 }
 
 // Those groups stand whose three bits are set: each has two positions, and its numbers.
-fn two_wanted(choice: usize) -> u64 {
-    let first = if choice % 8 == 7 { 21200 } else { 0 };
-    let second = if choice / 8 % 8 == 7 { 20034 } else { 0 };
-    first + second
+fn three_pairs_wanted(choice: usize) -> u64 {
+    let first = if choice % 8 == 7 { 2_120_000 } else { 0 };
+    let second = if choice / 8 % 8 == 7 { 2_003_400 } else { 0 };
+    let third = if choice / 64 % 8 == 7 { 2_000_056 } else { 0 };
+    first + second + third
 }
 
 // A group of two blocks one of whose device calls fails, the first, second, third or fourth of them: two log blocks,
@@ -146,23 +151,26 @@ fn failed_wanted(choice: usize) -> u64 {
 #[derive(Clone, Copy)]
 enum Trial {
     Three,
-    Two,
+    ThreePairs,
     Failed,
+    Largest(largest::Trial),
 }
 
 fn run(rt: &impl Abort, alloc: Global, trial: Trial, choice: usize) -> u64 {
     told(match trial {
         Trial::Three => three_torn(rt, alloc, choice),
-        Trial::Two => two_torn(rt, alloc, choice),
+        Trial::ThreePairs => three_pairs_torn(rt, alloc, choice),
         Trial::Failed => failed(rt, alloc, choice),
+        Trial::Largest(trial) => largest::left(rt, alloc, trial, choice),
     })
 }
 
 fn wanted(trial: Trial, choice: usize) -> u64 {
     match trial {
         Trial::Three => three_wanted(choice),
-        Trial::Two => two_wanted(choice),
+        Trial::ThreePairs => three_pairs_wanted(choice),
         Trial::Failed => failed_wanted(choice),
+        Trial::Largest(trial) => largest::wanted(trial, choice),
     }
 }
 
@@ -193,8 +201,8 @@ fn three_groups_are_torn_one_after_the_other(rt: HostRuntime) {
 }
 
 #[test]
-fn two_groups_of_two_are_torn_where_the_positions_come_round(rt: HostRuntime) {
-    assert_eq!(rt; wrong_choice(&rt, rt.alloc(), Trial::Two, 64), None);
+fn three_groups_of_two_are_torn_where_the_positions_come_round(rt: HostRuntime) {
+    assert_eq!(rt; wrong_choice(&rt, rt.alloc(), Trial::ThreePairs, 512), None);
 }
 
 #[test]

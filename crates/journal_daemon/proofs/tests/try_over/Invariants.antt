@@ -1,4 +1,4 @@
-use Rattle.journal_daemon.proofs.tests.try_out.Given as goal
+use Rattle.journal_daemon.proofs.tests.try_over.Given as goal
 
 -- the book and the cell that were just opened, and the disk's blocks
 abbrev pub ghosts-try_in_book : goal.ghosts-try_in_book
