@@ -2,8 +2,8 @@
 ghost use Rattle.std.specs.Prelude.{◌≡◌};
 
 use journal_disk::BlockDisk;
-use journal_history::{Naming, Receipt, Session};
-use journal_twophase::{Journal, Txn, Why};
+use journal_history::{Naming, Session};
+use journal_twophase::{Journal, Txn, WaitFault, Waited, Why};
 use journal_world::{Addr, AnyMap};
 use std::alloc::Global;
 use std::sync::Wait;
@@ -28,19 +28,19 @@ pub fn look<'b, D: BlockDisk, J: Naming, W: Wait>(
 }
 
 /// Adds 1 to the counter, in a transaction: no other thread's comes between its read and its overwrite. It stands in the
-/// history at the place that the receipt names, and is not yet stable then.
+/// history at the place that the receipt names, and no crash loses it then.
 pub fn add_one<'b, D: BlockDisk, J: Naming, W: Wait>(
     rt: &W,
     alloc: Global,
     journal: &Journal<'b, D, AnyMap, J>,
     session: &mut Session<'b, J, AnyMap>,
-) -> Result<Receipt<'b, J, AnyMap>, Why<'b, J, AnyMap>> {
+) -> Waited<'b, J, AnyMap> {
     let mut txn = journal.begin(alloc, session);
     match read_and_add(rt, &mut txn) {
-        Ok(()) => txn.commit(rt, session),
+        Ok(()) => txn.commit_wait(rt, session),
         Err(why) => {
             txn.abort(rt);
-            Err(why)
+            Err(WaitFault::Refused(why))
         }
     }
 }

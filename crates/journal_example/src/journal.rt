@@ -107,26 +107,13 @@ fn in_two<J: Naming + Send + Sync, R: Threads + Wait + Sync>(
     )
 }
 
-// Adds 1 so often in a session of this thread's, and waits until all of it is stable.
+// Adds 1 so often in a session of this thread's. Each waits until no crash loses it; a program that makes many commits by
+// `Txn::commit` waits once for all of them, by `Journal::flush`.
 fn add_often<J: Naming, W: Wait>(rt: &W, alloc: Global, journal: &Counters<J>, times: u32) -> bool {
     match journal.session(rt) {
-        Ok(mut session) => {
-            add_all(rt, alloc, journal, &mut session, times)
-                && journal.flush(rt, &mut session).is_ok()
-        }
+        Ok(mut session) => { (0..times).all(|_| add_one(rt, alloc, journal, &mut session).is_ok()) }
         Err(_) => false,
     }
-}
-
-// One `flush` behind many commits waits once. A commit that is to be stable by itself is made by `Txn::commit_wait`.
-fn add_all<'b, J: Naming, W: Wait>(
-    rt: &W,
-    alloc: Global,
-    journal: &Counters<'b, J>,
-    session: &mut Session<'b, J, AnyMap>,
-    times: u32,
-) -> bool {
-    (0..times).all(|_| add_one(rt, alloc, journal, session).is_ok())
 }
 
 // What the counter is.
