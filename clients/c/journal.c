@@ -1,37 +1,31 @@
 /* See journal.h. */
 #define _POSIX_C_SOURCE 200809L
-#include "journal.h"
-#include <errno.h>
+#include "line.h"
 #include <stdlib.h>
 #include <string.h>
-#include <sys/socket.h>
-#include <sys/un.h>
 #include <time.h>
 #include <unistd.h>
 
 enum { VERSION = 1, MAX_RECORD = 2097152, MAX_VALUE = 4096, MAX_PARTS = 4096, MAX_TRIES = 100 };
 enum { HELLO, COMMIT, READ, FLUSH, STAT, STOP };
 enum { COMPARE, WRITE };
+/* A transaction: its length, its operation, whether it waits, how many parts; then the parts. A
+ * part: its action, its address, its value's length; then the value. */
+enum { TRANSACTION_HEAD = 16, PART_HEAD = 20 };
 
 struct jnl {
-    int fd; /* below 0: not connected */
+    struct jnl_port *port;
+    struct jnl_line *line; /* NULL: not connected */
     uint64_t blocks;
-    struct sockaddr_un to;
+    unsigned timeout;
 };
 
-struct part {
-    uint32_t action;
-    jnl_addr addr;
-    uint32_t size;
-    size_t at; /* where its value stands among the bytes */
-};
-
+/* The transaction's record, as far as it is spelled. */
 struct jnl_txn {
     jnl *j;
-    struct part *parts;
-    size_t count, room;
-    uint8_t *bytes;
-    size_t used, space;
+    uint8_t *record;
+    size_t used, room;
+    uint32_t parts;
 };
 
 /* ---- numbers, their highest byte first */
@@ -69,34 +63,10 @@ static size_t padded(size_t size)
 
 /* ---- the connection */
 
-static int send_all(int fd, const uint8_t *p, size_t n)
-{
-    while (n) {
-        ssize_t k = send(fd, p, n, MSG_NOSIGNAL);
-        if (k < 0 && errno == EINTR) continue;
-        if (k <= 0) return -1;
-        p += k;
-        n -= (size_t)k;
-    }
-    return 0;
-}
-
-static int receive_all(int fd, uint8_t *p, size_t n)
-{
-    while (n) {
-        ssize_t k = recv(fd, p, n, 0);
-        if (k < 0 && errno == EINTR) continue;
-        if (k <= 0) return -1;
-        p += k;
-        n -= (size_t)k;
-    }
-    return 0;
-}
-
 static int hang_up(jnl *j, int status)
 {
-    close(j->fd);
-    j->fd = -1;
+    if (j->line) jnl_line_close(j->line);
+    j->line = NULL;
     return status;
 }
 
@@ -106,53 +76,73 @@ static int exchange(jnl *j, uint8_t *record, size_t n, uint8_t *answer, size_t r
 {
     uint8_t length[4];
     put32(record, (uint32_t)(n - 4));
-    if (send_all(j->fd, record, n) || receive_all(j->fd, length, 4)) return hang_up(j, JNL_LOST);
+    if (jnl_line_send(j->line, record, n)) return JNL_LOST;
+    if (jnl_line_receive(j->line, length, 4)) return JNL_LOST;
     *size = get32(length);
-    if (*size < 4 || *size > room) return hang_up(j, JNL_PROTOCOL);
-    if (receive_all(j->fd, answer, *size)) return hang_up(j, JNL_LOST);
-    return JNL_OK;
+    if (*size < 4 || *size > room) return JNL_PROTOCOL;
+    return jnl_line_receive(j->line, answer, *size) ? JNL_LOST : JNL_OK;
 }
 
 static int is_refusal(uint32_t status)
 {
-    return (status >= 1 && status <= 14) || status == JNL_CONFLICT || (status >= 66 && status <= 70);
+    switch (status) {
+    case 1: case 2: case 3: case 4: case 6: case 9: case 10: case 11: case 13: case 14:
+    case 64: case 66: case 67: case 68: case 69: case 70:
+        return 1;
+    default:
+        return 0;
+    }
 }
 
-/* Asks an operation, and wants so many bytes behind the operation of its answer, or any number of
- * them where `wanted` is SIZE_MAX. */
+static int ends_session(uint32_t status)
+{
+    return (status >= JNL_STALE && status <= JNL_WORN) || status == JNL_FENCED;
+}
+
+/* What an answer to an operation says, where it wants so many bytes behind the operation, or any
+ * number of them where `wanted` is SIZE_MAX. */
+static int judge(uint32_t operation, const uint8_t *answer, size_t size, size_t wanted)
+{
+    uint32_t status = get32(answer);
+    if (status == JNL_UNSURE && operation == COMMIT && size == 20) return JNL_UNSURE;
+    if (is_refusal(status) && size == 4) return (int)status;
+    if (status || size < 8 || get32(answer + 4) != operation) return JNL_PROTOCOL;
+    return wanted != SIZE_MAX && size != 8 + wanted ? JNL_PROTOCOL : JNL_OK;
+}
+
 static int ask_connected(jnl *j, uint32_t operation, uint8_t *record, size_t n, uint8_t *answer,
                          size_t room, size_t wanted, size_t *size)
 {
     put32(record + 4, operation);
     int s = exchange(j, record, n, answer, room, size);
-    if (s) return s;
-    uint32_t status = get32(answer);
-    if (status == JNL_UNSURE && operation == COMMIT && *size == 20) return JNL_UNSURE;
-    if (is_refusal(status) && *size == 4) return (int)status;
-    if (status || *size < 8 || get32(answer + 4) != operation) return hang_up(j, JNL_PROTOCOL);
-    if (wanted != SIZE_MAX && *size != 8 + wanted) return hang_up(j, JNL_PROTOCOL);
-    return JNL_OK;
+    if (!s) s = judge(operation, answer, *size, wanted);
+    return s == JNL_LOST || s == JNL_PROTOCOL || ends_session((uint32_t)s) ? hang_up(j, s) : s;
 }
 
 static int dial(jnl *j)
 {
     uint8_t record[12], answer[20];
     size_t size;
-    j->fd = socket(AF_UNIX, SOCK_STREAM, 0);
-    if (j->fd < 0) return JNL_NO_PORT;
-    if (connect(j->fd, (struct sockaddr *)&j->to, sizeof j->to)) return hang_up(j, JNL_NO_PORT);
+    int s = jnl_line_open(j->port, &j->line);
+    if (s) return s;
+    jnl_line_set_timeout(j->line, j->timeout);
     put32(record + 8, VERSION);
-    int s = ask_connected(j, HELLO, record, sizeof record, answer, sizeof answer, 12, &size);
-    if (s) return j->fd < 0 ? s : hang_up(j, s);
+    s = ask_connected(j, HELLO, record, sizeof record, answer, sizeof answer, 12, &size);
+    if (s) return hang_up(j, s);
     if (get32(answer + 8) != VERSION) return hang_up(j, JNL_OTHER_VERSION);
     j->blocks = get64(answer + 12);
     return JNL_OK;
 }
 
+/* Asks the port. A connection that it ended since the last call is made again first: nothing was
+ * sent yet, so nothing is sent twice. */
 static int ask(jnl *j, uint32_t operation, uint8_t *record, size_t n, uint8_t *answer,
                size_t room, size_t wanted, size_t *size)
 {
-    int s = j->fd < 0 ? dial(j) : JNL_OK;
+    if (j->line && !jnl_line_is_quiet(j->line)) hang_up(j, JNL_LOST);
+    int s = j->line ? JNL_OK : dial(j);
+    /* Of this call nothing was sent. */
+    if (s == JNL_LOST) return JNL_NO_PORT;
     return s ? s : ask_connected(j, operation, record, n, answer, room, wanted, size);
 }
 
@@ -162,14 +152,10 @@ int jnl_open(const char *path, jnl **out)
     *out = NULL;
     jnl *j = calloc(1, sizeof *j);
     if (!j) return JNL_NO_MEMORY;
-    j->to.sun_family = AF_UNIX;
-    int s = JNL_NO_PORT;
-    if (strlen(path) < sizeof j->to.sun_path) {
-        strcpy(j->to.sun_path, path);
-        s = dial(j);
-    }
+    int s = jnl_port_enter(path, &j->port);
+    if (!s) s = dial(j);
     if (s) {
-        free(j);
+        jnl_close(j);
         return s;
     }
     *out = j;
@@ -179,8 +165,16 @@ int jnl_open(const char *path, jnl **out)
 void jnl_close(jnl *j)
 {
     if (!j) return;
-    if (j->fd >= 0) close(j->fd);
+    hang_up(j, JNL_OK);
+    if (j->port) jnl_port_leave(j->port);
     free(j);
+}
+
+void jnl_set_timeout(jnl *j, unsigned milliseconds)
+{
+    if (!j) return;
+    j->timeout = milliseconds;
+    if (j->line) jnl_line_set_timeout(j->line, milliseconds);
 }
 
 uint64_t jnl_blocks(const jnl *j)
@@ -193,50 +187,70 @@ uint64_t jnl_blocks(const jnl *j)
 int jnl_begin(jnl *j, jnl_txn **out)
 {
     if (!j || !out) return JNL_MISUSE;
-    *out = calloc(1, sizeof **out);
-    if (!*out) return JNL_NO_MEMORY;
-    (*out)->j = j;
+    jnl_txn *t = calloc(1, sizeof *t);
+    *out = t;
+    if (!t) return JNL_NO_MEMORY;
+    t->j = j;
+    t->used = TRANSACTION_HEAD;
     return JNL_OK;
 }
 
 void jnl_abort(jnl_txn *t)
 {
     if (!t) return;
-    free(t->parts);
-    free(t->bytes);
+    free(t->record);
     free(t);
 }
 
-static struct part *find(jnl_txn *t, uint32_t action, jnl_addr a)
+static size_t size_of(const uint8_t *part)
 {
-    for (size_t i = t->count; i-- > 0;) {
-        struct part *p = &t->parts[i];
-        if (p->action == action && p->addr.block == a.block && p->addr.bit == a.bit) return p;
+    return get32(part + 16);
+}
+
+/* The part of an action at an address, or NULL. */
+static uint8_t *find(jnl_txn *t, uint32_t action, jnl_addr a)
+{
+    uint8_t wanted[16];
+    put_addr(put32(wanted, action), a);
+    for (size_t at = TRANSACTION_HEAD; at < t->used;) {
+        uint8_t *part = t->record + at;
+        if (!memcmp(part, wanted, sizeof wanted)) return part;
+        at += PART_HEAD + padded(size_of(part));
     }
     return NULL;
 }
 
+static int make_room(jnl_txn *t, size_t more)
+{
+    if (t->parts == MAX_PARTS || t->used + more > MAX_RECORD + 4) return JNL_TOO_LARGE;
+    if (t->record && t->used + more <= t->room) return JNL_OK;
+    size_t room = 2 * t->room + more + 512;
+    uint8_t *record = realloc(t->record, room);
+    if (!record) return JNL_NO_MEMORY;
+    t->record = record;
+    t->room = room;
+    return JNL_OK;
+}
+
 static int add(jnl_txn *t, uint32_t action, jnl_addr a, const void *bytes, size_t size)
 {
-    if (t->count == MAX_PARTS) return JNL_TOO_LARGE;
-    if (t->count == t->room) {
-        size_t room = t->room ? 2 * t->room : 8;
-        struct part *more = realloc(t->parts, room * sizeof *more);
-        if (!more) return JNL_NO_MEMORY;
-        t->parts = more;
-        t->room = room;
-    }
-    if (t->used + size > t->space) {
-        size_t space = 2 * t->space + size + 256;
-        uint8_t *more = realloc(t->bytes, space);
-        if (!more) return JNL_NO_MEMORY;
-        t->bytes = more;
-        t->space = space;
-    }
-    memcpy(t->bytes + t->used, bytes, size);
-    t->parts[t->count++] = (struct part){action, a, (uint32_t)size, t->used};
-    t->used += size;
+    int s = make_room(t, PART_HEAD + padded(size));
+    if (s) return s;
+    uint8_t *p = put32(put_addr(put32(t->record + t->used, action), a), (uint32_t)size);
+    memcpy(p, bytes, size);
+    memset(p + size, 0, padded(size) - size);
+    t->used += PART_HEAD + padded(size);
+    t->parts++;
     return JNL_OK;
+}
+
+static int has_value(const uint8_t *answer, size_t found)
+{
+    static const uint8_t zeros[3];
+    if (found < 16 || get32(answer + 8) != 1) return 0;
+    size_t size = get32(answer + 12);
+    if (size > MAX_VALUE || found != 16 + padded(size)) return 0;
+    return !memcmp(answer + 16 + size, zeros, padded(size) - size);
 }
 
 static int fetch(jnl_txn *t, jnl_addr a, void *into, size_t size)
@@ -246,22 +260,21 @@ static int fetch(jnl_txn *t, jnl_addr a, void *into, size_t size)
     put_addr(put32(record + 8, 1), a);
     int s = ask(t->j, READ, record, sizeof record, answer, sizeof answer, SIZE_MAX, &found);
     if (s) return s;
-    if (found < 16 || get32(answer + 8) != 1) return hang_up(t->j, JNL_PROTOCOL);
-    size_t length = get32(answer + 12);
-    if (length > MAX_VALUE || found != 16 + padded(length)) return hang_up(t->j, JNL_PROTOCOL);
-    if (length != size) return JNL_BAD_SIZE;
-    memcpy(into, answer + 16, size);
-    return add(t, COMPARE, a, into, size);
+    if (!has_value(answer, found)) return hang_up(t->j, JNL_PROTOCOL);
+    if (get32(answer + 12) != size) return JNL_BAD_SIZE;
+    s = add(t, COMPARE, a, answer + 16, size);
+    if (!s) memcpy(into, answer + 16, size);
+    return s;
 }
 
 int jnl_read(jnl_txn *t, jnl_addr a, void *into, size_t size)
 {
     if (!t || !into) return JNL_MISUSE;
-    struct part *own = find(t, WRITE, a);
+    uint8_t *own = find(t, WRITE, a);
     if (!own) own = find(t, COMPARE, a);
     if (!own) return fetch(t, a, into, size);
-    if (own->size != size) return JNL_BAD_SIZE;
-    memcpy(into, t->bytes + own->at, size);
+    if (size_of(own) != size) return JNL_BAD_SIZE;
+    memcpy(into, own + PART_HEAD, size);
     return JNL_OK;
 }
 
@@ -269,36 +282,20 @@ int jnl_write(jnl_txn *t, jnl_addr a, const void *bytes, size_t size)
 {
     if (!t || !bytes) return JNL_MISUSE;
     if (size > MAX_VALUE) return JNL_BAD_SIZE;
-    struct part *own = find(t, WRITE, a);
-    if (!own || own->size != size) return add(t, WRITE, a, bytes, size);
-    memcpy(t->bytes + own->at, bytes, size);
+    uint8_t *own = find(t, WRITE, a);
+    if (!own) return add(t, WRITE, a, bytes, size);
+    if (size_of(own) != size) return JNL_BAD_SIZE;
+    memcpy(own + PART_HEAD, bytes, size);
     return JNL_OK;
-}
-
-/* Writes the parts into a record that has the room. */
-static void spell(const jnl_txn *t, unsigned flags, uint8_t *record)
-{
-    uint8_t *p = put32(put32(record + 8, flags & JNL_WAIT), (uint32_t)t->count);
-    for (size_t i = 0; i < t->count; i++) {
-        const struct part *part = &t->parts[i];
-        p = put32(put_addr(put32(p, part->action), part->addr), part->size);
-        memcpy(p, t->bytes + part->at, part->size);
-        memset(p + part->size, 0, padded(part->size) - part->size);
-        p += padded(part->size);
-    }
 }
 
 static int commit(jnl_txn *t, unsigned flags, jnl_receipt *receipt)
 {
+    uint8_t empty[TRANSACTION_HEAD], *record = t->record ? t->record : empty;
     uint8_t answer[24];
-    size_t n = 16, size;
-    for (size_t i = 0; i < t->count; i++) n += 20 + padded(t->parts[i].size);
-    if (n - 4 > MAX_RECORD) return JNL_TOO_LARGE;
-    uint8_t *record = malloc(n);
-    if (!record) return JNL_NO_MEMORY;
-    spell(t, flags, record);
-    int s = ask(t->j, COMMIT, record, n, answer, sizeof answer, 16, &size);
-    free(record);
+    size_t size;
+    put32(put32(record + 8, flags & JNL_WAIT), t->parts);
+    int s = ask(t->j, COMMIT, record, t->used, answer, sizeof answer, 16, &size);
     const uint8_t *told = s == JNL_UNSURE ? answer + 4 : answer + 8;
     if (receipt && (s == JNL_OK || s == JNL_UNSURE)) {
         *receipt = (jnl_receipt){get64(told), get64(told + 8)};
@@ -328,7 +325,7 @@ int jnl_run(jnl *j, int (*work)(jnl_txn *, void *), void *context, unsigned flag
 {
     unsigned seed = (unsigned)getpid() ^ (unsigned)(uintptr_t)&j;
     if (!j || !work) return JNL_MISUSE;
-    for (unsigned attempt = 0;; attempt++) {
+    for (unsigned attempt = 1;; attempt++) {
         jnl_txn *t;
         int s = jnl_begin(j, &t);
         if (s) return s;
@@ -338,7 +335,7 @@ int jnl_run(jnl *j, int (*work)(jnl_txn *, void *), void *context, unsigned flag
             return s;
         }
         s = jnl_commit(t, flags, NULL);
-        if (s != JNL_CONFLICT || attempt + 1 == MAX_TRIES) return s;
+        if (s != JNL_CONFLICT || attempt == MAX_TRIES) return s;
         pause_before(attempt, &seed);
     }
 }
@@ -384,7 +381,7 @@ const char *jnl_strerror(int status)
     case JNL_STALE:
     case JNL_STRANGER:
     case JNL_WORN:
-    case JNL_FENCED: return "the session cannot go on";
+    case JNL_FENCED: return "the session has ended";
     case JNL_CLOSED: return "the journal was stopped";
     case JNL_CONFLICT: return "a value that was read is another now";
     case JNL_UNSURE: return "the transaction is not known to be stable";
@@ -394,6 +391,8 @@ const char *jnl_strerror(int status)
     case JNL_NO_PORT: return "no port answers";
     case JNL_PROTOCOL: return "the port answers what the protocol does not have";
     case JNL_MISUSE: return "a null pointer";
+    case JNL_SECOND_DISK: return "another disk is open in this process";
+    case JNL_FORKED: return "a fork of the process that opened the disk";
     default: return "a status that is not known";
     }
 }

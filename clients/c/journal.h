@@ -11,7 +11,11 @@
  *     } while ((status = jnl_commit(t, JNL_WAIT, NULL)) == JNL_CONFLICT);
  *
  * A jnl is one connection, for one thread at a time. A transaction holds no lock: a thread that
- * stops in one stops no other. Each call answers a jnl_status. */
+ * stops in one stops no other. Each call answers a jnl_status. None prints, and none raises a
+ * signal.
+ *
+ * A connection that the port has ended, for its silence or with the service, is made again by the
+ * next call. */
 #ifndef JOURNAL_H
 #define JOURNAL_H
 #include <stddef.h>
@@ -38,9 +42,9 @@ typedef enum {
     JNL_NO_MEMORY = 1,
     JNL_BAD_ADDRESS = 2,
     JNL_BAD_SIZE = 3,
-    JNL_TOO_LARGE = 4,      /* more than 128 distinct blocks are written */
+    JNL_TOO_LARGE = 4,      /* more than 128 distinct blocks are written, or 4096 parts made */
     JNL_DEVICE_FAILED = 6,  /* the disk has to be opened again; all that was stable is there */
-    JNL_STALE = 9,          /* 9 to 11, 14: the session cannot go on; open again */
+    JNL_STALE = 9,          /* 9 to 11, 14: the session has ended; the next call begins another */
     JNL_STRANGER = 10,
     JNL_WORN = 11,
     JNL_CLOSED = 13,        /* the journal was stopped */
@@ -51,13 +55,16 @@ typedef enum {
     /* The transaction stands, and is not known to be stable: after a crash it is there whole, or
      * absent. */
     JNL_UNSURE = 65,
-    /* No answer came. A commit was done whole, or not at all: read to find out. The next call
-     * connects again. */
+    /* No answer came, or none that the protocol has. A commit was done whole, or not at all: read
+     * to find out. Nothing sends it again but the caller. The next call connects again. */
     JNL_LOST = 96,
+    JNL_PROTOCOL = 98,
     /* Nothing was done. */
     JNL_NO_PORT = 97,       /* no port answers at the path */
-    JNL_PROTOCOL = 98,      /* the port answers what the protocol does not have */
-    JNL_MISUSE = 99         /* a null pointer */
+    JNL_MISUSE = 99,        /* a null pointer */
+    /* Of the carrier in the process alone; nothing was done. */
+    JNL_SECOND_DISK = 100,  /* another disk is open in this process */
+    JNL_FORKED = 101        /* this process is a copy that fork made of the one that opened */
 } jnl_status;
 
 /* jnl_commit: answer once the transaction is stable, so that no crash takes it back. */
@@ -81,6 +88,10 @@ int jnl_open(const char *path, jnl **out);
 /* Closes the connection. NULL is fine. Its transactions must have ended. */
 void jnl_close(jnl *);
 
+/* The most that a call waits for the port to take or send bytes, in milliseconds; 0, as at the
+ * beginning, is for ever. A call that waited in vain answers JNL_LOST. */
+void jnl_set_timeout(jnl *, unsigned milliseconds);
+
 /* How many blocks the disk has. */
 uint64_t jnl_blocks(const jnl *);
 
@@ -89,10 +100,11 @@ int jnl_begin(jnl *, jnl_txn **out);
 
 /* Reads an object of this size: what the transaction wrote there, else what it read before, else
  * what the journal has. Two reads may come from two places of the history: the commit then finds
- * JNL_CONFLICT. */
+ * JNL_CONFLICT. Where it is refused the transaction is as it was. */
 int jnl_read(jnl_txn *, jnl_addr, void *into, size_t size);
 
-/* Has an object overwritten by the commit. A wrong address or size is found by the commit. */
+/* Has an object overwritten by the commit. A wrong address or size is found by the commit. Where
+ * it is refused, by JNL_NO_MEMORY, JNL_BAD_SIZE or JNL_TOO_LARGE, the transaction is as it was. */
 int jnl_write(jnl_txn *, jnl_addr, const void *bytes, size_t size);
 
 /* Commits: where each object that was read still has its value, all writes are done at one place
@@ -113,6 +125,10 @@ int jnl_stat(jnl *, jnl_counts *);
 
 /* Ends the service, after a flush. */
 int jnl_stop(jnl *);
+
+/* Why the journal in this process could not be opened, as it says on its standard error; "" where
+ * it was, and over a socket. */
+const char *jnl_reason(void);
 
 /* A status in words; never NULL. */
 const char *jnl_strerror(int status);

@@ -8,10 +8,12 @@
             t.write(515, 1024, (b + 1).to_bytes(8, "little") + bytes(120))
         j.run(transfer)
 
-One connection serves one thread at a time.
+One connection serves one thread at a time. One that the port has ended, for its silence or with the
+service, is made again by the next call.
 """
 
 import random
+import select
 import socket
 import struct
 import time
@@ -19,11 +21,14 @@ from typing import Callable, NamedTuple, Optional, Sequence, Tuple, TypeVar
 
 VERSION = 1
 MAX_RECORD = 2097152
+MAX_VALUE = 4096
 
 HELLO, COMMIT, READ, FLUSH, STAT, STOP = range(6)
 COMPARE, WRITE = range(2)
 CONFLICT = 64
 UNSURE = 65
+# The session has ended: the next call begins another.
+ENDED = (9, 10, 11, 14)
 
 REASONS = {
     1: "memory was refused",
@@ -31,11 +36,11 @@ REASONS = {
     3: "a value's length is not its object's, or a bit's byte exceeds 1",
     4: "more than 128 distinct blocks are written",
     6: "the disk failed",
-    9: "the session cannot go on",
-    10: "the session cannot go on",
-    11: "the session cannot go on",
+    9: "the session has ended",
+    10: "the session has ended",
+    11: "the session has ended",
     13: "the journal was stopped",
-    14: "the connection's session was ended",
+    14: "the session has ended",
     CONFLICT: "a compared value is another",
     66: "no operation has the request's number",
     67: "the record is spelled as no request",
@@ -74,12 +79,16 @@ class Unsure(Exception):
 class Lost(Exception):
     """No answer came. A commit was done whole, or not at all: read to find out.
 
-    The next call makes a new connection.
+    Nothing sends it again but the caller. The next call makes a new connection.
     """
 
 
-class ProtocolError(Exception):
+class ProtocolError(Lost):
     """The port answers what the protocol does not have. The connection was closed."""
+
+
+class NoPort(OSError):
+    """No port answers. Nothing was done."""
 
 
 class Receipt(NamedTuple):
@@ -119,8 +128,11 @@ class _Reader:
 
     def value(self) -> bytes:
         size = self.word()
+        if size > MAX_VALUE:
+            raise ProtocolError("a value is too long")
         found = self.take(size)
-        self.take(-size % 4)
+        if any(self.take(-size % 4)):
+            raise ProtocolError("bytes stand behind a value")
         return found
 
     def end(self) -> None:
@@ -149,8 +161,8 @@ class Transaction:
         self._writes: dict = {}
 
     def read(self, block: int, bit: int = 0) -> bytes:
-        """The object's value: what the transaction wrote there, or else what it read before, or else
-        what the journal has now."""
+        """The object's value: what the transaction wrote there, or else what it read before, or
+        else what the journal has now."""
         address = (block, bit)
         if address in self._writes:
             return self._writes[address]
@@ -192,30 +204,34 @@ class Journal:
             self._socket.close()
             self._socket = None
 
-    def _connect(self) -> None:
-        if self._path is not None:
-            made = socket.socket(socket.AF_UNIX, socket.SOCK_STREAM)
-            where: object = self._path
+    def _dial(self) -> None:
+        if self._path is None:
+            self._socket = socket.create_connection(("127.0.0.1", self._port), self._timeout)
+            self._socket.setsockopt(socket.IPPROTO_TCP, socket.TCP_NODELAY, 1)
         else:
-            made = socket.socket(socket.AF_INET, socket.SOCK_STREAM)
-            where = ("127.0.0.1", self._port)
-        made.settimeout(self._timeout)
+            self._socket = socket.socket(socket.AF_UNIX, socket.SOCK_STREAM)
+            # With a timeout it would not wait for its turn where many connect.
+            self._socket.connect(self._path)
+            self._socket.settimeout(self._timeout)
+
+    def _connect(self) -> None:
         try:
-            made.connect(where)
-        except OSError:
-            made.close()
-            raise
-        self._socket = made
-        try:
-            answer = self._ask(HELLO, struct.pack(">I", VERSION))
-            version = answer.word()
-            self.blocks = answer.hyper()
-            answer.end()
+            self._dial()
+            body = struct.pack(">I", VERSION)
+            version, self.blocks = self._ask_connected(HELLO, body, lambda a: (a.word(), a.hyper()))
             if version != VERSION:
                 raise ProtocolError(f"the port speaks version {version}")
-        except Exception:
+        except BaseException as error:
             self.close()
+            if isinstance(error, (OSError, Lost)) and not isinstance(error, ProtocolError):
+                raise NoPort(str(error)) from error
             raise
+
+    def _is_quiet(self) -> bool:
+        """Whether the port has neither ended the connection nor sent what nobody asked for."""
+        poll = select.poll()
+        poll.register(self._socket, select.POLLIN)
+        return not poll.poll(0)
 
     def _receive(self, size: int) -> bytes:
         found = bytearray()
@@ -236,47 +252,64 @@ class Journal:
         except OSError as error:
             raise Lost(str(error)) from error
 
-    def _ask(self, operation: int, body: bytes = b"") -> _Reader:
-        """Sends a request, and gives what stands behind the operation of its answer."""
-        if len(body) + 4 > MAX_RECORD:
-            raise Refused(68)
-        if self._socket is None:
-            self._connect()
+    def _judge(self, operation: int, answer: _Reader) -> _Reader:
+        """What stands behind the operation of an answer, or what it refuses."""
+        status = answer.word()
+        if status == UNSURE and operation == COMMIT:
+            receipt = Receipt(answer.hyper(), answer.hyper())
+            answer.end()
+            raise Unsure(receipt)
+        if status == 0 and answer.word() == operation:
+            return answer
+        if status not in REASONS:
+            raise ProtocolError(f"an answer to another request, or status {status}")
+        answer.end()
+        if status in ENDED:
+            self.close()
+        raise Conflict() if status == CONFLICT else Refused(status)
+
+    def _ask_connected(self, operation: int, body: bytes, decode: Callable[[_Reader], T]) -> T:
         try:
             answer = _Reader(self._exchange(struct.pack(">I", operation) + body))
-            status = answer.word()
-            if status == UNSURE:
-                receipt = Receipt(answer.hyper(), answer.hyper())
-                answer.end()
-                raise Unsure(receipt)
-            if status != 0:
-                answer.end()
-                raise Conflict() if status == CONFLICT else Refused(status)
-            if answer.word() != operation:
-                raise ProtocolError("an answer is to another request")
-            return answer
-        except (Lost, ProtocolError):
+            found = decode(self._judge(operation, answer))
+            answer.end()
+            return found
+        except (Refused, Unsure):
+            raise
+        except BaseException:
+            # Also where the call was interrupted: the next one must not read this one's answer.
             self.close()
             raise
 
+    def _ask(self, operation: int, body: bytes, decode: Callable[[_Reader], T]) -> T:
+        """Sends a request, and gives what stands behind the operation of its answer.
+
+        A connection that the port ended since the last call is made again first: nothing was sent
+        yet, so nothing is sent twice."""
+        if len(body) + 4 > MAX_RECORD:
+            raise Refused(68)
+        if self._socket is not None and not self._is_quiet():
+            self.close()
+        if self._socket is None:
+            self._connect()
+        return self._ask_connected(operation, body, decode)
+
     def read(self, addresses: Sequence[Address]) -> list:
         """The values of the objects, all at one place of the history."""
+
+        def values(answer: _Reader) -> list:
+            if answer.word() != len(addresses):
+                raise ProtocolError("there are not as many values as addresses")
+            return [answer.value() for _ in addresses]
+
         body = struct.pack(">I", len(addresses)) + b"".join(map(_address, addresses))
-        answer = self._ask(READ, body)
-        values = [answer.value() for _ in range(answer.word())]
-        answer.end()
-        if len(values) != len(addresses):
-            raise ProtocolError("there are not as many values as addresses")
-        return values
+        return self._ask(READ, body, values)
 
     def commit(self, parts: Sequence[Tuple[int, Address, bytes]], wait: bool = False) -> Receipt:
         """Commits parts, each of which compares or writes."""
         body = struct.pack(">II", wait, len(parts))
         body += b"".join(struct.pack(">I", act) + _address(a) + _value(v) for act, a, v in parts)
-        answer = self._ask(COMMIT, body)
-        receipt = Receipt(answer.hyper(), answer.hyper())
-        answer.end()
-        return receipt
+        return self._ask(COMMIT, body, lambda a: Receipt(a.hyper(), a.hyper()))
 
     def begin(self) -> Transaction:
         """A transaction that has done nothing yet."""
@@ -284,36 +317,31 @@ class Journal:
 
     def run(self, work: Callable[[Transaction], T], wait: bool = True, tries: int = 100) -> T:
         """Runs the work in a transaction and commits it, again after a pause where it meets a
-        conflict."""
-        for attempt in range(tries):
-            transaction = self.begin()
-            result = work(transaction)
+        conflict. What the work raises ends it, with nothing done."""
+        for attempt in range(1, tries):
             try:
-                transaction.commit(wait)
-                return result
+                return self._run_once(work, wait)
             except Conflict:
-                if attempt + 1 == tries:
-                    raise
                 time.sleep(random.uniform(0, min(0.1, 0.0005 * 2 ** min(attempt, 8))))
-        raise Conflict()
+        return self._run_once(work, wait)
+
+    def _run_once(self, work: Callable[[Transaction], T], wait: bool) -> T:
+        transaction = self.begin()
+        result = work(transaction)
+        transaction.commit(wait)
+        return result
 
     def flush(self) -> int:
         """Makes all commits stable that were answered before. How many are stable."""
-        answer = self._ask(FLUSH)
-        stable = answer.hyper()
-        answer.end()
-        return stable
+        return self._ask(FLUSH, b"", lambda a: a.hyper())
 
     def stat(self) -> Stat:
         """How many commits there are, and how many of them are stable at least."""
-        answer = self._ask(STAT)
-        stat = Stat(answer.hyper(), answer.hyper())
-        answer.end()
-        return stat
+        return self._ask(STAT, b"", lambda a: Stat(a.hyper(), a.hyper()))
 
     def stop(self) -> None:
         """Ends the service, after a flush."""
-        self._ask(STOP).end()
+        self._ask(STOP, b"", lambda _: None)
         self.close()
 
 

@@ -146,6 +146,12 @@ class Port:
             return word(why.args[0])
 
     def serve(self, connection: socket.socket) -> None:
+        try:
+            self.serve_to_end(connection)
+        except OSError:
+            pass  # the client has gone
+
+    def serve_to_end(self, connection: socket.socket) -> None:
         came = b""
         with connection:
             while piece := connection.recv(65536):
@@ -162,10 +168,9 @@ class Port:
                     connection.sendall(word(len(answer)) + answer)
 
 
-def main() -> None:
-    port = Port()
+def listen(port: Port, path: str) -> None:
     with socket.socket(socket.AF_UNIX, socket.SOCK_STREAM) as listener:
-        listener.bind(sys.argv[1])
+        listener.bind(path)
         listener.listen(64)
         print("ready", flush=True)
         while True:
@@ -174,4 +179,4 @@ def main() -> None:
 
 
 if __name__ == "__main__":
-    main()
+    listen(Port(), sys.argv[1])

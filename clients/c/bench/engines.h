@@ -1,0 +1,21 @@
+/* What bench.c runs: each engine opens in a folder and fills its objects with zeros; each thread
+ * may have a session; a commit overwrites two objects. An engine that fails ends the program. */
+#ifndef ENGINES_H
+#define ENGINES_H
+#include <stdint.h>
+
+enum { OBJECTS = 512, OBJECT_BYTES = 128 };
+
+struct engine {
+    const char *name;
+    void (*open)(const char *folder, int durable);
+    void *(*session)(void);
+    void (*commit)(void *session, const uint32_t keys[2], const char *value);
+    void (*flush)(void);
+};
+
+/* The last one has no name. */
+extern const struct engine engines[];
+
+_Noreturn void fail(const char *what, const char *why);
+#endif

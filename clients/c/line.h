@@ -1,0 +1,28 @@
+/* How records come to the port and answers come back. A library has one of two carriers: socket.c
+ * connects to a port in another process, and inside.c has the port in this process. */
+#ifndef JOURNAL_LINE_H
+#define JOURNAL_LINE_H
+#include "journal.h"
+
+/* What stands at a path, and one connection to it. */
+struct jnl_port;
+struct jnl_line;
+
+/* Answers a jnl_status; at JNL_OK the port is to be left. */
+int jnl_port_enter(const char *path, struct jnl_port **out);
+void jnl_port_leave(struct jnl_port *);
+
+/* Answers a jnl_status; at JNL_OK the line is to be closed. */
+int jnl_line_open(struct jnl_port *, struct jnl_line **out);
+void jnl_line_close(struct jnl_line *);
+
+/* Whether the port has neither ended the line nor sent what nobody asked for. */
+int jnl_line_is_quiet(struct jnl_line *);
+
+/* The most that a send or a receive waits, in milliseconds; 0 is for ever. */
+void jnl_line_set_timeout(struct jnl_line *, unsigned milliseconds);
+
+/* All n bytes: 0; or -1, and the line is of no more use. */
+int jnl_line_send(struct jnl_line *, const uint8_t *, size_t n);
+int jnl_line_receive(struct jnl_line *, uint8_t *, size_t n);
+#endif

@@ -1,0 +1,109 @@
+/* The carrier to a port in another process, over its socket. See line.h. */
+#define _POSIX_C_SOURCE 200809L
+#include "line.h"
+#include <errno.h>
+#include <fcntl.h>
+#include <stdlib.h>
+#include <string.h>
+#include <sys/socket.h>
+#include <sys/time.h>
+#include <sys/un.h>
+#include <unistd.h>
+
+struct jnl_port {
+    struct sockaddr_un at;
+};
+
+struct jnl_line {
+    int fd;
+};
+
+int jnl_port_enter(const char *path, struct jnl_port **out)
+{
+    struct jnl_port *p = calloc(1, sizeof *p);
+    *out = NULL;
+    if (!p) return JNL_NO_MEMORY;
+    if (strlen(path) >= sizeof p->at.sun_path) {
+        free(p);
+        return JNL_NO_PORT;
+    }
+    p->at.sun_family = AF_UNIX;
+    strcpy(p->at.sun_path, path);
+    *out = p;
+    return JNL_OK;
+}
+
+void jnl_port_leave(struct jnl_port *p)
+{
+    free(p);
+}
+
+int jnl_line_open(struct jnl_port *p, struct jnl_line **out)
+{
+    struct jnl_line *l = malloc(sizeof *l);
+    *out = NULL;
+    if (!l) return JNL_NO_MEMORY;
+    l->fd = socket(AF_UNIX, SOCK_STREAM, 0);
+    if (l->fd < 0) {
+        free(l);
+        return JNL_NO_PORT;
+    }
+    /* A program that this one begins has no part in the connection. */
+    fcntl(l->fd, F_SETFD, FD_CLOEXEC);
+    if (connect(l->fd, (const struct sockaddr *)&p->at, sizeof p->at)) {
+        jnl_line_close(l);
+        return JNL_NO_PORT;
+    }
+    *out = l;
+    return JNL_OK;
+}
+
+void jnl_line_close(struct jnl_line *l)
+{
+    close(l->fd);
+    free(l);
+}
+
+int jnl_line_is_quiet(struct jnl_line *l)
+{
+    char byte;
+    return recv(l->fd, &byte, 1, MSG_PEEK | MSG_DONTWAIT) < 0
+        && (errno == EAGAIN || errno == EWOULDBLOCK || errno == EINTR);
+}
+
+void jnl_line_set_timeout(struct jnl_line *l, unsigned milliseconds)
+{
+    struct timeval t = {milliseconds / 1000, 1000 * (milliseconds % 1000)};
+    setsockopt(l->fd, SOL_SOCKET, SO_RCVTIMEO, &t, sizeof t);
+    setsockopt(l->fd, SOL_SOCKET, SO_SNDTIMEO, &t, sizeof t);
+}
+
+int jnl_line_send(struct jnl_line *l, const uint8_t *p, size_t n)
+{
+    while (n) {
+        /* A port that is gone is told by the answer, and by no signal. */
+        ssize_t k = send(l->fd, p, n, MSG_NOSIGNAL);
+        if (k < 0 && errno == EINTR) continue;
+        if (k <= 0) return -1;
+        p += k;
+        n -= (size_t)k;
+    }
+    return 0;
+}
+
+int jnl_line_receive(struct jnl_line *l, uint8_t *p, size_t n)
+{
+    while (n) {
+        ssize_t k = recv(l->fd, p, n, 0);
+        if (k < 0 && errno == EINTR) continue;
+        if (k <= 0) return -1;
+        p += k;
+        n -= (size_t)k;
+    }
+    return 0;
+}
+
+const char *jnl_reason(void)
+{
+    return "";
+}

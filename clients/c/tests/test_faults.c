@@ -1,0 +1,109 @@
+/* Tests of the client against a port with faults: test_faults SOCKET. The port is
+ * clients/tests/faulty_port.py, which lists the faults. It prints `ok`, or the first thing that is
+ * wrong. */
+#include "../journal.h"
+#include <stdio.h>
+#include <stdlib.h>
+#include <time.h>
+
+static jnl *j;
+static unsigned tries;
+
+static void want(uint64_t found, uint64_t wanted, const char *what, uint32_t bit)
+{
+    if (found == wanted) return;
+    printf("%s, bit %u: %lu, not %lu\n", what, bit, (unsigned long)found, (unsigned long)wanted);
+    exit(1);
+}
+
+static uint64_t commits(uint32_t bit)
+{
+    jnl_counts counts = {0, 0};
+    want((unsigned)jnl_stat(j, &counts), JNL_OK, "the next call", bit);
+    return counts.commits;
+}
+
+static int commit(uint32_t bit, jnl_receipt *receipt)
+{
+    jnl_txn *t;
+    want((unsigned)jnl_begin(j, &t), JNL_OK, "begin", bit);
+    want((unsigned)jnl_write(t, (jnl_addr){514, bit}, "\1", 1), JNL_OK, "write", bit);
+    int s = jnl_commit(t, 0, receipt);
+    struct timespec pause = {0, 200000000};
+    /* The port ends the connection behind its answer. */
+    if (bit == 0 || bit == 13) nanosleep(&pause, NULL);
+    return s;
+}
+
+static void a_commit(uint32_t bit, int wanted, uint64_t more)
+{
+    uint64_t before = commits(bit);
+    want((unsigned)commit(bit, NULL), (unsigned)wanted, "a commit", bit);
+    want(commits(bit), before + more, "commits", bit);
+}
+
+static int set_bit(jnl_txn *t, void *bit)
+{
+    tries++;
+    return jnl_write(t, (jnl_addr){514, *(uint32_t *)bit}, "\1", 1);
+}
+
+static void a_run(uint32_t bit, int wanted, unsigned times)
+{
+    uint64_t before = commits(bit);
+    tries = 0;
+    want((unsigned)jnl_run(j, set_bit, &bit, JNL_WAIT), (unsigned)wanted, "a run", bit);
+    want(tries, times, "tries", bit);
+    want(commits(bit), before + 1, "commits of a run", bit);
+}
+
+static void a_read(uint32_t bit)
+{
+    jnl_txn *t;
+    unsigned char value = 9;
+    want((unsigned)commit(bit, NULL), JNL_OK, "a commit", bit);
+    want((unsigned)jnl_begin(j, &t), JNL_OK, "begin", bit);
+    want((unsigned)jnl_read(t, (jnl_addr){514, bit}, &value, 1), JNL_PROTOCOL, "a read", bit);
+    want(value, 9, "what a read that is refused leaves", bit);
+    want((unsigned)jnl_read(t, (jnl_addr){514, bit}, &value, 1), JNL_OK, "the next read", bit);
+    want(value, 1, "the value", bit);
+    jnl_abort(t);
+}
+
+static void unsure(void)
+{
+    jnl_receipt receipt = {0, 0};
+    uint64_t before = commits(8);
+    want((unsigned)commit(8, &receipt), JNL_UNSURE, "a commit", 8);
+    want(receipt.commits, before + 1, "the receipt", 8);
+}
+
+int main(int argc, char **argv)
+{
+    if (argc != 2) return fprintf(stderr, "usage: test_faults SOCKET\n"), 2;
+    want((unsigned)jnl_open(argv[1], &j), JNL_OK, "open", 0);
+    jnl_set_timeout(j, 30000);
+    a_commit(0, JNL_OK, 1);
+    a_commit(1, JNL_LOST, 1);
+    a_commit(2, JNL_LOST, 0);
+    a_commit(3, JNL_LOST, 1);
+    a_commit(4, JNL_PROTOCOL, 1);
+    a_commit(5, JNL_PROTOCOL, 1);
+    a_commit(6, JNL_PROTOCOL, 1);
+    a_commit(7, JNL_FENCED, 0);
+    a_commit(9, JNL_PROTOCOL, 1);
+    a_commit(11, JNL_OK, 1);
+    a_commit(12, JNL_OK, 1);
+    unsure();
+    a_run(1, JNL_LOST, 1);
+    a_run(10, JNL_OK, 4);
+    for (uint32_t bit = 20; bit < 23; bit++) a_read(bit);
+    want((unsigned)commit(13, NULL), JNL_OK, "a commit", 13);
+    want((unsigned)jnl_flush(j, NULL), JNL_OTHER_VERSION, "another version", 13);
+    commits(13);
+    jnl_set_timeout(j, 200);
+    a_commit(14, JNL_LOST, 1);
+    jnl_close(j);
+    puts("ok");
+    return 0;
+}

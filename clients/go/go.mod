@@ -1,0 +1,3 @@
+module palkhuveg.example/journal
+
+go 1.19

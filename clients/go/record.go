@@ -1,0 +1,139 @@
+package journal
+
+import (
+	"encoding/binary"
+	"fmt"
+)
+
+// Records as they are spelled. All numbers have their highest byte first.
+
+const (
+	maxRecord = 2097152
+	maxValue  = 4096
+)
+
+const (
+	opHello uint32 = iota
+	opCommit
+	opRead
+	opFlush
+	opStat
+	opStop
+)
+
+const (
+	compare uint32 = iota
+	write
+)
+
+// request is a record, with room for its length in front.
+type request []byte
+
+func newRequest(operation uint32) request {
+	return request(make([]byte, 4, 64)).word(operation)
+}
+
+func (r request) word(n uint32) request {
+	return binary.BigEndian.AppendUint32(r, n)
+}
+
+func (r request) boolean(b bool) request {
+	if b {
+		return r.word(1)
+	}
+	return r.word(0)
+}
+
+func (r request) address(a Address) request {
+	return request(binary.BigEndian.AppendUint64(r, a.Block)).word(a.Bit)
+}
+
+func (r request) part(action uint32, a Address, value []byte) request {
+	r = append(r.word(action).address(a).word(uint32(len(value))), value...)
+	return append(r, make([]byte, padding(len(value)))...)
+}
+
+func (r request) operation() uint32 {
+	return binary.BigEndian.Uint32(r[4:])
+}
+
+// answer is what was not read yet of a record, and what was found wrong in it.
+type answer struct {
+	rest []byte
+	err  error
+}
+
+func (a *answer) fail(why string) {
+	if a.err == nil {
+		a.err = fmt.Errorf("%w: %s", ErrProtocol, why)
+	}
+	a.rest = nil
+}
+
+// take returns so many bytes: zeros, once the answer was found wrong.
+func (a *answer) take(size int) []byte {
+	if size > len(a.rest) {
+		a.fail("an answer is cut short")
+		return make([]byte, size)
+	}
+	found := a.rest[:size]
+	a.rest = a.rest[size:]
+	return found
+}
+
+func (a *answer) word() uint32 {
+	return binary.BigEndian.Uint32(a.take(4))
+}
+
+func (a *answer) hyper() uint64 {
+	return binary.BigEndian.Uint64(a.take(8))
+}
+
+func (a *answer) receipt() Receipt {
+	return Receipt{a.hyper(), a.hyper()}
+}
+
+func (a *answer) value() []byte {
+	size := int(a.word())
+	if size > maxValue {
+		a.fail("a value is too long")
+		return nil
+	}
+	found := clone(a.take(size))
+	for _, zero := range a.take(padding(size)) {
+		if zero != 0 {
+			a.fail("bytes stand behind a value")
+		}
+	}
+	return found
+}
+
+// judge returns what the answer says to an operation, where that is done, by decode.
+func (a *answer) judge(operation uint32, decode func(*answer)) error {
+	var refused error
+	switch status := Refusal(a.word()); {
+	case status == 0:
+		if a.word() != operation {
+			a.fail("an answer to another request")
+		}
+		decode(a)
+	case status == statusUnsure && operation == opCommit:
+		refused = &Unsure{a.receipt()}
+	case reasons[status] != "":
+		refused = status
+	default:
+		a.fail("an unknown status")
+	}
+	if len(a.rest) > 0 {
+		a.fail("bytes stand behind an answer")
+	}
+	if a.err != nil {
+		return a.err
+	}
+	return refused
+}
+
+// padding returns how many zeros stand behind a value of this size.
+func padding(size int) int {
+	return -size & 3
+}

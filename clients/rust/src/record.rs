@@ -1,0 +1,182 @@
+//! Requests as they are spelled, and answers as they are read. All numbers have their highest byte
+//! first.
+
+use crate::{Address, Durability, Error, Receipt, Refusal};
+
+/// A record's longest, its length not counted.
+pub(crate) const MAX_RECORD: usize = 2_097_152;
+const MAX_VALUE: usize = 4096;
+const LENGTH_BYTES: usize = 4;
+const UNSURE: u32 = 65;
+const CONFLICT: u32 = 64;
+
+#[derive(Clone, Copy, PartialEq, Eq)]
+pub(crate) enum Operation {
+    Hello = 0,
+    Commit = 1,
+    Read = 2,
+    Flush = 3,
+    Stat = 4,
+    Stop = 5,
+}
+
+#[derive(Clone, Copy)]
+pub(crate) enum Action {
+    Compare = 0,
+    Write = 1,
+}
+
+/// A request, with room for its length at the front.
+pub(crate) struct Record {
+    operation: Operation,
+    bytes: Vec<u8>,
+}
+
+impl Record {
+    fn new(operation: Operation) -> Record {
+        let mut record = Record { operation, bytes: vec![0; LENGTH_BYTES] };
+        record.word(operation as u32);
+        record
+    }
+
+    pub fn hello(version: u32) -> Record {
+        let mut record = Record::new(Operation::Hello);
+        record.word(version);
+        record
+    }
+
+    /// A transaction of so many parts, which are to be added.
+    pub fn commit(durability: Durability, parts: usize) -> Record {
+        let mut record = Record::new(Operation::Commit);
+        record.word((durability == Durability::Stable) as u32);
+        record.word(parts as u32);
+        record
+    }
+
+    pub fn part(&mut self, action: Action, address: Address, value: &[u8]) {
+        self.word(action as u32);
+        self.address(address);
+        self.word(value.len() as u32);
+        self.bytes.extend_from_slice(value);
+        self.bytes.resize(self.bytes.len() + padding(value.len()), 0);
+    }
+
+    pub fn read(addresses: &[Address]) -> Record {
+        let mut record = Record::new(Operation::Read);
+        record.word(addresses.len() as u32);
+        addresses.iter().for_each(|address| record.address(*address));
+        record
+    }
+
+    pub fn flush() -> Record {
+        Record::new(Operation::Flush)
+    }
+
+    pub fn stat() -> Record {
+        Record::new(Operation::Stat)
+    }
+
+    pub fn stop() -> Record {
+        Record::new(Operation::Stop)
+    }
+
+    pub fn operation(&self) -> Operation {
+        self.operation
+    }
+
+    /// The bytes with their length in front, where they are no more than a record may have.
+    pub fn finish(mut self) -> Result<Vec<u8>, Error> {
+        let length = self.bytes.len() - LENGTH_BYTES;
+        if length > MAX_RECORD {
+            return Err(Error::Refused(Refusal::TooLong));
+        }
+        self.bytes[..LENGTH_BYTES].copy_from_slice(&(length as u32).to_be_bytes());
+        Ok(self.bytes)
+    }
+
+    fn word(&mut self, number: u32) {
+        self.bytes.extend_from_slice(&number.to_be_bytes());
+    }
+
+    fn address(&mut self, address: Address) {
+        self.bytes.extend_from_slice(&address.block.to_be_bytes());
+        self.word(address.bit);
+    }
+}
+
+/// The items of an answer that were not read yet.
+pub(crate) struct Reader<'a> {
+    rest: &'a [u8],
+}
+
+impl<'a> Reader<'a> {
+    /// What stands behind the operation of an answer, or what it refuses.
+    pub fn of_answer(answer: &'a [u8], operation: Operation) -> Result<Reader<'a>, Error> {
+        let mut reader = Reader { rest: answer };
+        let status = reader.word()?;
+        if status == 0 {
+            return match reader.word()? == operation as u32 {
+                true => Ok(reader),
+                false => Err(Error::Protocol("an answer to another request")),
+            };
+        }
+        let error = if status == UNSURE && operation == Operation::Commit {
+            Error::Unsure(reader.receipt()?)
+        } else if status == CONFLICT {
+            Error::Conflict
+        } else {
+            Refusal::of(status).map_or(Error::Protocol("an unknown status"), Error::Refused)
+        };
+        reader.end()?;
+        Err(error)
+    }
+
+    fn take(&mut self, size: usize) -> Result<&'a [u8], Error> {
+        if size > self.rest.len() {
+            return Err(Error::Protocol("an answer is cut short"));
+        }
+        let (found, rest) = self.rest.split_at(size);
+        self.rest = rest;
+        Ok(found)
+    }
+
+    fn number(&mut self, size: usize) -> Result<u64, Error> {
+        Ok(self.take(size)?.iter().fold(0, |number, byte| number << 8 | u64::from(*byte)))
+    }
+
+    pub fn word(&mut self) -> Result<u32, Error> {
+        Ok(self.number(4)? as u32)
+    }
+
+    pub fn hyper(&mut self) -> Result<u64, Error> {
+        self.number(8)
+    }
+
+    pub fn receipt(&mut self) -> Result<Receipt, Error> {
+        Ok(Receipt { place: self.hyper()?, commits: self.hyper()? })
+    }
+
+    pub fn value(&mut self) -> Result<Vec<u8>, Error> {
+        let size = self.word()? as usize;
+        if size > MAX_VALUE {
+            return Err(Error::Protocol("a value is too long"));
+        }
+        let found = self.take(size)?.to_vec();
+        match self.take(padding(size))?.iter().all(|byte| *byte == 0) {
+            true => Ok(found),
+            false => Err(Error::Protocol("bytes stand behind a value")),
+        }
+    }
+
+    pub fn end(&self) -> Result<(), Error> {
+        match self.rest.is_empty() {
+            true => Ok(()),
+            false => Err(Error::Protocol("bytes stand behind an answer")),
+        }
+    }
+}
+
+/// How many zeros stand behind a value of this size.
+fn padding(size: usize) -> usize {
+    size.wrapping_neg() % 4
+}
