@@ -191,7 +191,9 @@ fn new_disk<H: Abort>(rt: &H, alloc: Global, blocks: u64, form: Form) -> MemDisk
     }
     let circ = Circ::open(alloc, disk).ok().expect(rt, "a log").circ;
     assert!(rt; circ.start() == circ.next() && circ.size() <= MAX_SEALED_BLOCKS);
-    circ.seal().ok().expect(rt, "a sealed log")
+    let sealed = circ.seal().ok().expect(rt, "a sealed log");
+    // Nothing is pending, so a crash leaves all. Its record of device calls begins anew.
+    sealed.crash(&[])
 }
 
 /// A journal over a new disk.
