@@ -16,7 +16,7 @@ use Rattle.journal_wal.specs.Tails.{TailState, TakesFresh}
 use Rattle.journal_objlog.specs.Maps.{map_of}
 use Rattle.journal_objlog.specs.ObjectLogs.{Base, map_in}
 use Rattle.journal_objlog.specs.ObjectTails.{IsObjectTail, blocks_of, known_updates, tail_base, is_missing, HasBlocks, OverwritesKnown, TakesPrepared, with_tail_room, updates_with}
-use Rattle.journal_objlog.specs.Staging.{IsAboveNone, first_update, first_bytes, with_first, IsStaged, IsOpen, HasWholeBlocks}
+use Rattle.journal_objlog.specs.Staging.{IsAboveNone, first_update, first_bytes, with_first, IsStaged, IsOpen, StandsWhole}
 use Rattle.journal_objlog.specs.Applying.{fresh_writes}
 use Rattle.journal_objlog.specs.Writes.{writes_block, fresh_blocks, IsPrepared}
 use Rattle.journal_objlog.proofs.Ascending.{ascending_later, objects_split}
@@ -42,7 +42,7 @@ pub record IsTailStaging (b : Base) (writes left done : List Pair) (updates : Li
   pub split : writes ≡ left ++ done
   pub objects : IsTrue (are_objects b.size left)
   pub staged : IsStaged b (fresh_writes b.tail done) updates
-  pub sizes : HasWholeBlocks b.tail done
+  pub sizes : StandsWhole b.tail done
 
 module _ (b : Base) (writes left rest done : List Pair) (p : Pair) (updates : List Update)
     (ascending : HasAscendingBlocks writes) (took : left ≡ rest ++ p ∷ []) (staging : IsTailStaging b writes left done updates) where
@@ -114,7 +114,7 @@ tail_staging_begins n inside start fetched writes left updates sound is whole em
 }
 
 module _ (mid old new : TailState) (fetched : List Update) (writes : List Pair) (fresh : List Update) (n : ℕ) (sound : IsObjectTail n mid) (was : mid ≡ old)
-    (staged : IsStaged (tail_base fetched old) (fresh_writes (tail_of old.log) writes) fresh) (sizes : HasWholeBlocks (tail_of old.log) writes)
+    (staged : IsStaged (tail_base fetched old) (fresh_writes (tail_of old.log) writes) fresh) (sizes : StandsWhole (tail_of old.log) writes)
     (objects : IsTrue (are_objects (blocks_of old) writes)) (is : new ≡ with_tail_room mid new.log.room) where
   abbrev b : Base
   b = tail_base fetched old

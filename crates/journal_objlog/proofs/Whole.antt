@@ -20,7 +20,7 @@ use Rattle.journal_objlog.specs.Maps.{HasObjects, map_of, object_or_zeros}
 use Rattle.journal_objlog.specs.ObjectLogs.{Base, map_in}
 use Rattle.journal_objlog.specs.ObjectTails.{tail_base}
 use Rattle.journal_objlog.specs.Writes.{writes_block, written_blocks, fresh_among}
-use Rattle.journal_objlog.specs.Staging.{IsStaged, HasWholeBlocks}
+use Rattle.journal_objlog.specs.Staging.{IsStaged, StandsWhole}
 use Rattle.journal_objlog.specs.Applying.{stored_in, fresh_writes, standing_updates}
 use Rattle.journal_objlog.proofs.MapsOfBlocks.{Law, HasObjects-map_of}
 use Rattle.journal_objlog.proofs.Stored.{value_at-first}
@@ -128,7 +128,7 @@ abbrev pub ShowsTail : Base → Type 0
 ShowsTail b = (k : ℕ) → updates_block b.tail k ≡ true → b.content k ≡ updated b.tail k []
 
 module _ (b : Base) (ws : List Pair) (fresh : List Update) (law : Law b.size) (low : 532 ≤ b.size) (shows : ShowsTail b)
-    (objects : IsTrue (are_objects b.size ws)) (staged : IsStaged b (fresh_writes b.tail ws) fresh) (sizes : HasWholeBlocks b.tail ws) where
+    (objects : IsTrue (are_objects b.size ws)) (staged : IsStaged b (fresh_writes b.tail ws) fresh) (sizes : StandsWhole b.tail ws) where
   abbrev f : ℕ → Bytes
   f k = stored_in b.size ws k (updated b.tail k [])
 

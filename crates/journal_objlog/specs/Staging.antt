@@ -51,8 +51,8 @@ pub record IsStaged (b : Base) (writes : List Pair) (updates : List Update) : Ty
   pub objects : HasObjects (with_updates b.content updates) (overwritten (map_in b) writes)
 
 -- What is written and stands in the tail has the bytes of a block
-abbrev pub HasWholeBlocks : List Update → List Pair → Type 0
-HasWholeBlocks tail writes =
+abbrev pub StandsWhole : List Update → List Pair → Type 0
+StandsWhole tail writes =
     (b : ℕ) → writes_block writes b ≡ true → updates_block tail b ≡ true → IsTrue (is_value_of Block (updated tail b []))
 
 -- In blocks that have the objects of the stored writes, the address's block is the first update, unless all of it is to be overwritten

@@ -7,7 +7,7 @@ ghost use Rattle.journal_world.specs.Orders.{HasAscendingBlocks};
 ghost use Rattle.journal_block.specs.Updates.{updated, updates_block};
 ghost use Rattle.journal_memlog.specs.Logs.{tail_of};
 ghost use Rattle.journal_objlog.specs.ObjectTails.{blocks_of, known_updates, tail_base, is_missing, missing_blocks, HasBlocks};
-ghost use Rattle.journal_objlog.specs.Staging.{IsAboveNone, IsStaged, IsOpen, HasWholeBlocks};
+ghost use Rattle.journal_objlog.specs.Staging.{IsAboveNone, IsStaged, IsOpen, StandsWhole};
 ghost use Rattle.journal_objlog.specs.Applying.{fresh_writes};
 
 use crate::spares::Spares;
@@ -66,7 +66,7 @@ impl ObjectTail {
         ensures staged { IfOk result (λ updates.
             IsStaged (tail_base fetched.now self.now) (fresh_writes (tail_of self.now.log) writes.now) updates.items) }
         // The others are 4096 bytes.
-        ensures standing { OnOk result (HasWholeBlocks (tail_of self.now.log) writes.now) }
+        ensures standing { OnOk result (StandsWhole (tail_of self.now.log) writes.now) }
         ensures refusal { IsOkUnless result Refusal.NoMemory }
     {
         let mut updates = Backwards::new(self.alloc, spares);
