@@ -1,5 +1,5 @@
 -- What commits need, and what they leave.
-use Rattle.std.proofs.Common.{Result, Ok, Err, OnOk, OnErr, ◌≡◌, ◌≢◌, ◌<◌, ◌≤◌, ◌+◌, ◌==◌, ℕ, ◌^◌, Bool, true, false, cond, IsTrue, List, [], ◌∷◌, ◌++◌, length, length-append, refl, sym, ap, subst, ◌∙◌, arith}
+use Rattle.std.proofs.Common.{Result, Ok, Err, OnOk, OnErr, ◌≡◌, ◌≢◌, ◌+◌, ◌==◌, ℕ, Bool, true, false, cond, IsTrue, List, [], ◌∷◌, ◌++◌, length, length-append, refl, sym, ap, subst, ◌∙◌}
 use Rattle.std.specs.List.{filter}
 use Rattle.std.proofs.lemmas.Bool.{eqb-true, eqb-false, ne_eqb}
 use Rattle.std.proofs.lemmas.List.{append-nil}
@@ -8,14 +8,18 @@ use Rattle.journal_world.specs.Maps.{Map, Pair, Transaction, Agrees, overwritten
 use Rattle.journal_world.specs.Histories.{Entry, opened, is_trusted, commits, commits_of, count, latest}
 use Rattle.journal_world.specs.Histories.Entry.{commit, stable}
 use Rattle.journal_world.proofs.Prefixes.{IsPrefix-trans}
-use Rattle.journal_world.proofs.SessionCommits.{commits_of-append, length-commits_of-le}
+use Rattle.journal_world.proofs.SessionCommits.{commits_of-append}
 use Rattle.journal_world.proofs.LongerHistories.{commits_of-commit, after-blocks, at-count}
 use Rattle.journal_world.proofs.Marks.{commits-mark}
-use Rattle.journal_history.specs.Tokens.{SessionState, made, OnlyExtends, Commits, next_transaction as numbered}
+use Rattle.journal_history.specs.Tokens.{SessionState, OnlyExtends, Commits, next_transaction as numbered}
 use Rattle.journal_history.specs.Soundness.{IsSound}
-use Rattle.journal_core.specs.Tallies.{Pairs, made_among, SameTally, CountsOne, IsTallied}
+use Rattle.std.specs.Prelude.{slice_index}
+use Rattle.journal_core.specs.Tallies.{CountsOne, IsTallied}
 use Rattle.journal_core.specs.Transactions.{TransactionState}
-use Rattle.journal_core.specs.Memories.{HasSeen, IsStrange}
+use Rattle.journal_world.specs.declared.refusal.Refusal.{Refusal}
+use Rattle.journal_world.specs.declared.refusal.Refusal.TheVariants.{NoMemory, BadAddress, BadSize, TooLarge, Busy, DeviceFailed, BadLog, BadSuper, Stale, Stranger, Worn, Full, Closed, Fenced}
+use Rattle.journal_core.specs.Causes.{Told}
+use Rattle.journal_core.specs.Memories.{HasSeen, IsStaleRefusal, IsAdmissionRefusal}
 
 -- another session has no more commits
 pub commits_of-other : (history : List Entry) (t : Transaction) (s : ℕ) → t.session ≢ s
@@ -26,17 +30,9 @@ commits_of-other history t s other =
     ∙ append-nil (commits_of s history)
 
 -- a mark is no commit
-pub tallied_mark : (pairs : Pairs) (history : List Entry) (n : ℕ) → IsTallied pairs history → IsTallied pairs (history ++ stable n ∷ [])
-tallied_mark pairs history n tallied s =
+pub tallied_mark : (counts : List ℕ) (history : List Entry) (n : ℕ) → IsTallied counts history → IsTallied counts (history ++ stable n ∷ [])
+tallied_mark counts history n tallied s =
     tallied s ∙ sym (ap (λ (ts : List Transaction). length (filter (λ (t : Transaction). t.session == s) ts)) (commits-mark history n))
-
--- a longer history has no fewer commits of a session
-fewer_commits : (s : ℕ) (history longer : List Entry) → IsPrefix history longer → length (commits_of s history) ≤ length (commits_of s longer)
-fewer_commits s history longer begins = omega (
-  arith,
-  ap length (ap (commits_of s) (sym begins.1) ∙ commits_of-append s history begins.0),
-  length-append (commits_of s history) (commits_of s begins.0),
-)
 
 -- what a session has seen only grows, time and again
 pub extends_on : (a b c : SessionState) → OnlyExtends a b → OnlyExtends b c → OnlyExtends a c
@@ -54,23 +50,22 @@ has_seen history t old first second shown one two read three whole = record {
   later = subst (IsPrefix t.seen) whole (IsPrefix-trans t.seen second.seen shown.seen read three.seen);
 }
 
--- a session that has seen the history made no more commits than it has, so that where they are not as many there is a strange one
-pub is_strange : (history : List Entry) (old shown : SessionState) (tally : Pairs) (number has own : ℕ) → OnlyExtends old shown
-    → shown.seen ≡ history → IsPrefix shown.mine shown.seen → IsTallied tally history → number ≡ shown.number
-    → has ≡ made_among tally number → own ≡ made shown → has ≢ own → IsStrange history old
-is_strange history old shown tally number has own extends all prefix tallied is counted told differs =
-    subst (λ (n : ℕ). n < length (commits_of old.number history)) same_made
-    (omega (arith, fewer, here, told, differs))
-  where
-    same_made : made shown ≡ made old
-    same_made = (λ i. length (commits_of (extends.number i) (extends.mine i)))
-
-    fewer : made shown ≤ length (commits_of old.number history)
-    fewer = subst (λ (h : List Entry). made shown ≤ length (commits_of old.number h)) all
-        (subst (λ (n : ℕ). made shown ≤ length (commits_of n shown.seen)) extends.number (fewer_commits shown.number shown.mine shown.seen prefix))
-
-    here : has ≡ length (commits_of old.number history)
-    here = counted ∙ tallied number ∙ ap (λ (n : ℕ). length (commits_of n history)) (is ∙ extends.number)
+-- who is not shown the history is not admitted
+pub stale_admits : (history : List Entry) (s : SessionState) (t : TransactionState) (why : Refusal Told) → IsStaleRefusal history why → IsAdmissionRefusal history s t why
+stale_admits history s t (Stale cause) stale = stale
+stale_admits history s t NoMemory stale = absurd stale
+stale_admits history s t BadAddress stale = absurd stale
+stale_admits history s t BadSize stale = absurd stale
+stale_admits history s t TooLarge stale = absurd stale
+stale_admits history s t Busy stale = absurd stale
+stale_admits history s t (DeviceFailed cause) stale = absurd stale
+stale_admits history s t BadLog stale = absurd stale
+stale_admits history s t BadSuper stale = absurd stale
+stale_admits history s t (Stranger cause) stale = absurd stale
+stale_admits history s t (Worn cause) stale = absurd stale
+stale_admits history s t (Full cause) stale = absurd stale
+stale_admits history s t (Closed cause) stale = absurd stale
+stale_admits history s t Fenced stale = absurd stale
 
 -- the map after all commits keeps the rule once it is overwritten
 pub ruled_then : (blocks : ℕ) (rule : Map → Type 0) (history : List Entry) (reads writes : List Pair) → (opened history).blocks ≡ blocks → IsSound rule history
@@ -80,20 +75,11 @@ ruled_then blocks rule history reads writes on_disk sound keeps agrees trusted =
     keeps (latest history) (after-blocks (opened history) (commits history) ∙ on_disk)
     (subst rule (at-count history) (sound.ruled trusted (count history))) (agrees trusted)
 
--- a session's commits are fewer than the history's limit
-pub few_commits : (old new : Pairs) (history : List Entry) (session : ℕ) → SameTally old new → IsTallied old history → length history + 1 < 2 ^ 62
-    → made_among new session < 2 ^ 62
-few_commits old new history session same tallied room =
-    omega (arith, same.made session, tallied session, length-commits_of-le session history, room)
-
 -- one more commit is counted
-pub tallied_commit : (old mid new : Pairs) (history later : List Entry) (t : Transaction) (session : ℕ) → later ≡ history ++ commit t ∷ []
-    → session ≡ t.session → SameTally old mid → CountsOne session mid new → IsTallied old history → IsTallied new later
-tallied_commit old mid new history later t session added is same counts tallied s = by (s == session) refl
+pub tallied_commit : (old new : List ℕ) (history later : List Entry) (t : Transaction) (session : ℕ) → later ≡ history ++ commit t ∷ []
+    → session ≡ t.session → CountsOne session old new → IsTallied old history → IsTallied new later
+tallied_commit old new history later t session added is counts tallied s = by (s == session) refl
   where
-    was : made_among mid s ≡ length (commits_of s history)
-    was = same.made s ∙ tallied s
-
     own : s ≡ t.session → length (commits_of s later) ≡ length (commits_of s history) + 1
     own equal = subst (λ (n : ℕ). length (commits_of n later) ≡ length (commits_of n history) + 1) (sym equal)
         (ap (λ (h : List Entry). length (commits_of t.session h)) added
@@ -102,13 +88,13 @@ tallied_commit old mid new history later t session added is same counts tallied 
     other : t.session ≢ s → length (commits_of s later) ≡ length (commits_of s history)
     other differs = ap (λ (h : List Entry). length (commits_of s h)) added ∙ ap length (commits_of-other history t s differs)
 
-    by : (b : Bool) → (s == session) ≡ b → made_among new s ≡ length (commits_of s later)
+    by : (b : Bool) → (s == session) ≡ b → slice_index new s ≡ length (commits_of s later)
     by true equal =
-        counts.made s ∙ ap (λ (b : Bool). cond b (made_among mid s + 1) (made_among mid s)) equal
-        ∙ ap (λ (n : ℕ). n + 1) was ∙ sym (own (eqb-true s session equal ∙ is))
+        counts s ∙ ap (λ (b : Bool). cond b (slice_index old s + 1) (slice_index old s)) equal
+        ∙ ap (λ (n : ℕ). n + 1) (tallied s) ∙ sym (own (eqb-true s session equal ∙ is))
     by false differs =
-        counts.made s ∙ ap (λ (b : Bool). cond b (made_among mid s + 1) (made_among mid s)) differs
-        ∙ was ∙ sym (other (λ equal. eqb-false s session differs (sym equal ∙ sym is)))
+        counts s ∙ ap (λ (b : Bool). cond b (slice_index old s + 1) (slice_index old s)) differs
+        ∙ tallied s ∙ sym (other (λ equal. eqb-false s session differs (sym equal ∙ sym is)))
 
 -- a session that has seen more commits the same
 pub commits_from : (reads writes : List Pair) (s seen after : SessionState) (before longer : List Entry) → OnlyExtends s seen

@@ -1,7 +1,9 @@
 -- What the core counts beside its history stays that of the history.
-use Rattle.std.proofs.Common.{◌≡◌, ◌==◌, max, ◌+◌, ◌++◌, ℕ, Bool, true, false, cond, List, [], ◌∷◌, length, length-append, get_or, replicate, refl, sym, ap, subst, ◌∙◌, arith}
+use Rattle.std.proofs.Common.{◌≡◌, ◌==◌, max, ◌+◌, ◌++◌, ℕ, zero, suc, Bool, true, false, cond, List, [], ◌∷◌, length, length-append, get_or, set, get_or-set_same, get_or-set_other, replicate, refl, sym, ap, subst, ◌∙◌, arith}
+use Rattle.std.specs.Prelude.{slice_index}
+use Rattle.std.proofs.lemmas.Bool.{eqb-true, eqb-false}
 use Rattle.std.specs.List.{filter}
-use Rattle.std.proofs.lemmas.List.{length-replicate, get_or-replicate}
+use Rattle.std.proofs.lemmas.List.{length-replicate, length-set, get_or-replicate}
 use Rattle.std.proofs.lemmas.List.Elements.{filter-append}
 use Rattle.journal_world.specs.declared.address.TheConstants.{SLOTS}
 use Rattle.journal_world.specs.Maps.{Transaction}
@@ -10,7 +12,9 @@ use Rattle.journal_world.specs.Histories.Entry.{commit, stable}
 use Rattle.journal_world.proofs.LongerHistories.{commits-commit}
 use Rattle.journal_world.proofs.Marks.{commits-mark}
 use Rattle.journal_world.proofs.Fences.{is_fenced-commit, is_fenced-mark}
-use Rattle.journal_core.specs.Tallies.{Pairs, SameTally, CountsOne}
+use Rattle.journal_history.specs.Counts.{HasCount}
+use Rattle.journal_core.specs.declared.fenced_sessions.Run.{Run}
+use Rattle.journal_core.specs.Tallies.{CountsOne, IsTallied}
 use Rattle.journal_core.specs.declared.covered.Covered.{Covered}
 use Rattle.journal_core.specs.Covers.{KeepsCovered}
 use Rattle.journal_lockmap.specs.Numbers.{HeldState, Agree, CountsWrites}
@@ -61,65 +65,87 @@ counts_commit old new history t more counts = record {
       ∙ sym (touched_commit history t slot);
 }
 
+-- a list of numbers is longer by zeros: each number that stands past its end reads as 0
+pub get_or-zeros : (cs : List ℕ) (k s : ℕ) → get_or (cs ++ replicate k 0) s 0 ≡ get_or cs s 0
+get_or-zeros [] zero s = refl
+get_or-zeros [] (suc k) zero = refl
+get_or-zeros [] (suc k) (suc s) = get_or-zeros [] k s
+get_or-zeros (c ∷ cs) k zero = refl
+get_or-zeros (c ∷ cs) k (suc s) = get_or-zeros cs k s
+
+-- the numbers with one of them raised
+pub counts_set : (old new : List ℕ) (session count : ℕ) → HasCount old session count → new ≡ set old session (count + 1) → CountsOne session old new
+counts_set old new session count own is s = by (s == session) refl
+  where
+    by : (b : Bool) → (s == session) ≡ b → slice_index new s ≡ cond (s == session) (slice_index old s + 1) (slice_index old s)
+    by true equal =
+        ap (λ (cs : List ℕ). slice_index cs s) is
+        ∙ ap (slice_index (set old session (count + 1))) (eqb-true s session equal)
+        ∙ get_or-set_same old session (count + 1) 0 own.0
+        ∙ ap (λ (n : ℕ). n + 1) (own.1 ∙ ap (slice_index old) (sym (eqb-true s session equal)))
+        ∙ sym (ap (λ (b : Bool). cond b (slice_index old s + 1) (slice_index old s)) equal)
+    by false differs =
+        ap (λ (cs : List ℕ). slice_index cs s) is
+        ∙ get_or-set_other old session s (count + 1) 0 (λ same. eqb-false s session differs same)
+        ∙ sym (ap (λ (b : Bool). cond b (slice_index old s + 1) (slice_index old s)) differs)
+
+-- the session's own count is the history's
+pub own_commits : (sessions : List ℕ) (history : List Entry) (number count : ℕ) → IsTallied sessions history → HasCount sessions number count
+    → length (commits_of number history) ≡ count
+own_commits sessions history number count tallied own = sym (own.1 ∙ tallied number)
+
 -- what the memory part keeps at first
-pub memory_begun : (slots : List ℕ) (covered : Covered) (history : List Entry) → commits history ≡ [] → floor history ≡ 0
-    → ((s : ℕ) → is_fenced s history ≡ false) → slots ≡ replicate SLOTS 0
+pub memory_begun : (sessions slots : List ℕ) (covered : Covered) (history : List Entry) → commits history ≡ [] → floor history ≡ 0
+    → ((s : ℕ) → is_fenced s history ≡ false) → slots ≡ replicate SLOTS 0 → sessions ≡ []
     → covered.marked ≡ length history → covered.cut ≡ length history
-    → IsMemory [] slots covered (record { history = history; cut = 0; next = 0; closed = false })
-memory_begun slots covered history no_commits unmarked free none marked cut = record {
+    → IsMemory [] sessions slots covered (record { history = history; cut = 0; next = 0; closed = false })
+memory_begun sessions slots covered history no_commits unmarked free none nobody marked cut = record {
   counts = record {
-    tallied = λ s. sym (ap length (no_session history no_commits s));
-    fenced = λ s. sym (free s);
+    fences = λ s. sym (free s);
+    tallied = λ s. ap (λ (cs : List ℕ). slice_index cs s) nobody ∙ sym (ap length (no_session history no_commits s));
     touched = counts_none slots history no_commits none;
   };
+  given = ap length nobody;
   fronts = covers_none history no_commits unmarked covered marked cut;
   fresh = λ s le. no_session history no_commits s;
   unfenced = λ s le. free s;
 }
 
-keeps_mark : (tally : Pairs) (slots : List ℕ) (history : List Entry) (n : ℕ) → KeepsCounts tally slots history
-    → KeepsCounts tally slots (history ++ stable n ∷ [])
-keeps_mark tally slots history n kept = record {
-  tallied = tallied_mark tally history n kept.tallied;
-  fenced = λ s. kept.fenced s ∙ sym (is_fenced-mark s history n);
+keeps_mark : (fenced : List Run) (sessions slots : List ℕ) (history : List Entry) (n : ℕ) → KeepsCounts fenced sessions slots history
+    → KeepsCounts fenced sessions slots (history ++ stable n ∷ [])
+keeps_mark fenced sessions slots history n kept = record {
+  fences = λ s. kept.fences s ∙ sym (is_fenced-mark s history n);
+  tallied = tallied_mark sessions history n kept.tallied;
   touched = counts_mark slots history n kept.touched;
 }
 
-keeps_commit : (old mid new : Pairs) (slots more : List ℕ) (history later : List Entry) (t : Transaction) (session : ℕ) → later ≡ history ++ commit t ∷ []
-    → session ≡ t.session → SameTally old mid → CountsOne session mid new → CountsWrites t.writes slots more → KeepsCounts old slots history
-    → KeepsCounts new more later
-keeps_commit old mid new slots more history later t session added is same counts writes kept = record {
-  tallied = tallied_commit old mid new history later t session added is same counts kept.tallied;
-  fenced = λ s. counts.fenced s ∙ same.fenced s ∙ kept.fenced s ∙ sym (ap (is_fenced s) added ∙ is_fenced-commit s history t);
+keeps_commit : (fenced : List Run) (sessions counted slots more : List ℕ) (history later : List Entry) (t : Transaction) (session : ℕ) → later ≡ history ++ commit t ∷ []
+    → session ≡ t.session → CountsOne session sessions counted → CountsWrites t.writes slots more → KeepsCounts fenced sessions slots history
+    → KeepsCounts fenced counted more later
+keeps_commit fenced sessions counted slots more history later t session added is counts writes kept = record {
+  fences = λ s. kept.fences s ∙ sym (ap (is_fenced s) added ∙ is_fenced-commit s history t);
+  tallied = tallied_commit sessions counted history later t session added is counts kept.tallied;
   touched = subst (AreCounts more) (sym added) (counts_commit slots more history t writes kept.touched);
 }
 
 -- what is held agrees with the history where it agrees with what is counted
-pub agree_with : (tally : Pairs) (slots : List ℕ) (history : List Entry) (held : List HeldState) → KeepsCounts tally slots history → Agree slots held
+pub agree_with : (slots : List ℕ) (history : List Entry) (held : List HeldState) → AreCounts slots history → Agree slots held
     → AgreeWith history held
-agree_with tally slots history held kept agree = λ k d lt.
+agree_with slots history held kept agree = λ k d lt.
     let here = agree k d lt in
-    here.1 ∙ kept.touched.touched (get_or held k d).slot (omega (arith, here.0, kept.touched.slots))
+    here.1 ∙ kept.touched (get_or held k d).slot (omega (arith, here.0, kept.slots))
 
-module _ (tally : Pairs) (slots : List ℕ) (covered : Covered) (m : MemoryState) (kept : IsMemory tally slots covered m) where
-  -- a place was made for a session, and the history may be told otherwise
-  pub memory_reserved : (mid : Pairs) (history : List Entry) → SameTally tally mid → history ≡ m.history → IsMemory mid slots covered (record m { history = history })
-  memory_reserved mid history same is = subst (λ (h : List Entry). IsMemory mid slots covered (record m { history = h })) (sym is) (record {
-    counts = record {
-      tallied = λ s. same.made s ∙ kept.counts.tallied s;
-      fenced = λ s. same.fenced s ∙ kept.counts.fenced s;
-      touched = kept.counts.touched;
-    };
-    fronts = kept.fronts;
-    fresh = kept.fresh;
-    unfenced = kept.unfenced;
-  })
+module _ (fenced : List Run) (sessions slots : List ℕ) (covered : Covered) (m : MemoryState) (kept : IsMemory fenced sessions slots covered m) where
+  -- the same may be told otherwise
+  pub memory_same : (runs : List Run) (history : List Entry) → runs ≡ fenced → history ≡ m.history → IsMemory runs sessions slots covered (record m { history = history })
+  memory_same runs history same is = subst (λ (x : List Run × List Entry). IsMemory x.0 sessions slots covered (record m { history = x.1 })) (λ i. (sym same i, sym is i)) kept
 
   -- a mark
   pub memory_marked : (n : ℕ) (now : Covered) → KeepsCovered now (m.history ++ stable n ∷ []) n
-      → IsMemory tally slots now (record m { history = m.history ++ stable n ∷ []; cut = n })
+      → IsMemory fenced sessions slots now (record m { history = m.history ++ stable n ∷ []; cut = n })
   memory_marked n now covers = record {
-    counts = keeps_mark tally slots m.history n kept.counts;
+    counts = keeps_mark fenced sessions slots m.history n kept.counts;
+    given = kept.given;
     fronts = covers;
     fresh = λ s le. ap (λ (ts : List Transaction). filter (λ (t : Transaction). t.session == s) ts) (commits-mark m.history n) ∙ kept.fresh s le;
     unfenced = λ s le. is_fenced-mark s m.history n ∙ kept.unfenced s le;
@@ -127,30 +153,37 @@ module _ (tally : Pairs) (slots : List ℕ) (covered : Covered) (m : MemoryState
 
   -- a cut
   pub memory_cut : (now : Covered) (cut : ℕ) → now.marked ≡ covered.marked → now.cut ≡ length m.history → cut ≡ count m.history
-      → IsMemory tally slots now (record m { cut = cut })
-  memory_cut now cut marked whole all = subst (λ (n : ℕ). IsMemory tally slots now (record m { cut = n })) (sym all) (record {
+      → IsMemory fenced sessions slots now (record m { cut = cut })
+  memory_cut now cut marked whole all = subst (λ (n : ℕ). IsMemory fenced sessions slots now (record m { cut = n })) (sym all) (record {
     counts = kept.counts;
+    given = kept.given;
     fronts = covers_cut covered m.history m.cut kept.fronts now marked whole;
     fresh = kept.fresh;
     unfenced = kept.unfenced;
   })
 
   -- a further session
-  pub memory_joined : IsMemory tally slots covered (record m { next = m.next + 1 })
-  memory_joined = record {
-    counts = kept.counts;
+  pub memory_joined : (joined : List ℕ) → joined ≡ sessions ++ 0 ∷ [] → IsMemory fenced joined slots covered (record m { next = m.next + 1 })
+  memory_joined joined is = subst (λ (cs : List ℕ). IsMemory fenced cs slots covered (record m { next = m.next + 1 })) (sym is) (record {
+    counts = record {
+      fences = kept.counts.fences;
+      tallied = λ s. get_or-zeros sessions 1 s ∙ kept.counts.tallied s;
+      touched = kept.counts.touched;
+    };
+    given = omega (arith, length-append sessions (0 ∷ []), kept.given);
     fronts = kept.fronts;
     fresh = λ s le. kept.fresh s (omega (arith, le));
     unfenced = λ s le. kept.unfenced s (omega (arith, le));
-  }
+  })
 
   -- a commit
-  pub memory_committed : (mid new : Pairs) (more : List ℕ) (history : List Entry) (next : ℕ) (t : Transaction) (session : ℕ)
+  pub memory_committed : (counted more : List ℕ) (history : List Entry) (next : ℕ) (t : Transaction) (session made : ℕ)
       → history ≡ m.history ++ commit t ∷ [] → next ≡ max m.next (session + 1) → session ≡ t.session
-      → SameTally tally mid → CountsOne session mid new → CountsWrites t.writes slots more
-      → IsMemory new more covered (record m { history = history; next = next })
-  memory_committed mid new more history next t session added raised is same counts writes = record {
-    counts = keeps_commit tally mid new slots more m.history history t session added is same counts writes kept.counts;
+      → HasCount sessions session made → counted ≡ set sessions session (made + 1) → CountsWrites t.writes slots more
+      → IsMemory fenced counted more covered (record m { history = history; next = next })
+  memory_committed counted more history next t session made added raised is own counts writes = record {
+    counts = keeps_commit fenced sessions counted slots more m.history history t session added is (counts_set sessions counted session made own counts) writes kept.counts;
+    given = omega (arith, ap length counts, length-set sessions session (made + 1), kept.given, raised, own.0);
     fronts = subst (λ (h : List Entry). KeepsCovered covered h m.cut) (sym added) (covers_commit covered m.history m.cut kept.fronts t);
     fresh = λ s le.
         ap (commits_of s) added

@@ -1,7 +1,8 @@
 -- What a fence keeps: what is counted beside the history, what is in memory of it, and what ties the two parts.
 use Rattle.std.proofs.Math.Bool.{or-false}
 use Rattle.std.proofs.lemmas.Bool.{or_right, eq-eqb, ne_eqb, eqb-true, eqb-false}
-use Rattle.std.proofs.Common.{inl, inr, ⊎_elim, ◌≡◌, ◌+◌, ◌==◌, ◌||◌, ◌++◌, max, ℕ, Bool, true, false, cond, IsTrue, List, [], ◌∷◌, length, Result, Ok, Err, OnOk, OnErr, IfErr, refl, sym, ap, subst, ◌∙◌, arith}
+use Rattle.std.proofs.Common.{inl, inr, ⊎_elim, ◌≡◌, ◌+◌, ◌-◌, ◌==◌, ◌||◌, ◌++◌, max, ℕ, Bool, true, false, cond, IsTrue, List, [], ◌∷◌, length, length-append, replicate, Result, Ok, Err, OnOk, OnErr, IfErr, refl, sym, ap, subst, ◌∙◌, arith}
+use Rattle.std.proofs.lemmas.List.{length-replicate}
 use Rattle.std.specs.List.{filter}
 use Rattle.journal_world.specs.declared.refusal.Refusal.{Refusal}
 use Rattle.journal_world.specs.Maps.{Map, Transaction}
@@ -15,7 +16,9 @@ use Rattle.journal_wal.specs.Tails.{known_blocks}
 use Rattle.journal_core.specs.declared.covered.Covered.{Covered}
 use Rattle.journal_core.specs.Causes.{Told}
 use Rattle.journal_core.specs.Covers.{Covers, KeepsCovered, with_quiet}
-use Rattle.journal_core.specs.Tallies.{Pairs, SameTally, NotesFence, fenced_among}
+use Rattle.journal_history.specs.Counts.{raised as given_to}
+use Rattle.journal_core.specs.declared.fenced_sessions.Run.{Run}
+use Rattle.journal_core.specs.Tallies.{NotesFence, is_in_runs}
 use Rattle.journal_core.specs.SlotCounts.{KeepsCounts}
 use Rattle.journal_core.specs.Memories.{MemoryState, IsMemory}
 use Rattle.journal_core.specs.Updates.{AreObjectsOf}
@@ -25,31 +28,32 @@ use Rattle.journal_core.specs.Volatiles.{VolatileState, IsVolatile}
 use Rattle.journal_core.specs.Pairs.{Tied}
 use Rattle.journal_core.specs.Cores.{CoreState, Crashes, IsPair, core_of}
 use Rattle.journal_core.specs.FenceSteps.{IsFenceRefusal, AnswersFence, SetsFence as SetsInCore}
+use Rattle.journal_core.proofs.Counting.{get_or-zeros}
 use Rattle.journal_core.proofs.Covering.{covers_quiet}
 use Rattle.journal_core.proofs.Fronts.{append-some}
 use Rattle.journal_core.proofs.Latest.{latest_fence, since_fence}
 
 -- the session's fence is kept, and no other
-fenced_so : (old mid new : Pairs) (history : List Entry) (session s : ℕ) → SameTally old mid → NotesFence session mid new → fenced_among old s ≡ is_fenced s history
-    → fenced_among new s ≡ is_fenced s (history ++ fence session ∷ [])
-fenced_so old mid new history session s same notes was = notes.fenced s ∙ by (s == session) refl ∙ sym (is_fenced-fence s session history)
+fenced_so : (old new : List Run) (history : List Entry) (session s : ℕ) → NotesFence session old new → is_in_runs old s ≡ is_fenced s history
+    → is_in_runs new s ≡ is_fenced s (history ++ fence session ∷ [])
+fenced_so old new history session s notes was = notes s ∙ by (s == session) refl ∙ sym (is_fenced-fence s session history)
   where
-    by : (b : Bool) → (s == session) ≡ b → cond (s == session) true (fenced_among mid s) ≡ (is_fenced s history || (session == s))
+    by : (b : Bool) → (s == session) ≡ b → cond (s == session) true (is_in_runs old s) ≡ (is_fenced s history || (session == s))
     by true is =
-        ap (λ (b : Bool). cond b true (fenced_among mid s)) is
+        ap (λ (b : Bool). cond b true (is_in_runs old s)) is
         ∙ sym (or_right (is_fenced s history) (session == s) (eq-eqb session s (sym (eqb-true s session is))))
     by false is =
-        ap (λ (b : Bool). cond b true (fenced_among mid s)) is
-        ∙ same.fenced s ∙ was
+        ap (λ (b : Bool). cond b true (is_in_runs old s)) is
+        ∙ was
         ∙ sym (ap (λ (b : Bool). is_fenced s history || b) (ne_eqb session s (λ e. eqb-false s session is (sym e))) ∙ or-false (is_fenced s history))
 
 -- a fence is no commit
-keeps_fence : (old mid new : Pairs) (slots : List ℕ) (history : List Entry) (session : ℕ) → SameTally old mid → NotesFence session mid new → KeepsCounts old slots history
-    → KeepsCounts new slots (history ++ fence session ∷ [])
-keeps_fence old mid new slots history session same notes kept = record {
-  tallied = λ s. notes.made s ∙ same.made s ∙ kept.tallied s
+keeps_fence : (old new : List Run) (sessions slots : List ℕ) (history : List Entry) (session k : ℕ) → NotesFence session old new → KeepsCounts old sessions slots history
+    → KeepsCounts new (sessions ++ replicate k 0) slots (history ++ fence session ∷ [])
+keeps_fence old new sessions slots history session k notes kept = record {
+  fences = λ s. fenced_so old new history session s notes (kept.fences s);
+  tallied = λ s. get_or-zeros sessions k s ∙ kept.tallied s
       ∙ sym (ap (λ (ts : List Transaction). length (filter (λ (t : Transaction). t.session == s) ts)) (commits-fence history session));
-  fenced = λ s. fenced_so old mid new history session s same notes (kept.fenced s);
   touched = record {
     slots = kept.touched.slots;
     touched = λ slot lt. kept.touched.touched slot lt ∙ sym (ap (λ (ts : List Transaction). length (filter (writes_slot slot) ts)) (commits-fence history session));
@@ -71,13 +75,14 @@ covers_fence covered now history cut len session is longer kept =
     })
 
 -- what the memory part keeps
-pub memory_fenced : (tally mid new : Pairs) (slots : List ℕ) (covered now : Covered) (m : MemoryState) (history : List Entry) (len next session : ℕ)
-    → IsMemory tally slots covered m → history ≡ m.history ++ fence session ∷ [] → len ≡ length m.history → next ≡ max m.next (session + 1)
-    → SameTally tally mid → NotesFence session mid new → now ≡ record { marked = with_quiet len covered.marked; cut = with_quiet len covered.cut }
-    → IsMemory new slots now (record m { history = history; next = next })
-memory_fenced tally mid new slots covered now m history len next session kept added is raised same notes longer =
-    subst (λ (h : List Entry). IsMemory new slots now (record m { history = h; next = next })) (sym added) (record {
-      counts = keeps_fence tally mid new slots m.history session same notes kept.counts;
+pub memory_fenced : (fenced new : List Run) (sessions slots : List ℕ) (covered now : Covered) (m : MemoryState) (history : List Entry) (len next session : ℕ)
+    → IsMemory fenced sessions slots covered m → history ≡ m.history ++ fence session ∷ [] → len ≡ length m.history → next ≡ max m.next (session + 1)
+    → NotesFence session fenced new → now ≡ record { marked = with_quiet len covered.marked; cut = with_quiet len covered.cut }
+    → IsMemory new (given_to sessions (session + 1)) slots now (record m { history = history; next = next })
+memory_fenced fenced new sessions slots covered now m history len next session kept added is raised notes longer =
+    subst (λ (h : List Entry). IsMemory new (given_to sessions (session + 1)) slots now (record m { history = h; next = next })) (sym added) (record {
+      counts = keeps_fence fenced new sessions slots m.history session (session + 1 - length sessions) notes kept.counts;
+      given = omega (arith, length-append sessions (replicate (session + 1 - length sessions) 0), length-replicate {A = ℕ} (session + 1 - length sessions) 0, kept.given, raised);
       fronts = covers_fence covered now m.history m.cut len session is longer kept.fronts;
       fresh = λ s le.
           ap (λ (ts : List Transaction). filter (λ (t : Transaction). t.session == s) ts) (commits-fence m.history session)

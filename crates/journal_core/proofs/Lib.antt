@@ -24,4 +24,5 @@ pub mod OneThread
 pub mod Fetching
 pub mod Admitting
 pub mod Fencing
+pub mod Fenced
 mod Examples

@@ -9,7 +9,7 @@ use Rattle.journal_history.specs.Tokens.{SessionState, made}
 use Rattle.journal_core.specs.declared.refusal_number.RefusalNumber.TheVariants.{J9, J10, J11}
 use Rattle.journal_core.specs.declared.covered.Covered.{Covered}
 use Rattle.journal_core.specs.Causes.{Told, IsUnexplained, IsExplained}
-use Rattle.journal_core.specs.Tallies.{Pairs}
+use Rattle.journal_core.specs.declared.fenced_sessions.Run.{Run}
 use Rattle.journal_core.specs.Covers.{KeepsCovered}
 use Rattle.journal_core.specs.SlotCounts.{KeepsCounts}
 use Rattle.journal_core.specs.Transactions.{TransactionState, AreUnmoved}
@@ -26,8 +26,9 @@ pub record MemoryState : Type 0 where
 
 -- What it keeps: it counts the commits of each session and slot, knows which sessions are fenced and which fronts have only
 -- marked commits, and no session of a later number has committed or is fenced
-pub record IsMemory (tally : Pairs) (slots : List ℕ) (covered : Covered) (m : MemoryState) : Type 0 where
-  pub counts : KeepsCounts tally slots m.history
+pub record IsMemory (fenced : List Run) (sessions slots : List ℕ) (covered : Covered) (m : MemoryState) : Type 0 where
+  pub counts : KeepsCounts fenced sessions slots m.history
+  pub given : length sessions ≡ m.next
   pub fronts : KeepsCovered covered m.history m.cut
   pub fresh : (s : ℕ) → m.next ≤ s → commits_of s m.history ≡ []
   pub unfenced : (s : ℕ) → m.next ≤ s → is_fenced s m.history ≡ false

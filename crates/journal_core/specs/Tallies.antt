@@ -1,50 +1,46 @@
--- How many commits each session has, and whether it is fenced.
-use Rattle.std.specs.Prelude.{ℕ, Bool, true, false, ◌≡◌, ◌+◌, ◌==◌, if◌then◌else◌, List, length, IsSome, unwrap_or}
-use Rattle.std.specs.Ordering.{nat_cmp}
-use Rattle.std.specs.BTreeMap.{is_at}
-use Rattle.std.specs.Map.{lookup}
+-- How many commits each session has, and which sessions are fenced.
+use Rattle.std.specs.Prelude.{ℕ, Bool, true, ◌≡◌, ◌+◌, ◌<◌, ◌==◌, ◌&&◌, ◌||◌, nat_le, nat_lt, if◌then◌else◌, List, length, slice_index}
+use Rattle.std.specs.List.{list_any}
 use Rattle.journal_world.specs.Histories.{Entry, commits_of, is_fenced}
-use Rattle.journal_core.specs.declared.tally.Made.{Made}
+use Rattle.journal_core.specs.declared.fenced_sessions.Run.{Run}
 
--- the sessions' numbers with what is kept of each
-abbrev pub Pairs : Type 0
-Pairs = List (ℕ × Made)
+-- the number is one of the run's
+abbrev pub is_in_run : Run → ℕ → Bool
+is_in_run run s = nat_le run.first s && nat_lt s run.end
 
--- nothing is kept of a session
-abbrev pub no_made : Made
-no_made = record { commits = 0; fenced = false }
+-- it is one of some run's
+abbrev pub is_in_runs : List Run → ℕ → Bool
+is_in_runs runs s = list_any (λ run. is_in_run run s) runs
 
--- how many commits a session has
-abbrev pub made_among : Pairs → ℕ → ℕ
-made_among pairs session = (unwrap_or (lookup (is_at (nat_cmp session)) pairs) no_made).commits
+-- The runs of the sessions that are fenced, and for how many more there is room
+pub record FencedState : Type 0 where
+  pub runs : List Run
+  pub spare : ℕ
 
--- whether it is fenced
-abbrev pub fenced_among : Pairs → ℕ → Bool
-fenced_among pairs session = (unwrap_or (lookup (is_at (nat_cmp session)) pairs) no_made).fenced
+-- there is room for one more
+abbrev pub HasPlace : FencedState → Type 0
+HasPlace f = 0 < f.spare
 
--- there is a place for the session's number of commits
-abbrev pub HasPlace : Pairs → ℕ → Type 0
-HasPlace pairs session = IsSome (lookup (is_at (nat_cmp session)) pairs)
+-- the run from this number up to the session was taken out, if it has any
+abbrev pub TakesBelow : ℕ → ℕ → List Run → List Run → Type 0
+TakesBelow session first old new = (s : ℕ) → is_in_runs old s ≡ ((nat_le first s && nat_lt s session) || is_in_runs new s)
 
--- The same of each session
-pub record SameTally (old new : Pairs) : Type 0 where
-  pub made : (s : ℕ) → made_among new s ≡ made_among old s
-  pub fenced : (s : ℕ) → fenced_among new s ≡ fenced_among old s
+-- the run of all above the session up to this number was taken out, if it has any
+abbrev pub TakesAbove : ℕ → ℕ → List Run → List Run → Type 0
+TakesAbove session end old new = (s : ℕ) → is_in_runs old s ≡ ((nat_lt session s && nat_lt s end) || is_in_runs new s)
+
+-- the session is fenced from then on
+abbrev pub NotesFence : ℕ → List Run → List Run → Type 0
+NotesFence session old new = (s : ℕ) → is_in_runs new s ≡ (if s == session then true else is_in_runs old s)
 
 -- One more commit of the session
-pub record CountsOne (session : ℕ) (old new : Pairs) : Type 0 where
-  pub made : (s : ℕ) → made_among new s ≡ (if s == session then made_among old s + 1 else made_among old s)
-  pub fenced : (s : ℕ) → fenced_among new s ≡ fenced_among old s
+abbrev pub CountsOne : ℕ → List ℕ → List ℕ → Type 0
+CountsOne session old new = (s : ℕ) → slice_index new s ≡ (if s == session then slice_index old s + 1 else slice_index old s)
 
--- The session is fenced from then on
-pub record NotesFence (session : ℕ) (old new : Pairs) : Type 0 where
-  pub made : (s : ℕ) → made_among new s ≡ made_among old s
-  pub fenced : (s : ℕ) → fenced_among new s ≡ (if s == session then true else fenced_among old s)
-
--- the numbers are those of the history
-abbrev pub IsTallied : Pairs → List Entry → Type 0
-IsTallied pairs history = (s : ℕ) → made_among pairs s ≡ length (commits_of s history)
+-- the numbers of commits are those of the history
+abbrev pub IsTallied : List ℕ → List Entry → Type 0
+IsTallied counts history = (s : ℕ) → slice_index counts s ≡ length (commits_of s history)
 
 -- the fences are
-abbrev pub AreFences : Pairs → List Entry → Type 0
-AreFences pairs history = (s : ℕ) → fenced_among pairs s ≡ is_fenced s history
+abbrev pub AreFences : List Run → List Entry → Type 0
+AreFences runs history = (s : ℕ) → is_in_runs runs s ≡ is_fenced s history

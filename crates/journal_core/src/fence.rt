@@ -10,6 +10,7 @@ use crate::state::Core;
 use journal_disk::BlockDisk;
 use journal_history::{Naming, Session};
 use journal_world::{MapRule, Refusal};
+use std::sync::Wait;
 
 impl<'b, D: BlockDisk, R: MapRule, J: Naming> Core<'b, D, R, J> {
     /// Fences a session, by an entry of the history, where no fence of it stands: none of its commits is added from then
@@ -20,8 +21,9 @@ impl<'b, D: BlockDisk, R: MapRule, J: Naming> Core<'b, D, R, J> {
     /// device failed before, J9 `Stale` where the history is longer than the core's, and where no fence of it stands J11
     /// `Worn` where the history's length or the number that is to be fenced would reach 2^62, then J1 `NoMemory` where
     /// memory is refused. The history is then as it was, and the session may have seen more.
-    pub fn fence_step(
+    pub fn fence_step<W: Wait>(
         &mut self,
+        rt: &W,
         session: &mut Session<'b, J, R>,
         target: u64,
     ) -> Result<(), Refusal<Cause<'b, J, R>>>
@@ -34,6 +36,6 @@ impl<'b, D: BlockDisk, R: MapRule, J: Naming> Core<'b, D, R, J> {
         ensures crash { Crashes self.old self.new }
         ensures event { AnswersFence target self.old result self.new }
     {
-        self.volatile.fence_step(session, target)
+        self.volatile.fence_step(rt, session, target)
     }
 }

@@ -9,10 +9,10 @@ ghost use Rattle.journal_core.specs.SlotCounts.{AgreeWith};
 
 use crate::cause::Cause;
 use crate::covered::Covered;
+use crate::fenced_sessions::FencedSessions;
 use crate::refusal_number::RefusalNumber;
-use crate::tally::Tally;
 use crate::transaction::Transaction;
-use journal_history::{Front, Naming, Writer};
+use journal_history::{Front, Naming, SessionCounts, Writer};
 use journal_lockmap::{Held, SlotCounts};
 use journal_world::{MapRule, Refusal};
 use std::alloc::Global;
@@ -28,8 +28,9 @@ pub(crate) struct Memory<'b, R: MapRule, J: Naming> {
     // How many commits there were at the last cut.
     pub(crate) cut: u64,
     pub(crate) covered: Covered,
-    // How many commits each session has, whether it is fenced, and the number of the next one.
-    pub(crate) tally: Tally,
+    // How many commits each session has, which sessions are fenced, and the number of the next one.
+    pub(crate) sessions: SessionCounts<J>,
+    pub(crate) fenced: FencedSessions,
     pub(crate) next: u64,
     // It was stopped.
     pub(crate) closed: bool,
@@ -44,7 +45,7 @@ impl<'b, R: MapRule, J: Naming> Model for Memory<'b, R, J> {
 
     ghost view = { λ m. record { history = m.writer; cut = m.cut; next = m.next; closed = m.closed } };
 
-    ghost invariant = { λ m. IsMemory m.tally m.slots m.covered (record { history = m.writer; cut = m.cut; next = m.next; closed = m.closed }) };
+    ghost invariant = { λ m. IsMemory m.fenced.runs m.sessions m.slots m.covered (record { history = m.writer; cut = m.cut; next = m.next; closed = m.closed }) };
 }
 
 impl<'b, R: MapRule, J: Naming> Memory<'b, R, J> {
@@ -53,11 +54,13 @@ impl<'b, R: MapRule, J: Naming> Memory<'b, R, J> {
         alloc: Global,
         writer: Writer<'b, J, R>,
         slots: SlotCounts<J>,
+        sessions: SessionCounts<J>,
     ) -> Memory<'b, R, J>
         requires none { commits writer ≡ [] }
         requires unmarked { floor writer ≡ 0 }
         requires unfenced { (s : ℕ) → is_fenced s writer ≡ false }
         requires slots { slots ≡ replicate SLOT_COUNT 0 }
+        requires sessions { sessions ≡ [] }
         ensures { result ≡ record { history = writer.entry; cut = 0; next = 0; closed = false } }
     {
         let len = writer.len();
@@ -68,7 +71,8 @@ impl<'b, R: MapRule, J: Naming> Memory<'b, R, J> {
                 marked: len,
                 cut: len,
             },
-            tally: Tally::new(alloc),
+            sessions,
+            fenced: FencedSessions::new(alloc),
             next: 0,
             closed: false,
             slots,

@@ -20,30 +20,30 @@ use journal_world::{MapRule, Refusal};
 use std::sync::Wait;
 
 impl<'b, R: MapRule, J: Naming> Memory<'b, R, J> {
-    /// Refuses a commit by what is known of the session and of what the transaction has seen: J9, J10 and J14. The
-    /// session has then seen the history as it is, or the longer one.
-    pub(crate) fn admit(
-        &self,
+    /// Refuses a commit by what is known of the session and of what the transaction has seen: J9 and J14. The session
+    /// has then seen the history as it is, or the longer one. No commit is under its number that it did not make, as a
+    /// look at its token shows, so that J10 never comes.
+    pub(crate) fn admit<W: Wait>(
+        &mut self,
+        rt: &W,
         session: &mut Session<'b, J, R>,
         transaction: &Transaction<'b, J, R>,
     ) -> Result<(), Refusal<Cause<'b, J, R>>>
-        requires unmoved { AreUnmoved self.now.history transaction.now }
-        ensures own { OnOk result (length (commits_of session.old.number self.now.history) ≡ made session.old) }
-        ensures seen { OnOk result (HasSeen self.now.history session.old transaction.now) }
-        ensures unfenced { OnOk result (is_fenced session.old.number self.now.history ≡ false) }
-        ensures agrees { OnOk result (IsTrue (is_trusted self.now.history) → Agrees (latest self.now.history) transaction.now.reads) }
+        requires unmoved { AreUnmoved self.old.history transaction.now }
+        ensures same { self.new ≡ self.old }
+        ensures own { OnOk result (length (commits_of session.old.number self.old.history) ≡ made session.old) }
+        ensures seen { OnOk result (HasSeen self.old.history session.old transaction.now) }
+        ensures unfenced { OnOk result (is_fenced session.old.number self.old.history ≡ false) }
+        ensures agrees { OnOk result (IsTrue (is_trusted self.old.history) → Agrees (latest self.old.history) transaction.now.reads) }
         ensures session { OnlyExtends session.old session.new }
-        ensures refusal { IfErr result (IsAdmissionRefusal self.now.history session.old transaction.now) }
-        ensures longer { IfErr result (ShowsLonger self.now.history session.new) }
+        ensures refusal { IfErr result (IsAdmissionRefusal self.old.history session.old transaction.now) }
+        ensures longer { IfErr result (ShowsLonger self.old.history session.new) }
     {
+        self.sessions.look(rt, session);
         self.catch_up(session, transaction)?;
         // Called for its contract: what it has read.
         let _front = transaction.front();
-        let kept = self.tally.look_up(session.number());
-        if kept.commits != session.made() {
-            return Err(Refusal::Stranger(Cause::of(RefusalNumber::J10, self.writer.front())));
-        }
-        if kept.fenced {
+        if self.fenced.has(session.number()) {
             return Err(Refusal::Fenced);
         }
         Ok(())
@@ -66,7 +66,7 @@ impl<'b, R: MapRule, J: Naming> Memory<'b, R, J> {
         self.show(session)
     }
 
-    /// Adds the session's next transaction to the history. Refuses by J1 and J9, and is then as it was.
+    /// Adds the session's next transaction to the history. Refuses by J9, and is then as it was.
     pub(crate) fn commit<W: Wait>(
         &mut self,
         rt: &W,
@@ -101,8 +101,8 @@ impl<'b, R: MapRule, J: Naming> Memory<'b, R, J> {
         // Called for its contract: the history is sound.
         let _len = self.writer.len();
         let number = session.number();
-        self.tally.reserve_for(number, session.made())?;
-        let receipt = match self.writer.commit(session, transaction) {
+        let writer = &mut self.writer;
+        let receipt = match writer.commit(rt, &mut self.sessions, session, transaction) {
             Ok(receipt) => receipt,
             Err(front) => {
                 session.see(&front);
@@ -110,7 +110,6 @@ impl<'b, R: MapRule, J: Naming> Memory<'b, R, J> {
             }
         };
         // Nothing fails from here on.
-        self.tally.count_one(number);
         self.slots.count_writes(rt, held, &transaction.writes);
         self.next = self.next.max(number + 1);
         Ok(receipt)

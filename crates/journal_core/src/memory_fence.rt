@@ -11,12 +11,14 @@ use crate::refusal_number::RefusalNumber;
 use crate::state::LIMIT;
 use journal_history::{Naming, Session};
 use journal_world::{MapRule, Refusal};
+use std::sync::Wait;
 
 impl<'b, R: MapRule, J: Naming> Memory<'b, R, J> {
     /// Fences a session, by an entry of the history, where no fence of it stands. The session that is lent has then
     /// seen the whole history. Refuses by J9, J11 and J1, and is then as it was.
-    pub(crate) fn fence(
+    pub(crate) fn fence<W: Wait>(
         &mut self,
+        rt: &W,
         session: &mut Session<'b, J, R>,
         target: u64,
     ) -> Result<(), Refusal<Cause<'b, J, R>>>
@@ -29,18 +31,19 @@ impl<'b, R: MapRule, J: Naming> Memory<'b, R, J> {
     {
         session.observe();
         self.show(session)?;
-        if self.tally.look_up(target).fenced {
+        if self.fenced.has(target) {
             return Ok(());
         }
         if self.len() >= LIMIT - 1 || target >= LIMIT {
             return Err(Refusal::Worn(Cause::none(RefusalNumber::J11)));
         }
-        self.add_fence(session, target)
+        self.add_fence(rt, session, target)
     }
 
     // Adds the fence to the history, which the session has then seen. Refuses by J1 and J9.
-    fn add_fence(
+    fn add_fence<W: Wait>(
         &mut self,
+        rt: &W,
         session: &mut Session<'b, J, R>,
         target: u64,
     ) -> Result<(), Refusal<Cause<'b, J, R>>>
@@ -56,13 +59,14 @@ impl<'b, R: MapRule, J: Naming> Memory<'b, R, J> {
         ensures session { OnlyExtends session.old session.new }
     {
         let len = self.writer.len();
-        self.tally.reserve(target)?;
+        self.fenced.reserve()?;
         if let Err(front) = self.writer.fence(target) {
             session.see(&front);
             return Err(Refusal::Stale(Cause::of(RefusalNumber::J9, front)));
         }
         // Nothing fails from here on.
-        self.tally.note_fence(target);
+        self.fenced.insert(target);
+        self.sessions.raise(rt, target + 1);
         self.covered.add_quiet(len);
         self.next = self.next.max(target + 1);
         session.see(&self.writer.front());

@@ -2,7 +2,7 @@
 ghost use Rattle.std.specs.Prelude.{◌≡◌, ◌+◌, [], true, false, length, IfOk, IfErr, OnOk, OnErr};
 ghost use mathlib.Core.List.{IsPrefix};
 ghost use Rattle.journal_world.specs.Histories.{commits_of, is_fenced};
-ghost use Rattle.journal_history.specs.Tokens.{made, IsExact, OnlyExtends};
+ghost use Rattle.journal_history.specs.Tokens.{made, OnlyExtends};
 ghost use Rattle.journal_core.specs.Memories.{ShowsLonger, IsNumberRefusal, IsStaleRefusal, IsStrayRefusal};
 
 use crate::cause::Cause;
@@ -11,6 +11,7 @@ use crate::refusal_number::RefusalNumber;
 use crate::state::LIMIT;
 use journal_history::{Naming, Session};
 use journal_world::{MapRule, Refusal};
+use std::sync::Wait;
 
 impl<'b, R: MapRule, J: Naming> Memory<'b, R, J> {
     /// A session of the next number, that no session had before and that is not fenced. Refuses by J11. It takes no memory.
@@ -27,7 +28,7 @@ impl<'b, R: MapRule, J: Naming> Memory<'b, R, J> {
         if self.next >= LIMIT {
             return Err(Refusal::Worn(Cause::none(RefusalNumber::J11)));
         }
-        let session = self.writer.session(self.next);
+        let session = self.writer.session(&mut self.sessions, self.next);
         self.next += 1;
         Ok(session)
     }
@@ -48,40 +49,25 @@ impl<'b, R: MapRule, J: Naming> Memory<'b, R, J> {
         }
     }
 
-    /// Shows the session the whole history, where it is exact then. Refuses by J9 and J10, and leaves the session as
-    /// it was.
-    pub(crate) fn show_exact(
-        &self,
+    /// Refuses by J9 where the history is longer, or the session has seen more. Nothing changes. No commit is under the
+    /// session's number that it did not make, as a look at its token shows, so that J10 never comes.
+    pub(crate) fn check_session<W: Wait>(
+        &mut self,
+        rt: &W,
         session: &mut Session<'b, J, R>,
     ) -> Result<(), Refusal<Cause<'b, J, R>>>
-        ensures shown { OnOk result (session.new.seen ≡ self.now.history) }
-        ensures exact { OnOk result (IsExact session.new) }
-        ensures extends { OnlyExtends session.old session.new }
-        ensures refusal { IfErr result (IsStrayRefusal self.now.history session.old) }
-        ensures stays { OnErr result (session.new ≡ session.old) }
+        ensures same { self.new ≡ self.old }
+        ensures session { session.new ≡ session.old }
+        ensures seen { OnOk result (IsPrefix session.old.seen self.old.history) }
+        ensures own { OnOk result (length (commits_of session.old.number self.old.history) ≡ made session.old) }
+        ensures refusal { IfErr result (IsStrayRefusal self.old.history session.old) }
     {
-        self.check_session(session)?;
-        session.see(&self.writer.front());
-        Ok(())
-    }
-
-    // Refuses by J9 where the history is longer, or the session has seen more, then by J10.
-    pub(crate) fn check_session(
-        &self,
-        session: &Session<'b, J, R>,
-    ) -> Result<(), Refusal<Cause<'b, J, R>>>
-        ensures seen { OnOk result (IsPrefix session.now.seen self.now.history) }
-        ensures own { OnOk result (length (commits_of session.now.number self.now.history) ≡ made session.now) }
-        ensures refusal { IfErr result (IsStrayRefusal self.now.history session.now) }
-    {
+        self.sessions.look(rt, session);
         let mut front = self.writer.front();
         front.see(&session.front());
         front.observe();
         if front.len() > self.writer.len() {
             return Err(Refusal::Stale(Cause::of(RefusalNumber::J9, front)));
-        }
-        if self.tally.look_up(session.number()).commits != session.made() {
-            return Err(Refusal::Stranger(Cause::of(RefusalNumber::J10, self.writer.front())));
         }
         Ok(())
     }

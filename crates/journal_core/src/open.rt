@@ -18,7 +18,7 @@ use crate::state::Core;
 use crate::volatile::Volatile;
 use journal_block::{Block, Update};
 use journal_disk::BlockDisk;
-use journal_history::{Book, Naming, Opened, Writer};
+use journal_history::{Book, Naming, Opened, SessionCounts, Writer};
 use journal_lockmap::{SlotCell, SlotCounts, Slots};
 use journal_objlog::{ObjectLog, ObjectTail};
 use journal_world::{Layout, MapRule, Refusal, Refused};
@@ -74,7 +74,7 @@ impl<'b, D: BlockDisk, R: MapRule, J: Naming> Core<'b, D, R, J> {
                 disk,
             });
         };
-        let Some((counts, slots, spare)) = memory_of(alloc, cell) else {
+        let Some((counts, slots, sessions, spare)) = memory_of(alloc, cell) else {
             return Err(Refused {
                 refusal: Refusal::NoMemory,
                 disk,
@@ -101,7 +101,7 @@ impl<'b, D: BlockDisk, R: MapRule, J: Naming> Core<'b, D, R, J> {
         let (objects, admitted) = objects.admitted_by(rule);
         match begin(book, &objects, admitted) {
             Ok(writer) => {
-                let memory = Memory::new(alloc, writer, counts);
+                let memory = Memory::new(alloc, writer, counts, sessions);
                 Ok((Core::begun(alloc, objects, memory, tail, spare), slots))
             }
             Err(refusal) => Err(Refused {
@@ -147,21 +147,23 @@ impl<'b, D: BlockDisk, R: MapRule, J: Naming> Core<'b, D, R, J> {
     }
 }
 
-// The slots of a history without commits, their numbers, and memory for one block, where there is memory.
+// The slots of a history without commits, the numbers of these and of its sessions, and memory for one block, where there
+// is memory.
 fn memory_of<J: Naming>(
     alloc: Global,
     cell: SlotCell,
-) -> Option<(SlotCounts<J>, Slots<J>, Vec<Update>)>
+) -> Option<(SlotCounts<J>, Slots<J>, SessionCounts<J>, Vec<Update>)>
     requires cell { cell ≡ J.cell }
     ensures counts { IfSome result (λ memory. memory.0 ≡ replicate SLOT_COUNT 0) }
     ensures free { IfSome result (λ memory. memory.1 ≡ replicate SLOT_COUNT false) }
-    ensures spare { IfSome result (λ memory. length memory.2.items ≡ 1) }
+    ensures sessions { IfSome result (λ memory. memory.2 ≡ []) }
+    ensures spare { IfSome result (λ memory. length memory.3.items ≡ 1) }
 {
-    let (counts, slots) = SlotCounts::begin(alloc, cell).ok()?;
+    let (counts, slots, sessions) = SlotCounts::begin(alloc, cell).ok()?;
     let bytes = Block::try_new::<()>(alloc).ok()?;
     let mut spare = Vec::new(alloc);
     spare.push(Update { block: 0, bytes }).ok()?;
-    Some((counts, slots, spare))
+    Some((counts, slots, sessions, spare))
 }
 
 // Begins the book's history with the map now, where the rule admitted it.

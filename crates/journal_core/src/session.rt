@@ -12,6 +12,7 @@ use crate::state::Core;
 use journal_disk::BlockDisk;
 use journal_history::{Naming, Session};
 use journal_world::{MapRule, Refusal};
+use std::sync::Wait;
 
 impl<'b, D: BlockDisk, R: MapRule, J: Naming> Core<'b, D, R, J> {
     /// A session of a number that no session had before and that the history has no commit and no fence of. It has
@@ -34,20 +35,22 @@ impl<'b, D: BlockDisk, R: MapRule, J: Naming> Core<'b, D, R, J> {
     /// stopped and J6 `DeviceFailed` where the device failed before, both only where so many are not marked; J9
     /// `Stale` where the history is longer than the core's; J10 `Stranger` where it has a commit under the session's
     /// number that the session did not make.
-    pub fn wait_step(
-        &self,
+    pub fn wait_step<W: Wait>(
+        &mut self,
+        rt: &W,
         session: &mut Session<'b, J, R>,
         n: u64,
     ) -> Result<bool, Refusal<Cause<'b, J, R>>>
-        ensures answer { IfOk result (λ marked. IsTrue marked ↔ (n ≤ floor self.now.history)) }
-        ensures goes_on { OnOk result (MayWait (outset self.now) n) }
-        ensures shown { OnOk result (session.new.seen ≡ self.now.history) }
+        ensures same { self.new ≡ self.old }
+        ensures answer { IfOk result (λ marked. IsTrue marked ↔ (n ≤ floor self.old.history)) }
+        ensures goes_on { OnOk result (MayWait (outset self.old) n) }
+        ensures shown { OnOk result (session.new.seen ≡ self.old.history) }
         ensures exact { OnOk result (IsExact session.new) }
         ensures extends { OnlyExtends session.old session.new }
-        ensures refusal { IfErr result (IsWaitRefusal (outset self.now) session.old n) }
+        ensures refusal { IfErr result (IsWaitRefusal (outset self.old) session.old n) }
         ensures stays { OnErr result (session.new ≡ session.old) }
     {
-        self.volatile.wait_step(session, n)
+        self.volatile.wait_step(rt, session, n)
     }
 
     /// Stops the core: reads, commits and steps, and waits for marks that do not stand, are refused by J13 from then

@@ -8,7 +8,7 @@ ghost use Rattle.journal_objlog.specs.ObjectTails.{blocks_of, known_updates, tai
 ghost use Rattle.journal_objlog.specs.Writes.{writes_block, written_blocks, IsPrepared};
 ghost use Rattle.journal_history.specs.Tokens.{made, next_transaction, OnlyExtends, IsReceiptFor};
 ghost use Rattle.journal_lockmap.specs.Numbers.{AreApart, HoldsSlots, slots_of};
-ghost use Rattle.journal_core.specs.Memories.{ShowsLonger, IsAddingRefusal};
+ghost use Rattle.journal_core.specs.Memories.{HasSeen, ShowsLonger, IsAdmissionRefusal, IsAddingRefusal};
 ghost use Rattle.journal_core.specs.SlotCounts.{AgreeWith, AreUnder};
 ghost use Rattle.journal_core.specs.Transactions.{AreUnmoved};
 ghost use Rattle.journal_core.specs.Updates.{AreObjectsOf};
@@ -135,7 +135,7 @@ impl<'b, R: MapRule, J: Naming> Volatile<'b, R, J> {
             CommitsTransaction (core_of self.old d) session.old transaction.now (core_of self.new d) session.new)) }
     {
         self.check_running()?;
-        self.memory.admit(session, transaction)?;
+        self.admit(rt, session, transaction)?;
         let blocks = match self.usable(fetched) {
             Ok(blocks) => blocks,
             Err(why) => {
@@ -151,6 +151,27 @@ impl<'b, R: MapRule, J: Naming> Volatile<'b, R, J> {
             }
             Preparation::Missing(blocks) => Ok(CommitStep::Missing(blocks)),
         }
+    }
+
+    // Refuses a commit by what is known of the session and of what the transaction has seen: J9 and J14. Nothing changes but
+    // what the session has seen.
+    fn admit<W: Wait>(
+        &mut self,
+        rt: &W,
+        session: &mut Session<'b, J, R>,
+        transaction: &Transaction<'b, J, R>,
+    ) -> Result<(), Refusal<Cause<'b, J, R>>>
+        requires unmoved { AreUnmoved self.old.memory.history transaction.now }
+        ensures same { self.new ≡ self.old }
+        ensures own { OnOk result (length (commits_of session.old.number self.old.memory.history) ≡ made session.old) }
+        ensures seen { OnOk result (HasSeen self.old.memory.history session.old transaction.now) }
+        ensures unfenced { OnOk result (is_fenced session.old.number self.old.memory.history ≡ false) }
+        ensures agrees { OnOk result (IsTrue (is_trusted self.old.memory.history) → Agrees (latest self.old.memory.history) transaction.now.reads) }
+        ensures session { OnlyExtends session.old session.new }
+        ensures refusal { IfErr result (IsAdmissionRefusal self.old.memory.history session.old transaction.now) }
+        ensures longer { IfErr result (ShowsLonger self.old.memory.history session.new) }
+    {
+        self.memory.admit(rt, session, transaction)
     }
 
     // Makes the writes ready, with all the memory that they take, or tells which blocks have to be fetched first.

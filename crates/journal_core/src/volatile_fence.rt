@@ -10,6 +10,7 @@ use crate::cause::Cause;
 use crate::volatile::Volatile;
 use journal_history::{Naming, Session};
 use journal_world::{MapRule, Refusal};
+use std::sync::Wait;
 
 impl<'b, R: MapRule, J: Naming> Volatile<'b, R, J> {
     /// A hold of memory alone: fences a session, by an entry of the history, where no fence of it
@@ -21,8 +22,9 @@ impl<'b, R: MapRule, J: Naming> Volatile<'b, R, J> {
     /// where no fence of it stands J11 `Worn` where the history's length or the number that is to
     /// be fenced would reach 2^62, then J1 `NoMemory` where memory is refused. The history is then
     /// as it was, and the session may have seen more.
-    pub fn fence_step(
+    pub fn fence_step<W: Wait>(
         &mut self,
+        rt: &W,
         session: &mut Session<'b, J, R>,
         target: u64,
     ) -> Result<(), Refusal<Cause<'b, J, R>>>
@@ -35,14 +37,15 @@ impl<'b, R: MapRule, J: Naming> Volatile<'b, R, J> {
         ensures session { OnlyExtends session.old session.new }
         ensures event { AnswersFence J.blocks target self.old result self.new }
     {
-        let answer = self.set_fence(session, target);
+        let answer = self.set_fence(rt, session, target);
         self.keeps();
         answer
     }
 
     // Fences a session as `fence_step` does.
-    fn set_fence(
+    fn set_fence<W: Wait>(
         &mut self,
+        rt: &W,
         session: &mut Session<'b, J, R>,
         target: u64,
     ) -> Result<(), Refusal<Cause<'b, J, R>>>
@@ -55,6 +58,6 @@ impl<'b, R: MapRule, J: Naming> Volatile<'b, R, J> {
         ensures session { OnlyExtends session.old session.new }
     {
         self.check_running()?;
-        self.memory.fence(session, target)
+        self.memory.fence(rt, session, target)
     }
 }

@@ -1,9 +1,10 @@
 // What the volatile part tells sessions of marks, and its own numbers.
 ghost use Rattle.std.specs.Prelude.{◌≡◌, ◌≤◌, ◌↔◌, false, length, IsTrue, IfOk, IfErr, OnOk, OnErr};
-ghost use Rattle.journal_world.specs.Histories.{count, floor};
-ghost use Rattle.journal_history.specs.Tokens.{IsExact, OnlyExtends};
+ghost use mathlib.Core.List.{IsPrefix};
+ghost use Rattle.journal_world.specs.Histories.{commits_of, count, floor};
+ghost use Rattle.journal_history.specs.Tokens.{made, IsExact, OnlyExtends};
 ghost use Rattle.journal_memlog.specs.Logs.{tail_of};
-ghost use Rattle.journal_core.specs.Memories.{IsStaleRefusal};
+ghost use Rattle.journal_core.specs.Memories.{IsStaleRefusal, IsStrayRefusal};
 ghost use Rattle.journal_core.specs.Volatiles.{outset_of, used_positions, HasNothingToLog};
 ghost use Rattle.journal_core.specs.Waits.{MayWait, IsWaitRefusal, IsFlushRefusal};
 ghost use Rattle.journal_core.specs.Holds.{AnswersWait, AnswersFlush, AnswersShow};
@@ -13,6 +14,7 @@ use crate::volatile::Volatile;
 use journal_circ::LOG_POSITIONS;
 use journal_history::{Naming, Session};
 use journal_world::{MapRule, Refusal};
+use std::sync::Wait;
 
 impl<'b, R: MapRule, J: Naming> Volatile<'b, R, J> {
     /// A hold of memory alone: whether so many commits are marked as stable. The session has then
@@ -22,42 +24,47 @@ impl<'b, R: MapRule, J: Naming> Volatile<'b, R, J> {
     /// where it was stopped and J6 `DeviceFailed` where the device failed before, both only where
     /// so many are not marked; J9 `Stale` where the history is longer; J10 `Stranger` where it has
     /// a commit under the session's number that the session did not make.
-    pub fn wait_step(
-        &self,
+    pub fn wait_step<W: Wait>(
+        &mut self,
+        rt: &W,
         session: &mut Session<'b, J, R>,
         n: u64,
     ) -> Result<bool, Refusal<Cause<'b, J, R>>>
-        ensures answer { IfOk result (λ marked. IsTrue marked ↔ (n ≤ floor self.now.memory.history)) }
-        ensures goes_on { OnOk result (MayWait (outset_of self.now) n) }
-        ensures shown { OnOk result (session.new.seen ≡ self.now.memory.history) }
+        ensures same { self.new ≡ self.old }
+        ensures answer { IfOk result (λ marked. IsTrue marked ↔ (n ≤ floor self.old.memory.history)) }
+        ensures goes_on { OnOk result (MayWait (outset_of self.old) n) }
+        ensures shown { OnOk result (session.new.seen ≡ self.old.memory.history) }
         ensures exact { OnOk result (IsExact session.new) }
         ensures extends { OnlyExtends session.old session.new }
-        ensures refusal { IfErr result (IsWaitRefusal (outset_of self.now) session.old n) }
+        ensures refusal { IfErr result (IsWaitRefusal (outset_of self.old) session.old n) }
         ensures stays { OnErr result (session.new ≡ session.old) }
-        ensures event { AnswersWait self.now session.old n result session.new }
+        ensures event { AnswersWait self.old session.old n result session.new }
     {
-        self.look_for_mark(session, n)
+        self.look_for_mark(rt, session, n)
     }
 
     // Looks for a mark as `wait_step` does.
-    fn look_for_mark(
-        &self,
+    fn look_for_mark<W: Wait>(
+        &mut self,
+        rt: &W,
         session: &mut Session<'b, J, R>,
         n: u64,
     ) -> Result<bool, Refusal<Cause<'b, J, R>>>
-        ensures answer { IfOk result (λ marked. IsTrue marked ↔ (n ≤ floor self.now.memory.history)) }
-        ensures goes_on { OnOk result (MayWait (outset_of self.now) n) }
-        ensures shown { OnOk result (session.new.seen ≡ self.now.memory.history) }
+        ensures same { self.new ≡ self.old }
+        ensures answer { IfOk result (λ marked. IsTrue marked ↔ (n ≤ floor self.old.memory.history)) }
+        ensures goes_on { OnOk result (MayWait (outset_of self.old) n) }
+        ensures shown { OnOk result (session.new.seen ≡ self.old.memory.history) }
         ensures exact { OnOk result (IsExact session.new) }
         ensures extends { OnlyExtends session.old session.new }
-        ensures refusal { IfErr result (IsWaitRefusal (outset_of self.now) session.old n) }
+        ensures refusal { IfErr result (IsWaitRefusal (outset_of self.old) session.old n) }
         ensures stays { OnErr result (session.new ≡ session.old) }
     {
         let marked = n <= self.memory.floor();
         if !marked {
             self.check_running()?;
         }
-        self.memory.show_exact(session)?;
+        self.check_session(rt, session)?;
+        self.memory.show_whole(session);
         Ok(marked)
     }
 
@@ -70,36 +77,40 @@ impl<'b, R: MapRule, J: Naming> Volatile<'b, R, J> {
     /// and the session stays as it was; J13 `Closed` where it was stopped, or J6 `DeviceFailed`
     /// where the device failed before, both only where not all of these commits are marked, and the
     /// session has then seen the whole history.
-    pub fn flush_step(
-        &self,
+    pub fn flush_step<W: Wait>(
+        &mut self,
+        rt: &W,
         session: &mut Session<'b, J, R>,
     ) -> Result<bool, Refusal<Cause<'b, J, R>>>
-        ensures answer { IfOk result (λ marked. IsTrue marked ↔ (count session.old.seen ≤ floor self.now.memory.history)) }
-        ensures goes_on { OnOk result (MayWait (outset_of self.now) (count session.old.seen)) }
-        ensures shown { IfOk result (λ marked. IsTrue marked → session.new.seen ≡ self.now.memory.history) }
+        ensures same { self.new ≡ self.old }
+        ensures answer { IfOk result (λ marked. IsTrue marked ↔ (count session.old.seen ≤ floor self.old.memory.history)) }
+        ensures goes_on { OnOk result (MayWait (outset_of self.old) (count session.old.seen)) }
+        ensures shown { IfOk result (λ marked. IsTrue marked → session.new.seen ≡ self.old.memory.history) }
         ensures exact { IfOk result (λ marked. IsTrue marked → IsExact session.new) }
         ensures stays { IfOk result (λ marked. marked ≡ false → session.new ≡ session.old) }
         ensures extends { OnlyExtends session.old session.new }
-        ensures refusal { IfErr result (IsFlushRefusal (outset_of self.now) session.old session.new) }
-        ensures event { AnswersFlush self.now session.old result session.new }
+        ensures refusal { IfErr result (IsFlushRefusal (outset_of self.old) session.old session.new) }
+        ensures event { AnswersFlush self.old session.old result session.new }
     {
-        self.look_for_marks(session)
+        self.look_for_marks(rt, session)
     }
 
     // Looks for the marks of what the session has seen as `flush_step` does.
-    fn look_for_marks(
-        &self,
+    fn look_for_marks<W: Wait>(
+        &mut self,
+        rt: &W,
         session: &mut Session<'b, J, R>,
     ) -> Result<bool, Refusal<Cause<'b, J, R>>>
-        ensures answer { IfOk result (λ marked. IsTrue marked ↔ (count session.old.seen ≤ floor self.now.memory.history)) }
-        ensures goes_on { OnOk result (MayWait (outset_of self.now) (count session.old.seen)) }
-        ensures shown { IfOk result (λ marked. IsTrue marked → session.new.seen ≡ self.now.memory.history) }
+        ensures same { self.new ≡ self.old }
+        ensures answer { IfOk result (λ marked. IsTrue marked ↔ (count session.old.seen ≤ floor self.old.memory.history)) }
+        ensures goes_on { OnOk result (MayWait (outset_of self.old) (count session.old.seen)) }
+        ensures shown { IfOk result (λ marked. IsTrue marked → session.new.seen ≡ self.old.memory.history) }
         ensures exact { IfOk result (λ marked. IsTrue marked → IsExact session.new) }
         ensures stays { IfOk result (λ marked. marked ≡ false → session.new ≡ session.old) }
         ensures extends { OnlyExtends session.old session.new }
-        ensures refusal { IfErr result (IsFlushRefusal (outset_of self.now) session.old session.new) }
+        ensures refusal { IfErr result (IsFlushRefusal (outset_of self.old) session.old session.new) }
     {
-        self.memory.check_session(session)?;
+        self.check_session(rt, session)?;
         if self.memory.has_marked(session) {
             self.memory.show_whole(session);
             return Ok(true);
@@ -111,6 +122,21 @@ impl<'b, R: MapRule, J: Naming> Volatile<'b, R, J> {
                 Err(why)
             }
         }
+    }
+
+    // Refuses by J9 where the history is longer, or the session has seen more. Nothing changes.
+    fn check_session<W: Wait>(
+        &mut self,
+        rt: &W,
+        session: &mut Session<'b, J, R>,
+    ) -> Result<(), Refusal<Cause<'b, J, R>>>
+        ensures same { self.new ≡ self.old }
+        ensures session { session.new ≡ session.old }
+        ensures seen { OnOk result (IsPrefix session.old.seen self.old.memory.history) }
+        ensures own { OnOk result (length (commits_of session.old.number self.old.memory.history) ≡ made session.old) }
+        ensures refusal { IfErr result (IsStrayRefusal self.old.memory.history session.old) }
+    {
+        self.memory.check_session(rt, session)
     }
 
     /// A hold of memory alone: shows the session the whole history.

@@ -1,3 +1,4 @@
 pub mod Growth
 pub mod Exchanges
 pub mod Committing
+mod Moves

@@ -12,6 +12,12 @@
 //! - load FLOOR, and then HEAD: `Session::is_stable`
 //! - exchange FLOOR: `Writer::tell`
 //!
+//! Each session's number has one token, which lies in the `Session`. A token knows how many commits its session has,
+//! and `SessionCounts` knows that of all sessions. Both are passes of one cell, whose rule says that they agree and that
+//! no number has two tokens. Passes have no bytes: what they know stands in proofs alone. A look at the cell shows that
+//! a session made all commits that the history has under its number. So nothing is kept of a session but what lies in
+//! it, and a session that ended leaves nothing.
+//!
 //! A `Front` is a beginning of the history that someone has seen. Since the history only grows, what a front
 //! tells stays true, through locks and between threads. `Session`, `Receipt` and `StableNote` are fronts with
 //! what they know of them; two sessions share what they know by `Session::meet`, without waiting. Only the
@@ -19,13 +25,18 @@
 #![tactic(auto)]
 
 mod book;
+mod count_cell;
+mod count_steps;
+mod counts;
 mod front;
 mod law;
 mod receipt;
 mod session;
+mod token;
 mod writer;
 
 pub use book::{Book, Naming};
+pub use counts::{SessionCell, SessionCounts};
 pub use front::Front;
 pub use law::{Opened, Recorded};
 pub use receipt::{Receipt, StableNote};

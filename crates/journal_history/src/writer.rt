@@ -1,13 +1,15 @@
 // The one that adds to the history.
-ghost use Rattle.std.specs.Prelude.{false, ◌≡◌, ◌≢◌, ◌<◌, ◌≤◌, ◌^◌, ◌++◌, ◌∷◌, [], length, IsTrue, IfOk, IfErr, OnOk, OnErr};
+ghost use Rattle.std.specs.Prelude.{false, ◌≡◌, ◌≢◌, ◌<◌, ◌≤◌, ◌+◌, ◌^◌, ◌++◌, ◌∷◌, [], length, slice_set, IsTrue, IfOk, IfErr, OnOk, OnErr};
 ghost use mathlib.Core.List.{IsPrefix};
 ghost use Rattle.journal_world.specs.Maps.{Agrees, are_objects, overwritten};
 ghost use Rattle.journal_world.specs.Histories.{floor, count, commits_of, opened, is_trusted, is_fenced, latest, IsLegal};
 ghost use Rattle.journal_world.specs.Histories.Entry.{opening, stable, fence};
+ghost use Rattle.journal_history.specs.Counts.{HasCount};
 ghost use Rattle.journal_history.specs.Soundness.{IsSound, IsLonger};
 ghost use Rattle.journal_history.specs.Tokens.{made, IsExact, OnlyExtends, next_transaction, Commits, IsReceiptFor};
 
 use crate::book::{Book, Naming};
+use crate::counts::SessionCounts;
 use crate::front::Front;
 use crate::law::{AskFence, AskMark, AskOpening, Opened, Recorded};
 use crate::receipt::Receipt;
@@ -16,6 +18,7 @@ use journal_world::MapRule;
 use std::fmt;
 use std::fmt::Debug;
 use std::marker::Model;
+use std::sync::Wait;
 
 /// The right to add entries to the history, with all of it that was added. Contracts see the history.
 ///
@@ -98,12 +101,15 @@ impl<'b, J: Naming, R: MapRule> Writer<'b, J, R> {
         self.front.again()
     }
 
-    /// A session of a number that the history has no commit of. It has seen the whole history.
-    pub fn session(&self, number: u64) -> Session<'b, J, R>
+    /// A session of the next number, which the history has no commit of. It has seen the whole history, and no other
+    /// session has its number.
+    pub fn session(&self, counts: &mut SessionCounts<J>, number: u64) -> Session<'b, J, R>
+        requires next { number ≡ length counts.old }
         requires fresh { commits_of number self.now ≡ [] }
-        ensures { result ≡ record { number = number; mine = self.now; seen = self.now } }
+        ensures session { result ≡ record { number = number; mine = self.now; seen = self.now } }
+        ensures counts { counts.new ≡ counts.old ++ 0 ∷ [] }
     {
-        Session::new(number, &self.front)
+        Session::new(counts.give(number), &self.front)
     }
 
     /// Shows the session the whole history.
@@ -126,10 +132,12 @@ impl<'b, J: Naming, R: MapRule> Writer<'b, J, R> {
     /// Commits the session's next transaction: adds it to the history, which the session has then seen. The
     /// receipt says where it stands.
     ///
-    /// At `Err` the history is longer than the writer's, and the front has seen it. The writer and the
-    /// session stay as they were.
-    pub fn commit<T: Recorded>(
+    /// At `Err` the history is longer than the writer's, and the front has seen it. The writer, the numbers of commits
+    /// and the session stay as they were.
+    pub fn commit<T: Recorded, W: Wait>(
         &mut self,
+        rt: &W,
+        counts: &mut SessionCounts<J>,
         session: &mut Session<'b, J, R>,
         transaction: &T,
     ) -> Result<Receipt<'b, J, R>, Front<'b, J, R>>
@@ -144,9 +152,12 @@ impl<'b, J: Naming, R: MapRule> Writer<'b, J, R> {
         ensures receipt { IfOk result (IsReceiptFor (next_transaction session.old (T.reads transaction.now) (T.writes transaction.now)) self.new (length self.old)) }
         ensures stale { IfErr result (λ front. IsLonger self.old front) }
         ensures unchanged { OnErr result ((self.new ≡ self.old) × (session.new ≡ session.old)) }
+        ensures counts { OnOk result (counts.new ≡ slice_set counts.old session.old.number (made session.old + 1)) }
+        ensures counted { OnOk result (HasCount counts.old session.old.number (made session.old)) }
+        ensures uncounted { OnErr result (counts.new ≡ counts.old) }
     {
         let place = self.front.len();
-        self.front = session.commit(&self.front, transaction)?;
+        self.front = session.commit(rt, counts, &self.front, transaction)?;
         self.commits += 1;
         Ok(Receipt::new(&self.front, place, self.commits))
     }

@@ -4,9 +4,11 @@ ghost use Rattle.journal_history.specs.Tokens.{made};
 
 use crate::runs::number;
 use journal_history::{
-    Book, Front, Naming, Opened, Receipt, Recorded, Session, StableNote, Writer,
+    Book, Front, Naming, Opened, Receipt, Recorded, Session, SessionCell, SessionCounts,
+    StableNote, Writer,
 };
 use journal_world::{AnyMap, Layout};
+use std::alloc::Global;
 use std::marker::Brand;
 use std::mem::size_of;
 use std::sync::Wait;
@@ -43,37 +45,54 @@ type Told = [u64; 3];
 
 const REFUSED: Told = [u64::MAX; 3];
 
-// A writer with a session whose commits are all that the history has under its number, and which is not fenced.
+// A writer with the sessions' numbers of commits, and a session whose commits are all that the history has under its
+// number, and which is not fenced.
 #[derive(Drop)]
 struct Author<'b, J: Naming> {
     writer: Writer<'b, J, AnyMap>,
+    counts: SessionCounts<J>,
     session: Session<'b, J, AnyMap>,
     ghost own: { length (commits_of session.number writer) ≡ made session },
     ghost unfenced: { is_fenced session.number writer ≡ false },
 }
 
 impl<'b, J: Naming> Author<'b, J> {
-    // The history of a new book, with a second session that has committed nothing.
-    fn begin(
+    // The history of a new book, with a second session that has committed nothing. Three numbers are given to nobody
+    // first, and one between the two sessions'.
+    fn begin<W: Wait>(
+        rt: &W,
         book: &'b Book<AnyMap>,
+        cell: SessionCell,
         layout: Layout,
     ) -> Option<(Author<'b, J>, Session<'b, J, AnyMap>)>
         requires book { book.now ≡ J.book }
+        requires cell { cell ≡ J.cell.sessions }
         requires blocks { layout.blocks ≡ J.blocks }
         ensures { IfSome result (λ r. length (commits_of r.1.number r.0.writer) ≡ made r.1) }
     {
         let writer = Writer::begin(book, &Zeros { layout }).ok()?;
-        let session = writer.session(3);
-        let other = writer.session(5);
-        Some((Author { writer, session }, other))
+        let mut counts = SessionCounts::begin(cell);
+        counts.raise(rt, 3);
+        let session = writer.session(&mut counts, 3);
+        counts.raise(rt, 5);
+        let other = writer.session(&mut counts, 5);
+        let author = Author {
+            writer,
+            counts,
+            session,
+        };
+        Some((author, other))
     }
 
     // Commits a transaction. The place, the count and the number of entries that the receipt tells.
-    fn commit(&mut self) -> Told {
+    fn commit<W: Wait>(&mut self, rt: &W) -> Told {
         if self.writer.len() >= 100 {
             return REFUSED;
         }
-        match self.writer.commit(&mut self.session, &Blank) {
+        match self
+            .writer
+            .commit(rt, &mut self.counts, &mut self.session, &Blank)
+        {
             Ok(receipt) => [receipt.place(), receipt.count(), receipt.front().len()],
             Err(_) => REFUSED,
         }
@@ -176,14 +195,15 @@ use Call::{Commit, Fence, IsStable, Mark, Note, Other, SeeStart, Session as Own,
 
 type Row = (Call, Told);
 
-fn answer<'b, J: Naming>(
+fn answer<'b, J: Naming, W: Wait>(
+    rt: &W,
     author: &mut Author<'b, J>,
     other: &mut Session<'b, J, AnyMap>,
     start: &Front<'b, J, AnyMap>,
     call: Call,
 ) -> Told {
     match call {
-        Commit => author.commit(),
+        Commit => author.commit(rt),
         Mark => author.mark(),
         Fence => author.fence(),
         Note => note(&author.writer),
@@ -201,14 +221,15 @@ fn answer<'b, J: Naming>(
 // The first row that is answered otherwise, counted from 1, and that answer.
 type Wrong = Option<(usize, Told)>;
 
-fn walk<'b, J: Naming>(
+fn walk<'b, J: Naming, W: Wait>(
+    rt: &W,
     author: &mut Author<'b, J>,
     other: &mut Session<'b, J, AnyMap>,
     start: &Front<'b, J, AnyMap>,
     rows: &[Row],
 ) -> Wrong {
     for (number, (call, want)) in rows.iter().enumerate() {
-        let got = answer(author, other, start, *call);
+        let got = answer(rt, author, other, start, *call);
         if got != *want {
             return Some((number + 1, got));
         }
@@ -218,22 +239,30 @@ fn walk<'b, J: Naming>(
 
 // The first row that is answered otherwise. Beside it, how long the beginning of the history is, and the history that a
 // further writer finds before and after the rows.
-fn run<J: Naming>(book: &Book<AnyMap>, layout: Layout, rows: &[Row]) -> Option<(Wrong, [u64; 3])>
+fn run<J: Naming, W: Wait>(
+    rt: &W,
+    book: &Book<AnyMap>,
+    cell: SessionCell,
+    layout: Layout,
+    rows: &[Row],
+) -> Option<(Wrong, [u64; 3])>
     requires book { book.now ≡ J.book }
+    requires cell { cell ≡ J.cell.sessions }
     requires blocks { layout.blocks ≡ J.blocks }
 {
-    let (mut author, mut other) = Author::<J>::begin(book, layout)?;
+    let (mut author, mut other) = Author::<J>::begin(rt, book, cell, layout)?;
     let start = author.writer.front();
     let before = begin_again::<J>(book, layout);
-    let wrong = walk(&mut author, &mut other, &start, rows);
+    let wrong = walk(rt, &mut author, &mut other, &start, rows);
     Some((wrong, [start.len(), before, begin_again::<J>(book, layout)]))
 }
 
 // The same with a book of its own.
-fn run_new(rows: &[Row]) -> Option<(Wrong, [u64; 3])> {
+fn run_new<W: Wait>(rt: &W, alloc: Global, rows: &[Row]) -> Option<(Wrong, [u64; 3])> {
     let book: Book<AnyMap> = Book::open::<()>().ok()?;
+    let cell = SessionCell::open(alloc).ok()?;
     let layout = Layout::new(600)?;
-    run::<Brand>(&book, layout, rows)
+    run::<Brand, _>(rt, &book, cell, layout, rows)
 }
 
 // A mark is known once it is told, and no more than it. What is shown is seen, and nothing is forgotten.
@@ -260,7 +289,7 @@ static ANSWERS: [Row; 18] = [
 
 #[test]
 fn each_call_answers_by_the_history(rt: HostRuntime) {
-    assert_eq!(rt; run_new(&ANSWERS), Some((None, [1, 1, 8])));
+    assert_eq!(rt; run_new(&rt, rt.alloc(), &ANSWERS), Some((None, [1, 1, 8])));
 }
 
 static LONGER: [Row; 2] = [(Commit, [1, 1, 2]), (Mark, [3, 1, 1])];
@@ -268,13 +297,13 @@ static LONGER: [Row; 2] = [(Commit, [1, 1, 2]), (Mark, [3, 1, 1])];
 // Who would begin the history again finds it, and has then seen all of it.
 #[test]
 fn a_longer_history_is_refused(rt: HostRuntime) {
-    assert_eq!(rt; run_new(&LONGER), Some((None, [1, 1, 3])));
+    assert_eq!(rt; run_new(&rt, rt.alloc(), &LONGER), Some((None, [1, 1, 3])));
 }
 
-fn works<'b, J: Naming>(author: Author<'b, J>) -> Session<'b, J, AnyMap> {
+fn works<'b, J: Naming, W: Wait>(rt: &W, author: Author<'b, J>) -> Session<'b, J, AnyMap> {
     let mut author = author;
-    author.commit();
-    author.commit();
+    author.commit(rt);
+    author.commit(rt);
     author.mark();
     author.session
 }
@@ -299,15 +328,17 @@ fn waits<'b, J: Naming>(
 fn meets<J: Naming + Send + Sync, H: Threads + Wait + Sync>(
     rt: &H,
     book: &Book<AnyMap>,
+    cell: SessionCell,
     layout: Layout,
 ) -> Option<([Told; 3], bool)>
     requires book { book.now ≡ J.book }
+    requires cell { cell ≡ J.cell.sessions }
     requires blocks { layout.blocks ≡ J.blocks }
 {
-    let (author, reader) = Author::<J>::begin(book, layout)?;
+    let (author, reader) = Author::<J>::begin(rt, book, cell, layout)?;
     let (mut author, mut reader) = join(
         rt,
-        || -> Session<J, AnyMap> { works(author) },
+        || -> Session<J, AnyMap> { works(rt, author) },
         || -> Session<J, AnyMap> { waits(rt, reader, 4) },
     );
     let before = told(&author);
@@ -318,9 +349,10 @@ fn meets<J: Naming + Send + Sync, H: Threads + Wait + Sync>(
 #[test]
 fn two_threads_meet(rt: HostRuntime) -> Result<(), Fail> {
     let book: Book<AnyMap> = Book::open::<()>()?;
+    let cell = SessionCell::open(rt.alloc())?;
     let layout = Layout::new(600).ok_or("600 blocks")?;
     assert_eq!(rt;
-        meets::<Brand, _>(&rt, &book, layout),
+        meets::<Brand, _>(&rt, &book, cell, layout),
         Some(([[3, 2, 3], [3, 2, 4], [5, 0, 4]], true))
     );
     Ok(())

@@ -23,7 +23,7 @@ fn free_slots<J: Naming>(alloc: Global, cell: SlotCell) -> Result<LockMap<J>, Al
     requires { cell ≡ J.cell }
 {
     let bells = Bells::new(alloc)?;
-    let (_counts, slots) = SlotCounts::begin(alloc, cell)?;
+    let (_counts, slots, _sessions) = SlotCounts::begin(alloc, cell)?;
     Ok(LockMap::new(bells, slots))
 }
 

@@ -1,5 +1,5 @@
 // How many commits touched each slot.
-ghost use Rattle.std.specs.Prelude.{false, ◌≡◌, ◌<◌, ◌+◌, IfOk, length, replicate, slice_index, slice_set};
+ghost use Rattle.std.specs.Prelude.{false, ◌≡◌, ◌<◌, ◌+◌, [], IfOk, length, replicate, slice_index, slice_set};
 ghost use Rattle.crossbeam_utils.specs.Seq.{cell_view};
 ghost use Rattle.journal_world.specs.declared.address.TheConstants.{SLOTS as SLOT_COUNT};
 ghost use Rattle.journal_lockmap.specs.Tokens.{keeper, first as first_view};
@@ -11,38 +11,44 @@ use crate::slot_set::SlotSet;
 use crate::slots::Slots;
 use crate::steps::make;
 use crate::token::Token;
-use journal_history::Naming;
+use journal_history::{Naming, SessionCell, SessionCounts};
 use journal_world::{Objects, SLOTS, slot_of};
 use std::alloc::{AllocError, Global};
 use std::marker::{Model, PhantomData};
 use std::sync::Wait;
 
-/// The cell of the slots of a journal that has no name yet. Contracts see which cell it is, so that whoever opens
-/// the journal can name it by the cell.
+/// The cells of a journal that has no name yet: that of its slots, and that of its sessions. Contracts see which cells
+/// they are, so that whoever opens the journal can name it by them.
 #[derive(Drop)]
 pub struct SlotCell {
     cell: Cell,
     first: SlotPass,
+    sessions: SessionCell,
 }
 
 impl Model for SlotCell {
     ghost use Rattle.std.specs.Prelude.{◌≡◌};
-    ghost use Rattle.atomic_table.specs.Seated.{TableId};
     ghost use Rattle.crossbeam_utils.specs.Seq.{cell_view};
+    ghost use Rattle.journal_history.specs.Cells.{Cells};
     ghost use Rattle.journal_lockmap.specs.Tokens.{first as first_view};
 
-    ghost Value = { TableId };
+    ghost Value = { Cells };
 
-    ghost view = { λ c. c.cell.table.shared.table_id };
+    ghost view = { λ c. record { slots = c.cell.table.shared.table_id; sessions = c.sessions } };
 
     ghost invariant = { λ c. (c.first.table_id ≡ c.cell.table.shared.table_id) × (cell_view c.first ≡ first_view) };
 }
 
 impl SlotCell {
-    /// A new cell. Where memory is refused nothing was made.
+    /// New cells. Where memory is refused nothing was made.
     pub fn open(alloc: Global) -> Result<SlotCell, AllocError> {
         let (cell, first) = Cell::ruled(alloc, [0])?;
-        Ok(SlotCell { cell, first })
+        let sessions = SessionCell::open(alloc)?;
+        Ok(SlotCell {
+            cell,
+            first,
+            sessions,
+        })
     }
 }
 
@@ -64,18 +70,27 @@ impl<J: Naming> Model for SlotCounts<J> {
 
     ghost view = { λ c. (cell_view c.keeper).counts };
 
-    ghost invariant = { λ c. IsKeeper J.cell c.cell.table.shared.table_id c.keeper.table_id (cell_view c.keeper) };
+    ghost invariant = { λ c. IsKeeper J.cell.slots c.cell.table.shared.table_id c.keeper.table_id (cell_view c.keeper) };
 }
 
 impl<J: Naming> SlotCounts<J> {
-    /// The numbers of the journal that has this cell, and its slots, with a token for each. No commit touched any,
-    /// and all are free. Where memory is refused the cell is gone.
-    pub fn begin(alloc: Global, cell: SlotCell) -> Result<(SlotCounts<J>, Slots<J>), AllocError>
+    /// The numbers of the journal that has these cells, and its slots, with a token for each. No commit touched any,
+    /// and all are free. With them come the numbers of commits of its sessions: there is none. Where memory is refused
+    /// the cells are gone.
+    pub fn begin(
+        alloc: Global,
+        cell: SlotCell,
+    ) -> Result<(SlotCounts<J>, Slots<J>, SessionCounts<J>), AllocError>
         requires cell { cell ≡ J.cell }
         ensures counts { IfOk result (λ made. made.0 ≡ replicate SLOT_COUNT 0) }
         ensures free { IfOk result (λ made. made.1 ≡ replicate SLOT_COUNT false) }
+        ensures sessions { IfOk result (λ made. made.2 ≡ []) }
     {
-        let SlotCell { cell, first } = cell;
+        let SlotCell {
+            cell,
+            first,
+            sessions,
+        } = cell;
         let mut keeper = first;
         let mut free: Vec<Option<Token<J>>> = Vec::new(alloc);
         for slot in 0..SLOTS {
@@ -87,7 +102,7 @@ impl<J: Naming> SlotCounts<J> {
             keeper,
             journal: PhantomData,
         };
-        Ok((counts, Slots { free }))
+        Ok((counts, Slots { free }, SessionCounts::begin(sessions)))
     }
 
     /// Shows that the numbers of what is held are those that are kept here. Nothing changes, and it waits for

@@ -29,13 +29,13 @@ impl<J: Naming> Model for Token<J> {
 
     ghost view = { λ t. record { slot = t.slot; count = (cell_view t.pass).count } };
 
-    ghost invariant = { λ t. IsToken J.cell t.slot t.pass.table_id (t.pass.me.1 ≡ []) (cell_view t.pass) };
+    ghost invariant = { λ t. IsToken J.cell.slots t.slot t.pass.table_id (t.pass.me.1 ≡ []) (cell_view t.pass) };
 }
 
 impl<J: Naming> Token<J> {
     // The slot's token. It is a pass that was split off: only such a one can be joined again.
     pub(crate) fn new(slot: u16, pass: SlotPass) -> Token<J>
-        requires cell { pass.table_id ≡ J.cell }
+        requires cell { pass.table_id ≡ J.cell.slots }
         requires fresh { pass.me.1 ≡ [] }
         requires view { cell_view pass ≡ token_of slot (cell_view pass).count }
         requires in_range { slot < SLOTS }
@@ -59,11 +59,11 @@ impl<J: Naming> Token<J> {
     // Shows that it agrees with the keeper. Nothing changes. A pass that knows nothing takes its place meanwhile,
     // since one can be joined by value alone.
     pub(crate) fn look<W: Wait>(&mut self, rt: &W, cell: &Cell, all: &mut SlotPass)
-        requires cell { cell.now.table.shared.table_id ≡ J.cell }
-        requires pass { all.old.table_id ≡ J.cell }
+        requires cell { cell.now.table.shared.table_id ≡ J.cell.slots }
+        requires pass { all.old.table_id ≡ J.cell.slots }
         requires keeper { cell_view all.old ≡ keeper (cell_view all.old).counts (cell_view all.old).made }
         ensures same { self.new ≡ self.old }
-        ensures pass { all.new.table_id ≡ J.cell }
+        ensures pass { all.new.table_id ≡ J.cell.slots }
         ensures all { cell_view all.new ≡ cell_view all.old }
         ensures agrees { HasNumber (cell_view all.old).counts self.old }
     {
@@ -74,11 +74,11 @@ impl<J: Naming> Token<J> {
 
     // A commit touches the slot: its number rises by one, here and with the keeper.
     pub(crate) fn touch<W: Wait>(&mut self, rt: &W, cell: &Cell, all: &mut SlotPass)
-        requires cell { cell.now.table.shared.table_id ≡ J.cell }
-        requires pass { all.old.table_id ≡ J.cell }
+        requires cell { cell.now.table.shared.table_id ≡ J.cell.slots }
+        requires pass { all.old.table_id ≡ J.cell.slots }
         requires keeper { cell_view all.old ≡ keeper (cell_view all.old).counts (cell_view all.old).made }
         ensures slot { self.new ≡ record { slot = self.old.slot; count = self.old.count + 1 } }
-        ensures pass { all.new.table_id ≡ J.cell }
+        ensures pass { all.new.table_id ≡ J.cell.slots }
         ensures all { cell_view all.new ≡ keeper (slice_set (cell_view all.old).counts self.old.slot (self.old.count + 1)) (cell_view all.old).made }
         ensures agrees { HasNumber (cell_view all.old).counts self.old }
     {

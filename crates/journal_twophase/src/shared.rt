@@ -221,7 +221,11 @@ impl<'b, D: BlockDisk, R: MapRule, J: Naming> SharedCore<'b, D, R, J> {
         ensures refusal { IfErr result IsFenceRefusal }
         ensures session { OnlyExtends session.old session.new }
     {
-        let answer = self.shared.lock(rt).volatile.fence_step(session, target);
+        let answer = self
+            .shared
+            .lock(rt)
+            .volatile
+            .fence_step(rt, session, target);
         self.room.notify_all();
         answer
     }

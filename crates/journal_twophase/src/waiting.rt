@@ -63,7 +63,7 @@ impl<'b, D: BlockDisk, R: MapRule, J: Naming> SharedCore<'b, D, R, J> {
     {
         let mut shared = self.lock_memory(rt);
         for _ in rt.forever() {
-            if let Some(note) = flush_step(&shared.volatile, session)? {
+            if let Some(note) = flush_step(rt, &mut shared.volatile, session)? {
                 return Ok(note);
             }
             shared = self.sleep(rt, shared);
@@ -87,7 +87,7 @@ impl<'b, D: BlockDisk, R: MapRule, J: Naming> SharedCore<'b, D, R, J> {
     {
         let mut shared = shared;
         for _ in rt.forever() {
-            if wait_step(&shared.volatile, session, commits)? {
+            if wait_step(rt, &mut shared.volatile, session, commits)? {
                 return Ok(StableNote::new(&session.front(), commits));
             }
             shared = self.sleep(rt, shared);
@@ -155,25 +155,27 @@ impl<'b, D: BlockDisk, R: MapRule, J: Naming> SharedCore<'b, D, R, J> {
 }
 
 // Asks the volatile part whether so many commits are marked.
-fn wait_step<'b, R: MapRule, J: Naming>(
-    volatile: &Volatile<'b, R, J>,
+fn wait_step<'b, R: MapRule, J: Naming, W: Wait>(
+    rt: &W,
+    volatile: &mut Volatile<'b, R, J>,
     session: &mut Session<'b, J, R>,
     commits: u64,
 ) -> Result<bool, Why<'b, J, R>>
     ensures marked { IfOk result (λ marked. IsTrue marked → commits ≤ floor session.new.seen) }
-    ensures shown { OnOk result (session.new.seen ≡ volatile.now.memory.history) }
+    ensures shown { OnOk result (session.new.seen ≡ volatile.old.memory.history) }
     ensures exact { OnOk result (IsExact session.new) }
     ensures keeps { IsExact session.old → IsExact session.new }
     ensures session { OnlyExtends session.old session.new }
     ensures refusal { IfErr result (IsWaitRefusal session.new) }
 {
-    volatile.wait_step(session, commits)
+    volatile.wait_step(rt, session, commits)
 }
 
 // Asks the volatile part whether all commits are marked that the session has seen, and notes it. If not, the session stays as it
 // was, so that it is asked of the same commits again.
-fn flush_step<'b, R: MapRule, J: Naming>(
-    volatile: &Volatile<'b, R, J>,
+fn flush_step<'b, R: MapRule, J: Naming, W: Wait>(
+    rt: &W,
+    volatile: &mut Volatile<'b, R, J>,
     session: &mut Session<'b, J, R>,
 ) -> Result<Option<StableNote<'b, J, R>>, Why<'b, J, R>>
     ensures stable { IfOk result (λ noted. IfSome noted (λ note. IsStable (count session.old.seen) note session.new)) }
@@ -183,7 +185,7 @@ fn flush_step<'b, R: MapRule, J: Naming>(
     ensures refusal { IfErr result (IsWaitRefusal session.new) }
     ensures unmarked { IfErr result (IsEndedUnmarked session.old session.new) }
 {
-    if !volatile.flush_step(session)? {
+    if !volatile.flush_step(rt, session)? {
         return Ok(None);
     }
     Ok(Some(StableNote::new(&session.front(), volatile.floor())))

@@ -7,4 +7,4 @@ use Rattle.journal_core.proofs.memory.Memory.look.Goals as goal
 pub returns-clause-agree : goal.returns-clause-agree
 returns-clause-agree g c =
     subst (λ (s : MemoryState). AgreeWith s.history c.args.held.now) c.self.view_is
-    (agree_with c.self.inside.tally c.self.inside.slots c.self.inside.writer c.args.held.now c.self.invariant.counts c.look_all.ensures.agree)
+    (agree_with c.self.inside.slots c.self.inside.writer c.args.held.now c.self.invariant.counts.touched c.look_all.ensures.agree)

@@ -15,9 +15,9 @@ invariant_of-self-2 g c =
     let added : c.tell.new.self ≡ c.self.inside.writer ++ stable c.args.n ∷ [] = c.tell.ensures ∙ c.in_default.ensures.added in
     let rises : floor c.self.inside.writer ≤ c.args.n = subst (λ (s : MemoryState). floor s.history ≤ c.args.n) (sym c.self.view_is) c.requires.rises in
     let kept : (now : Covered) → KeepsCovered now (c.self.inside.writer ++ stable c.args.n ∷ []) c.args.n
-    → IsMemory c.self.inside.tally c.self.inside.slots now (record { history = c.tell.new.self; cut = c.args.n; next = c.self.inside.next; closed = c.self.inside.closed }) =
-    λ now covers. subst (λ (h : List Entry). IsMemory c.self.inside.tally c.self.inside.slots now (record { history = h; cut = c.args.n; next = c.self.inside.next; closed = c.self.inside.closed })) (sym added)
-    (memory_marked _ _ _ _ c.self.invariant c.args.n now covers) in
+    → IsMemory c.self.inside.fenced.runs c.self.inside.sessions c.self.inside.slots now (record { history = c.tell.new.self; cut = c.args.n; next = c.self.inside.next; closed = c.self.inside.closed }) =
+    λ now covers. subst (λ (h : List Entry). IsMemory c.self.inside.fenced.runs c.self.inside.sessions c.self.inside.slots now (record { history = h; cut = c.args.n; next = c.self.inside.next; closed = c.self.inside.closed })) (sym added)
+    (memory_marked _ _ _ _ _ c.self.invariant c.args.n now covers) in
     elim c.if-n-count.branch [
       | then-n-count w ↦ let b = w.if-n-count in
           rw w.self-inside-is

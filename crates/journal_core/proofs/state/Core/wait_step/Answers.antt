@@ -1,10 +1,17 @@
-use Rattle.std.proofs.Common.{◌≤◌, ◌↔◌, IsTrue, IfOk, IfErr, OnOk, subst}
+use Rattle.std.proofs.Common.{◌≤◌, ◌↔◌, IsTrue, IfOk, IfErr, OnOk, sym, subst}
 use Rattle.journal_world.specs.Histories.{floor}
 use Rattle.journal_core.specs.Outsets.{Outset}
 use Rattle.journal_core.specs.Waits.{MayWait, IsWaitRefusal}
-use Rattle.journal_core.specs.Cores.{CoreState}
+use Rattle.journal_core.specs.Volatiles.{VolatileState}
+use Rattle.journal_core.specs.Cores.{CoreState, IsPair}
 use Rattle.journal_core.proofs.Joining.{outset_seen}
 use Rattle.journal_core.proofs.state.Core.wait_step.Goals as goal
+
+pub invariant_of-self : goal.invariant_of-self
+invariant_of-self g c = record {
+  pair = subst (λ (v : VolatileState). IsPair g.J.Naming.blocks v c.self.inside.durable) (sym c.wait_step.ensures.same) c.self.invariant.pair;
+  room = c.self.invariant.room;
+}
 
 pub returns-clause-answer : goal.returns-clause-answer
 returns-clause-answer g c =

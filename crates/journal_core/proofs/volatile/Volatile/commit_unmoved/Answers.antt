@@ -4,14 +4,15 @@ use Rattle.journal_world.specs.Maps.{Agrees}
 use Rattle.journal_world.specs.Histories.{is_trusted, latest}
 use Rattle.journal_core.specs.Durables.{FetchedState}
 use Rattle.journal_core.specs.Outsets.{CanCommit}
-use Rattle.journal_core.specs.Volatiles.{outset_of}
+use Rattle.journal_core.specs.Volatiles.{VolatileState, IsFrontRefusal, outset_of}
 use Rattle.journal_core.proofs.Events.{commits_in_memory}
 use Rattle.journal_core.proofs.Unready.{shows_front}
 use Rattle.journal_core.proofs.volatile.Volatile.commit_unmoved.Goals as goal
 
 pub returns-in-Err-clause-longer : goal.returns-in-Err-clause-longer
 returns-in-Err-clause-longer g c =
-    shows_front c.args.self.now.memory.history c.args.fetched.now.front c.see.new.self c.in-Err.why c.in-Err.ensures.refusal
+    shows_front c.args.self.now.memory.history c.args.fetched.now.front c.see.new.self c.in-Err.why
+    (subst (λ (v : VolatileState). IsFrontRefusal v.memory.history c.args.fetched.now.front c.in-Err.why) c.admit.ensures.same c.in-Err.ensures.refusal)
     (subst (λ (f : FetchedState). IsPrefix f.front c.see.new.self.seen) c.fetched.view_is c.see.ensures.all)
 
 pub returns-in_ok-receipt-in-Ready-clause-committed : goal.returns-in_ok-receipt-in-Ready-clause-committed

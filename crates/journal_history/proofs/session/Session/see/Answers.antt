@@ -8,7 +8,7 @@ pub returns-clause-exact : goal.returns-clause-exact
 returns-clause-exact g c =
     let front = c.args.front.now in
     let seen = c.see.new.self in
-    let before : SessionState = record { number = c.self.inside.number; mine = c.self.inside.mine; seen = c.self.inside.seen } in
+    let before : SessionState = record { number = c.self.inside.token.number; mine = c.self.inside.mine; seen = c.self.inside.seen } in
     subst (λ (s : SessionState). length s.seen ≤ length front → length (commits_of s.number front) ≡ made s → commits_of before.number seen ≡ commits_of before.number before.mine) c.self.view_is
     (λ less as_many.
     let whole : seen ≡ front = c.see.ensures.whole less in

@@ -12,3 +12,6 @@ returns-clause-begun g c =
       ruled = begun.ruled;
       start = c.front-start.ensures.history ∙ begun.history;
     }
+
+pub returns-clause-well_formed : goal.returns-clause-well_formed
+returns-clause-well_formed g c = c.in_ok-core.ensures.well_formed

@@ -1,0 +1,102 @@
+// The cell of a journal's sessions: its rule, and its kinds of step.
+use atomic_table::{Join, Split};
+use crossbeam_utils::atomic::seq_cell::{Pass, RuledSeqCell};
+use crossbeam_utils::rule::{Outcome, Protocol};
+use std::collections::LinkedList;
+
+/// What a pass knows: the keeper how many commits each session has, a token that of its own. No value of it is made.
+pub struct View {
+    /// Whether it is the keeper: its `counts` are the sessions' numbers of commits.
+    pub keeps: bool,
+    pub counts: LinkedList<u64>,
+    /// Whether it has a token: that of the session of this `number`, which has `count` commits.
+    pub has: bool,
+    pub number: u64,
+    pub count: u64,
+}
+
+/// The rule: one pass at most is the keeper, each token agrees with it, and no session has two tokens.
+pub struct Counted;
+
+impl Protocol<[u64; 1], View> for Counted {
+    ghost use Rattle.journal_history.specs.Counts.{first as first_view, Kept};
+
+    ghost holds = { Kept };
+
+    ghost first = { first_view };
+}
+
+/// A look at the cell.
+pub struct Look;
+
+impl Outcome<[u64; 1], View> for Look {
+    ghost use Rattle.journal_history.specs.Counts.{Looks};
+
+    ghost then = { Looks };
+}
+
+/// A session's commit.
+pub struct Touch;
+
+impl Outcome<[u64; 1], View> for Touch {
+    ghost use Rattle.journal_history.specs.Counts.{Touches};
+
+    ghost then = { Touches };
+}
+
+/// Gives numbers to no session, up to the one that is written.
+pub struct Raise;
+
+impl Outcome<[u64; 1], View> for Raise {
+    ghost use Rattle.journal_history.specs.Counts.{Raises};
+
+    ghost then = { Raises };
+}
+
+/// Makes the token of the next session.
+pub struct Make;
+
+impl Split<View> for Make {
+    ghost use Rattle.std.specs.Prelude.{◌++◌, ◌∷◌, [], length};
+    ghost use Rattle.journal_history.specs.Counts.{keeper, token};
+
+    ghost left = { λ v. keeper (v.counts ++ 0 ∷ []) };
+
+    ghost right = { λ v. token (length v.counts) 0 };
+}
+
+/// Makes a pass that knows nothing.
+pub struct Spare;
+
+impl Split<View> for Spare {
+    ghost use Rattle.journal_history.specs.Counts.{keeper, nobody};
+
+    ghost left = { λ v. keeper v.counts };
+
+    ghost right = { λ v. nobody };
+}
+
+/// Takes a token in, or splits it off.
+pub struct Off;
+
+impl Split<View> for Off {
+    ghost use Rattle.journal_history.specs.Counts.{keeper, token};
+
+    ghost left = { λ v. keeper v.counts };
+
+    ghost right = { λ v. token v.number v.count };
+}
+
+impl Join<View> for Off {
+    ghost use Rattle.journal_history.specs.Counts.{holder, nobody};
+
+    ghost both = { λ v w. holder v.counts w.number w.count };
+
+    ghost spent = { nobody };
+}
+
+/// The cell. Its one word says nothing: all that is known of sessions stands in the passes' views.
+pub type Cell = RuledSeqCell<[u64; 1], View, Counted, 1>;
+
+/// A pass of the cell.
+pub type SessionPass = Pass<[u64; 1], View>;
