@@ -17,3 +17,4 @@ pub mod TailStaging
 pub mod Storing
 pub mod InPlace
 pub mod Whole
+pub mod Passing

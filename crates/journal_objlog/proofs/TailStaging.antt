@@ -1,29 +1,30 @@
 -- Staging all writes in memory, from the last on, and what is then prepared.
-use Rattle.std.proofs.Common.{◌≡◌, ◌<◌, ◌≤◌, ◌==◌, ◌||◌, ℕ, Bool, true, false, List, [], ◌∷◌, ◌++◌, length, IsTrue, Some, refl, sym, ap, subst, ◌∙◌, arith, append_assoc}
-use Rattle.std.proofs.lemmas.Bool.{eqb-true, false≢true, cond-true, cond-false}
-use Rattle.std.proofs.lemmas.List.{append-nil}
+use Rattle.std.proofs.Common.{◌≡◌, ◌<◌, ◌≤◌, ◌+◌, ◌-◌, ◌==◌, ◌&&◌, ◌||◌, not, cond, ℕ, Bool, true, false, List, [], ◌∷◌, ◌++◌, length, IsTrue, Some, refl, sym, ap, subst, ◌∙◌, arith, append_assoc}
+use Rattle.std.proofs.lemmas.Bool.{or_right, eq-eqb, eqb-true, false≢true, cond-true, cond-false}
+use Rattle.std.proofs.lemmas.List.{append-nil, take-append-drop}
 use Rattle.std.proofs.lemmas.List.Elements.{All-nil}
 use Rattle.journal_world.specs.declared.address.Kind.TheVariants.{Block}
-use Rattle.journal_world.specs.Addresses.{is_value_of}
+use Rattle.journal_world.specs.Addresses.{kind_of, is_value_of}
 use Rattle.journal_world.specs.Maps.{Pair, is_object, are_objects, overwritten}
 use Rattle.journal_world.specs.Orders.{HasAscendingBlocks}
 use Rattle.journal_block.specs.declared.update.Update.{Update}
 use Rattle.journal_block.specs.Updates.{updated, with_updates, updates_block}
 use Rattle.journal_object.specs.Objects.{ChangesOnly}
-use Rattle.journal_memlog.specs.Logs.{tail_of, fresh_count}
+use Rattle.journal_memlog.specs.Logs.{IsMemLog, head_of, tail_of, fresh_count}
+use Rattle.journal_memlog.specs.Laws.{updates_block-append}
 use Rattle.journal_wal.specs.Wal.{AreHomes}
 use Rattle.journal_wal.specs.Tails.{TailState, TakesFresh}
 use Rattle.journal_objlog.specs.Maps.{map_of}
 use Rattle.journal_objlog.specs.ObjectLogs.{Base, map_in}
-use Rattle.journal_objlog.specs.ObjectTails.{IsObjectTail, blocks_of, known_updates, tail_base, is_missing, HasBlocks, OverwritesKnown, TakesPrepared, with_tail_room, updates_with}
-use Rattle.journal_objlog.specs.Staging.{IsAboveNone, first_update, first_bytes, with_first, IsStaged, IsOpen, StandsWhole}
+use Rattle.journal_objlog.specs.ObjectTails.{IsObjectTail, blocks_of, known_updates, tail_base, is_one_object, is_missing, HasBlocks, OverwritesKnown, TakesPrepared, with_tail_room, updates_with}
+use Rattle.journal_objlog.specs.Staging.{IsAboveNone, first_update, first_bytes, with_first, IsStaged, IsOpen, StandsWhole, AreInTail}
 use Rattle.journal_objlog.specs.Applying.{fresh_writes}
-use Rattle.journal_objlog.specs.Writes.{writes_block, fresh_blocks, IsPrepared}
+use Rattle.journal_objlog.specs.Writes.{writes_block, written_blocks, fresh_among, fresh_blocks, CanPrepare, IsPrepared}
 use Rattle.journal_objlog.proofs.Ascending.{ascending_later, objects_split}
 use Rattle.journal_objlog.proofs.KnownObjects.{overwrites_known}
 use Rattle.journal_objlog.proofs.MapsOfBlocks.{Law, HasObjects-map_of, map_of-is}
 use Rattle.journal_objlog.proofs.Missing.{written_there}
-use Rattle.journal_objlog.proofs.InPlace.{fresh_below}
+use Rattle.journal_objlog.proofs.InPlace.{fresh_below, fresh_places}
 use Rattle.journal_objlog.proofs.Whole.{IsWhole, whole, tail_shows}
 use Rattle.journal_objlog.proofs.Staged.{stored}
 
@@ -92,6 +93,20 @@ module _ (b : Base) (writes left rest done : List Pair) (p : Pair) (updates : Li
       by k named there true here = subst (λ (j : ℕ). IsTrue (is_value_of Block (updated b.tail j []))) (eqb-true p.0.block k here) size
       by k named there false here = staging.sizes k (sym (ap (λ (t : Bool). t || writes_block done k) here) ∙ named) there
 
+-- where nothing is to be stored
+nothing_staged : (b : Base) → Law b.size → IsStaged b [] []
+nothing_staged b law = record {
+  blocks = record {
+    homes = All-nil (λ (u : Update). (513 ≤ u.block) × (u.block < b.size));
+    distinct = λ i j d lt inside_list. absurd (omega (arith, inside_list));
+    first = refl;
+    named = λ k. refl;
+    number = refl;
+    fresh = refl;
+  };
+  objects = HasObjects-map_of b.size law b.content;
+}
+
 -- before the first
 pub tail_staging_begins : (n : ℕ) (inside start : TailState) (fetched : List Update) (writes left : List Pair) (updates : List Update)
     → IsObjectTail n inside → inside ≡ start → left ≡ writes → updates ≡ [] → IsTrue (are_objects (blocks_of start) writes)
@@ -99,17 +114,8 @@ pub tail_staging_begins : (n : ℕ) (inside start : TailState) (fetched : List U
 tail_staging_begins n inside start fetched writes left updates sound is whole empty objects = record {
   split = sym whole ∙ sym (append-nil left);
   objects = subst (λ (ws : List Pair). IsTrue (are_objects (blocks_of start) ws)) (sym whole) objects;
-  staged = subst (λ (us : List Update). IsStaged (tail_base fetched start) [] us) (sym empty) (record {
-    blocks = record {
-      homes = All-nil (λ (u : Update). (513 ≤ u.block) × (u.block < blocks_of start));
-      distinct = λ i j d lt inside_list. absurd (omega (arith, inside_list));
-      first = refl;
-      named = λ b. refl;
-      number = refl;
-      fresh = refl;
-    };
-    objects = HasObjects-map_of (blocks_of start) (subst (λ (t : TailState). Law (blocks_of t)) is (tail_law n inside sound)) (tail_base fetched start).content;
-  });
+  staged = subst (λ (us : List Update). IsStaged (tail_base fetched start) [] us) (sym empty)
+      (nothing_staged (tail_base fetched start) (subst (λ (t : TailState). Law (blocks_of t)) is (tail_law n inside sound)));
   sizes = λ b named stands. absurd (false≢true named);
 }
 
@@ -158,3 +164,59 @@ module _ (mid old new : TailState) (fetched : List Update) (writes : List Pair) 
         named = all_of.named;
         number = all_of.number;
       })
+
+-- Writes in blocks that all stand in the tail
+
+fresh_none : (tail : List Update) (ws : List Pair) → ((b : ℕ) → writes_block ws b ≡ true → updates_block tail b ≡ true) → fresh_writes tail ws ≡ []
+fresh_none tail [] stand = refl
+fresh_none tail (p ∷ ws) stand =
+    cond-true _ (fresh_writes tail ws) (p ∷ fresh_writes tail ws) (stand p.0.block (ap (λ (t : Bool). t || writes_block ws p.0.block) (eq-eqb p.0.block p.0.block refl)))
+    ∙ fresh_none tail ws (λ b named. stand b (or_right (p.0.block == b) (writes_block ws b) named))
+
+written_le : (ws : List Pair) → written_blocks ws ≤ length ws
+written_le [] = omega arith
+written_le (p ∷ ws) = by (writes_block ws p.0.block) (written_le ws)
+  where
+    by : (t : Bool) → written_blocks ws ≤ length ws → cond t 0 1 + written_blocks ws ≤ length (p ∷ ws)
+    by true rest = omega (arith, rest)
+    by false rest = omega (arith, rest)
+
+module _ (t : TailState) (fetched : List Update) (writes : List Pair) (in_tail : AreInTail (blocks_of t) (tail_of t.log) writes) where
+  no_places : fresh_blocks (tail_base fetched t) writes ≡ 0
+  no_places = sym (fresh_places (tail_of t.log) writes) ∙ ap (fresh_among (tail_of t.log)) (fresh_none (tail_of t.log) writes in_tail.stand)
+
+  pub stand_places : 0 ≡ fresh_blocks (tail_base fetched t) writes
+  stand_places = sym no_places
+
+  -- they can be prepared
+  pub stand_can : IsMemLog t.log → length (tail_of t.log) ≤ 255 → CanPrepare (tail_base fetched t) writes
+  stand_can sound few = record {
+    objects = in_tail.objects;
+    few = omega (arith, in_tail.few, written_le writes);
+    small = omega (arith, sound.bounds.below, no_places);
+    tail = omega (arith, few, no_places);
+  }
+
+  -- with nothing staged
+  pub stand_staged : (n : ℕ) (updates : List Update) → updates ≡ [] → IsObjectTail n t → IsStaged (tail_base fetched t) (fresh_writes (tail_of t.log) writes) updates
+  stand_staged n updates empty sound = subst (λ (us : List Update). IsStaged (tail_base fetched t) (fresh_writes (tail_of t.log) writes) us) (sym empty)
+      (subst (λ (ws : List Pair). IsStaged (tail_base fetched t) ws []) (sym (fresh_none (tail_of t.log) writes in_tail.stand))
+      (nothing_staged (tail_base fetched t) (tail_law n t sound)))
+
+  -- and no block is missing
+  pub stand_present : HasBlocks (blocks_of t) (known_updates fetched t) writes
+  stand_present b named =
+      ap (λ (v : Bool). not (is_one_object (kind_of (blocks_of t) b)) && not v) known ∙ nothing (not (is_one_object (kind_of (blocks_of t) b)))
+    where
+      nothing : (v : Bool) → (v && false) ≡ false
+      nothing true = refl
+      nothing false = refl
+
+      known : updates_block (known_updates fetched t) b ≡ true
+      known = updates_block-append fetched (t.home ++ t.log.updates) b
+          ∙ or_right (updates_block fetched b) (updates_block (t.home ++ t.log.updates) b)
+          (updates_block-append t.home t.log.updates b
+          ∙ or_right (updates_block t.home b) (updates_block t.log.updates b)
+          (ap (λ (us : List Update). updates_block us b) (sym (take-append-drop (t.log.cut - t.log.start) t.log.updates))
+          ∙ updates_block-append (head_of t.log) (tail_of t.log) b
+          ∙ or_right (updates_block (head_of t.log) b) (updates_block (tail_of t.log) b) (in_tail.stand b named)))

@@ -4,12 +4,13 @@ use Rattle.std.specs.List.{AllByRecursion}
 use Rattle.journal_world.specs.declared.address.Addr.{Addr}
 use Rattle.journal_world.specs.declared.address.Kind.TheVariants.{Block}
 use Rattle.journal_world.specs.Addresses.{kind_of, is_value_of}
-use Rattle.journal_world.specs.Maps.{Pair, overwritten}
+use Rattle.journal_world.specs.Maps.{Pair, are_objects, overwritten}
 use Rattle.journal_block.specs.declared.update.Update.{Update}
 use Rattle.journal_block.specs.Block.{Bytes}
 use Rattle.journal_block.specs.Updates.{Content, updated, updates_block, with_updates}
 use Rattle.journal_memlog.specs.Logs.{HasDistinctBlocks, fresh_count}
 use Rattle.journal_wal.specs.Wal.{AreHomes}
+use Rattle.journal_wal.specs.declared.append.TheConstants.{MAX_UPDATES}
 use Rattle.journal_objlog.specs.Maps.{HasObjects}
 use Rattle.journal_objlog.specs.ObjectLogs.{Base, map_in}
 use Rattle.journal_objlog.specs.Writes.{writes_block, written_blocks, fresh_among}
@@ -54,6 +55,13 @@ pub record IsStaged (b : Base) (writes : List Pair) (updates : List Update) : Ty
 abbrev pub StandsWhole : List Update → List Pair → Type 0
 StandsWhole tail writes =
     (b : ℕ) → writes_block writes b ≡ true → updates_block tail b ≡ true → IsTrue (is_value_of Block (updated tail b []))
+
+-- On a disk of n blocks: the writes are objects, no more than a commit may have blocks, and all of their blocks stand in the tail
+pub record AreInTail (n : ℕ) (tail : List Update) (writes : List Pair) : Type 0 where
+  pub objects : IsTrue (are_objects n writes)
+  pub few : length writes ≤ MAX_UPDATES
+  pub stand : (b : ℕ) → writes_block writes b ≡ true → updates_block tail b ≡ true
+  pub whole : StandsWhole tail writes
 
 -- In blocks that have the objects of the stored writes, the address's block is the first update, unless all of it is to be overwritten
 pub record IsOpenIn (b : Base) (writes : List Pair) (a : Addr) (updates : List Update) : Type 0 where

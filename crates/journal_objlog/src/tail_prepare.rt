@@ -73,6 +73,35 @@ impl ObjectTail {
         ensures refusal { IfErr result (IsTailWriteRefusal (tail_base fetched.now self.old) writes.now) }
         ensures same { self.new ≡ with_tail_room self.old self.new.log.room }
     {
+        if !self.are_in_tail(writes) {
+            return self.make_ready(writes, spares, fetched);
+        }
+        self.tail.reserve(0)?;
+        Ok(Preparation::Ready(Prepared {
+            updates: Vec::new(self.alloc),
+        }))
+    }
+
+    // Makes copies of the blocks that do not stand in the tail, and stores the writes there.
+    fn make_ready(
+        &mut self,
+        writes: &Objects,
+        spares: &mut Spares,
+        fetched: &[Update],
+    ) -> Result<Preparation, Refusal<()>>
+        ensures ready { IfOk result (IfReady (TakesPrepared self.new writes.now)) }
+        ensures prepared { IfOk result (IfReady (λ prepared.
+            IsPrepared true (tail_base fetched.now self.new) (updates_with self.new writes.now prepared) writes.now)) }
+        // Each address that is written then has its value, and each other what it had.
+        ensures overwrites { IfOk result (IfReady (λ prepared.
+            OverwritesKnown (blocks_of self.new) (known_updates fetched.now self.new) (updates_with self.new writes.now prepared) writes.now)) }
+        ensures missing { IfOk result (IfMissing (λ blocks.
+            blocks ≡ missing_blocks (blocks_of self.old) (known_updates fetched.now self.old) writes.now)) }
+        ensures some { IfOk result (IfMissing (λ blocks. blocks ≢ [])) }
+        ensures ok { OnOk result (CanPrepare (tail_base fetched.now self.old) writes.now) }
+        ensures refusal { IfErr result (IsTailWriteRefusal (tail_base fetched.now self.old) writes.now) }
+        ensures same { self.new ≡ with_tail_room self.old self.new.log.room }
+    {
         let places = self.check(writes)?;
         let missing = self.missing(writes, fetched)?;
         if !missing.is_empty() {

@@ -1,21 +1,23 @@
 // The blocks that are written in memory: which have to be fetched first, and what they hold with the writes stored.
-ghost use Rattle.std.specs.Prelude.{◌≡◌, ◌⊎◌, ◌≤◌, false, IsTrue, OnOk, IfOk, IsOkUnless, List, [], Some};
+ghost use Rattle.std.specs.Prelude.{◌≡◌, true, length, ◌⊎◌, ◌≤◌, false, IsTrue, OnOk, IfOk, IsOkUnless, List, [], Some};
 ghost use Rattle.journal_world.specs.declared.layout.TheConstants.{MIN_BLOCKS};
 ghost use Rattle.journal_world.specs.Addresses.{kind_of, is_valid, is_value_of};
-ghost use Rattle.journal_world.specs.Maps.{Pair, are_objects};
+ghost use Rattle.journal_world.specs.Maps.{Pair, is_object, are_objects};
 ghost use Rattle.journal_world.specs.Orders.{HasAscendingBlocks};
 ghost use Rattle.journal_block.specs.Updates.{updated, updates_block};
-ghost use Rattle.journal_memlog.specs.Logs.{tail_of};
+ghost use Rattle.journal_memlog.specs.Logs.{IsMemLog, tail_of};
+ghost use Rattle.journal_wal.specs.declared.append.TheConstants.{MAX_TAIL};
 ghost use Rattle.journal_objlog.specs.ObjectTails.{blocks_of, known_updates, tail_base, is_missing, missing_blocks, HasBlocks};
-ghost use Rattle.journal_objlog.specs.Staging.{IsAboveNone, IsStaged, IsOpen, StandsWhole};
+ghost use Rattle.journal_objlog.specs.Staging.{IsAboveNone, IsStaged, IsOpen, StandsWhole, AreInTail};
 ghost use Rattle.journal_objlog.specs.Applying.{fresh_writes};
 
 use crate::spares::Spares;
 use crate::stage::Backwards;
 use crate::tail::ObjectTail;
-use crate::writes::is_block;
+use crate::writes::{is_admitted, is_block};
 use journal_block::{Block, Update};
-use journal_world::{Addr, Kind, Objects, Refusal};
+use journal_wal::MAX_UPDATES;
+use journal_world::{Addr, Kind, Objects, Refusal, Value};
 
 impl ObjectTail {
     /// The blocks that have to be fetched before the writes can be prepared, each once, in the writes' order.
@@ -51,6 +53,37 @@ impl ObjectTail {
             return false;
         }
         self.known(fetched, block).is_none()
+    }
+
+    /// Whether these are objects whose blocks all stand in the tail, so that nothing has to be made ready for them. Of
+    /// more than 128 it answers no: they may lie in more blocks than may be written.
+    pub(crate) fn are_in_tail(&self, writes: &Objects) -> bool
+        ensures sure { IsTrue result → AreInTail (blocks_of self.now) (tail_of self.now.log) writes.now }
+        ensures few { length (tail_of self.now.log) ≤ MAX_TAIL }
+        ensures sound { IsMemLog self.now.log }
+    {
+        // Called for their contracts: the log is sound, and the tail short.
+        let _bounds = self.tail.bounds();
+        let _len = self.tail.tail_len();
+        let mut passed = 0;
+        for (addr, value) in writes.iter() {
+            if passed == MAX_UPDATES || !self.is_object_in_tail(*addr, value) {
+                return false;
+            }
+            passed += 1;
+        }
+        true
+    }
+
+    // Whether it is an object of a block that stands in the tail.
+    fn is_object_in_tail(&self, addr: Addr, value: &Value) -> bool
+        ensures object { IsTrue result → IsTrue (is_object (blocks_of self.now) (addr, value.now)) }
+        ensures stands { IsTrue result → updates_block (tail_of self.now.log) addr.block ≡ true }
+        ensures value { IsTrue result → IsTrue (is_value_of Kind.Block (updated (tail_of self.now.log) addr.block [])) }
+    {
+        self.is_in_tail(addr.block)
+            && self.layout.is_valid(addr)
+            && is_admitted(&self.layout, addr, value)
     }
 
     /// One update for each block that is written and does not stand in the tail, blocks ascending, with its objects

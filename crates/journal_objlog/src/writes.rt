@@ -29,7 +29,7 @@ pub(crate) fn judge(layout: &Layout, writes: &Objects) -> (bool, bool)
 }
 
 // Whether the value is of the kind of the address, which is valid.
-fn is_admitted(layout: &Layout, addr: Addr, value: &Value) -> bool
+pub(crate) fn is_admitted(layout: &Layout, addr: Addr, value: &Value) -> bool
     requires { IsTrue (is_valid layout.now.blocks addr) }
     ensures { result ≡ is_object layout.now.blocks (addr, value.now) }
 {

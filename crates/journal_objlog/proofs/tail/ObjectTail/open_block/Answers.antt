@@ -1,4 +1,4 @@
-use Rattle.std.proofs.Common.{true, List, sym, subst, ◌∙◌}
+use Rattle.std.proofs.Common.{List, sym, subst, ◌∙◌}
 use Rattle.std.proofs.lemmas.Bool.{false≢true}
 use Rattle.journal_block.specs.declared.update.Update.{Update}
 use Rattle.journal_objlog.specs.ObjectTails.{tail_base}
