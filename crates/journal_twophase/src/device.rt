@@ -319,6 +319,7 @@ impl<'b, D: BlockDisk, R: MapRule, J: Naming> SharedCore<'b, D, R, J> {
             group_in_flight: _,
         } = self;
         let Shared {
+            padding: _,
             volatile,
             log_start: _,
             logger_sleeps: _,

@@ -38,6 +38,9 @@ pub type Why<'b, J, R> = Refusal<Cause<'b, J, R>>;
 // What stands under the memory lock. Nobody who has it waits for a device.
 #[derive(Drop)]
 pub(crate) struct Shared<'b, R: MapRule, J: Naming> {
+    // Keeps the lock's word and what stands under it on lines of memory of their own: each who tries the lock takes the word's line
+    // from its holder, who writes the others.
+    pub(crate) padding: [u64; PADDING_WORDS],
     pub(crate) volatile: Volatile<'b, R, J>,
     // Where the log on the disk starts. What was in it when it was opened stands in no part of memory, but takes room.
     pub(crate) log_start: u64,
@@ -169,6 +172,7 @@ impl<'b, D: BlockDisk, R: MapRule, J: Naming> SharedCore<'b, D, R, J> {
             alloc,
             durable: Mutex::new(durable),
             shared: Mutex::new(Shared {
+                padding: [0; PADDING_WORDS],
                 volatile,
                 log_start,
                 logger_sleeps: false,
@@ -621,6 +625,9 @@ impl<'b, D: BlockDisk, R: MapRule, J: Naming> SharedCore<'b, D, R, J> {
 // How long the logger waits at most before it cuts a group for fewer than the last one was for, in microseconds: some barriers
 // of a fast device, or what a client at the other end of a connection takes from a reply to its next call.
 const GROUP_DELAY_MICROS: u64 = 200;
+
+// Two lines of memory: processors fetch them by pairs.
+pub(crate) const PADDING_WORDS: usize = 16;
 
 // How often the memory lock is tried before a thread sleeps.
 const LOCK_TURNS: u32 = 40;
