@@ -2,17 +2,15 @@
 ghost use Rattle.std.specs.Prelude.{◌≡◌};
 
 use crate::fault::ServiceFault;
-use crate::file;
-use crate::file::ToCheck;
 use crate::mounting::{Tried, mount, slot_cell};
 use crate::printing::print_line;
 use crate::serving::close;
-use crate::settled::Settled;
 use journal_disk::FileDisk;
 use journal_filestore::{Fault, FileStore, Handle};
 use journal_history::{Book, Naming, Session};
 use journal_inode::{INODES, SoundFiles, Version, VersionOne, VersionTwo};
 use journal_lockmap::SlotCell;
+use journal_program::{Settled, open_to_check};
 use std::alloc::Global;
 use std::fs::{File, Files};
 use std::io::Write;
@@ -36,24 +34,16 @@ pub fn check<R: Files<File = File> + Wait, O: Write, E: Write>(
     output: &mut O,
     faults: &mut E,
 ) -> Result<(), ServiceFault> {
-    let opened = file::open_to_check(rt, path)?;
-    tell_what_lacks(&opened, path, faults);
+    let Ok(opened) = open_to_check(rt, path) else {
+        return Err(ServiceFault::BadFile);
+    };
+    opened.warn(path, faults);
     match count_in::<VersionTwo, R>(rt, alloc, opened.disk)? {
         Tried::Sound(files) => print_line(output, "sound version 2 files", files),
         Tried::Other(disk) => {
             let files = count_in::<VersionOne, R>(rt, alloc, disk)?.sound()?;
             print_line(output, "sound version 1 files", files)
         }
-    }
-}
-
-// Tells what of a check the system refused. Where this cannot be printed, there is nobody to tell.
-fn tell_what_lacks<E: Write>(opened: &ToCheck, path: &str, faults: &mut E) {
-    if !opened.is_locked {
-        let _ = writeln!(faults, "{path} is checked without a lock");
-    }
-    if !opened.is_synced {
-        let _ = writeln!(faults, "{path} is checked without a sync");
     }
 }
 

@@ -13,17 +13,12 @@
 
 mod checking;
 mod clock;
-mod daemon;
 mod fault;
 mod file;
 mod migrating;
 mod mounting;
 mod printing;
-mod room;
 mod serving;
-mod settled;
-mod streams;
-mod system;
 
 pub use checking::check;
 pub use fault::ServiceFault;

@@ -4,7 +4,7 @@ ghost use Rattle.std.specs.Prelude.{◌≡◌};
 use crate::fault::ServiceFault;
 use crate::file;
 use crate::mounting::slot_cell;
-use crate::settled::Settled;
+use crate::printing::give_up;
 use journal_disk::FileDisk;
 use journal_history::{Book, Naming};
 use journal_inode::FormatVersion;
@@ -32,7 +32,12 @@ pub fn migrate<R: Files<File = File> + Wait, O: Write>(
     let book: Book<EitherVersion> = Book::open::<()>().unwrap();
     let cell = slot_cell(alloc)?;
     let disk = migrated::<Brand, R>(rt, alloc, &book, cell, disk.disk())?;
-    Settled::by_barrier(disk)?.give_up(output, "version", FormatVersion::Two.number())
+    give_up(
+        file::settled(disk)?,
+        output,
+        "version",
+        FormatVersion::Two.number(),
+    )
 }
 
 // The disk, as one of version 2.

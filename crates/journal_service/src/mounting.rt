@@ -2,12 +2,12 @@
 ghost use Rattle.std.specs.Prelude.{◌≡◌};
 
 use crate::fault::ServiceFault;
-use crate::settled::Settled;
 use journal_disk::FileDisk;
 use journal_filestore::FileStore;
 use journal_history::{Book, Naming};
 use journal_inode::{SoundFiles, Version};
 use journal_lockmap::SlotCell;
+use journal_program::Settled;
 use journal_world::{Refusal, Refused};
 use std::alloc::Global;
 

@@ -1,6 +1,7 @@
 // What is printed.
 
 use crate::fault::ServiceFault;
+use journal_program::Settled;
 use std::io::Write;
 
 /// Prints a line for whoever waits for it.
@@ -13,4 +14,15 @@ pub(crate) fn print_line<O: Write>(
         Ok(()) => Ok(()),
         Err(_) => Err(ServiceFault::CannotWrite),
     }
+}
+
+/// Gives the disk up, and prints a line. Whoever reads it may use the file at once.
+pub(crate) fn give_up<O: Write>(
+    disk: Settled,
+    output: &mut O,
+    word: &str,
+    number: u64,
+) -> Result<(), ServiceFault> {
+    drop(disk);
+    print_line(output, word, number)
 }

@@ -2,11 +2,9 @@
 ghost use Rattle.std.specs.Prelude.{◌≡◌};
 
 use crate::clock::{WallClock, verifier_of};
-use crate::daemon::Daemon;
 use crate::fault::ServiceFault;
 use crate::mounting::{Tried, mount, slot_cell};
-use crate::printing::print_line;
-use crate::settled::Settled;
+use crate::printing::{give_up, print_line};
 use crate::{clock, file};
 use journal_daemon::OpenGate;
 use journal_disk::FileDisk;
@@ -15,6 +13,7 @@ use journal_history::{Book, Naming};
 use journal_inode::{SoundFiles, Version, VersionOne, VersionTwo};
 use journal_lockmap::SlotCell;
 use journal_nfs3::Verifier;
+use journal_program::{Daemon, Settled};
 use journal_server::{Crowd, Listening, serve_all};
 use journal_world::{Refusal, Refused};
 use std::alloc::Global;
@@ -66,7 +65,7 @@ pub fn serve<
             serve_in::<VersionOne, R, O, E>(rt, alloc, disk, service, output, faults)?.sound()?
         }
     };
-    Settled::by_barrier(disk)?.give_up(output, "served", service.connections)
+    give_up(file::settled(disk)?, output, "served", service.connections)
 }
 
 // Serves the files of the disk, where they are sound in a version, and gives it up.
@@ -149,7 +148,8 @@ fn serve_beside_daemon<
         thread::scope_env(),
         rt,
         |scope| -> Result<(), ServiceFault> {
-            let runs = scope.spawn(|| daemon.run(rt, files)).is_ok() && daemon.is_running(rt);
+            let runs = scope.spawn(|| daemon.run(rt, files.journal())).is_ok()
+                && daemon.is_running(rt);
             let served = if runs {
                 listen(rt, alloc, files, service, verifier, output)
             } else {

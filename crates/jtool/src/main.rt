@@ -17,6 +17,7 @@ mod tests;
 
 use fault::Fault;
 use journal_command::Ask;
+use journal_program::hold_closed_streams;
 use journal_service::Service;
 use migrating::migrate;
 use std::alloc::Global;
@@ -25,14 +26,10 @@ use std::env::Env;
 use std::fs::{File, Files};
 use std::io::{BufWriter, Read, Write};
 use std::net::{Net, TcpListener, TcpStream};
-use std::os::fd::{AsRawFd, IntoRawFd, RawFd};
 use std::process::ExitCode;
 use std::sync::Wait;
 use std::thread::Threads;
 use std::time::Clock;
-
-// How many standard streams there are, whose numbers are the first ones.
-const STREAMS: RawFd = 3;
 
 /// The program: its words, its three streams, and the status that it answers. That is 1 where memory was refused before
 /// the first line, where input or output failed, where a file or a port is not to be had, or where the service was refused;
@@ -200,21 +197,6 @@ fn main(rt: HostRuntime) -> ExitCode {
         Err(fault) => fault.report(faults),
     };
     ExitCode::from(status)
-}
-
-// Holds the number of each standard stream that is closed by a folder, until the program ends. Else the system gives it to
-// the next file or connection, which what is printed would be written to. To print there fails all the same, since nothing
-// can be written to a folder.
-fn hold_closed_streams<R: Files<File = File>>(rt: &R) {
-    for _ in 0..STREAMS {
-        let Ok(folder) = File::open(rt, "/") else {
-            return;
-        };
-        if folder.as_raw_fd() >= STREAMS {
-            return;
-        }
-        let _number = folder.into_raw_fd();
-    }
 }
 
 // The program's words, and its output with a buffer.

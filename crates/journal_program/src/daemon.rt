@@ -1,10 +1,10 @@
-// The daemon beside a service.
+// The daemon beside a program.
 
 use journal_daemon::{Gate, start};
-use journal_disk::FileDisk;
-use journal_filestore::FileStore;
+use journal_disk::BlockDisk;
 use journal_history::Naming;
-use journal_inode::Version;
+use journal_twophase::Journal;
+use journal_world::MapRule;
 use std::rt::Clock;
 use std::sync::{Condvar, Mutex, Wait};
 use std::thread::Threads;
@@ -12,14 +12,15 @@ use std::thread::Threads;
 // The logger and the installer.
 const THREADS: u64 = 2;
 
-// What is known of the daemon: how many of its threads have come to their first step, and whether it has ended.
+// How many of the daemon's threads have come to their first step, and whether it has ended.
 #[derive(Default, Drop)]
 struct Progress {
     running: u64,
     has_ended: bool,
 }
 
-/// The gate of the daemon, which tells when its threads run. It holds none of them.
+/// The daemon of a journal: the logger and the installer, and how far they are. As their gate it
+/// counts the threads that run, and stops none of them.
 #[derive(Drop)]
 pub struct Daemon {
     progress: Mutex<Progress>,
@@ -48,12 +49,13 @@ impl Daemon {
     /// Runs the daemon until the journal is stopped.
     pub fn run<
         'b,
+        D: BlockDisk + Send,
+        M: MapRule + Send + Sync,
         J: Naming + Send + Sync,
-        V: Version + Send + Sync,
         R: Threads + Wait + Clock + Sync,
-    >(&self, rt: &R, files: &FileStore<'b, FileDisk, J, V>) {
+    >(&self, rt: &R, journal: &Journal<'b, D, M, J>) {
         // That a thread was refused shows in how many came to a step.
-        let _ = start(rt, files.journal(), self);
+        let _ = start(rt, journal, self);
         self.progress.lock(rt).has_ended = true;
         self.changed.notify_all();
     }
