@@ -1,0 +1,77 @@
+//! The journal at the command line. `jnl create` makes an empty disk in a file, `jnl info` prints
+//! what a disk is, `jnl check` whether it is sound, and `jnl seal` gives its log the form with one
+//! barrier a group, or the plain form again. `jnl --help` is the manual.
+#![tactic(auto)]
+
+ghost use Rattle.std.specs.Prelude.{◌≤◌};
+
+mod checking;
+mod command;
+mod disks;
+mod fault;
+#[cfg(test)]
+mod tests;
+
+use command::Subcommand;
+use fault::Fault;
+use journal_program::hold_closed_streams;
+use std::alloc::Global;
+use std::env;
+use std::env::Env;
+use std::fs::{File, Files};
+use std::io::{BufWriter, Write};
+use std::process::ExitCode;
+
+/// Runs the program with these words and two outputs, and answers its status: 0 where it was done,
+/// also where the words asked for help or the version, 2 where the words are no command, else 1.
+/// The reason of a status of 1 or 2 is printed to `faults`.
+pub fn run<R: Files<File = File>, O: Write, E: Write>(
+    rt: &R,
+    alloc: Global,
+    words: &[String],
+    output: &mut O,
+    faults: &mut E,
+) -> u8
+    ensures { result ≤ 2 }
+{
+    match obey(rt, alloc, words, output, faults) {
+        Ok(()) => 0,
+        Err(fault) => fault.report(output, faults),
+    }
+}
+
+// Does what the words ask for.
+fn obey<'w, R: Files<File = File>, O: Write, E: Write>(
+    rt: &R,
+    alloc: Global,
+    words: &'w [String],
+    output: &mut O,
+    faults: &mut E,
+) -> Result<(), Fault<'w>> {
+    match Subcommand::parse(alloc, words)? {
+        Subcommand::Create { path, blocks } => disks::create(rt, alloc, path, blocks),
+        Subcommand::Info { path } => disks::info(rt, alloc, path, output, faults),
+        Subcommand::Check { path } => disks::check(rt, alloc, path, output, faults),
+        Subcommand::Seal { path, form } => disks::seal(rt, alloc, path, form, output),
+    }
+}
+
+fn main(rt: HostRuntime) -> ExitCode {
+    hold_closed_streams(&rt);
+    let faults = &mut rt.stderr();
+    let status = match start(&rt, rt.stdout()) {
+        Ok((words, mut output)) => run(&rt, rt.alloc(), &words, &mut output, faults),
+        Err(fault) => fault.report(&mut rt.stdout(), faults),
+    };
+    ExitCode::from(status)
+}
+
+// The words of the command line, and the output with a buffer.
+fn start<R: Env + AllocGlobal, O: Write + Drop>(
+    rt: &R,
+    output: O,
+) -> Result<(Vec<String>, BufWriter<O>), Fault<'static>> {
+    let words = env::args(rt)?.skip(1).collect(rt.alloc())?;
+    let output = BufWriter::new(rt.alloc(), output)?;
+    Ok((words, output))
+}
