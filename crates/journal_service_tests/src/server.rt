@@ -1,5 +1,6 @@
 mod failing;
 mod fences;
+mod limits;
 mod moments;
 mod pace;
 mod peers;

@@ -20,6 +20,11 @@ impl Pace {
         }
     }
 
+    // It shows so many seconds.
+    pub(crate) fn set(&self, secs: u64) {
+        self.secs.store(secs, Ordering::SeqCst);
+    }
+
     // For how long its callers slept, in milliseconds.
     pub(crate) fn slept_millis(&self) -> u64 {
         self.slept_millis.load(Ordering::SeqCst)

@@ -727,18 +727,36 @@ fn nothing_is_left_behind_a_format(rt: HostRuntime) -> Result<(), Fail> {
 }
 
 /// Says that the file may only be read.
-pub(super) fn may_only_be_read<H: Files<File = File>>(rt: &H, path: &str) -> io::Result<()> {
+fn may_only_be_read<H: Files<File = File>>(rt: &H, path: &str) -> io::Result<()> {
     let mut rights = fs::metadata(rt, path)?.permissions();
     rights.set_readonly(true);
     fs::set_permissions(rt, path, rights)
 }
 
-/// A disk that is checked though its file may only be read. Where the tests run as who may write to
-/// each file, it is checked as any other.
+/// Locks the disk as who serves it does, says that its file may only be read, and wants that it is
+/// not checked.
+pub(super) fn is_refused_to_readers<
+    H: Abort
+        + Files<File = File>
+        + Net<Listener = TcpListener, Stream = TcpStream>
+        + Clock
+        + Threads
+        + Wait
+        + Sync,
+>(rt: &H, alloc: Global, path: &str) -> Result<(), Fail> {
+    let file = OpenOptions::new().read(true).write(true).open(rt, path)?;
+    takes_lock(rt, &file, os::RangeLock::Exclusive);
+    may_only_be_read(rt, path)?;
+    let faults = format!(in alloc; "cannot use {path}\n")?;
+    begins(rt, alloc, &["check", path], &faults, 1)
+}
+
+/// A disk that is checked though its file may only be read, once nobody serves it. Where the tests
+/// run as who may write to each file, it is checked as any other.
 static READ_ONLY: [Step; 4] = [
     Step::Format("532"),
     Step::Answer(CREATES),
-    Step::MayOnlyBeRead,
+    Step::RefuseToReaders,
     Step::Leave("sound version 2 files 1\n"),
 ];
 

@@ -3,7 +3,7 @@
 use super::checks::{Change, is_left, make, none_is_sound};
 use super::services::{
     Exchange, ends, finds_port_in_use, has_bits, is_answered, is_as_new, is_refused_to_others,
-    makes_disk, may_only_be_read, set_length, writes_and_reads,
+    is_refused_to_readers, makes_disk, set_length, writes_and_reads,
 };
 use super::{begins, run_with, told_so};
 use std::alloc::Global;
@@ -41,8 +41,8 @@ pub(super) enum Step {
     Bits,
     /// The log and the blocks for files are all zeros.
     AsNew,
-    /// The file may only be read from then on.
-    MayOnlyBeRead,
+    /// While somebody serves the disk, it is not checked. Its file may only be read from then on.
+    RefuseToReaders,
     /// A service answers so.
     Answer(Exchange),
     /// What was written in one service is read in the next.
@@ -132,7 +132,7 @@ fn do_once<
         Step::NoneIsSound(changes, others) => none_is_sound(rt, alloc, path, changes, others),
         Step::Bits => has_bits(rt, path),
         Step::AsNew => is_as_new(rt, path),
-        Step::MayOnlyBeRead => Ok(may_only_be_read(rt, path)?),
+        Step::RefuseToReaders => is_refused_to_readers(rt, alloc, path),
         Step::Answer(exchange) => is_answered(rt, alloc, path, exchange),
         Step::WriteAndRead => writes_and_reads(rt, alloc, path),
         Step::RefuseToOthers => is_refused_to_others(rt, alloc, path),
