@@ -16,6 +16,8 @@ mod calls;
 #[cfg(test)]
 mod filestore;
 #[cfg(test)]
+mod memory;
+#[cfg(test)]
 mod nfs3;
 #[cfg(test)]
 mod server;

@@ -13,8 +13,10 @@ mod wire;
 mod workers;
 
 pub(crate) use failing::{Broken, serve_broken};
-pub(crate) use fences::{Before, create_behind};
+pub(crate) use fences::{Before, create_behind, serve_one};
 pub(crate) use moments::write_in_one_piece;
+pub(crate) use peers::calls_of;
 pub(crate) use sockets::{Visit, serve_visit};
+pub(crate) use streams::Narrow;
 pub(crate) use wire::serve_all;
 pub(crate) use workers::{Team, serve_team, serve_worn};

@@ -1,6 +1,7 @@
 // What is done with a store that another function owns.
 use crate::calls::{ask, ask_cut};
 use crate::filestore::{fill_all, storm};
+use crate::memory::{Scarce, run_scarce};
 use crate::nfs3::{Cause, call_while, fail_behind};
 use crate::server::{
     Before, Broken, Team, Visit, create_behind, serve_all, serve_broken, serve_team, serve_visit,
@@ -32,6 +33,8 @@ pub(crate) enum Story {
     Team(Team),
     // A connection where no session number is left.
     Worn,
+    // What memory may be refused to.
+    Scarce(Scarce),
     // Connections over TCP.
     Visit(Visit),
 }
@@ -67,6 +70,7 @@ pub(crate) fn tell<
         Story::Create(before) => create_behind(rt, alloc, files, before),
         Story::Team(team) => serve_team(rt, alloc, files, team),
         Story::Worn => serve_worn(rt, alloc, files),
+        Story::Scarce(scarce) => run_scarce(rt, alloc, files, scarce),
         Story::Visit(visit) => serve_visit(rt, alloc, files, visit),
     }
 }

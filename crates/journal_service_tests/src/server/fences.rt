@@ -122,7 +122,7 @@ fn ended(fails: bool, fenced: bool) -> Outcome {
     }
 }
 
-pub(super) fn serve_one<'b, J: Naming, W: Wait>(
+pub(crate) fn serve_one<'b, J: Naming, W: Wait>(
     rt: &W,
     alloc: Global,
     files: &Files<'b, J>,
