@@ -1,4 +1,5 @@
 // The circular log, by way of the write-ahead log over it.
+use crate::asserts::{wants, wants_at};
 use crate::runs::BAD_LOG;
 use crate::wal::Call::{Append, End, Install, Log, Peek, Pending, Start};
 use crate::wal::{Row, SEALED, wrong_row};
@@ -30,7 +31,7 @@ fn logs_that_are_opened(rt: HostRuntime) {
             Some(_) => None,
             None => Some((0, BAD_LOG)),
         };
-        assert_eq!(rt; wrong, want, "{start} {header}");
+        wants_at(&rt, &(start, header), &wrong, &want);
     }
 }
 
@@ -71,7 +72,7 @@ static ROUND: [Row; 31] = [
 
 #[test]
 fn positions_come_round(rt: HostRuntime) {
-    assert_eq!(rt; wrong_row(&rt, rt.alloc(), 510, 510, &ROUND), None);
+    wants(&rt, &wrong_row(&rt, rt.alloc(), 510, 510, &ROUND), &None);
 }
 
 // The same two groups of a sealed log. The log block has the tag 1 in place of byte 0. Its word has the home block in
@@ -111,8 +112,9 @@ static SEALED_ROUND: [Row; 30] = [
 
 #[test]
 fn positions_of_a_sealed_log_come_round(rt: HostRuntime) {
-    assert_eq!(rt;
-        wrong_row(&rt, rt.alloc(), 510, SEALED + 510, &SEALED_ROUND),
-        None
+    wants(
+        &rt,
+        &wrong_row(&rt, rt.alloc(), 510, SEALED + 510, &SEALED_ROUND),
+        &None,
     );
 }

@@ -1,6 +1,7 @@
 // Disks of four blocks in memory, and disks round them, call by call.
 //
 // Any one request for memory may be refused in a run. What stands is then looked at, and the call made again.
+use crate::asserts::wants;
 use crate::runs::{
     DEVICE_FAILED, NO_MEMORY, Run, Wrong, block_with, called, is_refused, number, told,
 };
@@ -75,14 +76,14 @@ fn barrier<D: BlockDisk>(disk: &mut D) -> Run<u64> {
 }
 
 // What any disk answers. No row wants the answer to a call that only a disk in memory has.
-fn answer<D: BlockDisk>(rt: &impl Abort, alloc: Global, disk: &mut D, call: Call) -> u64 {
+fn answer<D: BlockDisk>(rt: &impl Abort, alloc: Global, disk: &mut D, call: Call) -> Run<u64> {
     match call {
-        Size => disk.size(),
-        Failures => disk.failures(),
-        Read(block) => told(read(rt, alloc, disk, block)),
-        Write(block, number) => told(write(rt, alloc, disk, block, number)),
-        Barrier => told(barrier(disk)),
-        _ => u64::MAX,
+        Size => Ok(disk.size()),
+        Failures => Ok(disk.failures()),
+        Read(block) => read(rt, alloc, disk, block),
+        Write(block, number) => write(rt, alloc, disk, block, number),
+        Barrier => barrier(disk),
+        _ => Ok(u64::MAX),
     }
 }
 
@@ -94,7 +95,7 @@ pub(crate) fn wrong_row<D: BlockDisk>(
     rows: &[Row],
 ) -> Wrong {
     for (number, (call, want)) in rows.iter().enumerate() {
-        let got = answer(rt, alloc, disk, *call);
+        let got = told(answer(rt, alloc, disk, *call));
         if got != *want {
             return Some((number + 1, got));
         }
@@ -109,13 +110,19 @@ fn peek(rt: &impl Abort, alloc: Global, disk: &MemDisk, block: u64) -> Run<u64> 
     Ok(number_in(&bytes))
 }
 
-fn pending(disk: &MemDisk) -> Run<u64> {
+// Each of these blocks and its number of writes, as two digits.
+fn digits_of(pending: &[(u64, u64)]) -> u64 {
     let mut digits = 0u64;
-    for (block, writes) in &disk.pending()? {
+    for (block, writes) in pending {
         let pair = block.wrapping_mul(10).wrapping_add(*writes);
         digits = digits.wrapping_mul(100).wrapping_add(pair);
     }
-    Ok(digits)
+    digits
+}
+
+fn pending(disk: &MemDisk) -> Run<u64> {
+    let pending = disk.pending()?;
+    Ok(digits_of(&pending))
 }
 
 // The same where memory may be refused once.
@@ -153,17 +160,19 @@ fn fail_write(rt: &impl Abort, alloc: Global, disk: &mut MemDisk, block: u64, nu
     told(write(rt, alloc, disk, block, number))
 }
 
+fn fail_in(disk: &mut MemDisk, call: u64) -> Run<u64> {
+    disk.fail_in(call);
+    Ok(0)
+}
+
 // What a disk in memory answers.
-fn answer_in_memory(rt: &impl Abort, alloc: Global, disk: &mut MemDisk, call: Call) -> u64 {
+fn answer_in_memory(rt: &impl Abort, alloc: Global, disk: &mut MemDisk, call: Call) -> Run<u64> {
     match call {
-        Peek(block) => told(peek(rt, alloc, disk, block)),
-        Pending => told(pending(disk)),
-        Image(choice) => told(image(rt, alloc, disk, choice)),
-        FailIn(call) => {
-            disk.fail_in(call);
-            0
-        }
-        FailWrite(block, number) => fail_write(rt, alloc, disk, block, number),
+        Peek(block) => peek(rt, alloc, disk, block),
+        Pending => pending(disk),
+        Image(choice) => image(rt, alloc, disk, choice),
+        FailIn(call) => fail_in(disk, call),
+        FailWrite(block, number) => Ok(fail_write(rt, alloc, disk, block, number)),
         other => answer(rt, alloc, disk, other),
     }
 }
@@ -173,7 +182,7 @@ fn answer_in_memory(rt: &impl Abort, alloc: Global, disk: &mut MemDisk, call: Ca
 fn answer_again(rt: &impl Abort, alloc: Global, disk: &mut MemDisk, call: Call, want: u64) -> u64 {
     let before = pending_again(disk);
     let failures = disk.failures();
-    let got = answer_in_memory(rt, alloc, disk, call);
+    let got = told(answer_in_memory(rt, alloc, disk, call));
     if got == want || !is_refused(Some((0, got))) {
         return got;
     }
@@ -181,7 +190,7 @@ fn answer_again(rt: &impl Abort, alloc: Global, disk: &mut MemDisk, call: Call, 
     if pending_again(disk) != before || failed != number(got == DEVICE_FAILED) {
         return got;
     }
-    answer_in_memory(rt, alloc, disk, call)
+    told(answer_in_memory(rt, alloc, disk, call))
 }
 
 fn wrong_row_in_memory(rt: &impl Abort, alloc: Global, disk: &mut MemDisk, rows: &[Row]) -> Wrong {
@@ -230,7 +239,7 @@ static IMAGES: [Row; 12] = [
 
 #[test]
 fn images_by_choice(rt: HostRuntime) {
-    assert_eq!(rt; left(&rt, rt.alloc(), &IMAGES, &[1]), (None, 1000));
+    wants(&rt, &left(&rt, rt.alloc(), &IMAGES, &[1]), &(None, 1000));
 }
 
 static BARRIERS: [Row; 10] = [
@@ -248,7 +257,11 @@ static BARRIERS: [Row; 10] = [
 
 #[test]
 fn barriers(rt: HostRuntime) {
-    assert_eq!(rt; left(&rt, rt.alloc(), &BARRIERS, &[0, 1]), (None, 2038));
+    wants(
+        &rt,
+        &left(&rt, rt.alloc(), &BARRIERS, &[0, 1]),
+        &(None, 2038),
+    );
 }
 
 // The later of two calls of `fail_in` counts, and an image has nothing of it.
@@ -268,7 +281,7 @@ static READS: [Row; 11] = [
 
 #[test]
 fn reads_that_are_to_fail(rt: HostRuntime) {
-    assert_eq!(rt; left(&rt, rt.alloc(), &READS, &[]), (None, 0));
+    wants(&rt, &left(&rt, rt.alloc(), &READS, &[]), &(None, 0));
 }
 
 static WRITES: [Row; 5] = [
@@ -281,7 +294,11 @@ static WRITES: [Row; 5] = [
 
 #[test]
 fn writes_that_are_to_fail(rt: HostRuntime) {
-    assert_eq!(rt; left(&rt, rt.alloc(), &WRITES, &[0, 1, 0]), (None, 400));
+    wants(
+        &rt,
+        &left(&rt, rt.alloc(), &WRITES, &[0, 1, 0]),
+        &(None, 400),
+    );
 }
 
 /// A disk round another, which counts the reads that succeeded.
@@ -346,5 +363,5 @@ fn a_disk_round_a_disk(rt: HostRuntime) {
     if is_refused(ran.0) {
         ran = run_round(&rt, rt.alloc());
     }
-    assert_eq!(rt; ran, (None, 2, 2));
+    wants(&rt, &ran, &(None, 2, 2));
 }

@@ -1,6 +1,7 @@
 // A disk in a file of the system, and in one whose calls are cut short, interrupted or refused.
 ghost use Rattle.std.specs.Prelude.{◌≤◌, IfOk};
 
+use crate::asserts::wants;
 use crate::disk::Call::{Barrier, Failures, Read, Size, Write};
 use crate::disk::{Row, wrong_row};
 use crate::runs::{DEVICE_FAILED, Wrong};
@@ -151,7 +152,7 @@ fn wrong_in_both(
 fn what_is_written_is_in_the_file(rt: HostRuntime) -> Result<(), Fail> {
     let path = new_named(&rt, "palkhuveg-file-disk", 3 * 4096 + 4095)?;
     let found = wrong_in_both(&rt, text_of(&path)?)?;
-    assert_eq!(rt; found, (None, None, true));
+    wants(&rt, &found, &(None, None, true));
     Ok(())
 }
 
@@ -180,7 +181,7 @@ fn wrong_where_cut(
 fn a_block_that_was_cut_off_is_not_read(rt: HostRuntime) -> Result<(), Fail> {
     let path = new_named(&rt, "palkhuveg-cut-disk", 2 * 4096)?;
     let wrong = wrong_where_cut(&rt, &path, text_of(&path)?)?;
-    assert_eq!(rt; wrong, None);
+    wants(&rt, &wrong, &None);
     Ok(())
 }
 
@@ -234,7 +235,7 @@ fn short_and_interrupted_calls_are_carried_on(rt: HostRuntime) -> Result<(), Fai
     let file = new_file(&rt, &path, 2 * 4096)?;
     let wrong = wrong_where_uneven(&rt, rt.alloc(), file)?;
     fs::remove_file(&rt, &path)?;
-    assert_eq!(rt; wrong, [None, None, None]);
+    wants(&rt, &wrong, &[None, None, None]);
     Ok(())
 }
 
@@ -328,6 +329,6 @@ fn each_barrier_is_a_sync(rt: HostRuntime) -> Result<(), Fail> {
         Some(Heard::Sync),
         None,
     ];
-    assert_eq!(rt; heard, (None, calls, 3));
+    wants(&rt, &heard, &(None, calls, 3));
     Ok(())
 }

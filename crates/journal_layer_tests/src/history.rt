@@ -2,6 +2,7 @@ ghost use Rattle.std.specs.Prelude.{◌≡◌, false, length, IfSome};
 ghost use Rattle.journal_world.specs.Histories.{commits_of, is_fenced};
 ghost use Rattle.journal_history.specs.Tokens.{made};
 
+use crate::asserts::wants;
 use crate::runs::number;
 use journal_history::{
     Book, Front, Naming, Opened, Receipt, Recorded, Session, SessionCell, SessionCounts,
@@ -143,7 +144,7 @@ fn tokens_have_no_bytes(rt: HostRuntime) {
         size_of::<Receipt<Brand, AnyMap>>(),
         size_of::<StableNote<Brand, AnyMap>>(),
     ];
-    assert_eq!(rt; sizes, [16, 16, 48, 32, 24]);
+    wants(&rt, &sizes, &[16, 16, 48, 32, 24]);
 }
 
 // A session's number, how many commits it made, and how many entries it has seen.
@@ -237,6 +238,17 @@ fn walk<'b, J: Naming, W: Wait>(
     None
 }
 
+// The first row that is answered otherwise, and how long the history was before the rows.
+fn walk_on<'b, J: Naming, W: Wait>(
+    rt: &W,
+    author: &mut Author<'b, J>,
+    other: &mut Session<'b, J, AnyMap>,
+    rows: &[Row],
+) -> (Wrong, u64) {
+    let start = author.writer.front();
+    (walk(rt, author, other, &start, rows), start.len())
+}
+
 // The first row that is answered otherwise. Beside it, how long the beginning of the history is, and the history that a
 // further writer finds before and after the rows.
 fn run<J: Naming, W: Wait>(
@@ -251,10 +263,9 @@ fn run<J: Naming, W: Wait>(
     requires blocks { layout.blocks ≡ J.blocks }
 {
     let (mut author, mut other) = Author::<J>::begin(rt, book, cell, layout)?;
-    let start = author.writer.front();
     let before = begin_again::<J>(book, layout);
-    let wrong = walk(rt, &mut author, &mut other, &start, rows);
-    Some((wrong, [start.len(), before, begin_again::<J>(book, layout)]))
+    let (wrong, start) = walk_on(rt, &mut author, &mut other, rows);
+    Some((wrong, [start, before, begin_again::<J>(book, layout)]))
 }
 
 // The same with a book of its own.
@@ -289,7 +300,7 @@ static ANSWERS: [Row; 18] = [
 
 #[test]
 fn each_call_answers_by_the_history(rt: HostRuntime) {
-    assert_eq!(rt; run_new(&rt, rt.alloc(), &ANSWERS), Some((None, [1, 1, 8])));
+    wants(&rt, &run_new(&rt, rt.alloc(), &ANSWERS), &Some((None, [1, 1, 8])));
 }
 
 static LONGER: [Row; 2] = [(Commit, [1, 1, 2]), (Mark, [3, 1, 1])];
@@ -297,7 +308,7 @@ static LONGER: [Row; 2] = [(Commit, [1, 1, 2]), (Mark, [3, 1, 1])];
 // Who would begin the history again finds it, and has then seen all of it.
 #[test]
 fn a_longer_history_is_refused(rt: HostRuntime) {
-    assert_eq!(rt; run_new(&rt, rt.alloc(), &LONGER), Some((None, [1, 1, 3])));
+    wants(&rt, &run_new(&rt, rt.alloc(), &LONGER), &Some((None, [1, 1, 3])));
 }
 
 fn works<'b, J: Naming, W: Wait>(rt: &W, author: Author<'b, J>) -> Session<'b, J, AnyMap> {
@@ -323,8 +334,17 @@ fn waits<'b, J: Naming>(
     session
 }
 
-// One thread commits and marks, the other one observes until it has seen all of it; then they meet. What the first
-// knows before, what both know then, and whether two commits are known to be stable.
+// Two sessions meet. What the first knows before, what both know then, and whether two commits are known to be stable.
+fn meeting<'b, J: Naming>(
+    author: &mut Session<'b, J, AnyMap>,
+    reader: &mut Session<'b, J, AnyMap>,
+) -> ([Told; 3], bool) {
+    let before = told(author);
+    author.meet(reader);
+    ([before, told(author), told(reader)], reader.is_stable(2))
+}
+
+// One thread commits and marks, the other one observes until it has seen all of it; then they meet.
 fn meets<J: Naming + Send + Sync, H: Threads + Wait + Sync>(
     rt: &H,
     book: &Book<AnyMap>,
@@ -341,9 +361,7 @@ fn meets<J: Naming + Send + Sync, H: Threads + Wait + Sync>(
         || -> Session<J, AnyMap> { works(rt, author) },
         || -> Session<J, AnyMap> { waits(rt, reader, 4) },
     );
-    let before = told(&author);
-    author.meet(&mut reader);
-    Some(([before, told(&author), told(&reader)], reader.is_stable(2)))
+    Some(meeting(&mut author, &mut reader))
 }
 
 #[test]
@@ -351,9 +369,10 @@ fn two_threads_meet(rt: HostRuntime) -> Result<(), Fail> {
     let book: Book<AnyMap> = Book::open::<()>()?;
     let cell = SessionCell::open(rt.alloc())?;
     let layout = Layout::new(600).ok_or("600 blocks")?;
-    assert_eq!(rt;
-        meets::<Brand, _>(&rt, &book, cell, layout),
-        Some(([[3, 2, 3], [3, 2, 4], [5, 0, 4]], true))
+    wants(
+        &rt,
+        &meets::<Brand, _>(&rt, &book, cell, layout),
+        &Some(([[3, 2, 3], [3, 2, 4], [5, 0, 4]], true)),
     );
     Ok(())
 }

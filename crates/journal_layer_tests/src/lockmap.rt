@@ -1,6 +1,7 @@
 ghost use Rattle.std.specs.Prelude.{◌≡◌, ◌<◌, ◌≢◌, [], ◌∷◌, length};
 ghost use Rattle.journal_world.specs.declared.address.TheConstants.{SLOTS};
 
+use crate::asserts::wants;
 use crate::runs::{BUSY, Run, told};
 use journal_history::Naming;
 use journal_lockmap::{Bells, Held, LockMap, SlotCell, SlotCounts};
@@ -15,7 +16,7 @@ use std::thread::{Threads, join, yield_now};
 // A slot that is held is its number: its token has no bytes.
 #[test]
 fn a_token_takes_no_memory(rt: HostRuntime) {
-    assert_eq!(rt; size_of::<Held<Brand>>(), size_of::<u16>());
+    wants(&rt, &size_of::<Held<Brand>>(), &size_of::<u16>());
 }
 
 // The slots of the journal that has this cell, all free.
@@ -65,7 +66,7 @@ fn hold<J: Naming, R: Wait>(rt: &R, alloc: Global, cell: SlotCell) -> Result<[u6
 fn a_held_slot_is_busy_and_the_others_are_free(rt: HostRuntime) -> Result<(), Fail> {
     let cell = SlotCell::open(rt.alloc())?;
     let told = hold::<Brand, _>(&rt, rt.alloc(), cell)?;
-    assert_eq!(rt; told, [5, BUSY, 0, 4, 6, 256, 5]);
+    wants(&rt, &told, &[5, BUSY, 0, 4, 6, 256, 5]);
     Ok(())
 }
 
@@ -106,7 +107,7 @@ fn four_add<J: Naming + Send + Sync, R: Threads + Wait + Sync>(
 fn one_thread_at_a_time_holds_a_slot(rt: HostRuntime) -> Result<(), Fail> {
     let cell = SlotCell::open(rt.alloc())?;
     let sum = four_add::<Brand, _>(&rt, rt.alloc(), cell)?;
-    assert_eq!(rt; sum, 2000);
+    wants(&rt, &sum, &2000);
     Ok(())
 }
 
@@ -166,6 +167,6 @@ fn holds_and_waits<J: Naming + Send + Sync, R: Threads + Wait + Sync>(
 fn a_release_wakes_who_waits(rt: HostRuntime) -> Result<(), Fail> {
     let cell = SlotCell::open(rt.alloc())?;
     let told = holds_and_waits::<Brand, _>(&rt, rt.alloc(), cell)?;
-    assert_eq!(rt; told, (true, false, true));
+    wants(&rt, &told, &(true, false, true));
     Ok(())
 }

@@ -1,4 +1,5 @@
 // The log in memory, by way of the write-ahead log over it.
+use crate::asserts::wants;
 use crate::wal::Call::{Append, End, Install, Latest, Log, Peek, Read, Stands, Start};
 use crate::wal::{Row, wrong_row};
 
@@ -24,7 +25,7 @@ static ONCE: [Row; 16] = [
 
 #[test]
 fn a_block_stands_once_in_the_tail(rt: HostRuntime) {
-    assert_eq!(rt; wrong_row(&rt, rt.alloc(), 7, 7, &ONCE), None);
+    wants(&rt, &wrong_row(&rt, rt.alloc(), 7, 7, &ONCE), &None);
 }
 
 // The first two positions are dropped while the third one has block 531 again.
@@ -47,5 +48,5 @@ static TRIMMED: [Row; 14] = [
 
 #[test]
 fn what_is_trimmed_is_forgotten(rt: HostRuntime) {
-    assert_eq!(rt; wrong_row(&rt, rt.alloc(), 7, 7, &TRIMMED), None);
+    wants(&rt, &wrong_row(&rt, rt.alloc(), 7, 7, &TRIMMED), &None);
 }

@@ -1,4 +1,5 @@
 // Values by hand: where numbers, bits and objects lie in a block, and what is refused.
+use crate::asserts::wants;
 use crate::runs::{BAD_ADDRESS, BAD_SIZE, Run, Wrong, told};
 use journal_block::Block;
 use journal_object::{load, store};
@@ -68,7 +69,7 @@ fn numbers_and_bits_lie_lowest_first(rt: HostRuntime) -> Result<(), Fail> {
     let block = written(rt.alloc())?;
     let read = (block.get_u64(9), block.bit(9), block.bit(10));
     let read_is = (0x0001_0203_0405_0607, true, false);
-    assert_eq!(rt; (wrong_byte(&block), read), (None, read_is));
+    wants(&rt, &(wrong_byte(&block), read), &(None, read_is));
     Ok(())
 }
 
@@ -127,7 +128,7 @@ static LIE: [(Object, usize, u64); 8] = [
 #[test]
 fn objects_lie_at_their_bits(rt: HostRuntime) -> Result<(), Fail> {
     let layout = Layout::new(600).ok_or("a disk may have 600 blocks")?;
-    assert_eq!(rt; wrong_object(rt.alloc(), &layout, &LIE), None);
+    wants(&rt, &wrong_object(rt.alloc(), &layout, &LIE), &None);
     Ok(())
 }
 
@@ -146,6 +147,6 @@ static REFUSED: [(Object, usize, u64); 9] = [
 #[test]
 fn bad_addresses_and_sizes_are_refused(rt: HostRuntime) -> Result<(), Fail> {
     let layout = Layout::new(600).ok_or("a disk may have 600 blocks")?;
-    assert_eq!(rt; wrong_object(rt.alloc(), &layout, &REFUSED), None);
+    wants(&rt, &wrong_object(rt.alloc(), &layout, &REFUSED), &None);
     Ok(())
 }

@@ -5,6 +5,7 @@ ghost use Rattle.std.specs.Prelude.{◌≡◌, length, IfOk};
 ghost use Rattle.journal_disk.specs.Disks.{IsSettled};
 ghost use Rattle.journal_object.specs.Objects.{size_at};
 
+use crate::asserts::wants;
 use crate::runs::{
     BAD_ADDRESS, BAD_SIZE, DEVICE_FAILED, FULL, Run, TOO_LARGE, Wrong, is_refused, number, told,
 };
@@ -212,14 +213,31 @@ fn prepare(alloc: Global, pair: &mut Pair, writes: &Objects, fetched: &[Update])
     }
 }
 
+// Overwrites objects once these blocks are fetched.
+fn fetch_and_prepare(
+    rt: &impl Abort,
+    alloc: Global,
+    pair: &mut Pair,
+    writes: &Objects,
+    missing: &[u64],
+) -> Run<()> {
+    let fetched = fetch_all(rt, alloc, pair, missing)?;
+    let _ = prepare(alloc, pair, writes, &fetched)?;
+    Ok(())
+}
+
+fn overwrite_all(rt: &impl Abort, alloc: Global, pair: &mut Pair, writes: &Objects) -> Run<()> {
+    let missing = prepare(alloc, pair, writes, &[])?;
+    if missing.is_empty() {
+        return Ok(());
+    }
+    fetch_and_prepare(rt, alloc, pair, writes, &missing)
+}
+
 fn overwrite(rt: &impl Abort, alloc: Global, pair: &mut Pair, fills: &[Fill]) -> Run<u64> {
     usable(&pair.log)?;
     let writes = writes(alloc, fills)?;
-    let missing = prepare(alloc, pair, &writes, &[])?;
-    if !missing.is_empty() {
-        let fetched = fetch_all(rt, alloc, pair, &missing)?;
-        let _ = prepare(alloc, pair, &writes, &fetched)?;
-    }
+    overwrite_all(rt, alloc, pair, &writes)?;
     Ok(pair.tail.tail_len())
 }
 
@@ -362,7 +380,7 @@ static READ_ONCE: [Row; 7] = [
 
 #[test]
 fn a_block_is_read_once(rt: HostRuntime) {
-    assert_eq!(rt; wrong_row(&rt, rt.alloc(), 600, &READ_ONCE), None);
+    wants(&rt, &wrong_row(&rt, rt.alloc(), 600, &READ_ONCE), &None);
 }
 
 // After a fault each call answers J6, whatever else would refuse it.
@@ -398,7 +416,7 @@ static REFUSED: [Row; 27] = [
 
 #[test]
 fn each_refusal(rt: HostRuntime) {
-    assert_eq!(rt; wrong_row(&rt, rt.alloc(), 800, &REFUSED), None);
+    wants(&rt, &wrong_row(&rt, rt.alloc(), 800, &REFUSED), &None);
 }
 
 // Overwrites an object, and takes it as the group in flight.
@@ -451,5 +469,5 @@ fn a_rule_is_asked(rt: HostRuntime) {
     if is_refused(wrong) {
         wrong = wrong_rule(&rt, rt.alloc());
     }
-    assert_eq!(rt; wrong, None);
+    wants(&rt, &wrong, &None);
 }

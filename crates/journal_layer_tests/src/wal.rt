@@ -6,6 +6,7 @@ ghost use Rattle.journal_disk.specs.Disks.{IsSettled};
 ghost use Rattle.journal_memlog.specs.Logs.{fresh_count, tail_of};
 ghost use Rattle.journal_wal.specs.Wal.{AreHomes, IsAtRest, size_of};
 
+use crate::asserts::wants;
 use crate::runs::{DEVICE_FAILED, Run, Wrong, block_with, called, is_refused, number, told};
 use journal_block::{Block, Update};
 use journal_disk::{BlockDisk, MemDisk};
@@ -389,7 +390,7 @@ static HOME: [Row; 27] = [
 
 #[test]
 fn the_last_update_of_a_block_comes_home(rt: HostRuntime) {
-    assert_eq!(rt; wrong_row(&rt, rt.alloc(), 0, 0, &HOME), None);
+    wants(&rt, &wrong_row(&rt, rt.alloc(), 0, 0, &HOME), &None);
 }
 
 // The second device call of the logger fails, and each call is refused after it.
@@ -409,5 +410,5 @@ static FAULT: [Row; 11] = [
 
 #[test]
 fn a_fault_stays(rt: HostRuntime) {
-    assert_eq!(rt; wrong_row(&rt, rt.alloc(), 0, 0, &FAULT), None);
+    wants(&rt, &wrong_row(&rt, rt.alloc(), 0, 0, &FAULT), &None);
 }

@@ -1,4 +1,5 @@
 // Rules that are asked by a reader of their own.
+use crate::asserts::wants;
 use crate::runs::{DEVICE_FAILED, Run, number, told};
 use journal_world::{Addr, AnyMap, BITMAP, Layout, MapRule, ObjectReader, Refusal, Value};
 use std::alloc::Global;
@@ -80,13 +81,17 @@ fn admitted(alloc: Global, layout: Layout, fails: bool) -> [u64; 2] {
 #[test]
 fn rules_admit_the_map_of_zeros(rt: HostRuntime) -> Result<(), Fail> {
     let layout = Layout::new(600).ok_or("600 blocks")?;
-    assert_eq!(rt; admitted(rt.alloc(), layout, false), [1, 1]);
+    wants(&rt, &admitted(rt.alloc(), layout, false), &[1, 1]);
     Ok(())
 }
 
 #[test]
 fn a_failed_read_refuses_the_rule_that_asked_for_it(rt: HostRuntime) -> Result<(), Fail> {
     let layout = Layout::new(600).ok_or("600 blocks")?;
-    assert_eq!(rt; admitted(rt.alloc(), layout, true), [1, DEVICE_FAILED]);
+    wants(
+        &rt,
+        &admitted(rt.alloc(), layout, true),
+        &[1, DEVICE_FAILED],
+    );
     Ok(())
 }

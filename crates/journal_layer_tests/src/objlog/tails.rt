@@ -4,6 +4,7 @@
 ghost use Rattle.std.specs.Prelude.{◌<◌, ◌^◌};
 
 use super::{Fill, bytes_in, filled, room_for, writes};
+use crate::asserts::wants;
 use crate::runs::{
     BAD_ADDRESS, BAD_SIZE, FULL, Run, TOO_LARGE, WORN, Wrong, is_refused, number, told,
 };
@@ -282,7 +283,7 @@ static FETCHED: [Row; 27] = [
 
 #[test]
 fn what_memory_lacks_is_fetched(rt: HostRuntime) {
-    assert_eq!(rt; wrong_row(&rt, rt.alloc(), 7, &FETCHED), None);
+    wants(&rt, &wrong_row(&rt, rt.alloc(), 7, &FETCHED), &None);
 }
 
 // A cut hands the tail out, and no later write changes its group. The updates stay until their cut is trimmed, and then
@@ -329,7 +330,7 @@ static CUTS: [Row; 37] = [
 
 #[test]
 fn what_is_cut_stays_until_it_is_trimmed(rt: HostRuntime) {
-    assert_eq!(rt; wrong_row(&rt, rt.alloc(), 7, &CUTS), None);
+    wants(&rt, &wrong_row(&rt, rt.alloc(), 7, &CUTS), &None);
 }
 
 // What is refused leaves the objects as they were.
@@ -365,7 +366,7 @@ static REFUSED: [Row; 23] = [
 
 #[test]
 fn what_is_refused_changes_nothing(rt: HostRuntime) {
-    assert_eq!(rt; wrong_row(&rt, rt.alloc(), 7, &REFUSED), None);
+    wants(&rt, &wrong_row(&rt, rt.alloc(), 7, &REFUSED), &None);
 }
 
 // The last position that there is is given, and no further one; a block that stands in the tail takes none.
@@ -380,5 +381,5 @@ static WORN_OUT: [Row; 5] = [
 #[test]
 fn positions_end(rt: HostRuntime) {
     let end = (1 << 62) - 2;
-    assert_eq!(rt; wrong_row(&rt, rt.alloc(), end, &WORN_OUT), None);
+    wants(&rt, &wrong_row(&rt, rt.alloc(), end, &WORN_OUT), &None);
 }

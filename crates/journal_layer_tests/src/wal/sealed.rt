@@ -6,6 +6,7 @@ ghost use Rattle.std.specs.Prelude.{IfOk};
 ghost use Rattle.journal_disk.specs.Disks.{IsSettled};
 
 use super::{Pair, SEALED, append, disk_with_log, log, open, paired, read_from};
+use crate::asserts::wants;
 use crate::runs::{DEVICE_FAILED, Run, number, told};
 use journal_disk::MemDisk;
 use std::alloc::Global;
@@ -197,15 +198,23 @@ fn wrong_choice(
 // which block 0 would take for that of the first.
 #[test]
 fn three_groups_are_torn_one_after_the_other(rt: HostRuntime) {
-    assert_eq!(rt; wrong_choice(&rt, rt.alloc(), Trial::Three, 64), None);
+    wants(&rt, &wrong_choice(&rt, rt.alloc(), Trial::Three, 64), &None);
 }
 
 #[test]
 fn three_groups_of_two_are_torn_where_the_positions_come_round(rt: HostRuntime) {
-    assert_eq!(rt; wrong_choice(&rt, rt.alloc(), Trial::ThreePairs, 512), None);
+    wants(
+        &rt,
+        &wrong_choice(&rt, rt.alloc(), Trial::ThreePairs, 512),
+        &None,
+    );
 }
 
 #[test]
 fn each_device_call_of_a_group_fails(rt: HostRuntime) {
-    assert_eq!(rt; wrong_choice(&rt, rt.alloc(), Trial::Failed, 32), None);
+    wants(
+        &rt,
+        &wrong_choice(&rt, rt.alloc(), Trial::Failed, 32),
+        &None,
+    );
 }

@@ -8,6 +8,7 @@ ghost use Rattle.std.specs.Prelude.{IfOk};
 ghost use Rattle.journal_disk.specs.Disks.{IsSettled};
 
 use super::{Pair, append, log, open, paired, read_from, wrong_choice};
+use crate::asserts::wants;
 use crate::runs::Run;
 use crate::wal::{SEALED, sized_disk_with_log};
 use journal_disk::MemDisk;
@@ -307,30 +308,34 @@ fn wrong_life(rt: &impl Abort, alloc: Global, trial: Trial) -> Option<(usize, u6
 
 #[test]
 fn a_crash_comes_behind_each_step_of_a_largest_group(rt: HostRuntime) {
-    assert_eq!(rt; wrong_life(&rt, rt.alloc(), Trial::Crash(true)), None);
+    wants(&rt, &wrong_life(&rt, rt.alloc(), Trial::Crash(true)), &None);
 }
 
 #[test]
 fn a_crash_comes_behind_each_step_of_a_largest_plain_group(rt: HostRuntime) {
-    assert_eq!(rt; wrong_life(&rt, rt.alloc(), Trial::Crash(false)), None);
+    wants(
+        &rt,
+        &wrong_life(&rt, rt.alloc(), Trial::Crash(false)),
+        &None,
+    );
 }
 
 #[test]
 fn one_write_of_a_largest_group_is_lost_or_kept_alone(rt: HostRuntime) {
-    assert_eq!(rt; wrong_life(&rt, rt.alloc(), Trial::OneWrite), None);
+    wants(&rt, &wrong_life(&rt, rt.alloc(), Trial::OneWrite), &None);
 }
 
 #[test]
 fn each_device_call_of_a_largest_group_fails(rt: HostRuntime) {
-    assert_eq!(rt; wrong_life(&rt, rt.alloc(), Trial::Fail(true)), None);
+    wants(&rt, &wrong_life(&rt, rt.alloc(), Trial::Fail(true)), &None);
 }
 
 #[test]
 fn each_device_call_of_a_largest_plain_group_fails(rt: HostRuntime) {
-    assert_eq!(rt; wrong_life(&rt, rt.alloc(), Trial::Fail(false)), None);
+    wants(&rt, &wrong_life(&rt, rt.alloc(), Trial::Fail(false)), &None);
 }
 
 #[test]
 fn largest_groups_are_torn_three_times_over(rt: HostRuntime) {
-    assert_eq!(rt; wrong_life(&rt, rt.alloc(), Trial::TornThrice), None);
+    wants(&rt, &wrong_life(&rt, rt.alloc(), Trial::TornThrice), &None);
 }

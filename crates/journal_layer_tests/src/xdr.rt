@@ -15,7 +15,7 @@ impl Enumeration for Kind {
     ghost use Rattle.std.specs.Prelude.{refl, [], ◌∷◌};
     ghost use Rattle.journal_xdr.specs.Basic.{listed};
     ghost use Rattle.journal_xdr.specs.BasicLaws.{listed_back};
-    ghost use Rattle.journal_wire_tests.specs.declared.xdr.Kind.TheVariants.{Text, Data, Exec};
+    ghost use Rattle.journal_layer_tests.specs.declared.xdr.Kind.TheVariants.{Text, Data, Exec};
 
     ghost meaning = { λ n. listed ((0, Text) ∷ (1, Data) ∷ (2, Exec) ∷ []) n };
 

@@ -211,7 +211,7 @@ fn requests_in_any_cutting(rt: HostRuntime) -> Result<(), Fail> {
 }
 
 #[test]
-fn a_record_above_the_limit(rt: HostRuntime) -> Result<(), Fail> {
+fn a_request_above_the_limit(rt: HostRuntime) -> Result<(), Fail> {
     let mut input = Input::new(rt.alloc());
     input.feed(&bytes_of(rt.alloc(), &[2_097_153])?)?;
     let long = matches!(input.next_request(rt.alloc()), Next::TooLong);

@@ -1,12 +1,12 @@
 // Numbers that are handed out, and those that come back.
 use crate::asserts::wants;
 use journal_alloc::Alloc;
-use std::alloc::AllocError;
+use std::alloc::{AllocError, Global};
 use std::test::*;
 
 // The numbers 10 to 13, of which 11 is out.
-fn four(rt: &HostRuntime) -> Result<Alloc, Fail> {
-    Ok(Alloc::new(10, vec![in rt.alloc(); false, true, false, false]?))
+fn four(alloc: Global) -> Result<Alloc, Fail> {
+    Ok(Alloc::new(10, vec![in alloc; false, true, false, false]?))
 }
 
 // The next four that go.
@@ -30,7 +30,7 @@ fn give_all(numbers: &mut Alloc, back: &[u64; 6]) -> [bool; 6] {
 
 #[test]
 fn the_lowest_that_is_not_out_goes_first(rt: HostRuntime) -> Result<(), Fail> {
-    let mut numbers = four(&rt)?;
+    let mut numbers = four(rt.alloc())?;
     let went = (take_four(&mut numbers), numbers.take());
     wants(&rt, &went, &([Some(10), Some(12), Some(13), None], None));
     Ok(())
@@ -38,7 +38,7 @@ fn the_lowest_that_is_not_out_goes_first(rt: HostRuntime) -> Result<(), Fail> {
 
 #[test]
 fn a_number_that_came_back_goes_again(rt: HostRuntime) -> Result<(), Fail> {
-    let mut numbers = four(&rt)?;
+    let mut numbers = four(rt.alloc())?;
     let went = (numbers.take(), numbers.take());
     let back = (numbers.give(11), numbers.give(10));
     let again = take_four(&mut numbers);
@@ -73,7 +73,7 @@ fn take_in_turn(numbers: &mut Alloc, out: &mut Vec<u64>) -> Result<[bool; 5], Al
 
 #[test]
 fn so_many_numbers_go_at_once_or_none(rt: HostRuntime) -> Result<(), Fail> {
-    let mut numbers = four(&rt)?;
+    let mut numbers = four(rt.alloc())?;
     let mut out = Vec::new(rt.alloc());
     let taken = take_in_turn(&mut numbers, &mut out)?;
     let last = numbers.take();
@@ -91,7 +91,7 @@ fn so_many_numbers_go_at_once_or_none(rt: HostRuntime) -> Result<(), Fail> {
 
 #[test]
 fn what_is_not_out_is_not_taken_back(rt: HostRuntime) -> Result<(), Fail> {
-    let mut numbers = four(&rt)?;
+    let mut numbers = four(rt.alloc())?;
     let taken = give_all(&mut numbers, &[0, 9, 10, 12, 14, u64::MAX]);
     let twice = (numbers.give(11), numbers.give(11));
     wants(&rt, &(taken, twice), &([false; 6], (true, false)));
