@@ -395,6 +395,14 @@ int jnl_port_enter(const char *path, struct jnl_port **out)
     return s;
 }
 
+/* The program was asked for no port. */
+int jnl_port_enter_tcp(uint16_t number, struct jnl_port **out)
+{
+    (void)number;
+    *out = NULL;
+    return has_forked ? JNL_FORKED : JNL_NO_PORT;
+}
+
 /* No further line is taken, and the workers whose lines are left look whether the program ends. */
 static void shut(void)
 {
@@ -562,7 +570,7 @@ static int is_listener(int fd)
     return fd == LISTENER || fd == LISTENER_COPY;
 }
 
-/* The program was asked for no port, so that it makes no socket but its listener. */
+/* It makes no socket but its listener. */
 int jnl_os_socket(int domain, int type, int protocol)
 {
     (void)type, (void)protocol;

@@ -6,12 +6,16 @@
 #include <time.h>
 #include <unistd.h>
 
-enum { VERSION = 1, MAX_RECORD = 2097152, MAX_VALUE = 4096, MAX_PARTS = 4096, MAX_TRIES = 100 };
+enum { VERSION = 1, MAX_RECORD = 2097152, MAX_VALUE = 4096, MAX_PARTS = 4096, MAX_READS = 256 };
+enum { MAX_TRIES = 100 };
 enum { HELLO, COMMIT, READ, FLUSH, STAT, STOP };
 enum { COMPARE, WRITE };
 /* A transaction: its length, its operation, whether it waits, how many parts; then the parts. A
  * part: its action, its address, its value's length; then the value. */
 enum { TRANSACTION_HEAD = 16, PART_HEAD = 20 };
+/* A read: its length, its operation, how many addresses; then the addresses. What it is answered:
+ * the status, the operation, how many values; then the values, each behind its length. */
+enum { READ_HEAD = 12, ADDRESS = 12, VALUE_HEAD = 4 };
 
 struct jnl {
     struct jnl_port *port;
@@ -146,13 +150,12 @@ static int ask(jnl *j, uint32_t operation, uint8_t *record, size_t n, uint8_t *a
     return s ? s : ask_connected(j, operation, record, n, answer, room, wanted, size);
 }
 
-int jnl_open(const char *path, jnl **out)
+static int open_at(const char *path, uint16_t number, jnl **out)
 {
-    if (!path || !out) return JNL_MISUSE;
     *out = NULL;
     jnl *j = calloc(1, sizeof *j);
     if (!j) return JNL_NO_MEMORY;
-    int s = jnl_port_enter(path, &j->port);
+    int s = path ? jnl_port_enter(path, &j->port) : jnl_port_enter_tcp(number, &j->port);
     if (!s) s = dial(j);
     if (s) {
         jnl_close(j);
@@ -160,6 +163,16 @@ int jnl_open(const char *path, jnl **out)
     }
     *out = j;
     return JNL_OK;
+}
+
+int jnl_open(const char *path, jnl **out)
+{
+    return path && out ? open_at(path, 0, out) : JNL_MISUSE;
+}
+
+int jnl_open_tcp(uint16_t port, jnl **out)
+{
+    return out ? open_at(NULL, port, out) : JNL_MISUSE;
 }
 
 void jnl_close(jnl *j)
@@ -220,9 +233,9 @@ static uint8_t *find(jnl_txn *t, uint32_t action, jnl_addr a)
     return NULL;
 }
 
-static int make_room(jnl_txn *t, size_t more)
+static int make_room(jnl_txn *t, size_t parts, size_t more)
 {
-    if (t->parts == MAX_PARTS || t->used + more > MAX_RECORD + 4) return JNL_TOO_LARGE;
+    if (t->parts + parts > MAX_PARTS || t->used + more > MAX_RECORD + 4) return JNL_TOO_LARGE;
     if (t->record && t->used + more <= t->room) return JNL_OK;
     size_t room = 2 * t->room + more + 512;
     uint8_t *record = realloc(t->record, room);
@@ -234,7 +247,7 @@ static int make_room(jnl_txn *t, size_t more)
 
 static int add(jnl_txn *t, uint32_t action, jnl_addr a, const void *bytes, size_t size)
 {
-    int s = make_room(t, PART_HEAD + padded(size));
+    int s = make_room(t, 1, PART_HEAD + padded(size));
     if (s) return s;
     uint8_t *p = put32(put_addr(put32(t->record + t->used, action), a), (uint32_t)size);
     memcpy(p, bytes, size);
@@ -244,39 +257,117 @@ static int add(jnl_txn *t, uint32_t action, jnl_addr a, const void *bytes, size_
     return JNL_OK;
 }
 
-static int has_value(const uint8_t *answer, size_t found)
+/* ---- reads */
+
+/* The objects of a read that the transaction does not have, by their numbers in it. */
+struct missing {
+    size_t count;
+    uint16_t numbers[MAX_READS];
+};
+
+/* What the transaction has of an object: what it wrote there, else what it read; or NULL. */
+static uint8_t *own_part(jnl_txn *t, jnl_addr a)
 {
-    static const uint8_t zeros[3];
-    if (found < 16 || get32(answer + 8) != 1) return 0;
-    size_t size = get32(answer + 12);
-    if (size > MAX_VALUE || found != 16 + padded(size)) return 0;
-    return !memcmp(answer + 16 + size, zeros, padded(size) - size);
+    uint8_t *own = find(t, WRITE, a);
+    return own ? own : find(t, COMPARE, a);
 }
 
-static int fetch(jnl_txn *t, jnl_addr a, void *into, size_t size)
+static int find_missing(jnl_txn *t, const jnl_object *objects, size_t n, struct missing *m)
 {
-    uint8_t record[24], answer[16 + MAX_VALUE];
-    size_t found;
-    put_addr(put32(record + 8, 1), a);
-    int s = ask(t->j, READ, record, sizeof record, answer, sizeof answer, SIZE_MAX, &found);
+    m->count = 0;
+    for (size_t i = 0; i < n; i++) {
+        uint8_t *own = own_part(t, objects[i].addr);
+        if (!objects[i].value) return JNL_MISUSE;
+        if (own && size_of(own) != objects[i].size) return JNL_BAD_SIZE;
+        if (!own) m->numbers[m->count++] = (uint16_t)i;
+    }
+    return JNL_OK;
+}
+
+static const uint8_t *next_value(const uint8_t *value)
+{
+    return value + VALUE_HEAD + padded(get32(value));
+}
+
+static int has_values(const uint8_t *answer, size_t size, size_t count)
+{
+    static const uint8_t zeros[3];
+    if (size < READ_HEAD || get32(answer + 8) != count) return 0;
+    const uint8_t *value = answer + READ_HEAD;
+    size_t left = size - READ_HEAD;
+    for (; count; count--) {
+        size_t n = left < VALUE_HEAD ? SIZE_MAX : get32(value);
+        if (n > MAX_VALUE || left - VALUE_HEAD < padded(n)) return 0;
+        if (memcmp(value + VALUE_HEAD + n, zeros, padded(n) - n)) return 0;
+        left -= VALUE_HEAD + padded(n);
+        value = next_value(value);
+    }
+    return !left;
+}
+
+/* Has the commit compare what was answered. An object that is named twice is compared once. */
+static int keep(jnl_txn *t, const jnl_object *objects, const struct missing *m,
+                const uint8_t *value)
+{
+    size_t bytes = 0;
+    const uint8_t *at = value;
+    for (size_t i = 0; i < m->count; i++, at = next_value(at)) {
+        size_t size = objects[m->numbers[i]].size;
+        if (get32(at) != size) return JNL_BAD_SIZE;
+        bytes += PART_HEAD + padded(size);
+    }
+    int s = make_room(t, m->count, bytes);
     if (s) return s;
-    if (!has_value(answer, found)) return hang_up(t->j, JNL_PROTOCOL);
-    if (get32(answer + 12) != size) return JNL_BAD_SIZE;
-    s = add(t, COMPARE, a, answer + 16, size);
-    if (!s) memcpy(into, answer + 16, size);
+    for (size_t i = 0; i < m->count; i++, value = next_value(value)) {
+        jnl_addr a = objects[m->numbers[i]].addr;
+        if (!find(t, COMPARE, a)) add(t, COMPARE, a, value + VALUE_HEAD, get32(value));
+    }
+    return JNL_OK;
+}
+
+/* Asks for what is missing; `record` has room for the request, and behind it for the answer. */
+static int fetch(jnl_txn *t, const jnl_object *objects, const struct missing *m, uint8_t *record,
+                 size_t request, size_t room)
+{
+    uint8_t *answer = record + request, *p = put32(record + 8, (uint32_t)m->count);
+    size_t size;
+    for (size_t i = 0; i < m->count; i++) p = put_addr(p, objects[m->numbers[i]].addr);
+    int s = ask(t->j, READ, record, request, answer, room, SIZE_MAX, &size);
+    if (s) return s;
+    if (!has_values(answer, size, m->count)) return hang_up(t->j, JNL_PROTOCOL);
+    return keep(t, objects, m, answer + READ_HEAD);
+}
+
+static int fetch_missing(jnl_txn *t, const jnl_object *objects, const struct missing *m)
+{
+    size_t request = READ_HEAD + m->count * ADDRESS;
+    size_t room = READ_HEAD + m->count * (VALUE_HEAD + MAX_VALUE);
+    uint8_t *record = malloc(request + room);
+    if (!record) return JNL_NO_MEMORY;
+    int s = fetch(t, objects, m, record, request, room);
+    free(record);
+    return s;
+}
+
+int jnl_read_many(jnl_txn *t, const jnl_object *objects, size_t n)
+{
+    struct missing m;
+    if (!t || (n && !objects)) return JNL_MISUSE;
+    if (n > MAX_READS) return JNL_TOO_LARGE;
+    int s = find_missing(t, objects, n, &m);
+    if (!s && m.count) s = fetch_missing(t, objects, &m);
+    for (size_t i = 0; !s && i < n; i++) {
+        memcpy(objects[i].value, own_part(t, objects[i].addr) + PART_HEAD, objects[i].size);
+    }
     return s;
 }
 
 int jnl_read(jnl_txn *t, jnl_addr a, void *into, size_t size)
 {
-    if (!t || !into) return JNL_MISUSE;
-    uint8_t *own = find(t, WRITE, a);
-    if (!own) own = find(t, COMPARE, a);
-    if (!own) return fetch(t, a, into, size);
-    if (size_of(own) != size) return JNL_BAD_SIZE;
-    memcpy(into, own + PART_HEAD, size);
-    return JNL_OK;
+    return jnl_read_many(t, &(jnl_object){a, into, size}, 1);
 }
+
+/* ---- writes and commits */
 
 int jnl_write(jnl_txn *t, jnl_addr a, const void *bytes, size_t size)
 {
@@ -376,7 +467,7 @@ const char *jnl_strerror(int status)
     case JNL_NO_MEMORY: return "memory was refused";
     case JNL_BAD_ADDRESS: return "an address names no object";
     case JNL_BAD_SIZE: return "a value's length is not its object's, or a bit's byte exceeds 1";
-    case JNL_TOO_LARGE: return "the transaction is too large";
+    case JNL_TOO_LARGE: return "too many blocks, parts or objects";
     case JNL_DEVICE_FAILED: return "the disk failed";
     case JNL_STALE:
     case JNL_STRANGER:

@@ -42,7 +42,8 @@ typedef enum {
     JNL_NO_MEMORY = 1,
     JNL_BAD_ADDRESS = 2,
     JNL_BAD_SIZE = 3,
-    JNL_TOO_LARGE = 4,      /* more than 128 distinct blocks are written, or 4096 parts made */
+    /* More than 128 distinct blocks are written, 4096 parts made, or 256 objects read at once. */
+    JNL_TOO_LARGE = 4,
     JNL_DEVICE_FAILED = 6,  /* the disk has to be opened again; all that was stable is there */
     JNL_STALE = 9,          /* 9 to 11, 14: the session has ended; the next call begins another */
     JNL_STRANGER = 10,
@@ -60,12 +61,19 @@ typedef enum {
     JNL_LOST = 96,
     JNL_PROTOCOL = 98,
     /* Nothing was done. */
-    JNL_NO_PORT = 97,       /* no port answers at the path */
+    JNL_NO_PORT = 97,       /* no port answers there */
     JNL_MISUSE = 99,        /* a null pointer */
     /* Of the carrier in the process alone; nothing was done. */
     JNL_SECOND_DISK = 100,  /* another disk is open in this process */
     JNL_FORKED = 101        /* this process is a copy that fork made of the one that opened */
 } jnl_status;
+
+/* An object that is read: where it is, and where its value goes. */
+typedef struct {
+    jnl_addr addr;
+    void *value;
+    size_t size;
+} jnl_object;
 
 /* jnl_commit: answer once the transaction is stable, so that no crash takes it back. */
 #define JNL_WAIT 1u
@@ -85,11 +93,16 @@ typedef struct {
  * JNL_LOST, JNL_NO_MEMORY; *out is then NULL. */
 int jnl_open(const char *path, jnl **out);
 
+/* Connects to a TCP port of this machine, as jnl_open does. It has no access check. With the
+ * journal in this process it is JNL_NO_PORT. */
+int jnl_open_tcp(uint16_t port, jnl **out);
+
 /* Closes the connection. NULL is fine. Its transactions must have ended. */
 void jnl_close(jnl *);
 
 /* The most that a call waits for the port to take or send bytes, in milliseconds; 0, as at the
- * beginning, is for ever. A call that waited in vain answers JNL_LOST. */
+ * beginning, is for ever. A call that waited in vain answers JNL_LOST. With the journal in this
+ * process it has no effect. */
 void jnl_set_timeout(jnl *, unsigned milliseconds);
 
 /* How many blocks the disk has. */
@@ -102,6 +115,12 @@ int jnl_begin(jnl *, jnl_txn **out);
  * what the journal has. Two reads may come from two places of the history: the commit then finds
  * JNL_CONFLICT. Where it is refused the transaction is as it was. */
 int jnl_read(jnl_txn *, jnl_addr, void *into, size_t size);
+
+/* Reads n objects, at most 256, as jnl_read does. Those that the transaction does not have yet come
+ * from one place of the history, by one request. A program that only reads may then end the
+ * transaction by jnl_abort. Where it is refused no value is set, and the transaction is as it
+ * was. */
+int jnl_read_many(jnl_txn *, const jnl_object *, size_t n);
 
 /* Has an object overwritten by the commit. A wrong address or size is found by the commit. Where
  * it is refused, by JNL_NO_MEMORY, JNL_BAD_SIZE or JNL_TOO_LARGE, the transaction is as it was. */

@@ -4,12 +4,13 @@
 #define JOURNAL_LINE_H
 #include "journal.h"
 
-/* What stands at a path, and one connection to it. */
+/* What stands at a path or a TCP port, and one connection to it. */
 struct jnl_port;
 struct jnl_line;
 
 /* Answers a jnl_status; at JNL_OK the port is to be left. */
 int jnl_port_enter(const char *path, struct jnl_port **out);
+int jnl_port_enter_tcp(uint16_t number, struct jnl_port **out);
 void jnl_port_leave(struct jnl_port *);
 
 /* Answers a jnl_status; at JNL_OK the line is to be closed. */

@@ -3,6 +3,8 @@
 #include "line.h"
 #include <errno.h>
 #include <fcntl.h>
+#include <netinet/in.h>
+#include <netinet/tcp.h>
 #include <stdlib.h>
 #include <string.h>
 #include <sys/socket.h>
@@ -11,7 +13,12 @@
 #include <unistd.h>
 
 struct jnl_port {
-    struct sockaddr_un at;
+    union {
+        struct sockaddr any;
+        struct sockaddr_un path;
+        struct sockaddr_in tcp;
+    } at;
+    socklen_t size;
 };
 
 struct jnl_line {
@@ -23,13 +30,26 @@ int jnl_port_enter(const char *path, struct jnl_port **out)
     struct jnl_port *p = calloc(1, sizeof *p);
     *out = NULL;
     if (!p) return JNL_NO_MEMORY;
-    if (strlen(path) >= sizeof p->at.sun_path) {
+    if (strlen(path) >= sizeof p->at.path.sun_path) {
         free(p);
         return JNL_NO_PORT;
     }
-    p->at.sun_family = AF_UNIX;
-    strcpy(p->at.sun_path, path);
+    p->at.path.sun_family = AF_UNIX;
+    strcpy(p->at.path.sun_path, path);
+    p->size = sizeof p->at.path;
     *out = p;
+    return JNL_OK;
+}
+
+int jnl_port_enter_tcp(uint16_t number, struct jnl_port **out)
+{
+    struct jnl_port *p = calloc(1, sizeof *p);
+    *out = p;
+    if (!p) return JNL_NO_MEMORY;
+    p->at.tcp.sin_family = AF_INET;
+    p->at.tcp.sin_port = htons(number);
+    p->at.tcp.sin_addr.s_addr = htonl(INADDR_LOOPBACK);
+    p->size = sizeof p->at.tcp;
     return JNL_OK;
 }
 
@@ -38,21 +58,35 @@ void jnl_port_leave(struct jnl_port *p)
     free(p);
 }
 
+static int connect_to(const struct jnl_port *p, int fd)
+{
+    int s;
+    do {
+        s = connect(fd, &p->at.any, p->size);
+    } while (s && errno == EINTR);
+    return s;
+}
+
 int jnl_line_open(struct jnl_port *p, struct jnl_line **out)
 {
+    const int on = 1;
     struct jnl_line *l = malloc(sizeof *l);
     *out = NULL;
     if (!l) return JNL_NO_MEMORY;
-    l->fd = socket(AF_UNIX, SOCK_STREAM, 0);
+    l->fd = socket(p->at.any.sa_family, SOCK_STREAM, 0);
     if (l->fd < 0) {
         free(l);
         return JNL_NO_PORT;
     }
     /* A program that this one begins has no part in the connection. */
     fcntl(l->fd, F_SETFD, FD_CLOEXEC);
-    if (connect(l->fd, (const struct sockaddr *)&p->at, sizeof p->at)) {
+    if (connect_to(p, l->fd)) {
         jnl_line_close(l);
         return JNL_NO_PORT;
+    }
+    /* A request is one record, which TCP would hold back for more. */
+    if (p->at.any.sa_family == AF_INET) {
+        setsockopt(l->fd, IPPROTO_TCP, TCP_NODELAY, &on, sizeof on);
     }
     *out = l;
     return JNL_OK;

@@ -9,7 +9,8 @@ import (
 	"testing"
 )
 
-// The tests of this file are against a running port: JOURNAL_SOCKET names its socket.
+// The tests of this file are against a running port: JOURNAL_SOCKET names its socket, and
+// JOURNAL_TCP_PORT its TCP port, if it has one.
 
 const (
 	accounts   = 8
@@ -121,6 +122,27 @@ func TestRefusals(t *testing.T) {
 		if err := writeOne(j, row.address, row.value); !errors.Is(err, row.want) {
 			t.Errorf("%v: %v, not %v", row.address, err, row.want)
 		}
+	}
+}
+
+func TestTCP(t *testing.T) {
+	port, place := os.Getenv("JOURNAL_TCP_PORT"), Address{527, 0}
+	if port == "" {
+		t.Skip("JOURNAL_TCP_PORT names no port")
+	}
+	byTCP, err := Dial("tcp", "127.0.0.1:"+port)
+	if err != nil {
+		t.Fatal(err)
+	}
+	defer byTCP.Close()
+	if err := writeOne(byTCP, place, valueOf(3)); err != nil {
+		t.Fatal(err)
+	}
+	if found := readOne(t, dial(t), place); !bytes.Equal(found, valueOf(3)) {
+		t.Errorf("after a commit by TCP: %v", found)
+	}
+	if err := byTCP.Stop(); !errors.Is(err, Forbidden) {
+		t.Errorf("a stop by TCP: %v", err)
 	}
 }
 

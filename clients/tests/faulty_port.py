@@ -23,7 +23,7 @@ is after a pause, as a client cannot see that a connection ends before it does.
 The first read of one of these bits after a commit that writes it:
 
     20  is answered with a byte behind its value that is no zero  protocol
-    21  is answered with two values                               protocol
+    21  is answered with a value more than was asked              protocol
     22  is answered with a value of 5000 bytes                    protocol
 """
 
@@ -119,14 +119,14 @@ class Connection:
         return other.get(fault, framed(done))
 
     def read(self, record: bytes) -> None:
-        bit = int.from_bytes(record[16:20], "big")
+        asked, bit = (int.from_bytes(record[i : i + 4], "big") for i in (4, 16))
         answer = self.port.answer(record)
         if record[8:16] == struct.pack(">Q", BLOCK_OF_BITS) and bit in self.port.to_read:
             self.port.to_read.remove(bit)
             value = word(1) + b"\1\0\0\0"
             answer = answer[:8] + {
                 20: word(1) + word(1) + b"\1\0\0\1",
-                21: word(2) + value * 2,
+                21: word(asked + 1) + value * (asked + 1),
                 22: word(1) + word(5000) + bytes(5000),
             }[bit]
         self.send(answer)

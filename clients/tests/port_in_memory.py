@@ -1,7 +1,8 @@
 """A port over a map in memory, for the tests of the clients: port_in_memory.py SOCKET.
 
 It is written from docs/PROTOCOL.md alone, and knows nothing of the journal. It answers as the page
-says, keeps nothing, and refuses to stop.
+says, keeps nothing, and refuses to stop. Its first line of output is the TCP port of this machine
+at which it listens too.
 """
 
 import socket
@@ -168,14 +169,21 @@ class Port:
                     connection.sendall(word(len(answer)) + answer)
 
 
+def accept_all(port: Port, listener: socket.socket) -> None:
+    while True:
+        connection, _ = listener.accept()
+        threading.Thread(target=port.serve, args=(connection,), daemon=True).start()
+
+
 def listen(port: Port, path: str) -> None:
-    with socket.socket(socket.AF_UNIX, socket.SOCK_STREAM) as listener:
+    with socket.socket(socket.AF_UNIX) as listener, socket.socket(socket.AF_INET) as tcp:
         listener.bind(path)
         listener.listen(64)
-        print("ready", flush=True)
-        while True:
-            connection, _ = listener.accept()
-            threading.Thread(target=port.serve, args=(connection,), daemon=True).start()
+        tcp.bind(("127.0.0.1", 0))
+        tcp.listen(64)
+        threading.Thread(target=accept_all, args=(port, tcp), daemon=True).start()
+        print(tcp.getsockname()[1], flush=True)
+        accept_all(port, listener)
 
 
 if __name__ == "__main__":

@@ -70,6 +70,20 @@ static void a_read(uint32_t bit)
     jnl_abort(t);
 }
 
+static void a_read_of_many(uint32_t bit)
+{
+    jnl_txn *t;
+    unsigned char values[2] = {9, 9};
+    jnl_object both[2] = {{{514, bit}, &values[0], 1}, {{514, 100}, &values[1], 1}};
+    want((unsigned)commit(bit, NULL), JNL_OK, "a commit", bit);
+    want((unsigned)jnl_begin(j, &t), JNL_OK, "begin", bit);
+    want((unsigned)jnl_read_many(t, both, 2), JNL_PROTOCOL, "a read of two", bit);
+    want(values[0] + values[1], 18, "what a read that is refused leaves", bit);
+    want((unsigned)jnl_read_many(t, both, 2), JNL_OK, "the next read of two", bit);
+    want(10 * values[0] + values[1], 10, "the values", bit);
+    jnl_abort(t);
+}
+
 static void unsure(void)
 {
     jnl_receipt receipt = {0, 0};
@@ -97,7 +111,7 @@ int main(int argc, char **argv)
     unsure();
     a_run(1, JNL_LOST, 1);
     a_run(10, JNL_OK, 4);
-    for (uint32_t bit = 20; bit < 23; bit++) a_read(bit);
+    for (uint32_t bit = 20; bit < 23; bit++) a_read(bit), a_read_of_many(bit);
     want((unsigned)commit(13, NULL), JNL_OK, "a commit", 13);
     want((unsigned)jnl_flush(j, NULL), JNL_OTHER_VERSION, "another version", 13);
     commits(13);

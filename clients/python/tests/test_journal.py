@@ -1,4 +1,5 @@
-"""Tests of the client against a running port: JOURNAL_SOCKET names its socket.
+"""Tests of the client against a running port: JOURNAL_SOCKET names its socket, and JOURNAL_TCP_PORT
+its TCP port, if it has one.
 
     JOURNAL_SOCKET=/tmp/disk.sock python3 -m unittest discover -s tests
 """
@@ -15,6 +16,7 @@ sys.path.insert(0, os.path.join(os.path.dirname(__file__), ".."))
 import journal  # noqa: E402
 
 PATH = os.environ.get("JOURNAL_SOCKET", "")
+TCP_PORT = os.environ.get("JOURNAL_TCP_PORT", "")
 
 ACCOUNTS = [(515 + i // 32, 1024 * (i % 32)) for i in range(8)]
 
@@ -120,6 +122,15 @@ class Journal(unittest.TestCase):
         for thread in threads:
             thread.join()
         self.assertEqual(sum(map(number, self.journal.read(ACCOUNTS))), 800)
+
+    @unittest.skipUnless(TCP_PORT, "JOURNAL_TCP_PORT names no port")
+    def test_tcp(self) -> None:
+        with journal.connect(port=int(TCP_PORT), timeout=30) as j:
+            j.run(lambda t: t.write(517, 0, value_of(3)))
+            with self.assertRaises(journal.Refused) as caught:
+                j.stop()
+            self.assertEqual(caught.exception.status, 70)
+        self.assertEqual(self.journal.read([(517, 0)]), [value_of(3)])
 
     def test_the_examples_of_the_page(self) -> None:
         hello = bytes.fromhex("00000008 00000000 00000001")

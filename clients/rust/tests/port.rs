@@ -1,5 +1,5 @@
 //! Tests of the client against a running port. `JOURNAL_SOCKET` names its socket; nothing is tried
-//! without it.
+//! without it. `JOURNAL_TCP_PORT` names its TCP port, if it has one.
 
 use journal::{Address, Durability, Error, Journal, Refusal, Transaction};
 use std::thread;
@@ -81,6 +81,18 @@ fn refusals() {
             other => panic!("{address:?}: {other:?}"),
         }
     }
+}
+
+#[test]
+fn tcp() {
+    let named = std::env::var("JOURNAL_TCP_PORT").ok().and_then(|port| port.parse().ok());
+    let (Some(mut j), Some(port)) = (connect(), named) else {
+        return println!("not tried: JOURNAL_TCP_PORT names no port");
+    };
+    let mut by_tcp = Journal::connect_port(port).expect("connect by TCP");
+    commit_one(&mut by_tcp, at(524, 0), &value_of(3)).expect("commit by TCP");
+    assert_eq!(j.read(&[at(524, 0)]).expect("read"), [value_of(3)]);
+    assert!(matches!(by_tcp.stop(), Err(Error::Refused(Refusal::Forbidden))));
 }
 
 #[test]
