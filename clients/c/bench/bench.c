@@ -4,8 +4,9 @@
  * waits, and one flush at the end is inside the time.
  *
  * First it measures how often a second the device makes one block of 4096 bytes stable: its limit
- * for transactions that share no barrier. Then it counts the barriers of the engine while the loop
- * runs: calls of fdatasync, fsync and msync, and writes to files that were opened with O_DSYNC.
+ * for transactions that share no barrier. It takes a second, or LIMIT_SECONDS of them. Then it
+ * counts the barriers of the engine while the loop runs: calls of fdatasync, fsync and msync, and
+ * writes to files that were opened with O_DSYNC.
  *
  * It prints: engine threads mode commits/s, barriers/s, limit/s, microseconds of processor time a
  * commit. */
@@ -162,6 +163,7 @@ static void *work(void *at)
         memset(value, (int)(w->commits & 255), sizeof value);
         engine->commit(session, keys, value);
     }
+    if (engine->finish) engine->finish(session);
     return NULL;
 }
 
@@ -204,7 +206,8 @@ int main(int argc, char **argv)
     if (!engine->name || threads < 1 || threads > MOST_THREADS) {
         return fprintf(stderr, "bench: no engine %s, or no %s threads\n", argv[1], argv[2]), 2;
     }
-    double limit = durable ? limit_of(argv[5], 1) : 0;
+    const char *seconds = getenv("LIMIT_SECONDS");
+    double limit = durable ? limit_of(argv[5], seconds ? atof(seconds) : 1) : 0;
     snprintf(path, sizeof path, "%s/%s", argv[5], engine->name);
     if (mkdir(path, 0700)) fail(path, "is there");
     engine->open(path, durable);

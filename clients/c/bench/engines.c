@@ -1,6 +1,7 @@
 /* See engines.h. An engine is there where its HAVE_ is defined. */
 #include "engines.h"
 #include "../journal.h"
+#include "deep.h"
 #include <stdio.h>
 #include <stdlib.h>
 #include <string.h>
@@ -16,7 +17,8 @@ static void spell_key(uint32_t key, char bytes[4])
 }
 #endif
 
-/* ---- the journal: in this process, or over the socket that JOURNAL_SOCKET names */
+/* ---- the journal: at the path that JOURNAL_PATH names, which is a disk or a socket as the library
+ * has it; or on a new disk in this process */
 
 static char journal_path[600];
 static jnl *journal;
@@ -44,7 +46,7 @@ static void journal_make(const char *path)
 
 static void journal_open(const char *folder, int durable)
 {
-    const char *at = getenv("JOURNAL_SOCKET");
+    const char *at = getenv("JOURNAL_PATH");
     snprintf(journal_path, sizeof journal_path, "%s%s", at ? at : folder, at ? "" : "/disk");
     if (!at) journal_make(journal_path);
     is_durable = durable;
@@ -320,22 +322,23 @@ static void bdb_flush(void)
 #endif
 
 const struct engine engines[] = {
-    {"journal", journal_open, journal_session, journal_commit, journal_flush},
-    {"stat", journal_open, journal_session, journal_stat, journal_flush},
+    {"journal", journal_open, journal_session, journal_commit, journal_flush, NULL},
+    {"stat", journal_open, journal_session, journal_stat, journal_flush, NULL},
+    {"deep", deep_open, deep_session, deep_commit, deep_flush, deep_finish},
 #ifdef HAVE_LMDB
-    {"lmdb", lmdb_open, NULL, lmdb_commit, lmdb_flush},
+    {"lmdb", lmdb_open, NULL, lmdb_commit, lmdb_flush, NULL},
 #endif
 #ifdef HAVE_SQLITE
-    {"sqlite", sqlite_open, sqlite_session, sqlite_commit, sqlite_flush},
+    {"sqlite", sqlite_open, sqlite_session, sqlite_commit, sqlite_flush, NULL},
 #endif
 #ifdef HAVE_LEVELDB
-    {"leveldb", leveldb_begin, NULL, leveldb_commit, leveldb_flush_all},
+    {"leveldb", leveldb_begin, NULL, leveldb_commit, leveldb_flush_all, NULL},
 #endif
 #ifdef HAVE_ROCKSDB
-    {"rocksdb", rocksdb_begin, NULL, rocksdb_commit, rocksdb_flush_all},
+    {"rocksdb", rocksdb_begin, NULL, rocksdb_commit, rocksdb_flush_all, NULL},
 #endif
 #ifdef HAVE_BDB
-    {"bdb", bdb_open, NULL, bdb_commit, bdb_flush},
+    {"bdb", bdb_open, NULL, bdb_commit, bdb_flush, NULL},
 #endif
     {0},
 };

@@ -1,5 +1,6 @@
-/* What bench.c runs: each engine opens in a folder and fills its objects with zeros; each thread
- * may have a session; a commit overwrites two objects. An engine that fails ends the program. */
+/* What bench.c runs. An engine opens in a folder and fills its objects with zeros. Each thread may
+ * have a session, and at its end finishes what it has not done yet. A commit overwrites two objects.
+ * An engine that fails ends the program. */
 #ifndef ENGINES_H
 #define ENGINES_H
 #include <stdint.h>
@@ -12,6 +13,7 @@ struct engine {
     void *(*session)(void);
     void (*commit)(void *session, const uint32_t keys[2], const char *value);
     void (*flush)(void);
+    void (*finish)(void *session);
 };
 
 /* The last one has no name. */
