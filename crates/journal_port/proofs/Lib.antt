@@ -1,0 +1,12 @@
+pub mod Lists
+pub mod Keeping
+pub mod Doing
+pub mod Refusing
+pub mod Ordering
+pub mod Ending
+pub mod Reading
+pub mod Flushing
+pub mod Settling
+pub mod Growing
+pub mod Answering
+pub mod Turning

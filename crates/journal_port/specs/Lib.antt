@@ -1,0 +1,5 @@
+pub mod Requests
+pub mod Reads
+pub mod Parts
+pub mod Answers
+pub mod Served

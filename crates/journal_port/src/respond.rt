@@ -1,0 +1,216 @@
+// A request, and its answer.
+ghost use Rattle.std.specs.Prelude.{◌≡◌, ◌≤◌, IfOk, IfErr};
+ghost use Rattle.journal_world.specs.Histories.{floor};
+ghost use Rattle.journal_history.specs.Tokens.{SessionState, OnlyExtends};
+ghost use Rattle.journal_records.specs.declared.answer.Answer.TheVariants.{Unsure};
+ghost use Rattle.journal_twophase.specs.Waits.{IsWaitRefusal};
+ghost use Rattle.journal_port.specs.Answers.{IsAnswerTo, IsHelloAnswer, IsFlushed, IsFlushAnswer, IsStatAnswer, IsStopAnswer, IsAnswered, settled};
+
+use crate::commit::commit;
+use crate::read::read;
+use journal_disk::BlockDisk;
+use journal_history::{Naming, Session};
+use journal_records::{Answer, Refused, Request, VERSION};
+use journal_twophase::{Journal, Why};
+use journal_world::AnyMap;
+use std::alloc::Global;
+use std::sync::Wait;
+
+/// What a connection is told of the disk, and whether it may end the service.
+#[derive(Clone, Copy, Debug)]
+pub struct Terms {
+    /// How many blocks the disk has.
+    pub blocks: u64,
+    /// Whether the connection may end the service.
+    pub may_stop: bool,
+}
+
+// What the requests of a connection are answered by.
+pub(crate) struct Port<'s, 'b, D: BlockDisk, J: Naming> {
+    pub alloc: Global,
+    pub journal: &'s Journal<'b, D, AnyMap, J>,
+    pub terms: Terms,
+}
+
+impl<'s, 'b, D: BlockDisk, J: Naming> Drop for Port<'s, 'b, D, J> {
+    fn drop(self) {
+        let Port {
+            alloc: _,
+            journal: _,
+            terms: _,
+        } = self;
+    }
+}
+
+/// Answers a request under the session. No slot is held before or after it.
+///
+/// A commit is answered `Committed` where it stands, with its place, and if it waits it is then marked as stable;
+/// `Unsure` where it stands and is to wait, but no mark is known. A read is answered `Values`, which are what one map
+/// gives, at the end of what the session had seen once it was done. A flush is answered `Flushed` once all that the
+/// session has seen is stable, and a stop is answered `Stopping` then, where the connection may end the service.
+///
+/// `Refused` says that nothing was done: the history lacks the request's transaction. It is `Conflict` where the
+/// map, at the end of what the session had seen once it was done, gives some compared address another value,
+/// `OtherVersion` where another version is spoken, `Forbidden` where the service may not be ended, and else the
+/// journal's refusal. That is never `Busy`, since slots are taken in ascending order, nor `Full`, since a commit
+/// waits for room.
+pub fn answer<'b, D: BlockDisk, J: Naming, W: Wait>(
+    rt: &W,
+    alloc: Global,
+    journal: &Journal<'b, D, AnyMap, J>,
+    session: &mut Session<'b, J, AnyMap>,
+    terms: Terms,
+    request: Request,
+) -> Answer
+    requires { terms.blocks ≡ J.blocks }
+    ensures { IsAnswered J.blocks terms.may_stop request session.old session.new result }
+{
+    let port = Port {
+        alloc,
+        journal,
+        terms,
+    };
+    match answer_soon(rt, &port, session, request) {
+        Answer::Unsure { place, commits } => {
+            let stable = await_stable(rt, journal, session);
+            settled(place, commits, stable)
+        }
+        told => told,
+    }
+}
+
+// Answers a request, but does not wait until a commit is stable: one that is to wait is answered `Unsure`.
+pub(crate) fn answer_soon<'b, D: BlockDisk, J: Naming, W: Wait>(
+    rt: &W,
+    port: &Port<'_, 'b, D, J>,
+    session: &mut Session<'b, J, AnyMap>,
+    request: Request,
+) -> Answer
+    requires { port.now.terms.blocks ≡ J.blocks }
+    ensures { IsAnswerTo J.blocks port.now.terms.may_stop session.new.seen request session.old session.new result }
+{
+    let (alloc, journal, terms) = (port.alloc, port.journal, port.terms);
+    match request {
+        Request::Hello(version) => greet(terms, version),
+        Request::Commit { parts, waits } => commit(rt, alloc, journal, session, parts, waits),
+        Request::Read(addresses) => read(rt, alloc, journal, session, &addresses),
+        Request::Flush => flush(rt, journal, session),
+        Request::Stat => stat(rt, journal, session),
+        Request::Stop => stop(rt, journal, session, terms.may_stop),
+    }
+}
+
+// Waits until all that the session has seen is stable, and answers how many commits are known to be, also where the
+// wait is refused.
+pub(crate) fn await_stable<'b, D: BlockDisk, J: Naming, W: Wait>(
+    rt: &W,
+    journal: &Journal<'b, D, AnyMap, J>,
+    session: &mut Session<'b, J, AnyMap>,
+) -> u64
+    ensures extends { OnlyExtends session.old session.new }
+    ensures marked { result ≤ floor session.new.seen }
+{
+    match journal.flush(rt, session) {
+        Ok(note) => note.count(),
+        Err(_) => {
+            let mark = journal.stat(rt).floor;
+            known_stable(session, mark)
+        }
+    }
+}
+
+// The mark, where the session knows of it, else 0.
+fn known_stable<'b, J: Naming>(session: &mut Session<'b, J, AnyMap>, mark: u64) -> u64
+    ensures extends { OnlyExtends session.old session.new }
+    ensures marked { result ≤ floor session.new.seen }
+{
+    if session.is_stable(mark) { mark } else { 0 }
+}
+
+// What a commit that is to wait is answered, where so many are stable.
+pub(crate) fn settled(place: u64, commits: u64, stable: u64) -> Answer
+    ensures { result ≡ settled stable (Unsure place commits) }
+{
+    if commits <= stable {
+        Answer::Committed { place, commits }
+    } else {
+        Answer::Unsure { place, commits }
+    }
+}
+
+// Says the version and the layout.
+fn greet(terms: Terms, version: u32) -> Answer
+    ensures { (session : SessionState) → IsHelloAnswer terms.blocks version session session result }
+{
+    if version == VERSION {
+        Answer::Hello {
+            version: VERSION,
+            blocks: terms.blocks,
+        }
+    } else {
+        Answer::Refused(Refused::OtherVersion)
+    }
+}
+
+// Makes all commits stable that were made before.
+fn make_stable<'b, D: BlockDisk, J: Naming, W: Wait>(
+    rt: &W,
+    journal: &Journal<'b, D, AnyMap, J>,
+    session: &mut Session<'b, J, AnyMap>,
+) -> Result<u64, Why<'b, J, AnyMap>>
+    ensures stable { IfOk result (IsFlushed session.old session.new) }
+    ensures session { OnlyExtends session.old session.new }
+    ensures refusal { IfErr result (IsWaitRefusal session.new) }
+{
+    session.observe();
+    let note = journal.flush(rt, session)?;
+    Ok(note.count())
+}
+
+// Answers a flush.
+fn flush<'b, D: BlockDisk, J: Naming, W: Wait>(
+    rt: &W,
+    journal: &Journal<'b, D, AnyMap, J>,
+    session: &mut Session<'b, J, AnyMap>,
+) -> Answer
+    ensures { IsFlushAnswer session.old session.new result }
+{
+    match make_stable(rt, journal, session) {
+        Ok(stable) => Answer::Flushed(stable),
+        Err(why) => Answer::Refused(Refused::of(&why)),
+    }
+}
+
+// Counts the commits.
+fn stat<'b, D: BlockDisk, J: Naming, W: Wait>(
+    rt: &W,
+    journal: &Journal<'b, D, AnyMap, J>,
+    session: &mut Session<'b, J, AnyMap>,
+) -> Answer
+    ensures { IsStatAnswer session.old session.new result }
+{
+    let stat = journal.stat(rt);
+    let stable = known_stable(session, stat.floor);
+    Answer::Stat {
+        commits: stat.commits,
+        stable,
+    }
+}
+
+// Ends the service, where the connection may.
+fn stop<'b, D: BlockDisk, J: Naming, W: Wait>(
+    rt: &W,
+    journal: &Journal<'b, D, AnyMap, J>,
+    session: &mut Session<'b, J, AnyMap>,
+    may_stop: bool,
+) -> Answer
+    ensures { IsStopAnswer may_stop session.old session.new result }
+{
+    if !may_stop {
+        return Answer::Refused(Refused::Forbidden);
+    }
+    match make_stable(rt, journal, session) {
+        Ok(_) => Answer::Stopping,
+        Err(why) => Answer::Refused(Refused::of(&why)),
+    }
+}
