@@ -1,6 +1,7 @@
 // The command line.
 
 use crate::fault::Fault;
+use crate::serving::Service;
 use clap::{Arg, ArgAction, ArgMatches, Command, value_parser};
 use journal_form::LogForm;
 use std::alloc::{AllocError, Global};
@@ -10,12 +11,24 @@ const ABOUT: &str = "A transactional block journal on a disk in a file";
 const STATUSES: &str =
     "Exit status:\n  0  it was done\n  1  it was not done, or not to its end; standard error has the reason\n  2  the words are no command";
 
+const SERVE_NOTES: &str =
+    "Only the owner of the socket can open it. A socket whose program is gone is replaced, and anything else at PATH is refused. The port of --tcp has no access check: each program on this machine can read and write the disk there, but not end the service.\n\nThe first lines of the output say where it listens. jnl stop ends it once all commits are stable. A signal ends it as a crash does: each commit that was answered as stable stands.\n\nA disk of the file service is refused.";
+
 // The names of the arguments.
 const FILE: &str = "FILE";
 
 const BLOCKS: &str = "blocks";
 
 const UNDO: &str = "undo";
+
+const SOCKET: &str = "socket";
+
+const TCP: &str = "tcp";
+
+const CONNECTIONS: &str = "connections";
+
+// How many connections are served at once where no number is given.
+const DEFAULT_CONNECTIONS: u64 = 64;
 
 /// What the words of the command line ask for.
 #[derive(Drop)]
@@ -28,6 +41,10 @@ pub enum Subcommand<'w> {
     Check { path: &'w str },
     /// Give the log of the disk in a file this form.
     Seal { path: &'w str, form: LogForm },
+    /// Serve the disk in a file.
+    Serve(Service<'w>),
+    /// End the service at a socket.
+    Stop { socket: &'w str },
 }
 
 impl<'w> Subcommand<'w> {
@@ -49,6 +66,10 @@ impl<'w> Subcommand<'w> {
                 path: word(given, FILE)?,
             }),
             "seal" => parse_seal(given),
+            "serve" => parse_serve(given),
+            "stop" => Ok(Subcommand::Stop {
+                socket: word(given, SOCKET)?,
+            }),
             _ => Err(Fault::NoCommand),
         }
     }
@@ -84,6 +105,17 @@ fn parse_seal<'w>(given: &ArgMatches<'w>) -> Result<Subcommand<'w>, Fault<'w>> {
     })
 }
 
+fn parse_serve<'w>(given: &ArgMatches<'w>) -> Result<Subcommand<'w>, Fault<'w>> {
+    Ok(Subcommand::Serve(Service {
+        path: word(given, FILE)?,
+        socket: word(given, SOCKET)?,
+        port: given.get_one::<u16>(TCP),
+        connections: given
+            .get_one::<u64>(CONNECTIONS)
+            .unwrap_or(DEFAULT_CONNECTIONS),
+    }))
+}
+
 // The grammar of the command line, from which its help is printed.
 fn command<'w>(alloc: Global) -> Result<Command<'w>, AllocError> {
     Command::new(alloc, "jnl")
@@ -97,7 +129,9 @@ fn command<'w>(alloc: Global) -> Result<Command<'w>, AllocError> {
         .subcommand(create_command(alloc)?)?
         .subcommand(info_command(alloc)?)?
         .subcommand(check_command(alloc)?)?
-        .subcommand(seal_command(alloc)?)
+        .subcommand(seal_command(alloc)?)?
+        .subcommand(serve_command(alloc)?)?
+        .subcommand(stop_command(alloc)?)
 }
 
 fn create_command<'w>(alloc: Global) -> Result<Command<'w>, AllocError> {
@@ -148,6 +182,42 @@ fn seal_command<'w>(alloc: Global) -> Result<Command<'w>, AllocError> {
         )
         .arg(file_arg(alloc, "The file of the disk"))?
         .arg(undo)
+}
+
+fn serve_command<'w>(alloc: Global) -> Result<Command<'w>, AllocError> {
+    let port = Arg::new(alloc, TCP)
+        .long(TCP)
+        .value_name("PORT")
+        .value_parser(value_parser!(u16))
+        .help("Listens on this port of 127.0.0.1 too, or on one that is free for 0");
+    let connections = Arg::new(alloc, CONNECTIONS)
+        .long(CONNECTIONS)
+        .value_name("N")
+        .value_parser(value_parser!(u64).range(1..=64))
+        .default_value("64")
+        .help("How many connections are served at once, 1 to 64; further ones wait");
+    Command::new(alloc, "serve")
+        .about("Serves a disk to programs in any language, by the protocol of docs/PROTOCOL.md")
+        .after_help(SERVE_NOTES)
+        .arg(file_arg(alloc, "The file of the disk"))?
+        .arg(socket_arg(alloc, "The socket to make"))?
+        .arg(port)?
+        .arg(connections)
+}
+
+fn stop_command<'w>(alloc: Global) -> Result<Command<'w>, AllocError> {
+    Command::new(alloc, "stop")
+        .about("Ends the service at a socket, once all its commits are stable")
+        .arg(socket_arg(alloc, "The socket of the service"))
+}
+
+// The socket that a subcommand is for.
+fn socket_arg<'w>(alloc: Global, help: &'w str) -> Arg<'w> {
+    Arg::new(alloc, SOCKET)
+        .long(SOCKET)
+        .value_name("PATH")
+        .required(true)
+        .help(help)
 }
 
 // The file that a subcommand is for.

@@ -1,6 +1,7 @@
 // Why the program fails.
 ghost use Rattle.std.specs.Prelude.{◌≤◌};
 
+use journal_records::Refused as Answered;
 use journal_world::{MAX_BLOCKS, MIN_BLOCKS, Refusal};
 use std::alloc::AllocError;
 use std::io;
@@ -19,13 +20,29 @@ pub enum Fault<'w> {
     NoDisk { path: &'w str, blocks: u64 },
     /// The disk in the file at the path was refused.
     Refused { path: &'w str, why: Refusal<()> },
-    /// Memory was refused.
+    /// The disk in the file at the path is one of the file service.
+    HasFiles { path: &'w str },
+    /// The port cannot be had, or the system refuses connections.
+    CannotListen,
+    /// The service at the socket gave no answer, or one that is none to what it was asked.
+    NoAnswer { socket: &'w str },
+    /// The service at the socket refused to end.
+    NotStopped { socket: &'w str, why: Answered },
+    /// Memory was refused, or a thread.
     NoMemory,
     /// Standard output failed.
     CannotWrite,
 }
 
 impl<'w> Fault<'w> {
+    /// The disk in the file at the path was refused.
+    pub fn refused<C: Drop>(path: &'w str, why: Refusal<C>) -> Fault<'w> {
+        Fault::Refused {
+            path,
+            why: why.with_cause(()),
+        }
+    }
+
     /// Prints the fault, and answers the program's status: 0 where the words asked for help or the
     /// version and it was printed, 2 where they are no command, else 1.
     pub fn report<O: Write, E: Write>(&self, output: &mut O, faults: &mut E) -> u8
@@ -53,6 +70,10 @@ impl<'w> Fault<'w> {
             Fault::File { .. }
             | Fault::NoDisk { .. }
             | Fault::Refused { .. }
+            | Fault::HasFiles { .. }
+            | Fault::CannotListen
+            | Fault::NoAnswer { .. }
+            | Fault::NotStopped { .. }
             | Fault::NoMemory
             | Fault::CannotWrite => 1,
         }
@@ -75,6 +96,17 @@ impl<'w> Fault<'w> {
             ),
             Fault::Refused { path, why } => {
                 writeln!(faults, "jnl: {path} is refused: {}", why.name())
+            }
+            Fault::HasFiles { path } => writeln!(
+                faults,
+                "jnl: {path} is a disk of the file service, whose files would not stay sound"
+            ),
+            Fault::CannotListen => writeln!(faults, "jnl: cannot listen"),
+            Fault::NoAnswer { socket } => {
+                writeln!(faults, "jnl: the service at {socket} gave no answer")
+            }
+            Fault::NotStopped { socket, why } => {
+                writeln!(faults, "jnl: the service at {socket} goes on: {why:?}")
             }
             Fault::NoMemory => writeln!(faults, "jnl: no memory"),
             Fault::CannotWrite => writeln!(faults, "jnl: cannot write standard output"),

@@ -1,6 +1,7 @@
 //! The journal at the command line. `jnl create` makes an empty disk in a file, `jnl info` prints
 //! what a disk is, `jnl check` whether it is sound, and `jnl seal` gives its log the form with one
-//! barrier a group, or the plain form again. `jnl --help` is the manual.
+//! barrier a group, or the plain form again. `jnl serve` serves a disk to programs in any language,
+//! and `jnl stop` ends such a service. `jnl --help` is the manual.
 #![tactic(auto)]
 
 ghost use Rattle.std.specs.Prelude.{◌≤◌};
@@ -9,8 +10,15 @@ mod checking;
 mod command;
 mod disks;
 mod fault;
+mod listener;
+mod peer;
+mod queue;
+mod serving;
+mod socket;
+mod stopping;
 #[cfg(test)]
 mod tests;
+mod working;
 
 use command::Subcommand;
 use fault::Fault;
@@ -20,18 +28,25 @@ use std::env;
 use std::env::Env;
 use std::fs::{File, Files};
 use std::io::{BufWriter, Write};
+use std::net::{Net, TcpListener, TcpStream};
 use std::process::ExitCode;
+use std::sync::Wait;
+use std::thread::Threads;
+use std::time::Clock;
 
 /// Runs the program with these words and two outputs, and answers its status: 0 where it was done,
 /// also where the words asked for help or the version, 2 where the words are no command, else 1.
 /// The reason of a status of 1 or 2 is printed to `faults`.
-pub fn run<R: Files<File = File>, O: Write, E: Write>(
-    rt: &R,
-    alloc: Global,
-    words: &[String],
-    output: &mut O,
-    faults: &mut E,
-) -> u8
+pub fn run<
+    R: Files<File = File>
+        + Net<Listener = TcpListener, Stream = TcpStream>
+        + Clock
+        + Threads
+        + Wait
+        + Sync,
+    O: Write,
+    E: Write,
+>(rt: &R, alloc: Global, words: &[String], output: &mut O, faults: &mut E) -> u8
     ensures { result ≤ 2 }
 {
     match obey(rt, alloc, words, output, faults) {
@@ -41,7 +56,17 @@ pub fn run<R: Files<File = File>, O: Write, E: Write>(
 }
 
 // Does what the words ask for.
-fn obey<'w, R: Files<File = File>, O: Write, E: Write>(
+fn obey<
+    'w,
+    R: Files<File = File>
+        + Net<Listener = TcpListener, Stream = TcpStream>
+        + Clock
+        + Threads
+        + Wait
+        + Sync,
+    O: Write,
+    E: Write,
+>(
     rt: &R,
     alloc: Global,
     words: &'w [String],
@@ -53,6 +78,8 @@ fn obey<'w, R: Files<File = File>, O: Write, E: Write>(
         Subcommand::Info { path } => disks::info(rt, alloc, path, output, faults),
         Subcommand::Check { path } => disks::check(rt, alloc, path, output, faults),
         Subcommand::Seal { path, form } => disks::seal(rt, alloc, path, form, output),
+        Subcommand::Serve(service) => serving::serve(rt, alloc, service, output),
+        Subcommand::Stop { socket } => stopping::stop(rt, alloc, socket),
     }
 }
 

@@ -7,11 +7,15 @@ use journal_program::create_new_disk;
 use journal_world::Moment;
 use std::alloc::{AllocError, Global};
 use std::fs::{File, Files, OpenFile, OpenOptions};
+use std::net::{Net, TcpListener, TcpStream};
 use std::os::unix::fs::FileExt;
 use std::path::PathBuf;
 use std::process::Abort;
 use std::rt::Env;
+use std::sync::Wait;
 use std::test::Fail;
+use std::thread::Threads;
+use std::time::Clock;
 use std::{env, fs, io};
 
 // What stands for the file's path among words.
@@ -37,12 +41,14 @@ fn words_of(alloc: Global, words: &[&str], path: &str) -> Result<Vec<String>, Al
     Ok(owned)
 }
 
-fn run_at<H: Files<File = File>>(
-    rt: &H,
-    alloc: Global,
-    words: &[&str],
-    path: &str,
-) -> Result<Run, AllocError> {
+fn run_at<
+    H: Files<File = File>
+        + Net<Listener = TcpListener, Stream = TcpStream>
+        + Clock
+        + Threads
+        + Wait
+        + Sync,
+>(rt: &H, alloc: Global, words: &[&str], path: &str) -> Result<Run, AllocError> {
     let words = words_of(alloc, words, path)?;
     let mut output = Vec::new(alloc);
     let mut faults = Vec::new(alloc);
@@ -56,12 +62,15 @@ fn run_at<H: Files<File = File>>(
 
 /// Asserts the output and the status of each run, and that it prints a fault exactly where its
 /// status is not 0.
-fn try_rows<H: Abort + Files<File = File>>(
-    rt: &H,
-    alloc: Global,
-    path: &str,
-    rows: &[Row],
-) -> Result<(), AllocError> {
+fn try_rows<
+    H: Abort
+        + Files<File = File>
+        + Net<Listener = TcpListener, Stream = TcpStream>
+        + Clock
+        + Threads
+        + Wait
+        + Sync,
+>(rt: &H, alloc: Global, path: &str, rows: &[Row]) -> Result<(), AllocError> {
     for (words, output, status) in rows {
         let run = run_at(rt, alloc, *words, path)?;
         assert_eq!(rt;
@@ -83,12 +92,17 @@ fn new_path<R: Env + AllocGlobal + Files>(rt: &R, name: &str) -> io::Result<Path
 
 /// Makes the runs at a file of this name, on which a disk of the file service is made first where
 /// the runs want one. The file is removed at the end.
-fn at_file<H: Abort + Env + AllocGlobal + Files<File = File>>(
-    rt: &H,
-    name: &str,
-    has_file: bool,
-    rows: &[Row],
-) -> Result<(), Fail> {
+fn at_file<
+    H: Abort
+        + Env
+        + AllocGlobal
+        + Files<File = File>
+        + Net<Listener = TcpListener, Stream = TcpStream>
+        + Clock
+        + Threads
+        + Wait
+        + Sync,
+>(rt: &H, name: &str, has_file: bool, rows: &[Row]) -> Result<(), Fail> {
     let alloc = rt.alloc();
     let path = new_path(rt, name)?;
     let text = path.as_path().to_str().ok_or("the path is text")?;
@@ -164,6 +178,7 @@ fn a_disk_of_the_file_service_keeps_its_files(rt: HostRuntime) -> Result<(), Fai
             (&["info", FILE], "blocks 600\nlog plain\nfiles yes\n", 0),
             (&["seal", FILE], "sealed\n", 0),
             (&["check", FILE], "sound version 2\n", 0),
+            (&["serve", FILE, "--socket", "/nowhere/s"], "", 1),
             (&["seal", FILE, "--undo"], "plain\n", 0),
             (&["check", FILE], "sound version 2\n", 0),
         ],

@@ -300,7 +300,11 @@ static ANSWERS: [Row; 18] = [
 
 #[test]
 fn each_call_answers_by_the_history(rt: HostRuntime) {
-    wants(&rt, &run_new(&rt, rt.alloc(), &ANSWERS), &Some((None, [1, 1, 8])));
+    wants(
+        &rt,
+        &run_new(&rt, rt.alloc(), &ANSWERS),
+        &Some((None, [1, 1, 8])),
+    );
 }
 
 static LONGER: [Row; 2] = [(Commit, [1, 1, 2]), (Mark, [3, 1, 1])];
@@ -308,7 +312,11 @@ static LONGER: [Row; 2] = [(Commit, [1, 1, 2]), (Mark, [3, 1, 1])];
 // Who would begin the history again finds it, and has then seen all of it.
 #[test]
 fn a_longer_history_is_refused(rt: HostRuntime) {
-    wants(&rt, &run_new(&rt, rt.alloc(), &LONGER), &Some((None, [1, 1, 3])));
+    wants(
+        &rt,
+        &run_new(&rt, rt.alloc(), &LONGER),
+        &Some((None, [1, 1, 3])),
+    );
 }
 
 fn works<'b, J: Naming, W: Wait>(rt: &W, author: Author<'b, J>) -> Session<'b, J, AnyMap> {

@@ -51,10 +51,12 @@ pub(super) fn recover_a_full_log<J: Naming + Send + Sync, H: Abort + Threads + W
 ) {
     let mut session = client(rt, journal);
     fill_the_log(rt, alloc, journal, &mut session);
-    let image = journal.image(rt, &mut session, &[]);
+    let Ok(image) = journal.image(rt, &mut session, &[]) else {
+        panic!(rt; "an image");
+    };
     let book: Book<AnyMap> = Book::open::<()>().ok().expect(rt, "a book");
     let cell = SlotCell::open(alloc).ok().expect(rt, "a cell");
-    let ended = makes_room::<Brand, _>(rt, alloc, &book, cell, image.ok().expect(rt, "an image"));
+    let ended = makes_room::<Brand, _>(rt, alloc, &book, cell, image);
     wants(rt, &ended, &((0, POSITIONS), Ending::Stable));
 }
 

@@ -3,7 +3,7 @@ use Rattle.journal_layer_tests.proofs.history.run_new.Given as goal
 
 -- the book that was just opened, the disk's blocks, and the sessions' cell
 abbrev pub ghosts-run : goal.ghosts-run
-ghosts-run a = record {
+ghosts-run g a = record {
   book = a.book.now;
   blocks = a.layout.blocks;
   cell = record {

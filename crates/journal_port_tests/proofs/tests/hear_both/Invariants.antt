@@ -1,4 +1,4 @@
-use Rattle.journal_port_tests.proofs.tests.hear.Given as goal
+use Rattle.journal_port_tests.proofs.tests.hear_both.Given as goal
 
 -- the book and the cell that were just opened, and the disk's blocks
 abbrev pub ghosts-hear_in_book : goal.ghosts-hear_in_book

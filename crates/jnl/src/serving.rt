@@ -1,0 +1,214 @@
+// A disk is served to programs in any language.
+ghost use Rattle.std.specs.Prelude.{◌≡◌};
+
+use crate::disks::{inspect_disk, open, print_line};
+use crate::fault::Fault;
+use crate::listener::Listener;
+use crate::socket;
+use crate::working::{FileJournal, Listeners, OpenDisk, Workers, WorkersFault};
+use journal_disk::{BlockDisk, FileDisk};
+use journal_history::{Book, Naming};
+use journal_lockmap::SlotCell;
+use journal_program::Daemon;
+use journal_twophase::{Journal, MAX_CACHED_BLOCKS};
+use journal_world::{AnyMap, Refused};
+use std::alloc::Global;
+use std::fs::{File, Files};
+use std::io::Write;
+use std::marker::Brand;
+use std::net::{Ipv4Addr, Net, TcpListener, TcpStream};
+use std::sync::Wait;
+use std::thread;
+use std::thread::Threads;
+use std::time::Clock;
+
+/// A service that is asked for.
+#[derive(Clone, Copy)]
+pub struct Service<'w> {
+    /// The path of the file that has the disk.
+    pub path: &'w str,
+    /// The path of the socket.
+    pub socket: &'w str,
+    /// The port of this machine, or 0 for one that is free, where there is to be one.
+    pub port: Option<u16>,
+    /// How many connections are served at once.
+    pub connections: u64,
+}
+
+/// Serves the disk in the file until a client ends the service. Prints where it listens before the
+/// first connection is accepted, and that it has stopped once all commits are stable and the socket
+/// is gone.
+///
+/// Refused where another program uses the disk, where the disk is one of the file service, whose
+/// files would not stay sound, and as the opening of the journal is. Nothing listens then.
+pub fn serve<
+    'w,
+    R: Files<File = File>
+        + Net<Listener = TcpListener, Stream = TcpStream>
+        + Clock
+        + Threads
+        + Wait
+        + Sync,
+    O: Write,
+>(rt: &R, alloc: Global, service: Service<'w>, output: &mut O) -> Result<(), Fault<'w>> {
+    let disk = open(rt, service.path)?;
+    let inspected = inspect_disk(alloc, service.path, disk)?;
+    if inspected.has_files {
+        return Err(Fault::HasFiles { path: service.path });
+    }
+    let listeners = open_listeners(rt, alloc, service, output)?;
+    let served = serve_disk(rt, alloc, inspected.disk, service, &listeners, output);
+    socket::remove(rt, service.socket);
+    served?;
+    print_line(output, "stopped", "")
+}
+
+// Opens the port, where one is asked for, and the socket.
+fn open_listeners<'w, R: Files + Net<Listener = TcpListener, Stream = TcpStream>, O: Write>(
+    rt: &R,
+    alloc: Global,
+    service: Service<'w>,
+    output: &mut O,
+) -> Result<Listeners, Fault<'w>> {
+    let port = match service.port {
+        Some(number) => Some(open_port(rt, number, output)?),
+        None => None,
+    };
+    match socket::listen(rt, alloc, service.socket) {
+        Ok(listener) => Ok(Listeners {
+            socket: Listener::Socket(listener),
+            port,
+        }),
+        Err(why) => Err(Fault::File {
+            path: service.socket,
+            why,
+        }),
+    }
+}
+
+// Opens the port, and prints which it is.
+fn open_port<'w, R: Net<Listener = TcpListener, Stream = TcpStream>, O: Write>(
+    rt: &R,
+    number: u16,
+    output: &mut O,
+) -> Result<Listener, Fault<'w>> {
+    let Ok(listener) = TcpListener::bind(rt, (Ipv4Addr::LOCALHOST, number)) else {
+        return Err(Fault::CannotListen);
+    };
+    let Ok(address) = listener.local_addr() else {
+        return Err(Fault::CannotListen);
+    };
+    match writeln!(output, "listening on 127.0.0.1:{}", address.port()) {
+        Ok(()) => Ok(Listener::Port(listener)),
+        Err(_) => Err(Fault::CannotWrite),
+    }
+}
+
+// Serves the disk, with a book of its own.
+fn serve_disk<'w, R: Clock + Threads + Wait + Sync, O: Write>(
+    rt: &R,
+    alloc: Global,
+    disk: FileDisk,
+    service: Service<'w>,
+    listeners: &Listeners,
+    output: &mut O,
+) -> Result<(), Fault<'w>> {
+    let Ok(book) = Book::<AnyMap>::open::<()>() else {
+        return Err(Fault::NoMemory);
+    };
+    let Ok(cell) = SlotCell::open(alloc) else {
+        return Err(Fault::NoMemory);
+    };
+    serve_book::<Brand, R, O>(rt, alloc, &book, cell, disk, service, listeners, output)
+}
+
+// Opens the journal, serves it, and gives the disk up.
+fn serve_book<'w, J: Naming + Send + Sync, R: Clock + Threads + Wait + Sync, O: Write>(
+    rt: &R,
+    alloc: Global,
+    book: &Book<AnyMap>,
+    cell: SlotCell,
+    disk: FileDisk,
+    service: Service<'w>,
+    listeners: &Listeners,
+    output: &mut O,
+) -> Result<(), Fault<'w>>
+    requires book { book.now ≡ J.book }
+    requires cell { cell ≡ J.cell }
+    requires blocks { disk.size ≡ J.blocks }
+{
+    let blocks = disk.size();
+    let opened = Journal::open_with_cache(alloc, book, cell, disk, &AnyMap, MAX_CACHED_BLOCKS);
+    let journal: FileJournal<J> = match opened {
+        Ok(journal) => journal,
+        Err(Refused { refusal, .. }) => return Err(Fault::refused(service.path, refusal)),
+    };
+    let open = OpenDisk {
+        alloc,
+        journal: &journal,
+        blocks,
+    };
+    let served = serve_beside_daemon(rt, &open, service, listeners, output);
+    drop(open);
+    let _disk = journal.into_disk();
+    served
+}
+
+// Serves while the daemon runs, and ends it. All commits are stable then.
+fn serve_beside_daemon<'w, 'b, J: Naming + Send + Sync, R: Clock + Threads + Wait + Sync, O: Write>(
+    rt: &R,
+    disk: &OpenDisk<'_, 'b, J>,
+    service: Service<'w>,
+    listeners: &Listeners,
+    output: &mut O,
+) -> Result<(), Fault<'w>> {
+    let journal = disk.journal;
+    let daemon = Daemon::new();
+    thread::scope(thread::scope_env(), rt, |scope| -> Result<(), Fault<'_>> {
+        let runs = scope.spawn(|| daemon.run(rt, journal)).is_ok() && daemon.is_running(rt);
+        let served = if runs {
+            serve_clients(rt, disk, service, listeners, output)
+        } else {
+            Err(Fault::NoMemory)
+        };
+        let flushed = flush(rt, journal, service.path);
+        journal.stop(rt);
+        served?;
+        flushed
+    })
+}
+
+// Prints that the service listens, and serves what comes in.
+fn serve_clients<'w, 'b, J: Naming + Send + Sync, R: Clock + Threads + Wait + Sync, O: Write>(
+    rt: &R,
+    disk: &OpenDisk<'_, 'b, J>,
+    service: Service<'w>,
+    listeners: &Listeners,
+    output: &mut O,
+) -> Result<(), Fault<'w>> {
+    let Ok(workers) = Workers::new(disk, listeners) else {
+        return Err(Fault::CannotListen);
+    };
+    print_line(output, "listening on ", service.socket)?;
+    match workers.serve(rt, service.connections, listeners) {
+        Ok(()) => Ok(()),
+        Err(WorkersFault::NoThread) => Err(Fault::NoMemory),
+        Err(WorkersFault::CannotAccept) => Err(Fault::CannotListen),
+    }
+}
+
+// Waits until all commits are stable.
+fn flush<'w, 'b, J: Naming, W: Wait>(
+    rt: &W,
+    journal: &FileJournal<'b, J>,
+    path: &'w str,
+) -> Result<(), Fault<'w>> {
+    let mut session = match journal.session(rt) {
+        Ok(session) => session,
+        Err(why) => return Err(Fault::refused(path, why)),
+    };
+    match journal.flush(rt, &mut session) {
+        Ok(_) => Ok(()),
+        Err(why) => Err(Fault::refused(path, why)),
+    }
+}

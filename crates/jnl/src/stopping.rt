@@ -1,0 +1,68 @@
+// A service is ended.
+
+use crate::fault::Fault;
+use journal_records::{Answer, Input, Next, Request, VERSION, write_request};
+use std::alloc::Global;
+use std::io::{Read, Write};
+use std::net::Net;
+use std::os::unix::net::UnixStream;
+
+// The most bytes that are read at once.
+const PIECE_BYTES: usize = 4096;
+
+/// Ends the service at the socket, and waits until all its commits are stable.
+///
+/// Refused where no service answers there, and where it refuses to end.
+pub fn stop<'w, R: Net>(rt: &R, alloc: Global, socket: &'w str) -> Result<(), Fault<'w>> {
+    let mut stream = match UnixStream::connect(rt, socket) {
+        Ok(stream) => stream,
+        Err(why) => return Err(Fault::File { path: socket, why }),
+    };
+    let mut input = Input::new(alloc);
+    for request in [Request::Hello(VERSION), Request::Stop] {
+        match ask(alloc, &mut stream, &mut input, &request, socket)? {
+            Answer::Hello { .. } => {}
+            Answer::Stopping => return Ok(()),
+            Answer::Refused(why) => return Err(Fault::NotStopped { socket, why }),
+            _ => return Err(Fault::NoAnswer { socket }),
+        }
+    }
+    Err(Fault::NoAnswer { socket })
+}
+
+// Asks a request, and waits for its answer.
+fn ask<'w>(
+    alloc: Global,
+    stream: &mut UnixStream,
+    input: &mut Input,
+    request: &Request,
+    socket: &'w str,
+) -> Result<Answer, Fault<'w>> {
+    let Ok(record) = write_request(alloc, request) else {
+        return Err(Fault::NoMemory);
+    };
+    if stream.write_all(&record).is_err() {
+        return Err(Fault::NoAnswer { socket });
+    }
+    for _ in 0..u64::MAX {
+        match input.next_answer(alloc) {
+            Next::Record(Ok(answer)) => return Ok(answer),
+            Next::Record(Err(_)) | Next::TooLong => return Err(Fault::NoAnswer { socket }),
+            Next::Partial => feed(stream, input, socket)?,
+        }
+    }
+    Err(Fault::NoAnswer { socket })
+}
+
+// Takes a piece of what the service sends.
+fn feed<'w>(stream: &mut UnixStream, input: &mut Input, socket: &'w str) -> Result<(), Fault<'w>> {
+    let mut piece = [0u8; PIECE_BYTES];
+    let size = match stream.read(&mut piece) {
+        Ok(size) if size > 0 => size,
+        _ => return Err(Fault::NoAnswer { socket }),
+    };
+    match input.feed(&piece[..size]) {
+        Ok(()) => Ok(()),
+        Err(_) => Err(Fault::NoMemory),
+    }
+}

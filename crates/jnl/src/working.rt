@@ -1,0 +1,195 @@
+// The workers of a service, and who accepts connections for them.
+ghost use Rattle.std.specs.Prelude.{◌≡◌};
+
+use crate::listener::{Closer, Listener};
+use crate::peer::{Incoming, Outgoing, Peer};
+use crate::queue::{Accepted, Queue};
+use journal_disk::FileDisk;
+use journal_history::Naming;
+use journal_port::{End, Terms, serve};
+use journal_twophase::Journal;
+use journal_world::AnyMap;
+use std::alloc::Global;
+use std::sync::Wait;
+use std::sync::atomic::{AtomicBool, Ordering};
+use std::thread::Threads;
+use std::time::Clock;
+use std::{io, thread};
+
+/// A journal over a file that admits every map.
+pub type FileJournal<'b, J> = Journal<'b, FileDisk, AnyMap, J>;
+
+/// What is served.
+pub struct OpenDisk<'j, 'b, J: Naming> {
+    /// What memory is taken from.
+    pub alloc: Global,
+    /// The journal.
+    pub journal: &'j FileJournal<'b, J>,
+    /// The number of blocks of its disk.
+    pub blocks: u64,
+    pub ghost is_its_size: { blocks ≡ J.blocks },
+}
+
+impl<'j, 'b, J: Naming> Drop for OpenDisk<'j, 'b, J> {
+    fn drop(self) {
+        let OpenDisk {
+            alloc: _,
+            journal: _,
+            blocks: _,
+        } = self;
+    }
+}
+
+/// Where a service listens.
+#[derive(Drop)]
+pub struct Listeners {
+    /// Its socket.
+    pub socket: Listener,
+    /// Its port, where it has one.
+    pub port: Option<Listener>,
+}
+
+/// Why a service did not begin, or ended without having been asked to.
+#[derive(Clone, Copy, Debug, PartialEq, Eq)]
+pub enum WorkersFault {
+    /// A thread was refused.
+    NoThread,
+    /// No connection could be accepted, for a reason that does not pass.
+    CannotAccept,
+}
+
+/// What the threads of a service share.
+pub struct Workers<'s, 'j, 'b, J: Naming> {
+    disk: &'s OpenDisk<'j, 'b, J>,
+    queue: Queue,
+    // What closes the socket.
+    socket: Closer,
+    // What closes the port, where there is one.
+    port: Option<Closer>,
+    // Whether a listener could accept no connection, for a reason that does not pass.
+    has_failed: AtomicBool,
+}
+
+impl<'s, 'j, 'b, J: Naming> Drop for Workers<'s, 'j, 'b, J> {
+    fn drop(self) {
+        let Workers {
+            disk: _,
+            queue: _,
+            socket: _,
+            port: _,
+            has_failed: _,
+        } = self;
+    }
+}
+
+impl<'s, 'j, 'b, J: Naming + Send + Sync> Workers<'s, 'j, 'b, J> {
+    /// Workers for what is served and where it listens. Refused where the system refuses another
+    /// number of a listener.
+    pub fn new(disk: &'s OpenDisk<'j, 'b, J>, listeners: &Listeners) -> io::Result<Self> {
+        let port = match &listeners.port {
+            Some(listener) => Some(listener.closer()?),
+            None => None,
+        };
+        Ok(Workers {
+            disk,
+            queue: Queue::new(disk.alloc),
+            socket: listeners.socket.closer()?,
+            port,
+            has_failed: AtomicBool::new(false),
+        })
+    }
+
+    /// Serves what comes in by the listeners, up to `connections` at once, until a client ends the
+    /// service.
+    pub fn serve<R: Clock + Threads + Wait + Sync>(
+        &self,
+        rt: &R,
+        connections: u64,
+        listeners: &Listeners,
+    ) -> Result<(), WorkersFault> {
+        thread::scope(
+            thread::scope_env(),
+            rt,
+            |scope| -> Result<(), WorkersFault> {
+                for _ in 0..connections {
+                    if scope.spawn(|| self.work(rt)).is_err() {
+                        self.end(rt);
+                        return Err(WorkersFault::NoThread);
+                    }
+                }
+                if let Some(listener) = &listeners.port {
+                    if scope.spawn(|| self.accept_all(rt, listener)).is_err() {
+                        self.end(rt);
+                        return Err(WorkersFault::NoThread);
+                    }
+                }
+                self.accept_all(rt, &listeners.socket);
+                Ok(())
+            },
+        )?;
+        if self.has_failed.load(Ordering::SeqCst) {
+            return Err(WorkersFault::CannotAccept);
+        }
+        Ok(())
+    }
+
+    // Ends the service: no connection is accepted, and nothing more is read of those that are
+    // served.
+    fn end<W: Wait>(&self, rt: &W) {
+        self.queue.end(rt);
+        self.socket.close();
+        if let Some(port) = &self.port {
+            port.close();
+        }
+    }
+
+    // Accepts connections until the service has ended. Where none can be accepted it ends the
+    // service.
+    fn accept_all<R: Clock + Wait>(&self, rt: &R, listener: &Listener) {
+        if listener.accept_all(rt, &self.queue).is_err() {
+            self.has_failed.store(true, Ordering::SeqCst);
+        }
+        self.end(rt);
+    }
+
+    // Serves one connection after another, until the service has ended.
+    fn work<R: Clock + Wait>(&self, rt: &R) {
+        for _ in rt.forever() {
+            let Some(accepted) = self.queue.take(rt) else {
+                return;
+            };
+            if self.serve_one(rt, accepted) == Some(End::Stopped) {
+                self.end(rt);
+            }
+        }
+    }
+
+    // Serves a connection under a session of its own, and answers how it ended, or `None` where it
+    // was given up.
+    fn serve_one<R: Clock + Wait>(&self, rt: &R, accepted: Accepted) -> Option<End> {
+        let Accepted { stream, may_stop } = accepted;
+        let disk = self.disk;
+        let terms = Terms {
+            blocks: disk.blocks,
+            may_stop,
+        };
+        let Ok(mut session) = disk.journal.session(rt) else {
+            return None;
+        };
+        let peer = Peer::new(rt, &self.queue, stream);
+        let served = serve(
+            rt,
+            disk.alloc,
+            disk.journal,
+            &mut session,
+            terms,
+            &mut Incoming(&peer),
+            &mut Outgoing(&peer),
+        );
+        peer.close();
+        match served {
+            Ok(served) => Some(served.end),
+            Err(_) => None,
+        }
+    }
+}
