@@ -16,7 +16,7 @@ use Rattle.journal_core.specs.Durables.{DurableState, IsDurable}
 use Rattle.journal_core.specs.Volatiles.{VolatileState, IsVolatile}
 use Rattle.journal_core.specs.Pairs.{Tied}
 
--- The map of objects, as it is kept: the log on the disk, and behind it the blocks that commits wrote since the last cut
+-- The map of objects, as it is kept: the log on the disk, and after it the blocks that commits wrote since the last cut
 pub record ObjectsState : Type 0 where
   pub wal : WalState
   pub tail : List Update
@@ -59,7 +59,7 @@ start_of o = log_start o.wal
 abbrev pub end_of : ObjectsState → ℕ
 end_of o = log_end o.wal
 
--- the position behind the tail
+-- the position after the tail
 abbrev pub next_of : ObjectsState → ℕ
 next_of o = next_position o.wal.log + length o.tail
 

@@ -21,7 +21,7 @@ pub record Outset : Type 0 where
   pub closed : Bool
   pub faulted : Bool
   pub history : List Entry
-  -- the blocks that commits wrote since the last cut, and the position behind them
+  -- the blocks that commits wrote since the last cut, and the position after them
   pub tail : List Update
   pub next : ℕ
 

@@ -26,7 +26,7 @@ pub record Tied (v : VolatileState) (d : DurableState) : Type 0 where
   -- what is not in memory any more is logged
   pub trimmed : v.tail.trimmed ≤ d.logged
   pub cut : v.memory.cut ≡ d.coming
-  -- the next group begins behind the last
+  -- the next group begins after the last
   pub position : v.tail.log.cut ≡ next_position d.objects.log
   pub logged : All (λ c. c.end ≤ end_of d.objects → c.commits ≤ d.logged) (cut_points v.tail)
 

@@ -71,7 +71,7 @@ abbrev pub used_positions : VolatileState → ℕ → ℕ
 used_positions v start = v.tail.log.cut - start
 
 -- The logger has nothing to do, as far as memory alone can tell, where the log starts at this
--- position: the last cut is marked, and there is no tail and no commit behind the mark, or there
+-- position: the last cut is marked, and there is no tail and no commit after the mark, or there
 -- are fewer free positions than the tail has blocks
 pub record HasNothingToLog (v : VolatileState) (start : ℕ) : Type 0 where
   pub marked : v.memory.cut ≤ floor v.memory.history

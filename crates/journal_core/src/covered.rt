@@ -22,7 +22,7 @@ impl Covered {
     }
 }
 
-// How long the front is with one entry more behind so many.
+// The length of a front of so many entries with one entry more.
 fn one_longer(entries: u64, len: u64) -> u64
     requires { len < 2 ^ 62 }
     ensures { result ≡ with_quiet len entries }

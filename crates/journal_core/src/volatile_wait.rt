@@ -183,7 +183,7 @@ impl<'b, R: MapRule, J: Naming> Volatile<'b, R, J> {
     }
 
     /// Whether the logger has nothing to do, as far as memory alone can tell, where the log starts
-    /// at this position: the last cut is marked, and there is no tail and no commit behind the
+    /// at this position: the last cut is marked, and there is no tail and no commit after the
     /// mark, or there are fewer free positions than the tail has blocks.
     pub fn has_nothing_to_log(&self, start: u64) -> bool
         ensures { IsTrue result ↔ HasNothingToLog self.now start }

@@ -17,7 +17,7 @@ use Rattle.journal_filestore.specs.Doing.{LearnsThat, Puts, Makes}
 abbrev pub more_of : List ℕ → List ℕ → List ℕ
 more_of kept fresh = kept ++ fresh ++ replicate (MORE_BLOCKS - (length kept + length fresh)) 0
 
--- the inode of a file with another size and time, so many of its further blocks, and new ones behind them
+-- the inode of a file with another size and time, so many of its further blocks, and new ones after them
 abbrev pub with_blocks : FileNode → ℕ → List ℕ → ℕ → Time → FileNode
 with_blocks f kept fresh size mtime = record f { size = size; more = more_of (take kept f.more) fresh; mtime = mtime }
 

@@ -85,7 +85,7 @@ abbrev pub bits_written : ℕ → List ℕ → List Write
 bits_written v [] = []
 bits_written v (b ∷ bs) = (bit (b - FIRST_DATA), v ∷ []) ∷ bits_written v bs
 
--- these blocks, by bytes that lie one behind another
+-- these blocks, by bytes that lie one after another
 abbrev pub blocks_written : List ℕ → List ℕ → List Write
 blocks_written [] bytes = []
 blocks_written (b ∷ bs) bytes = (block b, take BLOCK_BYTES bytes) ∷ blocks_written bs (drop BLOCK_BYTES bytes)

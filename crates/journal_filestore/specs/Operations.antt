@@ -167,7 +167,7 @@ portion offset n i d = record {
   is_end = nat_le (length d.bytes) (offset + n);
 }
 
--- how many bytes are read of those that lie behind the offset. In version 1 there are no more than one call reads
+-- how many bytes are read of those that lie after the offset. In version 1 there are no more than one call reads
 abbrev pub portion_length : FormatVersion → ℕ → ℕ → ℕ
 portion_length One count left = min count left
 portion_length Two count left = min (min count READ_BYTES) left

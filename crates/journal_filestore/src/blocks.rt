@@ -23,7 +23,7 @@ use journal_world::{BLOCK_BYTES, Refusal};
 use std::alloc::Global;
 use std::sync::Wait;
 
-// Reads data blocks: what they hold, one behind another.
+// Reads data blocks: what they hold, one after another.
 pub(crate) fn read_blocks<'j, 'b, D: BlockDisk, J: Naming, V: Version, W: Wait>(
     rt: &W,
     txn: &mut FileTxn<'j, 'b, D, J, V>,
@@ -111,7 +111,7 @@ pub(crate) fn write_bits<'j, 'b, D: BlockDisk, J: Naming, V: Version, W: Wait>(
     Ok(())
 }
 
-// Overwrites data blocks by bytes that lie one behind another.
+// Overwrites data blocks by bytes that lie one after another.
 fn write_blocks<'j, 'b, D: BlockDisk, J: Naming, V: Version, W: Wait>(
     rt: &W,
     txn: &mut FileTxn<'j, 'b, D, J, V>,
@@ -174,7 +174,7 @@ pub(crate) fn read_span<'j, 'b, D: BlockDisk, J: Naming, V: Version, W: Wait>(
     Ok(bytes)
 }
 
-// The inode of a file with another size and time, so many of its further blocks, and new ones behind them.
+// The inode of a file with another size and time, so many of its further blocks, and new ones after them.
 pub(crate) fn with_blocks(
     file: FileNode,
     kept: usize,

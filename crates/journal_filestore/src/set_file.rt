@@ -54,7 +54,7 @@ pub(crate) fn set_file<'j, 'b, D: BlockDisk, J: Naming, V: Version, W: Wait>(
     }
     grow(rt, txn, space, number, file, size, mtime)
 }
-// Cuts a file off, which frees the blocks that lie behind.
+// Cuts a file off, which frees the blocks after its end.
 fn shrink<'j, 'b, D: BlockDisk, J: Naming, V: Version, W: Wait>(
     rt: &W,
     txn: &mut FileTxn<'j, 'b, D, J, V>,
@@ -87,7 +87,7 @@ fn shrink<'j, 'b, D: BlockDisk, J: Naming, V: Version, W: Wait>(
     Ok(after)
 }
 
-// Gives a file zeros behind its bytes, as many as there may be none, and the blocks for them; `None` where they are not
+// Gives a file zeros after its bytes, as many as there may be none, and the blocks for them; `None` where they are not
 // handed out.
 fn grow<'j, 'b, D: BlockDisk, J: Naming, V: Version, W: Wait>(
     rt: &W,

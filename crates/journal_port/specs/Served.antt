@@ -51,7 +51,7 @@ AreAnswers blocks may_stop marks (r ∷ rs) old new answers =
 abbrev pub text_of : Answer → List ℕ
 text_of told = framed (answer.spelling (told_of told))
 
--- those of some, one behind another
+-- those of some, one after another
 abbrev pub texts : List Answer → List ℕ
 texts answers = flat_map text_of answers
 
@@ -110,7 +110,7 @@ pub record RepliesInPart (blocks : ℕ) (may_stop : Bool) (waiting : List ℕ) (
   pub turns : Turns blocks may_stop waiting rest old new answers
   pub wrote : AppendsFront before holds (texts answers)
 
--- a piece came behind what waited, or nothing more comes
+-- a piece came after what waited, or nothing more comes
 abbrev pub Feeds : Option (List ℕ) → Option (List ℕ) → List ℕ → List ℕ → Bool → Type 0
 Feeds from left waiting waits true = (piece : List ℕ) × Consumes from left piece × (waits ≡ waiting ++ piece)
 Feeds from left waiting waits false = Consumes from left [] × IsAtEnd left × (waits ≡ waiting)
@@ -132,7 +132,7 @@ pub record Exchange (blocks : ℕ) (may_stop : Bool) (from left : Option (List �
 abbrev pub refuses_long : Answer
 refuses_long = Refused why.TooLong
 
--- what is answered behind the records: where the next is too long, that it is
+-- what is answered after the records: where the next is too long, that it is
 abbrev pub IsBehind : List ℕ → List Answer → Type 0
 IsBehind rest behind = (behind ≡ []) ⊎ ((behind ≡ refuses_long ∷ []) × BeginsTooLong rest)
 
@@ -143,7 +143,7 @@ IsEnd Stopped left rest answers behind = EndsStopping answers × (behind ≡ [])
 IsEnd TooLong left rest answers behind = BeginsTooLong rest × (behind ≡ refuses_long ∷ [])
 
 -- A connection that was served to its end: what the reader gave is some records and a rest, and what was written is the answers to the records,
--- in order, and what is answered behind them
+-- in order, and what is answered after them
 pub record Serves (blocks : ℕ) (may_stop : Bool) (end : End) (from left before holds : Option (List ℕ)) (old new : SessionState) : Type 0 where
   pub rest : List ℕ
   pub answers : List Answer

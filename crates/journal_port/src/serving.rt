@@ -23,7 +23,7 @@ const PIECE_BYTES: usize = 131_072;
 pub enum End {
     /// Nothing more came. A record of which a part came has no answer.
     NoMore,
-    /// A client asked to end the service, and was answered. What came behind it has no answer.
+    /// A client asked to end the service, and was answered. What came after it has no answer.
     Stopped,
     /// A record was longer than a record may be, and was answered so. Nothing of it was read.
     TooLong,

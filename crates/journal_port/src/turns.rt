@@ -181,7 +181,7 @@ pub(crate) fn send<W: Write>(
     }
 }
 
-// The records of the answers, one behind another.
+// The records of the answers, one after another.
 fn spell(alloc: Global, held: &[Answer], stable: u64) -> Result<Vec<u8>, WriteFault>
     ensures { IfOk result (λ text. AreSpelled (map (settled stable) held.now) text.items) }
 {

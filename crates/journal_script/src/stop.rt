@@ -6,7 +6,7 @@ use std::alloc::AllocError;
 /// Why not all lines of a script were read and answered.
 #[derive(Debug, Drop)]
 pub enum Stop {
-    /// What comes before the first line was refused, or what comes behind the last.
+    /// What comes before the first line was refused, or what comes after the last.
     Refused(Refusal<()>),
     /// The input failed.
     CannotRead,

@@ -65,7 +65,7 @@ impl<'b, D: BlockDisk, R: MapRule, J: Naming> SharedCore<'b, D, R, J> {
     }
 
     // Marks, cuts, or is idle, in a hold of both locks. Those that a mark is to wake are counted in
-    // the same hold, and nobody is awaited behind a cut.
+    // the same hold, and after a cut the logger waits for no thread.
     fn settle<W: Wait>(
         &self,
         rt: &W,

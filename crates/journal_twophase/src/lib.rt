@@ -5,10 +5,10 @@
 //! others wait for one another. Slots are waited for in ascending order only, and a lower one is tried once,
 //! so no two transactions wait for each other.
 //!
-//! The core's two parts stand under a lock each. Under the memory lock a thread looks at the history and at the
+//! Each of the core's two parts is under a lock. Under the memory lock a thread looks at the history and at the
 //! objects that commits wrote, and waits for no device: so a read or a commit goes on whose blocks are in memory
-//! while a barrier waits. Under the disk's lock it makes at most one device call that changes the disk. Whoever needs
-//! both takes the disk's first.
+//! while a barrier waits. Under the disk's lock it makes at most one device call that changes the disk. A
+//! thread that needs both takes the disk's first.
 //!
 //! What was fetched from the disk and used is kept in memory, up to a number of blocks. So a block that is read often is
 //! not read from the device each time.

@@ -1,8 +1,8 @@
 // The core's two parts, as threads share them: one function for each of their events.
 //
 // The memory lock stands here and in `device.rt` and `waiting.rt`, the disk's in `device.rt` alone, and neither a part nor a guard
-// of it leaves these three. What the functions tell is told of sessions, transactions and receipts, since nothing stays true
-// of a part once its lock is let go.
+// of it leaves these three. The contracts speak of sessions, transactions and receipts, because no fact of a part stays
+// true after its lock is released.
 ghost use Rattle.std.specs.Prelude.{◌≡◌, ◌<◌, true, false, length, IsTrue, IsSome, IfOk, IfErr, IfSome, OnOk, OnErr, All};
 ghost use Rattle.journal_world.specs.Addresses.{is_valid};
 ghost use Rattle.journal_world.specs.Maps.{Map, Agrees, is_object, value_at, overwritten};
@@ -63,7 +63,7 @@ pub(crate) enum LoggerWake {
 }
 
 impl<'b, R: MapRule, J: Naming> Shared<'b, R, J> {
-    // For which wait the logger is to be woken behind this answer to a commit. Who asks has to wake it: the next commit does not
+    // For which wait the logger is to be woken after this answer to a commit. Who asks has to wake it: the next commit does not
     // wake it for the same sleep again.
     pub(crate) fn wake_after<T>(&mut self, answer: &Result<T, Why<'b, J, R>>) -> LoggerWake {
         if answer.is_err() {
@@ -534,7 +534,7 @@ impl<'b, D: BlockDisk, R: MapRule, J: Naming> SharedCore<'b, D, R, J> {
         }
     }
 
-    // Wakes the logger where it is to be woken behind a commit, and all where the device failed.
+    // Wakes the logger after a commit that ends its wait, and all where the device failed.
     pub(crate) fn wake_after_commit(
         &self,
         answer: &Result<Receipt<'b, J, R>, Why<'b, J, R>>,
