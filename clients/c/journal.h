@@ -101,8 +101,8 @@ int jnl_open_tcp(uint16_t port, jnl **out);
 void jnl_close(jnl *);
 
 /* The most that a call waits for the port to take or send bytes, in milliseconds; 0, as at the
- * beginning, is for ever. A call that waited in vain answers JNL_LOST. With the journal in this
- * process it has no effect. */
+ * beginning, is for ever. A call that waited in vain answers JNL_LOST, and the port may do what it
+ * asked for after that. With the journal in this process it has no effect. */
 void jnl_set_timeout(jnl *, unsigned milliseconds);
 
 /* How many blocks the disk has. */
