@@ -76,26 +76,26 @@ unmoved_under history held t agree under = λ k d lt.
     agrees_at (x ∷ xs) (suc k) h all at = agrees_at xs k h (All-tail (λ (y : HeldState). y.count ≡ touched history y.slot) x xs all) at
 
 -- what a transaction keeps once it has read the value of one more address at the end of a history
-pub remembered : (blocks : ℕ) (t : TransactionState) → IsTransaction blocks t → (history : List Entry) (a : Addr) (v : Value) (reads : List Pair)
+pub remembered : (blocks : ℕ) (t : TransactionState) → IsTransaction blocks t → (history : List Entry) (a : Addr) (v : Value)
     → IsPrefix t.seen history → AreUnmoved history t
-    → IsTrue (are_objects blocks reads)
-    → ((m : Map) → Agrees m t.reads → value_at m a ≡ v → Agrees m reads)
+    → IsTrue (is_object blocks (a, v))
     → (IsTrue (is_trusted history) → v ≡ value_at (latest history) a)
-    → IsTransaction blocks (record { reads = reads; writes = t.writes; seen = history })
-remembered blocks t kept history a v reads begins still objects agrees gives = record {
+    → IsTransaction blocks (record { reads = (a, v) ∷ t.reads; writes = t.writes; seen = history })
+remembered blocks t kept history a v begins still object gives = record {
   begun = λ empty. kept.begun (front_empty t.seen history begins empty);
   on_disk = ap (λ (h : List Entry). (opened h).blocks) (sym begins.1) ∙ ap (λ (m : Map). m.blocks) (opened-append t.seen begins.0 kept.begun) ∙ kept.on_disk;
-  reads = objects;
+  reads = and_from (is_object blocks (a, v)) (are_objects blocks t.reads) object kept.reads;
   writes = kept.writes;
-  agrees = λ trusted. agrees (latest history) (agrees_later t.seen history t.reads kept.begun begins still kept.agrees trusted) (sym (gives trusted));
+  agrees = λ trusted. All-cons (λ (p : Pair). value_at (latest history) p.0 ≡ p.1) (a, v) t.reads (sym (gives trusted))
+      (agrees_later t.seen history t.reads kept.begun begins still kept.agrees trusted);
 }
 
 -- what was read is remembered
-pub remembers : (t old : TransactionState) (a : Addr) (v w : Value) (history : List Entry) (reads : List Pair) → t ≡ old → w ≡ v → SamePairs reads ((a, w) ∷ t.reads)
-    → ((blocks : ℕ) → IsTrue (are_objects blocks t.reads) → IsTrue (is_object blocks (a, w)) → IsTrue (are_objects blocks reads))
-    → ((m : Map) → Agrees m t.reads → value_at m a ≡ w → Agrees m reads)
-    → Remembers old a v history (record { reads = reads; writes = t.writes; seen = history })
-remembers t old a v w history reads is copy same objects agrees =
-    subst (λ (u : TransactionState). Remembers u a v history (record { reads = reads; writes = t.writes; seen = history })) is
-    (subst (λ (x : Value). Remembers t a x history (record { reads = reads; writes = t.writes; seen = history })) copy
-    (record { reads = same; objects = objects; agrees = agrees; others = refl }))
+pub remembers : (t : TransactionState) (a : Addr) (v : Value) (history : List Entry)
+    → Remembers t a v history (record { reads = (a, v) ∷ t.reads; writes = t.writes; seen = history })
+remembers t a v history = record {
+  reads = λ b. refl;
+  objects = λ blocks old new. and_from (is_object blocks (a, v)) (are_objects blocks t.reads) new old;
+  agrees = λ m old new. All-cons (λ (p : Pair). value_at m p.0 ≡ p.1) (a, v) t.reads new old;
+  others = refl;
+}

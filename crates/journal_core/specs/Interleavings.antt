@@ -120,8 +120,8 @@ abbrev pub AnswersRead : ℕ → CoreState → TransactionState → Addr → Res
 AnswersRead blocks old t a (Ok found) v new = FindsValue blocks old t a v new
 AnswersRead blocks old t a (Err why) v new = RefusesRead blocks old t a why new
 
--- what the core did for a read that is answered by a refusal: the core's own, or for want of memory to remember what it
--- found, or to read into
+-- what the core did for a read that is answered by a refusal, or whose answer is not remembered: it refused the read, or
+-- found the value, or was not asked for want of memory to read into
 abbrev pub IsUnread : ℕ → CoreState → TransactionState → Addr → CoreState → Type 0
 IsUnread blocks old t a new =
     ((why : Refusal Told) × RefusesRead blocks old t a why new)

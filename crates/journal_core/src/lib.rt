@@ -36,6 +36,7 @@ mod fenced_sessions;
 mod fetched;
 mod holds;
 mod install;
+mod known;
 mod law;
 mod law_of_holds;
 mod log;

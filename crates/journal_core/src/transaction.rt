@@ -6,6 +6,7 @@ ghost use Rattle.journal_world.specs.Maps.{is_object, are_objects, value_among, 
 ghost use Rattle.journal_world.specs.Histories.{is_trusted, latest};
 ghost use Rattle.journal_core.specs.Transactions.{begun, AreUnmoved, Remembers, Overwrites};
 
+use crate::known::KnownPairs;
 use journal_history::{Front, Naming, Recorded, Session};
 use journal_objlog::Spares;
 use journal_world::{Addr, MapRule, Objects, Value};
@@ -14,9 +15,11 @@ use std::marker::Model;
 
 /// What an open transaction has read and overwritten. Contracts see both, by address, and a history at whose end
 /// all that it read is what the map gives: a transaction sees one map, whether it is committed or not.
+///
+/// What it read stands in proofs alone: no code looks at it, and nothing of it is copied.
 #[derive(Drop)]
 pub struct Transaction<'b, J: Naming, R: MapRule> {
-    pub(crate) reads: Objects,
+    pub(crate) reads: KnownPairs,
     pub(crate) writes: Objects,
     pub(crate) front: Front<'b, J, R>,
 }
@@ -61,7 +64,7 @@ impl<'b, J: Naming, R: MapRule> Transaction<'b, J, R> {
         // Called for its contract: the session has seen an opening.
         let _seen = session.seen();
         Transaction {
-            reads: Objects::new(alloc),
+            reads: KnownPairs::none(),
             writes: Objects::new(alloc),
             front: session.front(),
         }
@@ -99,18 +102,16 @@ impl<'b, J: Naming, R: MapRule> Transaction<'b, J, R> {
         self.writes.insert(addr, value)
     }
 
-    /// Remembers the value that a read found. After an `Err` all is as before.
-    pub fn remember(&mut self, found: Found<'b, J, R>, value: &Value) -> Result<(), AllocError>
+    /// Remembers the value that a read found. Nothing is copied, and it takes no memory.
+    pub fn remember(&mut self, found: Found<'b, J, R>, value: &Value)
         requires object { IsTrue (is_object J.blocks (found.addr, value.now)) }
         requires value { IsTrue (is_trusted found.seen) → value.now ≡ value_at (latest found.seen) found.addr }
         requires later { IsPrefix self.old.seen found.seen }
         requires unmoved { AreUnmoved found.seen self.old }
-        ensures ok { OnOk result (Remembers self.old found.entry.addr value.now found.entry.seen self.new) }
-        ensures err { OnErr result (self.new ≡ self.old) }
+        ensures remembered { Remembers self.old found.entry.addr value.now found.entry.seen self.new }
     {
         let Found { addr, front } = found;
-        self.reads.insert(addr, value.clone()?)?;
+        self.reads = self.reads.with(addr, value);
         self.front = front;
-        Ok(())
     }
 }

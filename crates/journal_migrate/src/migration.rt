@@ -167,6 +167,6 @@ fn overwrite<'b, J: Naming>(
 {
     let new = Value::new(upgraded(alloc, &bytes)?);
     let old = Value::new(bytes);
-    transaction.remember(found, &old)?;
+    transaction.remember(found, &old);
     transaction.overwrite(SUPERBLOCK_ADDR, new)
 }

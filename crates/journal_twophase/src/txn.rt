@@ -178,8 +178,8 @@ impl<'j, 'b, D: BlockDisk, R: MapRule, J: Naming> Txn<'j, 'b, D, R, J> {
         Ok(vec![in self.alloc; 0u8; size]?)
     }
 
-    // What the map gives, which it remembers. Only the look-up has the core's lock: the value's memory and the copy
-    // that is remembered are made outside of it.
+    // What the map gives, which it remembers. Only the look-up has the core's lock: the value's memory is made outside
+    // of it.
     fn look_in_map<W: Wait>(
         &mut self,
         rt: &W,
@@ -206,7 +206,7 @@ impl<'j, 'b, D: BlockDisk, R: MapRule, J: Naming> Txn<'j, 'b, D, R, J> {
         } = self;
         let found = journal.core.read(rt, transaction, held, addr, &mut bytes)?;
         let value = Value::new(bytes);
-        transaction.remember(found, &value)?;
+        transaction.remember(found, &value);
         Ok(value)
     }
 
