@@ -80,7 +80,7 @@ static int exchange(jnl *j, uint8_t *record, size_t n, uint8_t *answer, size_t r
 {
     uint8_t length[4];
     put32(record, (uint32_t)(n - 4));
-    if (jnl_line_send(j->line, record, n)) return JNL_LOST;
+    if (jnl_line_send(j->line, record, n) || jnl_line_await(j->line)) return JNL_LOST;
     if (jnl_line_receive(j->line, length, 4)) return JNL_LOST;
     *size = get32(length);
     if (*size < 4 || *size > room) return JNL_PROTOCOL;

@@ -23,6 +23,9 @@ int jnl_line_is_quiet(struct jnl_line *);
 /* The most that a send or a receive waits, in milliseconds; 0 is for ever. */
 void jnl_line_set_timeout(struct jnl_line *, unsigned milliseconds);
 
+/* Waits until an answer begins to come: 0; or -1, and the line is of no more use. */
+int jnl_line_await(struct jnl_line *);
+
 /* All n bytes: 0; or -1, and the line is of no more use. */
 int jnl_line_send(struct jnl_line *, const uint8_t *, size_t n);
 int jnl_line_receive(struct jnl_line *, uint8_t *, size_t n);

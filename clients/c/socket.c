@@ -3,8 +3,10 @@
 #include "line.h"
 #include <errno.h>
 #include <fcntl.h>
+#include <limits.h>
 #include <netinet/in.h>
 #include <netinet/tcp.h>
+#include <poll.h>
 #include <stdlib.h>
 #include <string.h>
 #include <sys/socket.h>
@@ -23,6 +25,7 @@ struct jnl_port {
 
 struct jnl_line {
     int fd;
+    unsigned timeout;
 };
 
 int jnl_port_enter(const char *path, struct jnl_port **out)
@@ -70,7 +73,7 @@ static int connect_to(const struct jnl_port *p, int fd)
 int jnl_line_open(struct jnl_port *p, struct jnl_line **out)
 {
     const int on = 1;
-    struct jnl_line *l = malloc(sizeof *l);
+    struct jnl_line *l = calloc(1, sizeof *l);
     *out = NULL;
     if (!l) return JNL_NO_MEMORY;
     l->fd = socket(p->at.any.sa_family, SOCK_STREAM, 0);
@@ -108,6 +111,7 @@ int jnl_line_is_quiet(struct jnl_line *l)
 void jnl_line_set_timeout(struct jnl_line *l, unsigned milliseconds)
 {
     struct timeval t = {milliseconds / 1000, 1000 * (milliseconds % 1000)};
+    l->timeout = milliseconds;
     setsockopt(l->fd, SOL_SOCKET, SO_RCVTIMEO, &t, sizeof t);
     setsockopt(l->fd, SOL_SOCKET, SO_SNDTIMEO, &t, sizeof t);
 }
@@ -123,6 +127,19 @@ int jnl_line_send(struct jnl_line *l, const uint8_t *p, size_t n)
         n -= (size_t)k;
     }
     return 0;
+}
+
+/* A thread that sleeps in recv is also woken where the port takes its request, since the socket then
+ * has room again. One that sleeps in poll for input is not. */
+int jnl_line_await(struct jnl_line *l)
+{
+    struct pollfd input = {l->fd, POLLIN, 0};
+    int most = l->timeout ? (int)(l->timeout < INT_MAX ? l->timeout : INT_MAX) : -1;
+    int s;
+    do {
+        s = poll(&input, 1, most);
+    } while (s < 0 && errno == EINTR);
+    return s > 0 ? 0 : -1;
 }
 
 int jnl_line_receive(struct jnl_line *l, uint8_t *p, size_t n)
