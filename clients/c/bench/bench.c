@@ -5,91 +5,30 @@
  *
  * First it measures how often a second the device makes one block of 4096 bytes stable: its limit
  * for transactions that share no barrier. It takes a second, or LIMIT_SECONDS of them. Then it
- * counts the barriers of the engine while the loop runs: calls of fdatasync, fsync and msync, and
- * writes to files that were opened with O_DSYNC.
+ * counts the barriers of the engine while the loop runs, or those of a service. See barriers.h.
  *
  * It prints: engine threads mode commits/s, barriers/s, limit/s, microseconds of processor time a
  * commit. */
 #define _GNU_SOURCE
+#include "barriers.h"
 #include "engines.h"
-#include <dlfcn.h>
 #include <fcntl.h>
 #include <pthread.h>
-#include <stdarg.h>
 #include <stdatomic.h>
 #include <stdio.h>
 #include <stdlib.h>
 #include <string.h>
-#include <sys/mman.h>
 #include <sys/resource.h>
 #include <sys/stat.h>
 #include <time.h>
 #include <unistd.h>
 
-enum { MOST_THREADS = 60, LIMIT_BLOCKS = 512, BLOCK = 4096, MOST_FILES = 4096 };
+enum { MOST_THREADS = 64, LIMIT_BLOCKS = 512, BLOCK = 4096 };
 
 static const struct engine *engine;
 static int threads, durable;
 static atomic_int stopped;
-static atomic_ulong barriers;
 static pthread_barrier_t all_begin;
-static unsigned char is_sync_file[MOST_FILES];
-
-/* ---- barriers, counted in front of the C library */
-
-#define NEXT(type, name, ...) \
-    static type (*next)(__VA_ARGS__); \
-    if (!next) next = (type(*)(__VA_ARGS__))dlsym(RTLD_NEXT, #name)
-
-int fdatasync(int fd)
-{
-    NEXT(int, fdatasync, int);
-    barriers++;
-    return next(fd);
-}
-
-int fsync(int fd)
-{
-    NEXT(int, fsync, int);
-    barriers++;
-    return next(fd);
-}
-
-int msync(void *at, size_t n, int flags)
-{
-    NEXT(int, msync, void *, size_t, int);
-    if (flags & MS_SYNC) barriers++;
-    return next(at, n, flags);
-}
-
-static int note_open(int fd, int flags)
-{
-    if (fd >= 0 && fd < MOST_FILES) is_sync_file[fd] = (flags & O_DSYNC) != 0;
-    return fd;
-}
-
-#define DEFINE_OPEN(name) \
-    int name(const char *path, int flags, ...) \
-    { \
-        NEXT(int, name, const char *, int, ...); \
-        va_list more; \
-        va_start(more, flags); \
-        int mode = va_arg(more, int); \
-        va_end(more); \
-        return note_open(next(path, flags, mode), flags); \
-    }
-DEFINE_OPEN(open)
-DEFINE_OPEN(open64)
-
-#define DEFINE_PWRITE(name) \
-    ssize_t name(int fd, const void *p, size_t n, off_t at) \
-    { \
-        NEXT(ssize_t, name, int, const void *, size_t, off_t); \
-        if (fd >= 0 && fd < MOST_FILES && is_sync_file[fd]) barriers++; \
-        return next(fd, p, n, at); \
-    }
-DEFINE_PWRITE(pwrite)
-DEFINE_PWRITE(pwrite64)
 
 /* ---- the loop */
 
@@ -177,7 +116,7 @@ static void run(double seconds, double limit)
         if (pthread_create(&works[i].thread, NULL, work, &works[i])) fail("a thread", "refused");
     }
     pthread_barrier_wait(&all_begin);
-    unsigned long before = barriers;
+    unsigned long before = count_barriers();
     double begin = now(), processor = processor_seconds();
     usleep((useconds_t)(seconds * 1e6));
     stopped = 1;
@@ -189,7 +128,7 @@ static void run(double seconds, double limit)
     double took = now() - begin;
     printf("%-8s %2d %-7s %9.0f commits/s %7.0f barriers/s, limit %6.0f/s, %6.2f us of processor\n",
            engine->name, threads, durable ? "durable" : "lazy", (double)commits / took,
-           (double)(barriers - before) / took, limit,
+           (double)(count_barriers() - before) / took, limit,
            (processor_seconds() - processor) * 1e6 / (double)commits);
     fflush(stdout);
 }

@@ -78,7 +78,7 @@ void deep_open(const char *folder, int durable)
 {
     (void)folder;
     is_durable = durable;
-    first = deep_session();
+    if (!durable) first = deep_session();
 }
 
 void deep_commit(void *session, const uint32_t keys[2], const char *value)

@@ -21,6 +21,7 @@ static void spell_key(uint32_t key, char bytes[4])
  * has it; or on a new disk in this process */
 
 static char journal_path[600];
+/* What flushes, where the commits do not wait. There are no more connections than 64. */
 static jnl *journal;
 
 static void journal_want(int status)
@@ -50,7 +51,7 @@ static void journal_open(const char *folder, int durable)
     snprintf(journal_path, sizeof journal_path, "%s%s", at ? at : folder, at ? "" : "/disk");
     if (!at) journal_make(journal_path);
     is_durable = durable;
-    journal = journal_session();
+    if (!durable) journal = journal_session();
 }
 
 static void journal_commit(void *session, const uint32_t keys[2], const char *value)
