@@ -12,8 +12,8 @@ use Rattle.journal_objlog.specs.ObjectLogs.{OnlyReads as OnlyReadsLog}
 use Rattle.journal_objlog.specs.Writes.{fresh_among}
 use Rattle.journal_objlog.proofs.Openings.{OnlyReads-refl}
 use Rattle.journal_history.specs.Tokens.{SessionState, OnlyExtends, CommitPlace, IsReceiptFor, made, next_transaction as numbered}
-use Rattle.journal_core.specs.Causes.{Told}
-use Rattle.journal_core.specs.Memories.{IsUnknown}
+use Rattle.journal_core.specs.Causes.{CauseState}
+use Rattle.journal_core.specs.Ledgers.{IsUnknown}
 use Rattle.journal_core.specs.Transactions.{TransactionState}
 use Rattle.journal_core.specs.Outsets.{Outset, CanCommit, IsCommitRefusal as IsRefusedFrom}
 use Rattle.journal_core.specs.Durables.{DurableState, IsCallRefusal}
@@ -50,7 +50,7 @@ module _ (blocks : ℕ) (v : VolatileState) (d : DurableState) (pair : IsPair bl
   pair_committed reads writes s after kept it = record {
     volatile = kept;
     durable = pair.durable;
-    tied = tied_committed v w d (numbered s reads writes) it.committed.added (ap (λ (x : VolatileState). x.memory.cut) it.others)
+    tied = tied_committed v w d (numbered s reads writes) it.committed.added (ap (λ (x : VolatileState). x.ledger.cut) it.others)
         (ap (λ (t : TailState). t.trimmed) it.logs.appends) (ap cut_points it.logs.appends) (ap (λ (t : TailState). t.log.cut) it.logs.appends) pair.tied;
     fault = ap (λ (x : VolatileState). x.faulted) it.others ∙ pair.fault;
   }
@@ -72,7 +72,7 @@ module _ (blocks : ℕ) (v : VolatileState) (d : DurableState) (pair : IsPair bl
   }
 
 -- why a commit in memory is refused
-refused_as : (c now : CoreState) (s : SessionState) (t : TransactionState) (why : Refusal Told) → now ≡ c → IsRefusedFrom (outset c) s t why → IsCommitRefusal c s t now why
+refused_as : (c now : CoreState) (s : SessionState) (t : TransactionState) (why : Refusal CauseState) → now ≡ c → IsRefusedFrom (outset c) s t why → IsCommitRefusal c s t now why
 refused_as c now s t (Closed cause) same it = record { unexplained = it.0; closed = it.1; same = same }
 refused_as c now s t (DeviceFailed cause) same it = record {
   unexplained = it.0;
@@ -94,18 +94,18 @@ refused_as c now s t (Worn cause) same it = it
 refused_as c now s t (Full cause) same it = it
 refused_as c now s t Fenced same it = it
 
-pub refused_first : (c now : CoreState) (o : Outset) (s : SessionState) (t : TransactionState) (why : Refusal Told) → o ≡ outset c → now ≡ c → IsRefusedFrom o s t why
+pub refused_first : (c now : CoreState) (o : Outset) (s : SessionState) (t : TransactionState) (why : Refusal CauseState) → o ≡ outset c → now ≡ c → IsRefusedFrom o s t why
     → IsCommitRefusal c s t now why
 refused_first c now o s t why judged same it = refused_as c now s t why same (subst (λ (p : Outset). IsRefusedFrom p s t why) judged it)
 
 -- why it is refused at another try, where nothing but memory and the device could: the session has only seen more
 module _ (c now : CoreState) (s mid : SessionState) (t : TransactionState) (extends : OnlyExtends s mid) (can : CanCommit (outset c) s t) where
-  unknown_not : (cause : Told) → IsUnknown c.history mid cause → ⊥
+  unknown_not : (cause : CauseState) → IsUnknown c.history mid cause → ⊥
   unknown_not cause it =
       let same : made mid ≡ made s = λ i. length (commits_of (extends.number i) (extends.mine i)) in
       omega (arith, it.1, can.may.own, ap (λ (n : ℕ). length (commits_of n c.history)) extends.number, same)
 
-  pub refused_again : (why : Refusal Told) → IsRefusedFrom (outset c) mid t why → IsCommitRefusal c s t now why
+  pub refused_again : (why : Refusal CauseState) → IsRefusedFrom (outset c) mid t why → IsCommitRefusal c s t now why
   refused_again (Stale cause) it = it
   refused_again NoMemory it = can
   refused_again (Stranger cause) it = absurd (unknown_not cause it.2)
@@ -125,7 +125,7 @@ module _ (c now : CoreState) (s mid : SessionState) (t : TransactionState) (exte
 -- the device failed as the blocks were fetched
 module _ (blocks : ℕ) (v : VolatileState) (d : DurableState) (pair : IsPair blocks v d) (running : IsRunning (core_of v d)) (e : DurableState)
     (s : SessionState) (t : TransactionState) (can : CanCommit (outset (core_of v d)) s t) where
-  refused_fetch : (w : VolatileState) (why : Refusal Told) → core_of w e ≡ core_of (failed v) e → IsCallRefusal d e why → IsCommitRefusal (core_of v d) s t (core_of w e) why
+  refused_fetch : (w : VolatileState) (why : Refusal CauseState) → core_of w e ≡ core_of (failed v) e → IsCallRefusal d e why → IsCommitRefusal (core_of v d) s t (core_of w e) why
   refused_fetch w (DeviceFailed cause) same it =
       subst (λ (c : CoreState). IsDeviceRefusal (CanCommit (outset (core_of v d)) s t) (core_of v d) c cause) (sym same)
       (fails_as blocks v d pair running e (CanCommit (outset (core_of v d)) s t) cause can it)
@@ -144,7 +144,7 @@ module _ (blocks : ℕ) (v : VolatileState) (d : DurableState) (pair : IsPair bl
   refused_fetch w Fenced same it = absurd it
 
   -- why a commit with fetched blocks is refused
-  pub refused_fetched : {T : Type 0} (w : VolatileState) (mid : SessionState) (o : Outset) (r : Result T (Refusal Told)) → OnlyExtends s mid → o ≡ outset (core_of v d)
+  pub refused_fetched : {T : Type 0} (w : VolatileState) (mid : SessionState) (o : Outset) (r : Result T (Refusal CauseState)) → OnlyExtends s mid → o ≡ outset (core_of v d)
       → (IfErr r (λ why. IsCallRefusal d e why → core_of w e ≡ core_of (failed v) e))
       → IfErr r (λ why. IsCallRefusal d e why ⊎ IsRefusedFrom o mid t why) → IfErr r (IsCommitRefusal (core_of v d) s t (core_of w e))
   refused_fetched w mid o (Ok value) extends judged same it = tt
@@ -188,7 +188,7 @@ module _ (w : VolatileState) (d : DurableState) (x : VolatileState) (e : Durable
   failed_same same left =
       same ∙ (λ i. record (core_of w d) { objects = record { wal = e.objects; tail = left.tail i }; logged = sym (ap (λ (c : CoreState). c.logged) same) i })
 
-  pub fails_same : {T : Type 0} (r : Result T (Refusal Told)) → OnErr r (core_of x e ≡ record (core_of w d) { objects = (core_of x e).objects })
+  pub fails_same : {T : Type 0} (r : Result T (Refusal CauseState)) → OnErr r (core_of x e ≡ record (core_of w d) { objects = (core_of x e).objects })
       → OnErr r (OnlyReads (core_of w d).objects (core_of x e).objects) → IfErr r (λ why. IsCallRefusal d e why → core_of x e ≡ core_of (failed w) e)
   fails_same (Ok value) same left = tt
   fails_same (Err why) same left = λ call. failed_same same left

@@ -12,12 +12,12 @@ use Rattle.journal_objlog.specs.ObjectTails.{known_at, known_updates, missing_bl
 use Rattle.journal_history.specs.Tokens.{SessionState, CommitPlace, IsExact, OnlyExtends}
 use Rattle.journal_core.specs.declared.volatile_commit.CommitStep.{CommitStep}
 use Rattle.journal_core.specs.declared.volatile_commit.CommitStep.TheVariants.{Done, Missing}
-use Rattle.journal_core.specs.Causes.{Told}
-use Rattle.journal_core.specs.Memories.{IsNumberRefusal, IsStaleRefusal}
+use Rattle.journal_core.specs.Causes.{CauseState}
+use Rattle.journal_core.specs.Ledgers.{IsNumberRefusal, IsStaleRefusal}
 use Rattle.journal_core.specs.Fences.{SetsFence, IsFenceRefusal}
 use Rattle.journal_core.specs.Outsets.{MayRead, CanCommit, IsCommitRefusal, GoesOn}
 use Rattle.journal_core.specs.Waits.{MayWait, IsWaitRefusal, IsFlushRefusal}
-use Rattle.journal_core.specs.Transactions.{TransactionState, FoundState}
+use Rattle.journal_core.specs.Transactions.{TransactionState, ReadResultState}
 use Rattle.journal_core.specs.Durables.{DurableState, FetchedState, disk_of}
 use Rattle.journal_core.specs.Volatiles.{VolatileState, IsVolatile, IsReadRefusal, outset_of, usable}
 use Rattle.journal_core.specs.VolatileCommits.{IsCommitted, IfDone, IfMissing, with_room}
@@ -26,9 +26,9 @@ use Rattle.journal_core.specs.Cores.{Leaves}
 use Rattle.journal_core.specs.Holds.{AnswersRead, AnswersCommit, AnswersSession, AnswersFence, LacksMark, AnswersWait, AnswersFlush, AnswersShow, AnswersDisk}
 
 module _ (n : ℕ) (old new : VolatileState) where
-  pub answers_read : (t : TransactionState) (a : Addr) (f : FetchedState) (r : Result (Option FoundState) (Refusal Told)) (x : Value) → new ≡ old
-      → OnOk r (MayRead n (outset_of old) t a) → IfOk r (λ found. IfSome found (λ found. found ≡ record { addr = a; seen = old.memory.history }))
-      → (IsTrue (is_trusted old.memory.history) → IfOk r (λ found. IsSome found → x ≡ value_at (latest old.memory.history) a))
+  pub answers_read : (t : TransactionState) (a : Addr) (f : FetchedState) (r : Result (Option ReadResultState) (Refusal CauseState)) (x : Value) → new ≡ old
+      → OnOk r (MayRead n (outset_of old) t a) → IfOk r (λ found. IfSome found (λ found. found ≡ record { addr = a; seen = old.ledger.history }))
+      → (IsTrue (is_trusted old.ledger.history) → IfOk r (λ found. IsSome found → x ≡ value_at (latest old.ledger.history) a))
       → IfOk r (λ found. IsSome found → IsTrue (is_object n (a, x))) → IfOk r (λ found. found ≡ None → known_at (usable old f) old.tail a ≡ None)
       → IfErr r (IsReadRefusal n old t a f) → AnswersRead n old t a f r x new
   answers_read t a f (Ok (Some found)) x same may is value object lacks refusal = record {
@@ -41,9 +41,9 @@ module _ (n : ℕ) (old new : VolatileState) where
   answers_read t a f (Ok None) x same may is value object lacks refusal = record { may = may; lacks = lacks refl; same = same }
   answers_read t a f (Err why) x same may is value object lacks refusal = record { refusal = refusal; same = same }
 
-  pub answers_commit_in : (s after : SessionState) (t : TransactionState) (f : FetchedState) (r : Result (CommitStep CommitPlace) (Refusal Told)) → IsVolatile n new
+  pub answers_commit_in : (s after : SessionState) (t : TransactionState) (f : FetchedState) (r : Result (CommitStep CommitPlace) (Refusal CauseState)) → IsVolatile n new
       → OnOk r (CanCommit (outset_of old) s t) → IfOk r (IfDone (λ place. IsCommitted t.reads t.writes s after old new))
-      → OnOk r (IsTrue (is_trusted old.memory.history) → Agrees (latest old.memory.history) t.reads)
+      → OnOk r (IsTrue (is_trusted old.ledger.history) → Agrees (latest old.ledger.history) t.reads)
       → IfOk r (IfMissing (λ blocks. blocks ≡ missing_blocks n (known_updates (usable old f) old.tail) t.writes))
       → IfOk r (IfMissing (λ blocks. (new ≡ with_room old new.tail.log.room) × OnlyExtends s after))
       → IfErr r (IsCommitRefusal (outset_of old) s t) → OnErr r (new ≡ with_room old new.tail.log.room) → AnswersCommit n old s t f r new after
@@ -61,50 +61,50 @@ module _ (n : ℕ) (old new : VolatileState) where
   }
   answers_commit_in s after t f (Err why) kept can committed agrees missing waits refusal same = record { refusal = refusal; same = same; kept = kept }
 
-  pub answers_session_in : (r : Result SessionState (Refusal Told)) → IfOk r (λ s. s ≡ record { number = old.memory.next; mine = old.memory.history; seen = old.memory.history })
-      → commits_of old.memory.next old.memory.history ≡ [] → is_fenced old.memory.next old.memory.history ≡ false
-      → OnOk r (new ≡ record old { memory = record old.memory { next = old.memory.next + 1 } }) → IfErr r (IsNumberRefusal old.memory.next) → OnErr r (new ≡ old)
+  pub answers_session_in : (r : Result SessionState (Refusal CauseState)) → IfOk r (λ s. s ≡ record { number = old.ledger.next; mine = old.ledger.history; seen = old.ledger.history })
+      → commits_of old.ledger.next old.ledger.history ≡ [] → is_fenced old.ledger.next old.ledger.history ≡ false
+      → OnOk r (new ≡ record old { ledger = record old.ledger { next = old.ledger.next + 1 } }) → IfErr r (IsNumberRefusal old.ledger.next) → OnErr r (new ≡ old)
       → AnswersSession old r new
   answers_session_in (Ok s) is fresh free others refusal same = record { is = is; fresh = fresh; unfenced = free; others = others }
   answers_session_in (Err why) is fresh free others refusal same = record { refusal = refusal; same = same }
 
-  pub answers_fence_in : (session : ℕ) (r : Result (Unit {0}) (Refusal Told)) → IsVolatile n new → OnOk r (SetsFence session old.memory new.memory)
-      → new ≡ record old { memory = new.memory } → IfErr r (IsFenceRefusal session (outset_of old)) → OnErr r (new ≡ old) → AnswersFence n session old r new
+  pub answers_fence_in : (session : ℕ) (r : Result (Unit {0}) (Refusal CauseState)) → IsVolatile n new → OnOk r (SetsFence session old.ledger new.ledger)
+      → new ≡ record old { ledger = new.ledger } → IfErr r (IsFenceRefusal session (outset_of old)) → OnErr r (new ≡ old) → AnswersFence n session old r new
   answers_fence_in session (Ok done) kept did others refusal same = record { did = did; others = others; kept = kept }
   answers_fence_in session (Err why) kept did others refusal same = record { refusal = refusal; same = same }
 
 module _ (v : VolatileState) (s after : SessionState) where
-  lacks : (n : ℕ) → (n ≤ floor v.memory.history → ⊥) → MayWait (outset_of v) n → LacksMark v n
-  lacks n unmarked goes_on = record { unmarked = lt_of_not-le unmarked; goes_on = ⊎_elim (λ (on : GoesOn (outset_of v)). on) (λ (marked : n ≤ floor v.memory.history). absurd (unmarked marked)) goes_on }
+  lacks : (n : ℕ) → (n ≤ floor v.ledger.history → ⊥) → MayWait (outset_of v) n → LacksMark v n
+  lacks n unmarked goes_on = record { unmarked = lt_of_not-le unmarked; goes_on = ⊎_elim (λ (on : GoesOn (outset_of v)). on) (λ (marked : n ≤ floor v.ledger.history). absurd (unmarked marked)) goes_on }
 
-  pub answers_wait : (n : ℕ) (r : Result Bool (Refusal Told)) → IfOk r (λ marked. IsTrue marked ↔ (n ≤ floor v.memory.history)) → OnOk r (MayWait (outset_of v) n)
-      → OnOk r (after.seen ≡ v.memory.history) → OnOk r (IsExact after) → OnlyExtends s after → IfErr r (IsWaitRefusal (outset_of v) s n) → OnErr r (after ≡ s)
+  pub answers_wait : (n : ℕ) (r : Result Bool (Refusal CauseState)) → IfOk r (λ marked. IsTrue marked ↔ (n ≤ floor v.ledger.history)) → OnOk r (MayWait (outset_of v) n)
+      → OnOk r (after.seen ≡ v.ledger.history) → OnOk r (IsExact after) → OnlyExtends s after → IfErr r (IsWaitRefusal (outset_of v) s n) → OnErr r (after ≡ s)
       → AnswersWait v s n r after
   answers_wait n (Ok true) answer goes_on shown exact extends refusal stays = (answer.0 refl, record { shown = shown; exact = exact; extends = extends })
   answers_wait n (Ok false) answer goes_on shown exact extends refusal stays =
       (lacks n (λ marked. false≢true (answer.1 marked)) goes_on, record { shown = shown; exact = exact; extends = extends })
   answers_wait n (Err why) answer goes_on shown exact extends refusal stays = (refusal, stays)
 
-  pub answers_flush : (r : Result Bool (Refusal Told)) → IfOk r (λ marked. IsTrue marked ↔ (count s.seen ≤ floor v.memory.history)) → OnOk r (MayWait (outset_of v) (count s.seen))
-      → IfOk r (λ marked. IsTrue marked → after.seen ≡ v.memory.history) → IfOk r (λ marked. IsTrue marked → IsExact after) → IfOk r (λ marked. marked ≡ false → after ≡ s)
+  pub answers_flush : (r : Result Bool (Refusal CauseState)) → IfOk r (λ marked. IsTrue marked ↔ (count s.seen ≤ floor v.ledger.history)) → OnOk r (MayWait (outset_of v) (count s.seen))
+      → IfOk r (λ marked. IsTrue marked → after.seen ≡ v.ledger.history) → IfOk r (λ marked. IsTrue marked → IsExact after) → IfOk r (λ marked. marked ≡ false → after ≡ s)
       → OnlyExtends s after → IfErr r (IsFlushRefusal (outset_of v) s after) → AnswersFlush v s r after
   answers_flush (Ok true) answer goes_on shown exact stays extends refusal = (answer.0 refl, record { shown = shown refl; exact = exact refl; extends = extends })
   answers_flush (Ok false) answer goes_on shown exact stays extends refusal = (lacks (count s.seen) (λ marked. false≢true (answer.1 marked)) goes_on, stays refl)
   answers_flush (Err why) answer goes_on shown exact stays extends refusal = (refusal, extends)
 
-  pub answers_show : (r : Result (Unit {0}) (Refusal Told)) → OnOk r (after.seen ≡ v.memory.history) → OnlyExtends s after → IfErr r (IsStaleRefusal v.memory.history) → AnswersShow v s r after
+  pub answers_show : (r : Result (Unit {0}) (Refusal CauseState)) → OnOk r (after.seen ≡ v.ledger.history) → OnlyExtends s after → IfErr r (IsStaleRefusal v.ledger.history) → AnswersShow v s r after
   answers_show (Ok done) shown extends refusal = (shown, extends)
   answers_show (Err why) shown extends refusal = (refusal, extends)
 
 -- the disk, lent under both
 module _ {A : Type 0} (v : VolatileState) (d : DurableState) (s after : SessionState) where
-  pub disk_lent : (r : Result A (Refusal Told)) → after.seen ≡ v.memory.history → OnlyExtends s after → OnOk r (is_trusted v.memory.history ≡ (disk_of d).honest)
-      → (IsTrue (disk_of d).honest → IfOk r (λ _. EveryImage (disk_of d).past (Leaves v.memory.history))) → IfErr r (IsUntied v d d.marked) → (Tied v d → IfErr r (λ _. ⊥))
+  pub disk_lent : (r : Result A (Refusal CauseState)) → after.seen ≡ v.ledger.history → OnlyExtends s after → OnOk r (is_trusted v.ledger.history ≡ (disk_of d).honest)
+      → (IsTrue (disk_of d).honest → IfOk r (λ _. EveryImage (disk_of d).past (Leaves v.ledger.history))) → IfErr r (IsUntied v d d.marked) → (Tied v d → IfErr r (λ _. ⊥))
       → AnswersDisk v d s r after
   disk_lent (Ok disk) shown extends trusted images refusal only = record { shown = shown; extends = extends; trusted = trusted; images = images }
   disk_lent (Err why) shown extends trusted images refusal only = record { refusal = inr (refusal, only); extends = extends }
 
-  pub disk_unshown : (r : Result A (Refusal Told)) (why : Refusal Told) → IsErrAnd r (λ (e : Refusal Told). e ≡ why) → IsStaleRefusal v.memory.history why → OnlyExtends s after
+  pub disk_unshown : (r : Result A (Refusal CauseState)) (why : Refusal CauseState) → IsErrAnd r (λ (e : Refusal CauseState). e ≡ why) → IsStaleRefusal v.ledger.history why → OnlyExtends s after
       → AnswersDisk v d s r after
   disk_unshown (Ok disk) why is stale extends = absurd is
-  disk_unshown (Err e) why is stale extends = record { refusal = inl (subst (IsStaleRefusal v.memory.history) (sym is) stale); extends = extends }
+  disk_unshown (Err e) why is stale extends = record { refusal = inl (subst (IsStaleRefusal v.ledger.history) (sym is) stale); extends = extends }

@@ -20,8 +20,8 @@ use Rattle.journal_objlog.specs.ObjectLogs.{OnlyReads as OnlyReadsLog, is_faulte
 use Rattle.journal_history.specs.Tokens.{SessionState, next_transaction as numbered}
 use Rattle.journal_core.specs.declared.step.LogStep.{LogStep}
 use Rattle.journal_core.specs.declared.step.LogStep.TheVariants.{Idle, Cut, Put, Logged, Marked}
-use Rattle.journal_core.specs.Causes.{Told}
-use Rattle.journal_core.specs.Memories.{MemoryState}
+use Rattle.journal_core.specs.Causes.{CauseState}
+use Rattle.journal_core.specs.Ledgers.{LedgerState}
 use Rattle.journal_core.specs.Fences.{AddsFence, HasFence, SetsFence}
 use Rattle.journal_core.specs.Transactions.{TransactionState}
 use Rattle.journal_core.specs.Durables.{DurableState, IsDurable, FetchedState, IsFetched, Crashes, LogAnswers, InstallAnswers, IsCallRefusal, IsInstallRefusal, LeavesLog, is_faulted, disk_of}
@@ -29,7 +29,7 @@ use Rattle.journal_core.specs.Volatiles.{VolatileState, IsVolatile}
 use Rattle.journal_core.specs.VolatileCommits.{IsCommitted, with_room as with_more}
 use Rattle.journal_core.specs.Pairs.{Tied, IsMarkDue, IsCutDue, IsRestDue, CutsBoth, MarksBoth, MarksAll, DoesWhatIsDue, IsMarkingRefusal, IsCutRefusal, IsRestRefusal, IsDueRefusal}
 use Rattle.journal_core.specs.Cores.{IsPair}
-use Rattle.journal_core.specs.Holds.{IsBetween, CommitsInMemory, KeepsCopies, FencesSession, FetchesBlocks, RefusesFetch, AnswersFetch, MakesGroupCall, FailsGroupCall, AnswersGroupCall, MakesHomeCall, FailsHomeCall, AnswersHomeCall, Settles, RefusesToSettle, AnswersSettling, Trims, NotesFault}
+use Rattle.journal_core.specs.Holds.{IsBetween, CommitsInMemory, KeepsCopies, FencesSession, FetchesBlocks, RefusesFetch, AnswersFetch, MakesGroupCall, FailsGroupCall, AnswersGroupCall, MakesHomeCall, FailsHomeCall, AnswersHomeCall, MarksOrCuts, RefusesMarkOrCut, AnswersMarkOrCut, Trims, NotesFault}
 use Rattle.journal_core.proofs.CallsOfLogs.{stays_install, stays_read, stays_fault}
 use Rattle.journal_core.proofs.Pairing.{tied_logged, tied_stays, tied_committed}
 use Rattle.journal_core.proofs.Joining.{failed, volatile_failed}
@@ -37,15 +37,15 @@ use Rattle.journal_core.proofs.Joining.{failed, volatile_failed}
 -- ---- what is answered, as one event
 
 module _ (blocks : ℕ) (old new : DurableState) (kept : IsDurable blocks new) (crash : Crashes old new) where
-  pub answers_settling : (v w : VolatileState) (r : Result LogStep (Refusal Told)) → IsVolatile blocks w → IfOk r (λ step. DoesWhatIsDue v old step w new)
-      → IfErr r (λ why. IsDueRefusal v old why new) → OnErr r (w ≡ v) → (Tied v old → Tied w new) → AnswersSettling blocks v old r w new
-  answers_settling v w (Ok step) held did refusal same tied = record { did = did; volatile = held; durable = kept; tied = tied; crash = crash }
-  answers_settling v w (Err why) held did refusal same tied = record { refusal = refusal; memory = same; durable = kept; tied = tied; crash = crash }
+  pub answers_mark_or_cut : (v w : VolatileState) (r : Result LogStep (Refusal CauseState)) → IsVolatile blocks w → IfOk r (λ step. DoesWhatIsDue v old step w new)
+      → IfErr r (λ why. IsDueRefusal v old why new) → OnErr r (w ≡ v) → (Tied v old → Tied w new) → AnswersMarkOrCut blocks v old r w new
+  answers_mark_or_cut v w (Ok step) held did refusal same tied = record { did = did; volatile = held; durable = kept; tied = tied; crash = crash }
+  answers_mark_or_cut v w (Err why) held did refusal same tied = record { refusal = refusal; volatile = same; durable = kept; tied = tied; crash = crash }
 
 -- ---- what each hold keeps
 
 -- why a call is refused that needs the device
-pub call_fault : (d e : DurableState) (why : Refusal Told) → IsCallRefusal d e why → (is_faulted e ≡ true) × (e ≡ record d { objects = e.objects })
+pub call_fault : (d e : DurableState) (why : Refusal CauseState) → IsCallRefusal d e why → (is_faulted e ≡ true) × (e ≡ record d { objects = e.objects })
 call_fault d e (DeviceFailed cause) it = (it.faulted, it.others)
 call_fault d e NoMemory it = absurd it
 call_fault d e BadAddress it = absurd it
@@ -62,7 +62,7 @@ call_fault d e (Closed cause) it = absurd it
 call_fault d e Fenced it = absurd it
 
 -- and why the installer's call is, where memory is not what it lacked
-pub home_faulted : (d e : DurableState) (why : Refusal Told) → (why ≡ NoMemory → ⊥) → IsInstallRefusal d e why → is_faulted e ≡ true
+pub home_faulted : (d e : DurableState) (why : Refusal CauseState) → (why ≡ NoMemory → ⊥) → IsInstallRefusal d e why → is_faulted e ≡ true
 home_faulted d e (DeviceFailed cause) room it = it.faulted
 home_faulted d e NoMemory room it = absurd (room refl)
 home_faulted d e BadAddress room it = absurd it
@@ -93,7 +93,7 @@ module _ (n : ℕ) (v : VolatileState) (d : DurableState) (between : IsBetween n
     noted = λ noticed. reads.stays (between.noted noticed);
   }
 
-  pub between_fetch : (e : DurableState) (numbers : List ℕ) (r : Result FetchedState (Refusal Told)) → AnswersFetch n d numbers r e → IsBetween n v e
+  pub between_fetch : (e : DurableState) (numbers : List ℕ) (r : Result FetchedState (Refusal CauseState)) → AnswersFetch n d numbers r e → IsBetween n v e
   between_fetch e numbers (Ok f) it = read_on e it.kept it.reads it.others
   between_fetch e numbers (Err why) it = read_on e it.kept it.reads it.others
 
@@ -105,7 +105,7 @@ module _ (n : ℕ) (v : VolatileState) (d : DurableState) (between : IsBetween n
     noted = λ noticed. faulted;
   }
 
-  pub between_group : (e : DurableState) (r : Result GroupStep (Refusal Told)) → AnswersGroupCall n d r e → IsBetween n v e
+  pub between_group : (e : DurableState) (r : Result GroupStep (Refusal CauseState)) → AnswersGroupCall n d r e → IsBetween n v e
   between_group e (Ok step) it = record {
     volatile = between.volatile;
     durable = it.kept;
@@ -114,7 +114,7 @@ module _ (n : ℕ) (v : VolatileState) (d : DurableState) (between : IsBetween n
   }
   between_group e (Err why) it = let fault = call_fault d e why it.refusal in fault_on e it.kept it.left fault.0 fault.1
 
-  home_fault : (e : DurableState) (why : Refusal Told) → IsDurable n e → LeavesLog d e → IsInstallRefusal d e why → IsBetween n v e
+  home_fault : (e : DurableState) (why : Refusal CauseState) → IsDurable n e → LeavesLog d e → IsInstallRefusal d e why → IsBetween n v e
   home_fault e NoMemory kept left it = subst (IsBetween n v) (sym it.3) between
   home_fault e (DeviceFailed cause) kept left it = fault_on e kept left it.faulted it.others
   home_fault e BadAddress kept left it = absurd it
@@ -130,7 +130,7 @@ module _ (n : ℕ) (v : VolatileState) (d : DurableState) (between : IsBetween n
   home_fault e (Closed cause) kept left it = absurd it
   home_fault e Fenced kept left it = absurd it
 
-  pub between_home : (e : DurableState) (r : Result InstallStep (Refusal Told)) → AnswersHomeCall n d r e → IsBetween n v e
+  pub between_home : (e : DurableState) (r : Result InstallStep (Refusal CauseState)) → AnswersHomeCall n d r e → IsBetween n v e
   between_home e (Ok step) it = record {
     volatile = between.volatile;
     durable = it.kept;
@@ -144,15 +144,15 @@ module _ (n : ℕ) (v : VolatileState) (d : DurableState) (between : IsBetween n
 
   settled_fault : (w : VolatileState) (e : DurableState) (step : LogStep) → DoesWhatIsDue v d step w e → (w.faulted ≡ v.faulted) × (is_faulted e ≡ is_faulted d)
   settled_fault w e Idle does = (ap (λ (x : VolatileState). x.faulted) does.1, ap is_faulted does.2)
-  settled_fault w e Cut does = (ap (λ (x : VolatileState). x.faulted) does.1.memory, ap (λ r. r.faulted) does.1.group.taken.disk)
+  settled_fault w e Cut does = (ap (λ (x : VolatileState). x.faulted) does.1.volatile, ap (λ r. r.faulted) does.1.group.taken.disk)
   settled_fault w e Put does = absurd does
   settled_fault w e Logged does = absurd does
   settled_fault w e (Marked k) does = ⊎_elim
-      (λ (both : (k ≡ d.logged) × MarksBoth v d w e). (ap (λ (x : VolatileState). x.faulted) both.1.memory, ap is_faulted both.1.durable))
-      (λ (all : (k ≡ count v.memory.history) × (IsMarkDue v d → ⊥) × MarksAll v d w e). (ap (λ (x : VolatileState). x.faulted) all.2.memory, ap is_faulted all.2.durable))
+      (λ (both : (k ≡ d.logged) × MarksBoth v d w e). (ap (λ (x : VolatileState). x.faulted) both.1.volatile, ap is_faulted both.1.durable))
+      (λ (all : (k ≡ count v.ledger.history) × (IsMarkDue v d → ⊥) × MarksAll v d w e). (ap (λ (x : VolatileState). x.faulted) all.2.volatile, ap is_faulted all.2.durable))
       does
 
-  unsettled_fault : (e : DurableState) (why : Refusal Told) → IsDueRefusal v d why e → is_faulted e ≡ is_faulted d
+  unsettled_fault : (e : DurableState) (why : Refusal CauseState) → IsDueRefusal v d why e → is_faulted e ≡ is_faulted d
   unsettled_fault e why it = ⊎_elim
       (λ (mark : IsMarkingRefusal v d why × (e ≡ d)). ap is_faulted mark.1)
       (λ other. ⊎_elim
@@ -164,18 +164,18 @@ module _ (n : ℕ) (v : VolatileState) (d : DurableState) (between : IsBetween n
   same_noted : (w : VolatileState) (e : DurableState) → w.faulted ≡ v.faulted → is_faulted e ≡ is_faulted d → IsTrue w.faulted → IsTrue (is_faulted e)
   same_noted w e memory disk noticed = disk ∙ between.noted (sym memory ∙ noticed)
 
-  pub between_settled : (w : VolatileState) (e : DurableState) (r : Result LogStep (Refusal Told)) → AnswersSettling n v d r w e → IsBetween n w e
-  between_settled w e (Ok step) it = let stays = settled_fault w e step it.did in record {
+  pub between_mark_or_cut : (w : VolatileState) (e : DurableState) (r : Result LogStep (Refusal CauseState)) → AnswersMarkOrCut n v d r w e → IsBetween n w e
+  between_mark_or_cut w e (Ok step) it = let stays = settled_fault w e step it.did in record {
     volatile = it.volatile;
     durable = it.durable;
     tied = it.tied between.tied;
     noted = same_noted w e stays.0 stays.1;
   }
-  between_settled w e (Err why) it = record {
-    volatile = subst (IsVolatile n) (sym it.memory) between.volatile;
+  between_mark_or_cut w e (Err why) it = record {
+    volatile = subst (IsVolatile n) (sym it.volatile) between.volatile;
     durable = it.durable;
     tied = it.tied between.tied;
-    noted = same_noted w e (ap (λ (x : VolatileState). x.faulted) it.memory) (unsettled_fault e why it.refusal);
+    noted = same_noted w e (ap (λ (x : VolatileState). x.faulted) it.volatile) (unsettled_fault e why it.refusal);
   }
 
   pub between_trimmed : (w : VolatileState) (upto : ℕ) → Trims n v d upto w → IsBetween n w d
@@ -209,7 +209,7 @@ module _ (n : ℕ) (v : VolatileState) (d : DurableState) (between : IsBetween n
   between_commit w s after t it = record {
     volatile = it.kept;
     durable = between.durable;
-    tied = tied_committed v w d (numbered s t.reads t.writes) it.committed.committed.added (ap (λ (x : VolatileState). x.memory.cut) it.committed.others)
+    tied = tied_committed v w d (numbered s t.reads t.writes) it.committed.committed.added (ap (λ (x : VolatileState). x.ledger.cut) it.committed.others)
         (ap (λ (x : TailState). x.trimmed) it.committed.logs.appends) (ap cut_points it.committed.logs.appends) (ap (λ (x : TailState). x.log.cut) it.committed.logs.appends) between.tied;
     noted = same_noted w d (ap (λ (x : VolatileState). x.faulted) it.committed.others) refl;
   }
@@ -245,7 +245,7 @@ module _ (n : ℕ) (v : VolatileState) (d : DurableState) (between : IsBetween n
   }
 
   -- a session began, or it was stopped
-  volatile_counted : (next : ℕ) (closed : Bool) → IsVolatile n (record v { memory = record v.memory { next = next; closed = closed } })
+  volatile_counted : (next : ℕ) (closed : Bool) → IsVolatile n (record v { ledger = record v.ledger { next = next; closed = closed } })
   volatile_counted next closed = record {
     size = between.volatile.size;
     begun = between.volatile.begun;
@@ -258,7 +258,7 @@ module _ (n : ℕ) (v : VolatileState) (d : DurableState) (between : IsBetween n
     known = between.volatile.known;
   }
 
-  pub between_counted : (next : ℕ) (closed : Bool) → IsBetween n (record v { memory = record v.memory { next = next; closed = closed } }) d
+  pub between_counted : (next : ℕ) (closed : Bool) → IsBetween n (record v { ledger = record v.ledger { next = next; closed = closed } }) d
   between_counted next closed = record {
     volatile = volatile_counted next closed;
     durable = between.durable;
@@ -273,10 +273,10 @@ module _ (n : ℕ) (v : VolatileState) (d : DurableState) (between : IsBetween n
     noted = between.noted;
   }
 
-  tied_fenced : (session next : ℕ) → Tied (record v { memory = record v.memory { history = v.memory.history ++ fence session ∷ []; next = next } }) d
+  tied_fenced : (session next : ℕ) → Tied (record v { ledger = record v.ledger { history = v.ledger.history ++ fence session ∷ []; next = next } }) d
   tied_fenced session next = record {
-    begins = IsPrefix-trans d.front v.memory.history (v.memory.history ++ fence session ∷ []) between.tied.begins (fence session ∷ [], refl);
-    marked = floor-fence v.memory.history session ∙ between.tied.marked;
+    begins = IsPrefix-trans d.front v.ledger.history (v.ledger.history ++ fence session ∷ []) between.tied.begins (fence session ∷ [], refl);
+    marked = floor-fence v.ledger.history session ∙ between.tied.marked;
     trimmed = between.tied.trimmed;
     cut = between.tied.cut;
     position = between.tied.position;
@@ -288,9 +288,9 @@ module _ (n : ℕ) (v : VolatileState) (d : DurableState) (between : IsBetween n
     volatile = it.kept;
     durable = between.durable;
     tied = subst (λ (x : VolatileState). Tied x d) (sym it.others) (⊎_elim
-        (λ (adds : AddsFence session v.memory w.memory).
-        subst (λ (m : MemoryState). Tied (record v { memory = m }) d) (sym adds.fenced) (tied_fenced session (max v.memory.next (session + 1))))
-        (λ (has : HasFence session v.memory w.memory). subst (λ (m : MemoryState). Tied (record v { memory = m }) d) (sym has.same) between.tied)
+        (λ (adds : AddsFence session v.ledger w.ledger).
+        subst (λ (m : LedgerState). Tied (record v { ledger = m }) d) (sym adds.fenced) (tied_fenced session (max v.ledger.next (session + 1))))
+        (λ (has : HasFence session v.ledger w.ledger). subst (λ (m : LedgerState). Tied (record v { ledger = m }) d) (sym has.same) between.tied)
         it.did);
     noted = same_noted w d (ap (λ (x : VolatileState). x.faulted) it.others) refl;
   }
@@ -306,22 +306,22 @@ between_pair n v d pair = record {
 
 -- ---- no hold makes another disk of it
 
-pub fetch_honest : (n : ℕ) (d e : DurableState) (numbers : List ℕ) (r : Result FetchedState (Refusal Told)) → AnswersFetch n d numbers r e → (disk_of e).honest ≡ (disk_of d).honest
+pub fetch_honest : (n : ℕ) (d e : DurableState) (numbers : List ℕ) (r : Result FetchedState (Refusal CauseState)) → AnswersFetch n d numbers r e → (disk_of e).honest ≡ (disk_of d).honest
 fetch_honest n d e numbers (Ok f) it = it.crash.keeps.honest
 fetch_honest n d e numbers (Err why) it = it.crash.keeps.honest
 
-pub group_honest : (n : ℕ) (d e : DurableState) (r : Result GroupStep (Refusal Told)) → AnswersGroupCall n d r e → (disk_of e).honest ≡ (disk_of d).honest
+pub group_honest : (n : ℕ) (d e : DurableState) (r : Result GroupStep (Refusal CauseState)) → AnswersGroupCall n d r e → (disk_of e).honest ≡ (disk_of d).honest
 group_honest n d e (Ok step) it = it.crash.keeps.honest
 group_honest n d e (Err why) it = it.crash.keeps.honest
 
-pub home_honest : (n : ℕ) (d e : DurableState) (r : Result InstallStep (Refusal Told)) → AnswersHomeCall n d r e → (disk_of e).honest ≡ (disk_of d).honest
+pub home_honest : (n : ℕ) (d e : DurableState) (r : Result InstallStep (Refusal CauseState)) → AnswersHomeCall n d r e → (disk_of e).honest ≡ (disk_of d).honest
 home_honest n d e (Ok step) it = it.crash.keeps.honest
 home_honest n d e (Err why) it = it.crash.keeps.honest
 
-pub settled_honest : (n : ℕ) (v : VolatileState) (d : DurableState) (w : VolatileState) (e : DurableState) (r : Result LogStep (Refusal Told)) → AnswersSettling n v d r w e
+pub mark_or_cut_honest : (n : ℕ) (v : VolatileState) (d : DurableState) (w : VolatileState) (e : DurableState) (r : Result LogStep (Refusal CauseState)) → AnswersMarkOrCut n v d r w e
     → (disk_of e).honest ≡ (disk_of d).honest
-settled_honest n v d w e (Ok step) it = it.crash.keeps.honest
-settled_honest n v d w e (Err why) it = it.crash.keeps.honest
+mark_or_cut_honest n v d w e (Ok step) it = it.crash.keeps.honest
+mark_or_cut_honest n v d w e (Err why) it = it.crash.keeps.honest
 
 -- ---- what is freed is logged, so that memory may be trimmed up to there
 

@@ -14,12 +14,12 @@ use Rattle.journal_world.proofs.Marks.{commits-mark}
 use Rattle.journal_history.specs.Tokens.{SessionState, OnlyExtends, Commits, next_transaction as numbered}
 use Rattle.journal_history.specs.Soundness.{IsSound}
 use Rattle.std.specs.Prelude.{slice_index}
-use Rattle.journal_core.specs.Tallies.{CountsOne, IsTallied}
+use Rattle.journal_core.specs.Sessions.{CountsOne, AreSessionCounts}
 use Rattle.journal_core.specs.Transactions.{TransactionState}
 use Rattle.journal_world.specs.declared.refusal.Refusal.{Refusal}
 use Rattle.journal_world.specs.declared.refusal.Refusal.TheVariants.{NoMemory, BadAddress, BadSize, TooLarge, Busy, DeviceFailed, BadLog, BadSuper, Stale, Stranger, Worn, Full, Closed, Fenced}
-use Rattle.journal_core.specs.Causes.{Told}
-use Rattle.journal_core.specs.Memories.{HasSeen, IsStaleRefusal, IsAdmissionRefusal}
+use Rattle.journal_core.specs.Causes.{CauseState}
+use Rattle.journal_core.specs.Ledgers.{HasSeen, IsStaleRefusal, IsAdmissionRefusal}
 
 -- another session has no more commits
 pub commits_of-other : (history : List Entry) (t : Transaction) (s : ℕ) → t.session ≢ s
@@ -30,9 +30,9 @@ commits_of-other history t s other =
     ∙ append-nil (commits_of s history)
 
 -- a mark is no commit
-pub tallied_mark : (counts : List ℕ) (history : List Entry) (n : ℕ) → IsTallied counts history → IsTallied counts (history ++ stable n ∷ [])
-tallied_mark counts history n tallied s =
-    tallied s ∙ sym (ap (λ (ts : List Transaction). length (filter (λ (t : Transaction). t.session == s) ts)) (commits-mark history n))
+pub per_session_mark : (counts : List ℕ) (history : List Entry) (n : ℕ) → AreSessionCounts counts history → AreSessionCounts counts (history ++ stable n ∷ [])
+per_session_mark counts history n per_session s =
+    per_session s ∙ sym (ap (λ (ts : List Transaction). length (filter (λ (t : Transaction). t.session == s) ts)) (commits-mark history n))
 
 -- what a session has seen only grows, time and again
 pub extends_on : (a b c : SessionState) → OnlyExtends a b → OnlyExtends b c → OnlyExtends a c
@@ -51,7 +51,7 @@ has_seen history t old first second shown one two read three whole = record {
 }
 
 -- who is not shown the history is not admitted
-pub stale_admits : (history : List Entry) (s : SessionState) (t : TransactionState) (why : Refusal Told) → IsStaleRefusal history why → IsAdmissionRefusal history s t why
+pub stale_admits : (history : List Entry) (s : SessionState) (t : TransactionState) (why : Refusal CauseState) → IsStaleRefusal history why → IsAdmissionRefusal history s t why
 stale_admits history s t (Stale cause) stale = stale
 stale_admits history s t NoMemory stale = absurd stale
 stale_admits history s t BadAddress stale = absurd stale
@@ -76,9 +76,9 @@ ruled_then blocks rule history reads writes on_disk sound keeps agrees trusted =
     (subst rule (at-count history) (sound.ruled trusted (count history))) (agrees trusted)
 
 -- one more commit is counted
-pub tallied_commit : (old new : List ℕ) (history later : List Entry) (t : Transaction) (session : ℕ) → later ≡ history ++ commit t ∷ []
-    → session ≡ t.session → CountsOne session old new → IsTallied old history → IsTallied new later
-tallied_commit old new history later t session added is counts tallied s = by (s == session) refl
+pub per_session_commit : (old new : List ℕ) (history later : List Entry) (t : Transaction) (session : ℕ) → later ≡ history ++ commit t ∷ []
+    → session ≡ t.session → CountsOne session old new → AreSessionCounts old history → AreSessionCounts new later
+per_session_commit old new history later t session added is counts per_session s = by (s == session) refl
   where
     own : s ≡ t.session → length (commits_of s later) ≡ length (commits_of s history) + 1
     own equal = subst (λ (n : ℕ). length (commits_of n later) ≡ length (commits_of n history) + 1) (sym equal)
@@ -91,10 +91,10 @@ tallied_commit old new history later t session added is counts tallied s = by (s
     by : (b : Bool) → (s == session) ≡ b → slice_index new s ≡ length (commits_of s later)
     by true equal =
         counts s ∙ ap (λ (b : Bool). cond b (slice_index old s + 1) (slice_index old s)) equal
-        ∙ ap (λ (n : ℕ). n + 1) (tallied s) ∙ sym (own (eqb-true s session equal ∙ is))
+        ∙ ap (λ (n : ℕ). n + 1) (per_session s) ∙ sym (own (eqb-true s session equal ∙ is))
     by false differs =
         counts s ∙ ap (λ (b : Bool). cond b (slice_index old s + 1) (slice_index old s)) differs
-        ∙ tallied s ∙ sym (other (λ equal. eqb-false s session differs (sym equal ∙ sym is)))
+        ∙ per_session s ∙ sym (other (λ equal. eqb-false s session differs (sym equal ∙ sym is)))
 
 -- a session that has seen more commits the same
 pub commits_from : (reads writes : List Pair) (s seen after : SessionState) (before longer : List Entry) → OnlyExtends s seen

@@ -14,14 +14,14 @@ use Rattle.journal_world.proofs.Marks.{commits-mark}
 use Rattle.journal_world.proofs.Fences.{is_fenced-commit, is_fenced-mark}
 use Rattle.journal_history.specs.Counts.{HasCount}
 use Rattle.journal_core.specs.declared.fenced_sessions.Run.{Run}
-use Rattle.journal_core.specs.Tallies.{CountsOne, IsTallied}
-use Rattle.journal_core.specs.declared.covered.Covered.{Covered}
-use Rattle.journal_core.specs.Covers.{KeepsCovered}
+use Rattle.journal_core.specs.Sessions.{CountsOne, AreSessionCounts}
+use Rattle.journal_core.specs.declared.marked_lengths.MarkedLengths.{MarkedLengths}
+use Rattle.journal_core.specs.MarkedLengths.{KeepsMarkedLengths}
 use Rattle.journal_lockmap.specs.Numbers.{HeldState, Agree, CountsWrites}
 use Rattle.journal_core.specs.SlotCounts.{AreCounts, KeepsCounts, AgreeWith}
-use Rattle.journal_core.specs.Memories.{MemoryState, IsMemory}
+use Rattle.journal_core.specs.Ledgers.{LedgerState, IsLedger}
 use Rattle.journal_core.proofs.Covering.{keeps_commit as covers_commit, keeps_cut as covers_cut, keeps_none as covers_none}
-use Rattle.journal_core.proofs.Committing.{commits_of-other, tallied_mark, tallied_commit}
+use Rattle.journal_core.proofs.Committing.{commits_of-other, per_session_mark, per_session_commit}
 
 -- nothing is counted yet
 counts_none : (counts : List ℕ) (history : List Entry) → commits history ≡ [] → counts ≡ replicate SLOTS 0 → AreCounts counts history
@@ -90,23 +90,23 @@ counts_set old new session count own is s = by (s == session) refl
         ∙ sym (ap (λ (b : Bool). cond b (slice_index old s + 1) (slice_index old s)) differs)
 
 -- the session's own count is the history's
-pub own_commits : (sessions : List ℕ) (history : List Entry) (number count : ℕ) → IsTallied sessions history → HasCount sessions number count
+pub own_commits : (sessions : List ℕ) (history : List Entry) (number count : ℕ) → AreSessionCounts sessions history → HasCount sessions number count
     → length (commits_of number history) ≡ count
-own_commits sessions history number count tallied own = sym (own.1 ∙ tallied number)
+own_commits sessions history number count per_session own = sym (own.1 ∙ per_session number)
 
 -- what the memory part keeps at first
-pub memory_begun : (sessions slots : List ℕ) (covered : Covered) (history : List Entry) → commits history ≡ [] → floor history ≡ 0
+pub ledger_begun : (sessions slots : List ℕ) (lengths : MarkedLengths) (history : List Entry) → commits history ≡ [] → floor history ≡ 0
     → ((s : ℕ) → is_fenced s history ≡ false) → slots ≡ replicate SLOTS 0 → sessions ≡ []
-    → covered.marked ≡ length history → covered.cut ≡ length history
-    → IsMemory [] sessions slots covered (record { history = history; cut = 0; next = 0; closed = false })
-memory_begun sessions slots covered history no_commits unmarked free none nobody marked cut = record {
+    → lengths.marked ≡ length history → lengths.cut ≡ length history
+    → IsLedger [] sessions slots lengths (record { history = history; cut = 0; next = 0; closed = false })
+ledger_begun sessions slots lengths history no_commits unmarked free none nobody marked cut = record {
   counts = record {
     fences = λ s. sym (free s);
-    tallied = λ s. ap (λ (cs : List ℕ). slice_index cs s) nobody ∙ sym (ap length (no_session history no_commits s));
+    per_session = λ s. ap (λ (cs : List ℕ). slice_index cs s) nobody ∙ sym (ap length (no_session history no_commits s));
     touched = counts_none slots history no_commits none;
   };
   given = ap length nobody;
-  fronts = covers_none history no_commits unmarked covered marked cut;
+  fronts = covers_none history no_commits unmarked lengths marked cut;
   fresh = λ s le. no_session history no_commits s;
   unfenced = λ s le. free s;
 }
@@ -115,7 +115,7 @@ keeps_mark : (fenced : List Run) (sessions slots : List ℕ) (history : List Ent
     → KeepsCounts fenced sessions slots (history ++ stable n ∷ [])
 keeps_mark fenced sessions slots history n kept = record {
   fences = λ s. kept.fences s ∙ sym (is_fenced-mark s history n);
-  tallied = tallied_mark sessions history n kept.tallied;
+  per_session = per_session_mark sessions history n kept.per_session;
   touched = counts_mark slots history n kept.touched;
 }
 
@@ -124,7 +124,7 @@ keeps_commit : (fenced : List Run) (sessions counted slots more : List ℕ) (his
     → KeepsCounts fenced counted more later
 keeps_commit fenced sessions counted slots more history later t session added is counts writes kept = record {
   fences = λ s. kept.fences s ∙ sym (ap (is_fenced s) added ∙ is_fenced-commit s history t);
-  tallied = tallied_commit sessions counted history later t session added is counts kept.tallied;
+  per_session = per_session_commit sessions counted history later t session added is counts kept.per_session;
   touched = subst (AreCounts more) (sym added) (counts_commit slots more history t writes kept.touched);
 }
 
@@ -135,15 +135,15 @@ agree_with slots history held kept agree = λ k d lt.
     let here = agree k d lt in
     here.1 ∙ kept.touched (get_or held k d).slot (omega (arith, here.0, kept.slots))
 
-module _ (fenced : List Run) (sessions slots : List ℕ) (covered : Covered) (m : MemoryState) (kept : IsMemory fenced sessions slots covered m) where
+module _ (fenced : List Run) (sessions slots : List ℕ) (lengths : MarkedLengths) (m : LedgerState) (kept : IsLedger fenced sessions slots lengths m) where
   -- the same may be told otherwise
-  pub memory_same : (runs : List Run) (history : List Entry) → runs ≡ fenced → history ≡ m.history → IsMemory runs sessions slots covered (record m { history = history })
-  memory_same runs history same is = subst (λ (x : List Run × List Entry). IsMemory x.0 sessions slots covered (record m { history = x.1 })) (λ i. (sym same i, sym is i)) kept
+  pub ledger_same : (runs : List Run) (history : List Entry) → runs ≡ fenced → history ≡ m.history → IsLedger runs sessions slots lengths (record m { history = history })
+  ledger_same runs history same is = subst (λ (x : List Run × List Entry). IsLedger x.0 sessions slots lengths (record m { history = x.1 })) (λ i. (sym same i, sym is i)) kept
 
   -- a mark
-  pub memory_marked : (n : ℕ) (now : Covered) → KeepsCovered now (m.history ++ stable n ∷ []) n
-      → IsMemory fenced sessions slots now (record m { history = m.history ++ stable n ∷ []; cut = n })
-  memory_marked n now covers = record {
+  pub ledger_marked : (n : ℕ) (now : MarkedLengths) → KeepsMarkedLengths now (m.history ++ stable n ∷ []) n
+      → IsLedger fenced sessions slots now (record m { history = m.history ++ stable n ∷ []; cut = n })
+  ledger_marked n now covers = record {
     counts = keeps_mark fenced sessions slots m.history n kept.counts;
     given = kept.given;
     fronts = covers;
@@ -152,22 +152,22 @@ module _ (fenced : List Run) (sessions slots : List ℕ) (covered : Covered) (m 
   }
 
   -- a cut
-  pub memory_cut : (now : Covered) (cut : ℕ) → now.marked ≡ covered.marked → now.cut ≡ length m.history → cut ≡ count m.history
-      → IsMemory fenced sessions slots now (record m { cut = cut })
-  memory_cut now cut marked whole all = subst (λ (n : ℕ). IsMemory fenced sessions slots now (record m { cut = n })) (sym all) (record {
+  pub ledger_cut : (now : MarkedLengths) (cut : ℕ) → now.marked ≡ lengths.marked → now.cut ≡ length m.history → cut ≡ count m.history
+      → IsLedger fenced sessions slots now (record m { cut = cut })
+  ledger_cut now cut marked whole all = subst (λ (n : ℕ). IsLedger fenced sessions slots now (record m { cut = n })) (sym all) (record {
     counts = kept.counts;
     given = kept.given;
-    fronts = covers_cut covered m.history m.cut kept.fronts now marked whole;
+    fronts = covers_cut lengths m.history m.cut kept.fronts now marked whole;
     fresh = kept.fresh;
     unfenced = kept.unfenced;
   })
 
   -- a further session
-  pub memory_joined : (joined : List ℕ) → joined ≡ sessions ++ 0 ∷ [] → IsMemory fenced joined slots covered (record m { next = m.next + 1 })
-  memory_joined joined is = subst (λ (cs : List ℕ). IsMemory fenced cs slots covered (record m { next = m.next + 1 })) (sym is) (record {
+  pub ledger_joined : (joined : List ℕ) → joined ≡ sessions ++ 0 ∷ [] → IsLedger fenced joined slots lengths (record m { next = m.next + 1 })
+  ledger_joined joined is = subst (λ (cs : List ℕ). IsLedger fenced cs slots lengths (record m { next = m.next + 1 })) (sym is) (record {
     counts = record {
       fences = kept.counts.fences;
-      tallied = λ s. get_or-zeros sessions 1 s ∙ kept.counts.tallied s;
+      per_session = λ s. get_or-zeros sessions 1 s ∙ kept.counts.per_session s;
       touched = kept.counts.touched;
     };
     given = omega (arith, length-append sessions (0 ∷ []), kept.given);
@@ -177,14 +177,14 @@ module _ (fenced : List Run) (sessions slots : List ℕ) (covered : Covered) (m 
   })
 
   -- a commit
-  pub memory_committed : (counted more : List ℕ) (history : List Entry) (next : ℕ) (t : Transaction) (session made : ℕ)
+  pub ledger_committed : (counted more : List ℕ) (history : List Entry) (next : ℕ) (t : Transaction) (session made : ℕ)
       → history ≡ m.history ++ commit t ∷ [] → next ≡ max m.next (session + 1) → session ≡ t.session
       → HasCount sessions session made → counted ≡ set sessions session (made + 1) → CountsWrites t.writes slots more
-      → IsMemory fenced counted more covered (record m { history = history; next = next })
-  memory_committed counted more history next t session made added raised is own counts writes = record {
+      → IsLedger fenced counted more lengths (record m { history = history; next = next })
+  ledger_committed counted more history next t session made added raised is own counts writes = record {
     counts = keeps_commit fenced sessions counted slots more m.history history t session added is (counts_set sessions counted session made own counts) writes kept.counts;
     given = omega (arith, ap length counts, length-set sessions session (made + 1), kept.given, raised, own.0);
-    fronts = subst (λ (h : List Entry). KeepsCovered covered h m.cut) (sym added) (covers_commit covered m.history m.cut kept.fronts t);
+    fronts = subst (λ (h : List Entry). KeepsMarkedLengths lengths h m.cut) (sym added) (covers_commit lengths m.history m.cut kept.fronts t);
     fresh = λ s le.
         ap (commits_of s) added
         ∙ commits_of-other m.history t s (λ equal. omega (arith, equal, is, raised, le))

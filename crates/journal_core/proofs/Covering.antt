@@ -10,8 +10,8 @@ use Rattle.journal_world.specs.Histories.{Entry, committed, commits, count, floo
 use Rattle.journal_world.specs.Histories.Entry.{commit, stable}
 use Rattle.journal_world.proofs.LongerHistories.{count-commit}
 use Rattle.journal_world.proofs.Marks.{floor-mark, floor-commit, count-mark}
-use Rattle.journal_core.specs.declared.covered.Covered.{Covered}
-use Rattle.journal_core.specs.Covers.{Covers, KeepsCovered, with_quiet}
+use Rattle.journal_core.specs.declared.marked_lengths.MarkedLengths.{MarkedLengths}
+use Rattle.journal_core.specs.MarkedLengths.{Covers, KeepsMarkedLengths, with_non_commit}
 
 -- a longer history has no fewer commits
 count_append : (history more : List Entry) → count history ≤ count (history ++ more)
@@ -68,7 +68,7 @@ covers_shorter history seen n entries len covers begins is =
 
 -- one entry more that is no commit
 pub covers_quiet : (history : List Entry) (e : Entry) (n entries len : ℕ) → count (history ++ e ∷ []) ≡ count history → len ≡ length history
-    → Covers history n entries → Covers (history ++ e ∷ []) n (with_quiet len entries)
+    → Covers history n entries → Covers (history ++ e ∷ []) n (with_non_commit len entries)
 covers_quiet history e n entries len quiet is covers = by (entries == len) refl
   where
     whole : length (history ++ e ∷ []) ≡ length history + 1
@@ -77,7 +77,7 @@ covers_quiet history e n entries len quiet is covers = by (entries == len) refl
     all : count (take (length history) history) ≡ count history
     all = ap count (take_all (length history) history (omega arith))
 
-    by : (b : Bool) → (entries == len) ≡ b → Covers (history ++ e ∷ []) n (with_quiet len entries)
+    by : (b : Bool) → (entries == len) ≡ b → Covers (history ++ e ∷ []) n (with_non_commit len entries)
     by true equal =
         let few : count history ≤ n = omega (arith, all, (covers.fronts (length history) (omega arith)).0 (omega (arith, eqb-true entries len equal, is))) in
         subst (Covers (history ++ e ∷ []) n) (omega (arith, whole, is) ∙ sym (ap (λ (b : Bool). cond b (len + 1) entries) equal))
@@ -91,30 +91,30 @@ covers_quiet history e n entries len quiet is covers = by (entries == len) refl
         more short = lt_of_not-le (λ few. omega (arith, short, (covers.fronts (length history) (omega arith)).1 few))
 
 -- at first no commit is there
-pub keeps_none : (history : List Entry) → commits history ≡ [] → floor history ≡ 0 → (covered : Covered) → covered.marked ≡ length history → covered.cut ≡ length history
-    → KeepsCovered covered history 0
-keeps_none history none unmarked covered marked cut = record {
+pub keeps_none : (history : List Entry) → commits history ≡ [] → floor history ≡ 0 → (lengths : MarkedLengths) → lengths.marked ≡ length history → lengths.cut ≡ length history
+    → KeepsMarkedLengths lengths history 0
+keeps_none history none unmarked lengths marked cut = record {
   marked = subst (Covers history (floor history)) (sym marked) (covers_all history (floor history) (omega (arith, ap length none)));
   cut = subst (Covers history 0) (sym cut) (covers_all history 0 (omega (arith, ap length none)));
   rises = omega (arith, unmarked);
   made = omega arith;
 }
 
-module _ (covered : Covered) (history : List Entry) (cut : ℕ) (kept : KeepsCovered covered history cut) where
+module _ (lengths : MarkedLengths) (history : List Entry) (cut : ℕ) (kept : KeepsMarkedLengths lengths history cut) where
   -- a commit leaves these fronts as they were
-  pub keeps_commit : (t : Transaction) → KeepsCovered covered (history ++ commit t ∷ []) cut
+  pub keeps_commit : (t : Transaction) → KeepsMarkedLengths lengths (history ++ commit t ∷ []) cut
   keeps_commit t =
       let one : count (history ++ commit t ∷ []) ≡ count history + 1 = count-commit history t in
       record {
-        marked = subst (λ (n : ℕ). Covers (history ++ commit t ∷ []) n covered.marked) (sym (floor-commit history t))
-            (covers_more history (commit t) (floor history) covered.marked (omega (arith, one, kept.rises, kept.made)) kept.marked);
-        cut = covers_more history (commit t) cut covered.cut (omega (arith, one, kept.made)) kept.cut;
+        marked = subst (λ (n : ℕ). Covers (history ++ commit t ∷ []) n lengths.marked) (sym (floor-commit history t))
+            (covers_more history (commit t) (floor history) lengths.marked (omega (arith, one, kept.rises, kept.made)) kept.marked);
+        cut = covers_more history (commit t) cut lengths.cut (omega (arith, one, kept.made)) kept.cut;
         rises = omega (arith, floor-commit history t, kept.rises);
         made = omega (arith, one, kept.made);
       }
 
   -- a cut is of all
-  pub keeps_cut : (now : Covered) → now.marked ≡ covered.marked → now.cut ≡ length history → KeepsCovered now history (count history)
+  pub keeps_cut : (now : MarkedLengths) → now.marked ≡ lengths.marked → now.cut ≡ length history → KeepsMarkedLengths now history (count history)
   keeps_cut now marked whole = record {
     marked = subst (Covers history (floor history)) (sym marked) kept.marked;
     cut = subst (Covers history (count history)) (sym whole) (covers_all history (count history) (omega arith));
@@ -130,8 +130,8 @@ module _ (covered : Covered) (history : List Entry) (cut : ℕ) (kept : KeepsCov
     marked_whole : length (history ++ stable n ∷ []) ≡ length history + 1
     marked_whole = length-append history (stable n ∷ [])
 
-    keeps_both : (now : Covered) → now.marked ≡ now.cut → Covers (history ++ stable n ∷ []) n now.cut → n ≤ count history
-        → KeepsCovered now (history ++ stable n ∷ []) n
+    keeps_both : (now : MarkedLengths) → now.marked ≡ now.cut → Covers (history ++ stable n ∷ []) n now.cut → n ≤ count history
+        → KeepsMarkedLengths now (history ++ stable n ∷ []) n
     keeps_both now same covers made = record {
       marked = subst (λ (m : ℕ). Covers (history ++ stable n ∷ []) m now.marked) (sym marked_floor)
           (subst (Covers (history ++ stable n ∷ []) n) (sym same) covers);
@@ -140,16 +140,16 @@ module _ (covered : Covered) (history : List Entry) (cut : ℕ) (kept : KeepsCov
       made = omega (arith, made, count-mark history n);
     }
 
-    pub keeps_mark_all : (now : Covered) → now.marked ≡ now.cut → now.cut ≡ length (history ++ stable n ∷ []) → n ≡ count history
-        → KeepsCovered now (history ++ stable n ∷ []) n
+    pub keeps_mark_all : (now : MarkedLengths) → now.marked ≡ now.cut → now.cut ≡ length (history ++ stable n ∷ []) → n ≡ count history
+        → KeepsMarkedLengths now (history ++ stable n ∷ []) n
     keeps_mark_all now same whole all = keeps_both now same
         (subst (Covers (history ++ stable n ∷ []) n) (sym whole) (covers_all (history ++ stable n ∷ []) n (omega (arith, all, count-mark history n))))
         (omega (arith, all))
 
-    pub keeps_mark_cut : (now : Covered) → now.marked ≡ now.cut → now.cut ≡ covered.cut → n ≤ count history → (n ≡ count history → ⊥)
-        → (n ≡ cut) ⊎ (n ≡ count history) → KeepsCovered now (history ++ stable n ∷ []) n
+    pub keeps_mark_cut : (now : MarkedLengths) → now.marked ≡ now.cut → now.cut ≡ lengths.cut → n ≤ count history → (n ≡ count history → ⊥)
+        → (n ≡ cut) ⊎ (n ≡ count history) → KeepsMarkedLengths now (history ++ stable n ∷ []) n
     keeps_mark_cut now same front made fewer due = keeps_both now same
         (subst (Covers (history ++ stable n ∷ []) n) (sym front)
-        (covers_more history (stable n) n covered.cut (omega (arith, made, fewer, count-mark history n))
-        (subst (λ (m : ℕ). Covers history m covered.cut) (sym (⊎_elim (λ (is : n ≡ cut). is) (λ (all : n ≡ count history). absurd (fewer all)) due)) kept.cut)))
+        (covers_more history (stable n) n lengths.cut (omega (arith, made, fewer, count-mark history n))
+        (subst (λ (m : ℕ). Covers history m lengths.cut) (sym (⊎_elim (λ (is : n ≡ cut). is) (λ (all : n ≡ count history). absurd (fewer all)) due)) kept.cut)))
         made

@@ -12,13 +12,13 @@ use Rattle.journal_world.specs.Histories.{Entry, is_trusted, is_fenced, commits_
 use Rattle.journal_block.specs.declared.update.Update.{Update}
 use Rattle.journal_objlog.specs.ObjectLogs.{OnlyReads as OnlyReadsLog}
 use Rattle.journal_history.specs.Tokens.{SessionState, CommitPlace}
-use Rattle.journal_core.specs.Causes.{Told}
+use Rattle.journal_core.specs.Causes.{CauseState}
 use Rattle.journal_core.specs.Durables.{DurableState, FetchedState, IsFetched, IsCallRefusal, is_faulted, Crashes as CrashesDurable}
 use Rattle.journal_core.specs.Outsets.{Outset, MayRead, CanCommit as CanCommitFrom}
 use Rattle.journal_core.specs.Volatiles.{VolatileState, IsVolatile, outset_of}
 use Rattle.journal_core.specs.VolatileCommits.{IsCommitted as IsCommittedIn}
 use Rattle.journal_core.specs.Cores.{CoreState, Crashes, IsPair, IsRunning, OnlyReads, core_of}
-use Rattle.journal_core.specs.Transactions.{TransactionState, FoundState}
+use Rattle.journal_core.specs.Transactions.{TransactionState, ReadResultState}
 use Rattle.journal_core.specs.Steps.{LogAnswers, IsLogRefusal, InstallAnswers, IsInstallRefusal, BeginsSession, IsSessionRefusal, IsReadRefusal, IsFetchRefusal}
 use Rattle.journal_core.specs.Commits.{IsCommitted, CanCommit, IsCommitRefusal}
 use Rattle.journal_core.specs.Interleavings.{AnswersCommit, AnswersLog, AnswersInstall, AnswersSession, AnswersRead, FindsValue, CommitsTransaction, FetchesBlocks, RefusesFetch}
@@ -27,17 +27,17 @@ use Rattle.journal_core.proofs.Joining.{failed, fails_as, crashes_pair, crashes_
 use Rattle.journal_core.proofs.Admitting.{committed_as, pair_committed}
 
 module _ (old new : CoreState) (crash : Crashes old new) where
-  pub answers_log : (r : Result LogStep (Refusal Told)) → IfOk r (λ step. LogAnswers old step new)
+  pub answers_log : (r : Result LogStep (Refusal CauseState)) → IfOk r (λ step. LogAnswers old step new)
       → OnOk r (IsRunning old × IsRunning new) → IfErr r (IsLogRefusal old new) → AnswersLog old r new
   answers_log (Ok step) did running refusal = record { did = did; running = running; crash = crash }
   answers_log (Err why) did running refusal = record { refusal = refusal; crash = crash }
 
-  pub answers_install : (r : Result InstallStep (Refusal Told)) → IfOk r (λ step. InstallAnswers old step new)
+  pub answers_install : (r : Result InstallStep (Refusal CauseState)) → IfOk r (λ step. InstallAnswers old step new)
       → OnOk r (IsRunning old × IsRunning new) → IfErr r (IsInstallRefusal old new) → AnswersInstall old r new
   answers_install (Ok step) did running refusal = record { did = did; running = running; crash = crash }
   answers_install (Err why) did running refusal = record { refusal = refusal; crash = crash }
 
-  pub answers_commit : (session after : SessionState) (t : TransactionState) (r : Result CommitPlace (Refusal Told)) → OnOk r (CanCommit old session t)
+  pub answers_commit : (session after : SessionState) (t : TransactionState) (r : Result CommitPlace (Refusal CauseState)) → OnOk r (CanCommit old session t)
       → OnOk r (IsCommitted t.reads t.writes session after old new) → OnOk r (IsTrue (is_trusted old.history) → Agrees (latest old.history) t.reads)
       → OnOk r (IsRunning new) → IfErr r (IsCommitRefusal old session t new) → OnErr r (new ≡ record old { objects = new.objects })
       → OnErr r (OnlyReads old.objects new.objects) → AnswersCommit old session t r new after
@@ -55,13 +55,13 @@ module _ (old new : CoreState) (crash : Crashes old new) where
     crash = crash;
   }
 
-  pub answers_session : (r : Result SessionState (Refusal Told)) → IfOk r (λ session. BeginsSession old session new)
+  pub answers_session : (r : Result SessionState (Refusal CauseState)) → IfOk r (λ session. BeginsSession old session new)
       → IfErr r (IsSessionRefusal old) → OnErr r (new ≡ old) → AnswersSession old r new
   answers_session (Ok session) begins refusal same = record { begins = begins; crash = crash }
   answers_session (Err why) begins refusal same = record { refusal = refusal; same = same; crash = crash }
 
   -- the exit of a `?`
-  pub refuses_read : (blocks : ℕ) (t : TransactionState) (a : Addr) (v : Value) (r : Result FoundState (Refusal Told)) (holds : Refusal Told → Type 0) → IsErrAnd r holds
+  pub refuses_read : (blocks : ℕ) (t : TransactionState) (a : Addr) (v : Value) (r : Result ReadResultState (Refusal CauseState)) (holds : Refusal CauseState → Type 0) → IsErrAnd r holds
       → IfErr r (IsReadRefusal blocks old t a new) → OnlyReads old.objects new.objects → new ≡ record old { objects = new.objects }
       → AnswersRead blocks old t a r v new
   refuses_read blocks t a v (Ok found) holds is refusal reads others = absurd is
@@ -74,9 +74,9 @@ module _ (old new : CoreState) (crash : Crashes old new) where
 
 -- a further session of memory, as a step of the core
 pub begins_session : {E : Type 0} (v w : VolatileState) (d : DurableState) (now : CoreState) (r : Result SessionState E) → core_of v d ≡ now
-    → IfOk r (λ s. s ≡ record { number = v.memory.next; mine = v.memory.history; seen = v.memory.history })
-    → commits_of v.memory.next v.memory.history ≡ [] → is_fenced v.memory.next v.memory.history ≡ false
-    → OnOk r (w ≡ record v { memory = record v.memory { next = v.memory.next + 1 } }) → IfOk r (λ s. BeginsSession now s (core_of w d))
+    → IfOk r (λ s. s ≡ record { number = v.ledger.next; mine = v.ledger.history; seen = v.ledger.history })
+    → commits_of v.ledger.next v.ledger.history ≡ [] → is_fenced v.ledger.next v.ledger.history ≡ false
+    → OnOk r (w ≡ record v { ledger = record v.ledger { next = v.ledger.next + 1 } }) → IfOk r (λ s. BeginsSession now s (core_of w d))
 begins_session v w d now (Ok s) is made fresh free others = subst (λ (c : CoreState). BeginsSession c s (core_of w d)) is (record {
   is = made;
   fresh = fresh;
@@ -92,7 +92,7 @@ module _ (blocks : ℕ) (v : VolatileState) (d : DurableState) (pair : IsPair bl
       → IsFetched blocks f → is_faulted e ≡ false → IsPair blocks v e → FetchesBlocks blocks (core_of v d) numbers f (core_of v e)
   fetches_blocks numbers f named front commits kept fine now = record {
     named = named;
-    begins = subst (λ (h : List Entry). IsPrefix h v.memory.history) (sym front) pair.tied.begins;
+    begins = subst (λ (h : List Entry). IsPrefix h v.ledger.history) (sym front) pair.tied.begins;
     commits = commits;
     objects = kept;
     running = (running.0, fine);
@@ -101,7 +101,7 @@ module _ (blocks : ℕ) (v : VolatileState) (d : DurableState) (pair : IsPair bl
     crash = crashes_pair blocks v v d e pair now crash;
   }
 
-  fetch_fails : (why : Refusal Told) → IsCallRefusal d e why → IsFetchRefusal (core_of v d) (core_of (failed v) e) why
+  fetch_fails : (why : Refusal CauseState) → IsCallRefusal d e why → IsFetchRefusal (core_of v d) (core_of (failed v) e) why
   fetch_fails (DeviceFailed cause) it = fails_as blocks v d pair running e (Unit {0}) cause tt it
   fetch_fails NoMemory it = absurd it
   fetch_fails BadAddress it = absurd it
@@ -117,7 +117,7 @@ module _ (blocks : ℕ) (v : VolatileState) (d : DurableState) (pair : IsPair bl
   fetch_fails (Closed cause) it = absurd it
   fetch_fails Fenced it = absurd it
 
-  pub fetch_refused : (why : Refusal Told) → IsCallRefusal d e why → IsPair blocks (failed v) e → RefusesFetch (core_of v d) why (core_of (failed v) e)
+  pub fetch_refused : (why : Refusal CauseState) → IsCallRefusal d e why → IsPair blocks (failed v) e → RefusesFetch (core_of v d) why (core_of (failed v) e)
   fetch_refused why it now = record {
     refusal = fetch_fails why it;
     reads = record { wal = reads; tail = refl };
@@ -128,7 +128,7 @@ module _ (blocks : ℕ) (v : VolatileState) (d : DurableState) (pair : IsPair bl
 -- a hold of memory alone, of a pair that is tied, with whatever was fetched before
 module _ (blocks : ℕ) (v : VolatileState) (d : DurableState) (pair : IsPair blocks v d) where
   pub finds_in_memory : (t : TransactionState) (a : Addr) (x : Value) → MayRead blocks (outset_of v) t a
-      → (IsTrue (is_trusted v.memory.history) → x ≡ value_at (latest v.memory.history) a) → IsTrue (is_object blocks (a, x))
+      → (IsTrue (is_trusted v.ledger.history) → x ≡ value_at (latest v.ledger.history) a) → IsTrue (is_object blocks (a, x))
       → FindsValue blocks (core_of v d) t a x (core_of v d)
   finds_in_memory t a x may value object = record {
     may = subst (λ (o : Outset). MayRead blocks o t a) (same_outset blocks v d pair) may;
@@ -142,12 +142,12 @@ module _ (blocks : ℕ) (v : VolatileState) (d : DurableState) (pair : IsPair bl
 
   pub commits_in_memory : (w : VolatileState) (t : TransactionState) (s after : SessionState) → IsVolatile blocks w
       → IsCommittedIn t.reads t.writes s after v w → CanCommitFrom (outset_of v) s t
-      → (IsTrue (is_trusted v.memory.history) → Agrees (latest v.memory.history) t.reads)
+      → (IsTrue (is_trusted v.ledger.history) → Agrees (latest v.ledger.history) t.reads)
       → CommitsTransaction (core_of v d) s t (core_of w d) after
   commits_in_memory w t s after kept it can agrees = record {
     can = subst (λ (o : Outset). CanCommitFrom o s t) (same_outset blocks v d pair) can;
     committed = committed_as blocks v d pair w d t.reads t.writes s after (OnlyReads-refl d.objects) refl it;
     agrees = agrees;
-    running = (ap (λ (x : VolatileState). x.memory.closed) it.others ∙ can.may.running.0, sym pair.fault ∙ can.may.running.1);
+    running = (ap (λ (x : VolatileState). x.ledger.closed) it.others ∙ can.may.running.0, sym pair.fault ∙ can.may.running.1);
     crash = crashes_memory blocks v w d pair (pair_committed blocks v d pair w t.reads t.writes s after kept it);
   }

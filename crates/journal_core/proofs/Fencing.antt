@@ -13,14 +13,14 @@ use Rattle.journal_world.proofs.MapsOfHistories.{is_trusted-append}
 use Rattle.journal_world.proofs.Prefixes.{IsPrefix-trans}
 use Rattle.journal_world.proofs.Fences.{commits-fence, count-fence, floor-fence, is_fenced-fence}
 use Rattle.journal_wal.specs.Tails.{known_blocks}
-use Rattle.journal_core.specs.declared.covered.Covered.{Covered}
-use Rattle.journal_core.specs.Causes.{Told}
-use Rattle.journal_core.specs.Covers.{Covers, KeepsCovered, with_quiet}
+use Rattle.journal_core.specs.declared.marked_lengths.MarkedLengths.{MarkedLengths}
+use Rattle.journal_core.specs.Causes.{CauseState}
+use Rattle.journal_core.specs.MarkedLengths.{Covers, KeepsMarkedLengths, with_non_commit}
 use Rattle.journal_history.specs.Counts.{raised as given_to}
 use Rattle.journal_core.specs.declared.fenced_sessions.Run.{Run}
-use Rattle.journal_core.specs.Tallies.{NotesFence, is_in_runs}
+use Rattle.journal_core.specs.Sessions.{NotesFence, is_in_runs}
 use Rattle.journal_core.specs.SlotCounts.{KeepsCounts}
-use Rattle.journal_core.specs.Memories.{MemoryState, IsMemory}
+use Rattle.journal_core.specs.Ledgers.{LedgerState, IsLedger}
 use Rattle.journal_core.specs.Updates.{AreObjectsOf}
 use Rattle.journal_core.specs.Fences.{AddsFence, HasFence, SetsFence}
 use Rattle.journal_core.specs.Durables.{DurableState}
@@ -52,7 +52,7 @@ keeps_fence : (old new : List Run) (sessions slots : List ℕ) (history : List E
     → KeepsCounts new (sessions ++ replicate k 0) slots (history ++ fence session ∷ [])
 keeps_fence old new sessions slots history session k notes kept = record {
   fences = λ s. fenced_so old new history session s notes (kept.fences s);
-  tallied = λ s. get_or-zeros sessions k s ∙ kept.tallied s
+  per_session = λ s. get_or-zeros sessions k s ∙ kept.per_session s
       ∙ sym (ap (λ (ts : List Transaction). length (filter (λ (t : Transaction). t.session == s) ts)) (commits-fence history session));
   touched = record {
     slots = kept.touched.slots;
@@ -60,30 +60,30 @@ keeps_fence old new sessions slots history session k notes kept = record {
   };
 }
 
-covers_fence : (covered now : Covered) (history : List Entry) (cut len session : ℕ) → len ≡ length history
-    → now ≡ record { marked = with_quiet len covered.marked; cut = with_quiet len covered.cut } → KeepsCovered covered history cut
-    → KeepsCovered now (history ++ fence session ∷ []) cut
-covers_fence covered now history cut len session is longer kept =
+covers_fence : (lengths now : MarkedLengths) (history : List Entry) (cut len session : ℕ) → len ≡ length history
+    → now ≡ record { marked = with_non_commit len lengths.marked; cut = with_non_commit len lengths.cut } → KeepsMarkedLengths lengths history cut
+    → KeepsMarkedLengths now (history ++ fence session ∷ []) cut
+covers_fence lengths now history cut len session is longer kept =
     let same = count-fence history session in
     let floors = floor-fence history session in
-    subst (λ (c : Covered). KeepsCovered c (history ++ fence session ∷ []) cut) (sym longer) (record {
-      marked = subst (λ (n : ℕ). Covers (history ++ fence session ∷ []) n (with_quiet len covered.marked)) (sym floors)
-          (covers_quiet history (fence session) _ covered.marked len same is kept.marked);
-      cut = covers_quiet history (fence session) cut covered.cut len same is kept.cut;
+    subst (λ (c : MarkedLengths). KeepsMarkedLengths c (history ++ fence session ∷ []) cut) (sym longer) (record {
+      marked = subst (λ (n : ℕ). Covers (history ++ fence session ∷ []) n (with_non_commit len lengths.marked)) (sym floors)
+          (covers_quiet history (fence session) _ lengths.marked len same is kept.marked);
+      cut = covers_quiet history (fence session) cut lengths.cut len same is kept.cut;
       rises = omega (arith, floors, kept.rises);
       made = omega (arith, same, kept.made);
     })
 
 -- what the memory part keeps
-pub memory_fenced : (fenced new : List Run) (sessions slots : List ℕ) (covered now : Covered) (m : MemoryState) (history : List Entry) (len next session : ℕ)
-    → IsMemory fenced sessions slots covered m → history ≡ m.history ++ fence session ∷ [] → len ≡ length m.history → next ≡ max m.next (session + 1)
-    → NotesFence session fenced new → now ≡ record { marked = with_quiet len covered.marked; cut = with_quiet len covered.cut }
-    → IsMemory new (given_to sessions (session + 1)) slots now (record m { history = history; next = next })
-memory_fenced fenced new sessions slots covered now m history len next session kept added is raised notes longer =
-    subst (λ (h : List Entry). IsMemory new (given_to sessions (session + 1)) slots now (record m { history = h; next = next })) (sym added) (record {
+pub ledger_fenced : (fenced new : List Run) (sessions slots : List ℕ) (lengths now : MarkedLengths) (m : LedgerState) (history : List Entry) (len next session : ℕ)
+    → IsLedger fenced sessions slots lengths m → history ≡ m.history ++ fence session ∷ [] → len ≡ length m.history → next ≡ max m.next (session + 1)
+    → NotesFence session fenced new → now ≡ record { marked = with_non_commit len lengths.marked; cut = with_non_commit len lengths.cut }
+    → IsLedger new (given_to sessions (session + 1)) slots now (record m { history = history; next = next })
+ledger_fenced fenced new sessions slots lengths now m history len next session kept added is raised notes longer =
+    subst (λ (h : List Entry). IsLedger new (given_to sessions (session + 1)) slots now (record m { history = h; next = next })) (sym added) (record {
       counts = keeps_fence fenced new sessions slots m.history session (session + 1 - length sessions) notes kept.counts;
       given = omega (arith, length-append sessions (replicate (session + 1 - length sessions) 0), length-replicate {A = ℕ} (session + 1 - length sessions) 0, kept.given, raised);
-      fronts = covers_fence covered now m.history m.cut len session is longer kept.fronts;
+      fronts = covers_fence lengths now m.history m.cut len session is longer kept.fronts;
       fresh = λ s le.
           ap (λ (ts : List Transaction). filter (λ (t : Transaction). t.session == s) ts) (commits-fence m.history session)
           ∙ kept.fresh s (omega (arith, raised, le));
@@ -96,46 +96,46 @@ memory_fenced fenced new sessions slots covered now m history len next session k
 
 -- what the volatile part keeps
 module _ (blocks : ℕ) (v : VolatileState) (kept : IsVolatile blocks v) where
-  volatile_fenced : (session next : ℕ) → IsVolatile blocks (record v { memory = record v.memory { history = v.memory.history ++ fence session ∷ []; next = next } })
+  volatile_fenced : (session next : ℕ) → IsVolatile blocks (record v { ledger = record v.ledger { history = v.ledger.history ++ fence session ∷ []; next = next } })
   volatile_fenced session next = record {
     size = kept.size;
-    begun = append-some v.memory.history (fence session ∷ []) kept.begun;
-    on_disk = ap (λ (m : Map). m.blocks) (opened-append v.memory.history (fence session ∷ []) kept.begun) ∙ kept.on_disk;
-    made = omega (arith, kept.made, count-fence v.memory.history session);
+    begun = append-some v.ledger.history (fence session ∷ []) kept.begun;
+    on_disk = ap (λ (m : Map). m.blocks) (opened-append v.ledger.history (fence session ∷ []) kept.begun) ∙ kept.on_disk;
+    made = omega (arith, kept.made, count-fence v.ledger.history session);
     cut_to_next = kept.cut_to_next;
     small = kept.small;
     cuts = λ k d lt. let was = kept.cuts k d lt in record { above = was.above; below = was.below; earlier = was.earlier };
-    updates = λ trusted. let has = kept.updates (subst IsTrue (is_trusted-append v.memory.history (fence session ∷ []) kept.begun) trusted) in record {
-      since = λ k d lt. since_fence blocks v.memory.history session _ _ kept.begun (has.since k d lt);
-      since_last = since_fence blocks v.memory.history session _ _ kept.begun has.since_last;
+    updates = λ trusted. let has = kept.updates (subst IsTrue (is_trusted-append v.ledger.history (fence session ∷ []) kept.begun) trusted) in record {
+      since = λ k d lt. since_fence blocks v.ledger.history session _ _ kept.begun (has.since k d lt);
+      since_last = since_fence blocks v.ledger.history session _ _ kept.begun has.since_last;
     };
-    known = λ trusted. subst (λ (m : Map). AreObjectsOf blocks m (known_blocks v.tail)) (sym (latest_fence v.memory.history session kept.begun))
-        (kept.known (subst IsTrue (is_trusted-append v.memory.history (fence session ∷ []) kept.begun) trusted));
+    known = λ trusted. subst (λ (m : Map). AreObjectsOf blocks m (known_blocks v.tail)) (sym (latest_fence v.ledger.history session kept.begun))
+        (kept.known (subst IsTrue (is_trusted-append v.ledger.history (fence session ∷ []) kept.begun) trusted));
   }
 
   -- whatever is answered
-  pub kept_fenced : {T E : Type 0} (session : ℕ) (new : MemoryState) (r : Result T E) → OnOk r (SetsFence session v.memory new) → OnErr r (new ≡ v.memory)
-      → IsVolatile blocks (record v { memory = new })
+  pub kept_fenced : {T E : Type 0} (session : ℕ) (new : LedgerState) (r : Result T E) → OnOk r (SetsFence session v.ledger new) → OnErr r (new ≡ v.ledger)
+      → IsVolatile blocks (record v { ledger = new })
   kept_fenced session new (Ok value) did same = ⊎_elim
-      (λ (adds : AddsFence session v.memory new).
-      subst (λ (m : MemoryState). IsVolatile blocks (record v { memory = m })) (sym adds.fenced) (volatile_fenced session (max v.memory.next (session + 1))))
-      (λ (has : HasFence session v.memory new). subst (λ (m : MemoryState). IsVolatile blocks (record v { memory = m })) (sym has.same) kept)
+      (λ (adds : AddsFence session v.ledger new).
+      subst (λ (m : LedgerState). IsVolatile blocks (record v { ledger = m })) (sym adds.fenced) (volatile_fenced session (max v.ledger.next (session + 1))))
+      (λ (has : HasFence session v.ledger new). subst (λ (m : LedgerState). IsVolatile blocks (record v { ledger = m })) (sym has.same) kept)
       did
-  kept_fenced session new (Err why) did same = subst (λ (m : MemoryState). IsVolatile blocks (record v { memory = m })) (sym same) kept
+  kept_fenced session new (Err why) did same = subst (λ (m : LedgerState). IsVolatile blocks (record v { ledger = m })) (sym same) kept
 
 -- what ties the two parts, and what each of them keeps
 module _ (blocks : ℕ) (v : VolatileState) (d : DurableState) (pair : IsPair blocks v d) where
-  tied_fenced : (session next : ℕ) → Tied (record v { memory = record v.memory { history = v.memory.history ++ fence session ∷ []; next = next } }) d
+  tied_fenced : (session next : ℕ) → Tied (record v { ledger = record v.ledger { history = v.ledger.history ++ fence session ∷ []; next = next } }) d
   tied_fenced session next = record {
-    begins = IsPrefix-trans d.front v.memory.history (v.memory.history ++ fence session ∷ []) pair.tied.begins (fence session ∷ [], refl);
-    marked = floor-fence v.memory.history session ∙ pair.tied.marked;
+    begins = IsPrefix-trans d.front v.ledger.history (v.ledger.history ++ fence session ∷ []) pair.tied.begins (fence session ∷ [], refl);
+    marked = floor-fence v.ledger.history session ∙ pair.tied.marked;
     trimmed = pair.tied.trimmed;
     cut = pair.tied.cut;
     position = pair.tied.position;
     logged = pair.tied.logged;
   }
 
-  pair_added : (session next : ℕ) → IsPair blocks (record v { memory = record v.memory { history = v.memory.history ++ fence session ∷ []; next = next } }) d
+  pair_added : (session next : ℕ) → IsPair blocks (record v { ledger = record v.ledger { history = v.ledger.history ++ fence session ∷ []; next = next } }) d
   pair_added session next = record {
     volatile = volatile_fenced blocks v pair.volatile session next;
     durable = pair.durable;
@@ -143,38 +143,38 @@ module _ (blocks : ℕ) (v : VolatileState) (d : DurableState) (pair : IsPair bl
     fault = pair.fault;
   }
 
-  pair_set : (session : ℕ) (w : VolatileState) → w ≡ record v { memory = w.memory } → SetsFence session v.memory w.memory → IsPair blocks w d
+  pair_set : (session : ℕ) (w : VolatileState) → w ≡ record v { ledger = w.ledger } → SetsFence session v.ledger w.ledger → IsPair blocks w d
   pair_set session w others did = subst (λ (x : VolatileState). IsPair blocks x d) (sym others) (⊎_elim
-      (λ (adds : AddsFence session v.memory w.memory).
-      subst (λ (m : MemoryState). IsPair blocks (record v { memory = m }) d) (sym adds.fenced) (pair_added session (max v.memory.next (session + 1))))
-      (λ (has : HasFence session v.memory w.memory). subst (λ (m : MemoryState). IsPair blocks (record v { memory = m }) d) (sym has.same) pair)
+      (λ (adds : AddsFence session v.ledger w.ledger).
+      subst (λ (m : LedgerState). IsPair blocks (record v { ledger = m }) d) (sym adds.fenced) (pair_added session (max v.ledger.next (session + 1))))
+      (λ (has : HasFence session v.ledger w.ledger). subst (λ (m : LedgerState). IsPair blocks (record v { ledger = m }) d) (sym has.same) pair)
       did)
 
-  pub pair_fenced : {T E : Type 0} (session : ℕ) (w : VolatileState) (r : Result T E) → w ≡ record v { memory = w.memory } → OnOk r (SetsFence session v.memory w.memory)
+  pub pair_fenced : {T E : Type 0} (session : ℕ) (w : VolatileState) (r : Result T E) → w ≡ record v { ledger = w.ledger } → OnOk r (SetsFence session v.ledger w.ledger)
       → OnErr r (w ≡ v) → IsPair blocks w d
   pair_fenced session w (Ok value) others did same = pair_set session w others did
   pair_fenced session w (Err why) others did same = subst (λ (x : VolatileState). IsPair blocks x d) (sym same) pair
 
   -- the same as a step of the core
-  set_in_core : (session : ℕ) (w : VolatileState) → w ≡ record v { memory = w.memory } → SetsFence session v.memory w.memory → SetsInCore session (core_of v d) (core_of w d)
+  set_in_core : (session : ℕ) (w : VolatileState) → w ≡ record v { ledger = w.ledger } → SetsFence session v.ledger w.ledger → SetsInCore session (core_of v d) (core_of w d)
   set_in_core session w others did = ⊎_elim
-      (λ (adds : AddsFence session v.memory w.memory). inl (record {
+      (λ (adds : AddsFence session v.ledger w.ledger). inl (record {
         free = adds.free;
-        fenced = ap (λ (x : VolatileState). core_of x d) (others ∙ ap (λ (m : MemoryState). record v { memory = m }) adds.fenced);
+        fenced = ap (λ (x : VolatileState). core_of x d) (others ∙ ap (λ (m : LedgerState). record v { ledger = m }) adds.fenced);
       }))
-      (λ (has : HasFence session v.memory w.memory). inr (record {
+      (λ (has : HasFence session v.ledger w.ledger). inr (record {
         stands = has.stands;
-        same = ap (λ (x : VolatileState). core_of x d) (others ∙ ap (λ (m : MemoryState). record v { memory = m }) has.same);
+        same = ap (λ (x : VolatileState). core_of x d) (others ∙ ap (λ (m : LedgerState). record v { ledger = m }) has.same);
       }))
       did
 
-  pub fenced_in_core : {T E : Type 0} (session : ℕ) (w : VolatileState) (now : CoreState) (r : Result T E) → core_of v d ≡ now → w ≡ record v { memory = w.memory }
-      → OnOk r (SetsFence session v.memory w.memory) → OnOk r (SetsInCore session now (core_of w d))
+  pub fenced_in_core : {T E : Type 0} (session : ℕ) (w : VolatileState) (now : CoreState) (r : Result T E) → core_of v d ≡ now → w ≡ record v { ledger = w.ledger }
+      → OnOk r (SetsFence session v.ledger w.ledger) → OnOk r (SetsInCore session now (core_of w d))
   fenced_in_core session w now (Ok value) is others did = subst (λ (c : CoreState). SetsInCore session c (core_of w d)) is (set_in_core session w others did)
   fenced_in_core session w now (Err why) is others did = tt
 
 -- what is answered, as one event
-pub answers_fence : (session : ℕ) (old new : CoreState) (r : Result (Unit {0}) (Refusal Told)) → Crashes old new → OnOk r (SetsInCore session old new)
+pub answers_fence : (session : ℕ) (old new : CoreState) (r : Result (Unit {0}) (Refusal CauseState)) → Crashes old new → OnOk r (SetsInCore session old new)
     → IfErr r (IsFenceRefusal session old) → OnErr r (new ≡ old) → AnswersFence session old r new
 answers_fence session old new (Ok done) crash did refusal same = record { did = did; crash = crash }
 answers_fence session old new (Err why) crash did refusal same = record { refusal = refusal; same = same; crash = crash }

@@ -17,7 +17,7 @@ use Rattle.journal_wal.specs.Tails.{known_blocks}
 use Rattle.journal_objlog.specs.ObjectTails.{blocks_of, known_at, known_updates, is_missing, is_one_object, missing_blocks, IfMissing}
 use Rattle.journal_objlog.specs.Writes.{writes_block}
 use Rattle.journal_objlog.proofs.Fetched.{or_right}
-use Rattle.journal_core.specs.Causes.{Told}
+use Rattle.journal_core.specs.Causes.{CauseState}
 use Rattle.journal_core.specs.Durables.{FetchedState}
 use Rattle.journal_core.specs.Volatiles.{VolatileState, usable}
 use Rattle.journal_core.proofs.Latest.{known_named}
@@ -127,7 +127,7 @@ fetched_known v f a fresh named none =
     some_not {x} is = none-some x (sym is)
 
 -- what is still to be fetched for writes lies on the disk
-pub answered_below : (n : ℕ) → 532 ≤ n → (known : List Update) (ws : List Pair) → IsTrue (are_objects n ws) → (answer : Result Preparation (Refusal Told))
+pub answered_below : (n : ℕ) → 532 ≤ n → (known : List Update) (ws : List Pair) → IsTrue (are_objects n ws) → (answer : Result Preparation (Refusal CauseState))
     → IfOk answer (IfMissing (λ blocks. blocks ≡ missing_blocks n known ws)) → IfOk answer (IfMissing (λ blocks. All (λ b. b < n) blocks))
 answered_below n low known ws objects (Err why) is = tt
 answered_below n low known ws objects (Ok (Ready prepared)) is = tt

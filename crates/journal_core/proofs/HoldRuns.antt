@@ -25,35 +25,35 @@ use Rattle.journal_wal.specs.declared.step.GroupStep.{GroupStep}
 use Rattle.journal_wal.specs.declared.step.InstallStep.{InstallStep}
 use Rattle.journal_core.specs.declared.step.LogStep.{LogStep}
 use Rattle.journal_core.specs.declared.step.LogStep.TheVariants.{Marked}
-use Rattle.journal_core.specs.Causes.{Told}
-use Rattle.journal_core.specs.Memories.{MemoryState}
+use Rattle.journal_core.specs.Causes.{CauseState}
+use Rattle.journal_core.specs.Ledgers.{LedgerState}
 use Rattle.journal_core.specs.Cores.{Leaves}
 use Rattle.journal_core.specs.Fences.{AddsFence}
 use Rattle.journal_core.specs.Durables.{DurableState, FetchedState, IsFetched, IsBlockAfter, disk_of, Leaves as LeavesDurable}
 use Rattle.journal_core.specs.Volatiles.{VolatileState, IsVolatile}
-use Rattle.journal_core.specs.Transactions.{TransactionState, FoundState, begun}
+use Rattle.journal_core.specs.Transactions.{TransactionState, ReadResultState, begun}
 use Rattle.journal_core.specs.Pairs.{IsMarkDue, MarksBoth, MarksAll}
-use Rattle.journal_core.specs.Holds.{IsBetween, FindsInMemory, LacksBlock, RefusesRead, AnswersRead, CommitsInMemory, LacksBlocks, RefusesCommit, KeepsCopies, AnswersSession, FencesSession, AnswersFence, Stops, FetchesBlocks, AnswersFetch, AnswersGroupCall, AnswersHomeCall, Settles, AnswersSettling, Trims, NotesFault}
+use Rattle.journal_core.specs.Holds.{IsBetween, FindsInMemory, LacksBlock, RefusesRead, AnswersRead, CommitsInMemory, LacksBlocks, RefusesCommit, KeepsCopies, AnswersSession, FencesSession, AnswersFence, Stops, FetchesBlocks, AnswersFetch, AnswersGroupCall, AnswersHomeCall, MarksOrCuts, AnswersMarkOrCut, Trims, NotesFault}
 use Rattle.journal_core.specs.Outcomes.{Answer, Tells, TellsAll, HoldsImage}
 use Rattle.journal_core.specs.Outcomes.Answer.{nothing, value, committed, marked, fenced, waited, imaged, crashed, reopened}
-use Rattle.journal_core.specs.TwoLocks.{Event, Parts, history_of, Mount, Machine, mounted, holds, with_parts, with_memory, with_durable, with_transaction, with_slot, with_fetched, ended, keeping, blocks_of, BeginsApart, Ignores, BeginsTransaction, TakesSlot, ReadsUnderSlot, OverwritesUnderSlot, Finishes, MakesFence, SettlesBoth, WaitsFor, Flushes, TakesImage, HappensUp, HappensDown, Happens, Run, HasHistory, IsUndisturbed, StaysFetched}
-use Rattle.journal_core.specs.TwoLocks.Event.{begins, takes, reads, overwrites, aborts, copies, joins, fences, stops, waits, flushes, shows, fetches, logs, installs, settles, trims, notes, images, crashes, opens}
+use Rattle.journal_core.specs.TwoLocks.{Event, Parts, history_of, Mount, Machine, mounted, holds, with_parts, with_volatile, with_durable, with_transaction, with_slot, with_fetched, ended, keeping, blocks_of, BeginsApart, Ignores, BeginsTransaction, TakesSlot, ReadsUnderSlot, OverwritesUnderSlot, Finishes, MakesFence, MarksOrCutsBoth, WaitsFor, Flushes, TakesImage, HappensUp, HappensDown, Happens, Run, HasHistory, IsUndisturbed, StaysFetched}
+use Rattle.journal_core.specs.TwoLocks.Event.{begins, takes, reads, overwrites, aborts, copies, joins, fences, stops, waits, flushes, shows, fetches, logs, installs, marks_or_cuts, trims, notes, images, crashes, opens}
 use Rattle.journal_core.specs.TwoLocks.Event.{commits as finishes}
 use Rattle.journal_core.specs.TwoLocks.Machine.{up, down}
 use Rattle.journal_core.proofs.Holding.{IsSound, begun_sound, sound_held, keeps_taken, keeps_given, sound_marked, sound_fenced, sound_committed, sound_read, sound_overwritten, is_holder}
 use Rattle.journal_core.proofs.Fronts.{at-longer, count-longer, trusted-longer}
 use Rattle.journal_core.proofs.Pairing.{begins_not, leaves_history, made_in}
-use Rattle.journal_core.proofs.Between.{between_fetch, between_group, between_home, between_settled, between_trimmed, between_noted, between_commit, between_roomed, between_copied, between_counted, between_fenced, fetch_honest, group_honest, home_honest, settled_honest}
+use Rattle.journal_core.proofs.Between.{between_fetch, between_group, between_home, between_mark_or_cut, between_trimmed, between_noted, between_commit, between_roomed, between_copied, between_counted, between_fenced, fetch_honest, group_honest, home_honest, mark_or_cut_honest}
 
 -- What holds of two parts whose locks are free
 pub record IsRunning (rule : Map → Type 0) (p : Parts) : Type 0 where
-  pub between : IsBetween (opened (history_of p)).blocks p.memory p.durable
+  pub between : IsBetween (opened (history_of p)).blocks p.volatile p.durable
   pub honest : IsTrue (disk_of p.durable).honest
   pub trusted : IsTrue (is_trusted (history_of p))
   pub legal : IsLegal rule (history_of p)
 
 -- of any disk
-rebased : (n : ℕ) (v : VolatileState) (d : DurableState) → IsBetween n v d → IsBetween (opened v.memory.history).blocks v d
+rebased : (n : ℕ) (v : VolatileState) (d : DurableState) → IsBetween n v d → IsBetween (opened v.ledger.history).blocks v d
 rebased n v d between = subst (λ (k : ℕ). IsBetween k v d) (sym between.volatile.on_disk) between
 
 -- What holds of blocks that were fetched, where this is the history
@@ -90,7 +90,7 @@ pub record Goes (rule : Map → Type 0) (old : List Entry) (answer : Answer) (ne
 module _ (rule : Map → Type 0) where
   -- the parts go on with the same history
   up_on : (m : Mount) (w : VolatileState) (e : DurableState) → IsUp rule m → IsBetween (blocks_of m) w e → (disk_of e).honest ≡ (disk_of m.parts.durable).honest
-      → w.memory.history ≡ history_of m.parts → IsUp rule (with_parts m w e)
+      → w.ledger.history ≡ history_of m.parts → IsUp rule (with_parts m w e)
   up_on m w e is between honest same = record {
     runs = record {
       between = rebased (blocks_of m) w e between;
@@ -104,8 +104,8 @@ module _ (rule : Map → Type 0) where
 
   -- and with one more entry
   runs_adds : (m : Mount) (w : VolatileState) (d : DurableState) (e : Entry) → IsUp rule m → IsBetween (blocks_of m) w d
-      → (disk_of d).honest ≡ (disk_of m.parts.durable).honest → w.memory.history ≡ history_of m.parts ++ e ∷ [] → IsLegal rule (history_of m.parts ++ e ∷ [])
-      → IsRunning rule (record { memory = w; durable = d })
+      → (disk_of d).honest ≡ (disk_of m.parts.durable).honest → w.ledger.history ≡ history_of m.parts ++ e ∷ [] → IsLegal rule (history_of m.parts ++ e ∷ [])
+      → IsRunning rule (record { volatile = w; durable = d })
   runs_adds m w d e is between honest added legal = record {
     between = rebased (blocks_of m) w d between;
     honest = subst IsTrue (sym honest) is.runs.honest;
@@ -122,7 +122,7 @@ module _ (rule : Map → Type 0) where
   }
 
   up_marked : (m : Mount) (w : VolatileState) (d : DurableState) (n : ℕ) → IsUp rule m → IsBetween (blocks_of m) w d
-      → (disk_of d).honest ≡ (disk_of m.parts.durable).honest → w.memory.history ≡ history_of m.parts ++ stable n ∷ []
+      → (disk_of d).honest ≡ (disk_of m.parts.durable).honest → w.ledger.history ≡ history_of m.parts ++ stable n ∷ []
       → IsLegal rule (history_of m.parts ++ stable n ∷ []) → IsUp rule (with_parts m w d)
   up_marked m w d n is between honest added legal = record {
     runs = runs_adds m w d (stable n) is between honest added legal;
@@ -133,7 +133,7 @@ module _ (rule : Map → Type 0) where
   }
 
   up_fenced : (m : Mount) (w : VolatileState) (d : DurableState) (s : ℕ) → IsUp rule m → IsBetween (blocks_of m) w d
-      → (disk_of d).honest ≡ (disk_of m.parts.durable).honest → w.memory.history ≡ history_of m.parts ++ fence s ∷ []
+      → (disk_of d).honest ≡ (disk_of m.parts.durable).honest → w.ledger.history ≡ history_of m.parts ++ fence s ∷ []
       → IsLegal rule (history_of m.parts ++ fence s ∷ []) → IsUp rule (with_parts m w d)
   up_fenced m w d s is between honest added legal = record {
     runs = runs_adds m w d (fence s) is between honest added legal;
@@ -200,7 +200,7 @@ module _ (rule : Map → Type 0) where
 
   -- a hold that leaves the history
   quiet : (m : Mount) (w : VolatileState) (e : DurableState) (answer : Answer) (new : Machine) → answer ≡ nothing → new ≡ up (with_parts m w e) → IsUp rule m
-      → IsBetween (blocks_of m) w e → (disk_of e).honest ≡ (disk_of m.parts.durable).honest → w.memory.history ≡ history_of m.parts → Goes rule (history_of m.parts) answer new
+      → IsBetween (blocks_of m) w e → (disk_of e).honest ≡ (disk_of m.parts.durable).honest → w.ledger.history ≡ history_of m.parts → Goes rule (history_of m.parts) answer new
   quiet m w e answer new none after is between honest same =
       silent (history_of m.parts) (with_parts m w e) answer new none after same (up_on m w e is between honest same)
 
@@ -222,7 +222,7 @@ module _ (rule : Map → Type 0) where
       silent (history_of m.parts) (with_slot m actor slot) answer new it.0 it.1 refl (slot_taken m actor slot free is)
 
   -- a read in memory leaves all
-  read_same : (n : ℕ) (v : VolatileState) (t : TransactionState) (a : Addr) (f : FetchedState) (r : Result (Option FoundState) (Refusal Told)) (x : Value) (w : VolatileState)
+  read_same : (n : ℕ) (v : VolatileState) (t : TransactionState) (a : Addr) (f : FetchedState) (r : Result (Option ReadResultState) (Refusal CauseState)) (x : Value) (w : VolatileState)
       → AnswersRead n v t a f r x w → w ≡ v
   read_same n v t a f (Ok (Some found)) x w it = it.same
   read_same n v t a f (Ok None) x w it = it.same
@@ -234,14 +234,14 @@ module _ (rule : Map → Type 0) where
   goes-reads m actor a (Some t) false answer new it is at holder = ignored m answer new it is
   goes-reads m actor a (Some t) true nothing new it is at holder =
       let w : VolatileState = it.1.1.1.0 in
-      let same : w ≡ m.parts.memory = read_same (blocks_of m) m.parts.memory t a it.0 it.1.0 it.1.1.0 w it.1.1.1.1 in
+      let same : w ≡ m.parts.volatile = read_same (blocks_of m) m.parts.volatile t a it.0 it.1.0 it.1.1.0 w it.1.1.1.1 in
       quiet m w m.parts.durable nothing new refl it.1.1.1.2 is (subst (λ (x : VolatileState). IsBetween (blocks_of m) x m.parts.durable) (sym same) is.runs.between) refl
-      (ap (λ (x : VolatileState). x.memory.history) same)
+      (ap (λ (x : VolatileState). x.ledger.history) same)
   goes-reads m actor a (Some t) true (value b v) new it is at holder =
       let w : VolatileState = it.1.1.0 in
       let after : TransactionState = it.1.1.1.0 in
-      let finds : FindsInMemory (blocks_of m) m.parts.memory t a it.1.0 v w = it.1.1.1.1 in
-      let same : w.memory.history ≡ history_of m.parts = ap (λ (x : VolatileState). x.memory.history) finds.same in
+      let finds : FindsInMemory (blocks_of m) m.parts.volatile t a it.1.0 v w = it.1.1.1.1 in
+      let same : w.ledger.history ≡ history_of m.parts = ap (λ (x : VolatileState). x.ledger.history) finds.same in
       let sound : IsSound (history_of m.parts) m.holders actor after =
       sound_read (history_of m.parts) m.holders actor t after a v it.1.1.1.2 finds.object (finds.value is.runs.trusted)
       (is_holder (m.holders (slot_of a)) actor holder) (is.sound actor t at) in
@@ -250,7 +250,7 @@ module _ (rule : Map → Type 0) where
         tells = (finds.value is.runs.trusted ∙ ap (value_at (latest (history_of m.parts))) (sym it.0), refl);
         holds = (
           same,
-          draft_kept (with_memory m w) actor after
+          draft_kept (with_volatile m w) actor after
               (up_on m w m.parts.durable is (subst (λ (x : VolatileState). IsBetween (blocks_of m) x m.parts.durable) (sym finds.same) is.runs.between) refl same)
               (subst (λ (h : List Entry). IsSound h m.holders actor after) (sym same) sound),
         );
@@ -290,35 +290,35 @@ module _ (rule : Map → Type 0) where
       let w : VolatileState = it.1.0 in
       let durable : DurableState = m.parts.durable in
       ⊎_elim
-      (λ (refuses : (why : Refusal Told) × RefusesCommit (blocks_of m) m.parts.memory it.0 d why w × (new ≡ up (ended (with_memory m w) actor))).
-      let same : w.memory.history ≡ history_of m.parts = ap (λ (x : VolatileState). x.memory.history) refuses.1.same in
-      silent (history_of m.parts) (ended (with_memory m w) actor) nothing new refl refuses.2 same
-      (has_ended (with_memory m w) actor (up_on m w durable is
-      (between_roomed (blocks_of m) m.parts.memory durable is.runs.between w w.tail.log.room refuses.1.kept refuses.1.same) refl same)))
-      (λ (lacks : (f : FetchedState) × ((missing : List ℕ) × LacksBlocks (blocks_of m) m.parts.memory it.0 d f missing w × (new ≡ up (with_memory m w)))).
-      let same : w.memory.history ≡ history_of m.parts = ap (λ (x : VolatileState). x.memory.history) lacks.1.1.same in
+      (λ (refuses : (why : Refusal CauseState) × RefusesCommit (blocks_of m) m.parts.volatile it.0 d why w × (new ≡ up (ended (with_volatile m w) actor))).
+      let same : w.ledger.history ≡ history_of m.parts = ap (λ (x : VolatileState). x.ledger.history) refuses.1.same in
+      silent (history_of m.parts) (ended (with_volatile m w) actor) nothing new refl refuses.2 same
+      (has_ended (with_volatile m w) actor (up_on m w durable is
+      (between_roomed (blocks_of m) m.parts.volatile durable is.runs.between w w.tail.log.room refuses.1.kept refuses.1.same) refl same)))
+      (λ (lacks : (f : FetchedState) × ((missing : List ℕ) × LacksBlocks (blocks_of m) m.parts.volatile it.0 d f missing w × (new ≡ up (with_volatile m w)))).
+      let same : w.ledger.history ≡ history_of m.parts = ap (λ (x : VolatileState). x.ledger.history) lacks.1.1.same in
       quiet m w durable nothing new refl lacks.1.2 is
-      (between_roomed (blocks_of m) m.parts.memory durable is.runs.between w w.tail.log.room lacks.1.1.kept lacks.1.1.same) refl same)
+      (between_roomed (blocks_of m) m.parts.volatile durable is.runs.between w w.tail.log.room lacks.1.1.kept lacks.1.1.same) refl same)
       it.1.1
   goes-finishes m actor (Some d) (committed t) new it is at =
       let session : SessionState = it.0 in
       let w : VolatileState = it.1.1.0 in
       let history : List Entry = history_of m.parts in
-      let done : CommitsInMemory (blocks_of m) m.parts.memory session d w it.1.0 = it.1.1.2 in
+      let done : CommitsInMemory (blocks_of m) m.parts.volatile session d w it.1.0 = it.1.1.2 in
       let u : Transaction = next_transaction session d.reads d.writes in
       let sound = is.sound actor d at in
-      let number = numbered session it.1.0 d.reads d.writes history w.memory.history done.committed.committed in
+      let number = numbered session it.1.0 d.reads d.writes history w.ledger.history done.committed.committed in
       let follows : Follows history (commit u) = (is.runs.between.volatile.begun, sound.reads, sound.writes, number, done.can.may.unfenced) in
-      let added : w.memory.history ≡ history ++ commit u ∷ [] = done.committed.committed.added in
+      let added : w.ledger.history ≡ history ++ commit u ∷ [] = done.committed.committed.added in
       let longer : IsLegal rule (history ++ commit u ∷ []) = legal_adds history (commit u) is.runs.legal follows (done.agrees is.runs.trusted) in
       subst (λ (s : Machine). Goes rule history (committed t) s) (sym it.1.1.3)
-      (subst (λ (x : Transaction). Goes rule history (committed x) (up (ended (with_memory m w) actor))) (sym it.1.1.1) (record {
+      (subst (λ (x : Transaction). Goes rule history (committed x) (up (ended (with_volatile m w) actor))) (sym it.1.1.1) (record {
         history = history ++ commit u ∷ [];
         tells = (follows, done.agrees is.runs.trusted, refl);
         holds = (
           added,
-          ended_up (with_memory m w) actor (runs_adds m w m.parts.durable (commit u) is
-              (between_commit (blocks_of m) m.parts.memory m.parts.durable is.runs.between w session it.1.0 d done) refl added longer)
+          ended_up (with_volatile m w) actor (runs_adds m w m.parts.durable (commit u) is
+              (between_commit (blocks_of m) m.parts.volatile m.parts.durable is.runs.between w session it.1.0 d done) refl added longer)
               (λ other. subst (λ (h : List Entry). All (WasFetched h) (m.fetched other)) (sym added)
               (fetched_longer history (commit u) (m.fetched other) is.runs.between.volatile.begun (is.fetched other)))
               (λ other e apart at_other. subst (λ (h : List Entry). IsSound h m.holders other e) (sym added)
@@ -333,20 +333,20 @@ module _ (rule : Map → Type 0) where
   goes-finishes m actor (Some d) crashed new it is at = absurd it
   goes-finishes m actor (Some d) reopened new it is at = absurd it
 
-  goes-joins : (m : Mount) (r : Result SessionState (Refusal Told)) (w : VolatileState) (answer : Answer) (new : Machine) → answer ≡ nothing
-      → AnswersSession m.parts.memory r w → new ≡ up (with_memory m w) → IsUp rule m → Goes rule (history_of m.parts) answer new
+  goes-joins : (m : Mount) (r : Result SessionState (Refusal CauseState)) (w : VolatileState) (answer : Answer) (new : Machine) → answer ≡ nothing
+      → AnswersSession m.parts.volatile r w → new ≡ up (with_volatile m w) → IsUp rule m → Goes rule (history_of m.parts) answer new
   goes-joins m (Ok session) w answer new none it after is =
       quiet m w m.parts.durable answer new none after is
       (subst (λ (x : VolatileState). IsBetween (blocks_of m) x m.parts.durable) (sym it.others)
-      (between_counted (blocks_of m) m.parts.memory m.parts.durable is.runs.between (m.parts.memory.memory.next + 1) m.parts.memory.memory.closed))
-      refl (ap (λ (x : VolatileState). x.memory.history) it.others)
+      (between_counted (blocks_of m) m.parts.volatile m.parts.durable is.runs.between (m.parts.volatile.ledger.next + 1) m.parts.volatile.ledger.closed))
+      refl (ap (λ (x : VolatileState). x.ledger.history) it.others)
   goes-joins m (Err why) w answer new none it after is =
       quiet m w m.parts.durable answer new none after is
-      (subst (λ (x : VolatileState). IsBetween (blocks_of m) x m.parts.durable) (sym it.same) is.runs.between) refl (ap (λ (x : VolatileState). x.memory.history) it.same)
+      (subst (λ (x : VolatileState). IsBetween (blocks_of m) x m.parts.durable) (sym it.same) is.runs.between) refl (ap (λ (x : VolatileState). x.ledger.history) it.same)
 
-  fence_on : (m : Mount) (session : ℕ) (r : Result (Unit {0}) (Refusal Told)) (w : VolatileState) → AnswersFence (blocks_of m) session m.parts.memory r w → IsUp rule m
+  fence_on : (m : Mount) (session : ℕ) (r : Result (Unit {0}) (Refusal CauseState)) (w : VolatileState) → AnswersFence (blocks_of m) session m.parts.volatile r w → IsUp rule m
       → IsBetween (blocks_of m) w m.parts.durable
-  fence_on m session (Ok done) w it is = between_fenced (blocks_of m) m.parts.memory m.parts.durable is.runs.between session w it
+  fence_on m session (Ok done) w it is = between_fenced (blocks_of m) m.parts.volatile m.parts.durable is.runs.between session w it
   fence_on m session (Err why) w it is = subst (λ (x : VolatileState). IsBetween (blocks_of m) x m.parts.durable) (sym it.same) is.runs.between
 
   goes-fences : (m : Mount) (session : ℕ) (answer : Answer) (new : Machine) → MakesFence m session answer new → IsUp rule m → Goes rule (history_of m.parts) answer new
@@ -355,16 +355,16 @@ module _ (rule : Map → Type 0) where
   goes-fences m session (fenced s) new it is =
       let w : VolatileState = it.1.0 in
       let history : List Entry = history_of m.parts in
-      let adds : AddsFence session m.parts.memory.memory w.memory = it.1.1 in
-      let added : w.memory.history ≡ history ++ fence s ∷ [] =
-      ap (λ (x : MemoryState). x.history) adds.fenced ∙ ap (λ (n : ℕ). history ++ fence n ∷ []) (sym it.0) in
+      let adds : AddsFence session m.parts.volatile.ledger w.ledger = it.1.1 in
+      let added : w.ledger.history ≡ history ++ fence s ∷ [] =
+      ap (λ (x : LedgerState). x.history) adds.fenced ∙ ap (λ (n : ℕ). history ++ fence n ∷ []) (sym it.0) in
       let follows : Follows history (fence s) = is.runs.between.volatile.begun in
       subst (λ (x : Machine). Goes rule history (fenced s) x) (sym it.1.3) (record {
         history = history ++ fence s ∷ [];
         tells = (follows, tt, refl);
         holds = (
           added,
-          up_fenced m w m.parts.durable s is (between_fenced (blocks_of m) m.parts.memory m.parts.durable is.runs.between session w it.1.2) refl added
+          up_fenced m w m.parts.durable s is (between_fenced (blocks_of m) m.parts.volatile m.parts.durable is.runs.between session w it.1.2) refl added
               (legal_adds history (fence s) is.runs.legal follows tt),
         );
       })
@@ -376,20 +376,20 @@ module _ (rule : Map → Type 0) where
   goes-fences m session crashed new it is = absurd it
   goes-fences m session reopened new it is = absurd it
 
-  goes-fetched : (m : Mount) (actor : ℕ) (numbers : List ℕ) (r : Result FetchedState (Refusal Told)) (e : DurableState) (answer : Answer) (new : Machine)
+  goes-fetched : (m : Mount) (actor : ℕ) (numbers : List ℕ) (r : Result FetchedState (Refusal CauseState)) (e : DurableState) (answer : Answer) (new : Machine)
       → answer ≡ nothing → AnswersFetch (blocks_of m) m.parts.durable numbers r e → new ≡ up (keeping (with_durable m e) actor r) → IsUp rule m
       → Goes rule (history_of m.parts) answer new
   goes-fetched m actor numbers (Err why) e answer new none it after is =
-      quiet m m.parts.memory e answer new none after is (between_fetch (blocks_of m) m.parts.memory m.parts.durable is.runs.between e numbers (Err why) it)
+      quiet m m.parts.volatile e answer new none after is (between_fetch (blocks_of m) m.parts.volatile m.parts.durable is.runs.between e numbers (Err why) it)
       it.crash.keeps.honest refl
   goes-fetched m actor numbers (Ok f) e answer new none it after is =
       silent (history_of m.parts) (with_fetched (with_durable m e) actor f) answer new none after refl
       (fetched_kept (with_durable m e) actor f
-      (up_on m m.parts.memory e is (between_fetch (blocks_of m) m.parts.memory m.parts.durable is.runs.between e numbers (Ok f) it) it.crash.keeps.honest refl)
+      (up_on m m.parts.volatile e is (between_fetch (blocks_of m) m.parts.volatile m.parts.durable is.runs.between e numbers (Ok f) it) it.crash.keeps.honest refl)
       (record { begins = subst (λ (h : List Entry). IsPrefix h (history_of m.parts)) (sym it.front) is.runs.between.tied.begins; objects = it.objects }))
 
   -- what a mark adds
-  goes-marked : (m : Mount) (n : ℕ) (w : VolatileState) (e : DurableState) (new : Machine) → Settles (blocks_of m) m.parts.memory m.parts.durable (Marked n) w e
+  goes-marked : (m : Mount) (n : ℕ) (w : VolatileState) (e : DurableState) (new : Machine) → MarksOrCuts (blocks_of m) m.parts.volatile m.parts.durable (Marked n) w e
       → new ≡ up (with_parts m w e) → IsUp rule m → Goes rule (history_of m.parts) (marked n) new
   goes-marked m n w e new it after is =
       let history : List Entry = history_of m.parts in
@@ -399,51 +399,51 @@ module _ (rule : Map → Type 0) where
         tells = (follows, tt, refl);
         holds = (
           added,
-          up_marked m w e n is (between_settled (blocks_of m) m.parts.memory m.parts.durable is.runs.between w e (Ok (Marked n)) it)
+          up_marked m w e n is (between_mark_or_cut (blocks_of m) m.parts.volatile m.parts.durable is.runs.between w e (Ok (Marked n)) it)
               it.crash.keeps.honest added (legal_adds history (stable n) is.runs.legal follows tt),
         );
       })
     where
       v : VolatileState
-      v = m.parts.memory
+      v = m.parts.volatile
 
       d : DurableState
       d = m.parts.durable
 
-      added : w.memory.history ≡ history_of m.parts ++ stable n ∷ []
+      added : w.ledger.history ≡ history_of m.parts ++ stable n ∷ []
       added = ⊎_elim
-          (λ (both : (n ≡ d.logged) × MarksBoth v d w e). ap (λ (x : VolatileState). x.memory.history) both.1.memory ∙ ap (λ (k : ℕ). v.memory.history ++ stable k ∷ []) (sym both.0))
-          (λ (all : (n ≡ count v.memory.history) × (IsMarkDue v d → ⊥) × MarksAll v d w e).
-          ap (λ (x : VolatileState). x.memory.history) all.2.memory ∙ ap (λ (k : ℕ). v.memory.history ++ stable k ∷ []) (sym all.0))
+          (λ (both : (n ≡ d.logged) × MarksBoth v d w e). ap (λ (x : VolatileState). x.ledger.history) both.1.volatile ∙ ap (λ (k : ℕ). v.ledger.history ++ stable k ∷ []) (sym both.0))
+          (λ (all : (n ≡ count v.ledger.history) × (IsMarkDue v d → ⊥) × MarksAll v d w e).
+          ap (λ (x : VolatileState). x.ledger.history) all.2.volatile ∙ ap (λ (k : ℕ). v.ledger.history ++ stable k ∷ []) (sym all.0))
           it.did
 
-      rises : floor v.memory.history ≤ n
+      rises : floor v.ledger.history ≤ n
       rises = ⊎_elim
           (λ (both : (n ≡ d.logged) × MarksBoth v d w e). omega (arith, both.0, both.1.due.more))
-          (λ (all : (n ≡ count v.memory.history) × (IsMarkDue v d → ⊥) × MarksAll v d w e). omega (arith, all.0, all.2.due.more))
+          (λ (all : (n ≡ count v.ledger.history) × (IsMarkDue v d → ⊥) × MarksAll v d w e). omega (arith, all.0, all.2.due.more))
           it.did
 
-      to_count : n ≤ count v.memory.history
+      to_count : n ≤ count v.ledger.history
       to_count = ⊎_elim
           (λ (both : (n ≡ d.logged) × MarksBoth v d w e).
-          omega (arith, both.0, made_in (blocks_of m) d v.memory.history is.runs.between.durable is.runs.between.tied.begins))
-          (λ (all : (n ≡ count v.memory.history) × (IsMarkDue v d → ⊥) × MarksAll v d w e). omega (arith, all.0))
+          omega (arith, both.0, made_in (blocks_of m) d v.ledger.history is.runs.between.durable is.runs.between.tied.begins))
+          (λ (all : (n ≡ count v.ledger.history) × (IsMarkDue v d → ⊥) × MarksAll v d w e). omega (arith, all.0))
           it.did
 
-  goes-settles : (m : Mount) (answer : Answer) (new : Machine) → SettlesBoth m answer new → IsUp rule m → Goes rule (history_of m.parts) answer new
-  goes-settles m nothing new it is =
+  goes-marks_or_cuts : (m : Mount) (answer : Answer) (new : Machine) → MarksOrCutsBoth m answer new → IsUp rule m → Goes rule (history_of m.parts) answer new
+  goes-marks_or_cuts m nothing new it is =
       let w : VolatileState = it.1.0 in
       let e : DurableState = it.1.1.0 in
-      quiet m w e nothing new refl it.1.1.3 is (between_settled (blocks_of m) m.parts.memory m.parts.durable is.runs.between w e it.0 it.1.1.1)
-      (settled_honest (blocks_of m) m.parts.memory m.parts.durable w e it.0 it.1.1.1) it.1.1.2
-  goes-settles m (marked n) new it is = goes-marked m n it.0 it.1.0 new it.1.1 it.1.2 is
-  goes-settles m (value a v) new it is = absurd it
-  goes-settles m (committed t) new it is = absurd it
-  goes-settles m (fenced s) new it is = absurd it
-  goes-settles m (waited k) new it is = absurd it
-  goes-settles m (imaged other) new it is = absurd it
-  goes-settles m crashed new it is = absurd it
-  goes-settles m reopened new it is = absurd it
+      quiet m w e nothing new refl it.1.1.3 is (between_mark_or_cut (blocks_of m) m.parts.volatile m.parts.durable is.runs.between w e it.0 it.1.1.1)
+      (mark_or_cut_honest (blocks_of m) m.parts.volatile m.parts.durable w e it.0 it.1.1.1) it.1.1.2
+  goes-marks_or_cuts m (marked n) new it is = goes-marked m n it.0 it.1.0 new it.1.1 it.1.2 is
+  goes-marks_or_cuts m (value a v) new it is = absurd it
+  goes-marks_or_cuts m (committed t) new it is = absurd it
+  goes-marks_or_cuts m (fenced s) new it is = absurd it
+  goes-marks_or_cuts m (waited k) new it is = absurd it
+  goes-marks_or_cuts m (imaged other) new it is = absurd it
+  goes-marks_or_cuts m crashed new it is = absurd it
+  goes-marks_or_cuts m reopened new it is = absurd it
 
   goes-waits : (m : Mount) (n : ℕ) (answer : Answer) (new : Machine) → WaitsFor m n answer new → IsUp rule m → Goes rule (history_of m.parts) answer new
   goes-waits m n nothing new it is = silent (history_of m.parts) m nothing new refl it.1.1.2 refl is
@@ -504,7 +504,7 @@ running rule disk p trusted it =
     let begin = it.begins in
     let is : history_of p ≡ opening begin.map true ∷ [] = begin.history ∙ ap (λ (b : Bool). opening begin.map b ∷ []) trusted in
     record {
-      between = rebased disk.past.size p.memory p.durable it.between;
+      between = rebased disk.past.size p.volatile p.durable it.between;
       honest = subst IsTrue (sym begin.keeps.honest) trusted;
       trusted = subst (λ (h : List Entry). IsTrue (is_trusted h)) (sym is) refl;
       legal = subst (IsLegal rule) (sym is) (record {
@@ -530,34 +530,34 @@ module _ (rule : Map → Type 0) where
   goes-up m (aborts actor) answer new it is = silent rule (history_of m.parts) (ended m actor) answer new it.0 it.1 refl (has_ended rule m actor is)
   goes-up m (finishes actor) answer new it is = goes-finishes rule m actor (m.transactions actor) answer new it is refl
   goes-up m copies answer new it is =
-      quiet rule m it.1.0 m.parts.durable answer new it.0 it.1.2 is (between_copied (blocks_of m) m.parts.memory m.parts.durable is.runs.between it.1.0 it.1.1) refl
-      (ap (λ (x : VolatileState). x.memory.history) it.1.1.others)
+      quiet rule m it.1.0 m.parts.durable answer new it.0 it.1.2 is (between_copied (blocks_of m) m.parts.volatile m.parts.durable is.runs.between it.1.0 it.1.1) refl
+      (ap (λ (x : VolatileState). x.ledger.history) it.1.1.others)
   goes-up m joins answer new it is = goes-joins rule m it.1.0 it.1.1.0 answer new it.0 it.1.1.1 it.1.1.2 is
   goes-up m (fences session) answer new it is = goes-fences rule m session answer new it is
   goes-up m stops answer new it is =
       quiet rule m it.1.0 m.parts.durable answer new it.0 it.1.2 is
       (subst (λ (x : VolatileState). IsBetween (blocks_of m) x m.parts.durable) (sym it.1.1)
-      (between_counted (blocks_of m) m.parts.memory m.parts.durable is.runs.between m.parts.memory.memory.next true))
-      refl (ap (λ (x : VolatileState). x.memory.history) it.1.1)
+      (between_counted (blocks_of m) m.parts.volatile m.parts.durable is.runs.between m.parts.volatile.ledger.next true))
+      refl (ap (λ (x : VolatileState). x.ledger.history) it.1.1)
   goes-up m (waits n) answer new it is = goes-waits rule m n answer new it is
   goes-up m flushes answer new it is = goes-flushes rule m answer new it is
   goes-up m shows answer new it is = silent rule (history_of m.parts) m answer new it.0 it.1.1.1.2 refl is
   goes-up m (fetches actor numbers) answer new it is = goes-fetched rule m actor numbers it.1.0 it.1.1.0 answer new it.0 it.1.1.1 it.1.1.2 is
   goes-up m logs answer new it is =
-      quiet rule m m.parts.memory it.1.1.0 answer new it.0 it.1.1.2 is
-      (between_group (blocks_of m) m.parts.memory m.parts.durable is.runs.between it.1.1.0 it.1.0 it.1.1.1)
+      quiet rule m m.parts.volatile it.1.1.0 answer new it.0 it.1.1.2 is
+      (between_group (blocks_of m) m.parts.volatile m.parts.durable is.runs.between it.1.1.0 it.1.0 it.1.1.1)
       (group_honest (blocks_of m) m.parts.durable it.1.1.0 it.1.0 it.1.1.1) refl
   goes-up m installs answer new it is =
-      quiet rule m m.parts.memory it.1.1.0 answer new it.0 it.1.1.2 is
-      (between_home (blocks_of m) m.parts.memory m.parts.durable is.runs.between it.1.1.0 it.1.0 it.1.1.1)
+      quiet rule m m.parts.volatile it.1.1.0 answer new it.0 it.1.1.2 is
+      (between_home (blocks_of m) m.parts.volatile m.parts.durable is.runs.between it.1.1.0 it.1.0 it.1.1.1)
       (home_honest (blocks_of m) m.parts.durable it.1.1.0 it.1.0 it.1.1.1) refl
-  goes-up m settles answer new it is = goes-settles rule m answer new it is
+  goes-up m marks_or_cuts answer new it is = goes-marks_or_cuts rule m answer new it is
   goes-up m (trims upto) answer new it is =
-      quiet rule m it.1.0 m.parts.durable answer new it.0 it.1.2 is (between_trimmed (blocks_of m) m.parts.memory m.parts.durable is.runs.between it.1.0 upto it.1.1) refl
-      (ap (λ (x : VolatileState). x.memory.history) it.1.1.others)
+      quiet rule m it.1.0 m.parts.durable answer new it.0 it.1.2 is (between_trimmed (blocks_of m) m.parts.volatile m.parts.durable is.runs.between it.1.0 upto it.1.1) refl
+      (ap (λ (x : VolatileState). x.ledger.history) it.1.1.others)
   goes-up m notes answer new it is =
-      quiet rule m it.1.0 m.parts.durable answer new it.0 it.1.2 is (between_noted (blocks_of m) m.parts.memory m.parts.durable is.runs.between it.1.0 it.1.1) refl
-      (ap (λ (x : VolatileState). x.memory.history) it.1.1.noted)
+      quiet rule m it.1.0 m.parts.durable answer new it.0 it.1.2 is (between_noted (blocks_of m) m.parts.volatile m.parts.durable is.runs.between it.1.0 it.1.1) refl
+      (ap (λ (x : VolatileState). x.ledger.history) it.1.1.noted)
   goes-up m (images image) answer new it is = goes-images rule m image answer new it is
   goes-up m (crashes image) answer new it is =
       let between = it.1.2 in
@@ -621,7 +621,7 @@ module _ (rule : Map → Type 0) where
   goes-down image m (fetches actor numbers) answer new it holds = stays-down image m answer new holds it.0 it.1
   goes-down image m logs answer new it holds = stays-down image m answer new holds it.0 it.1
   goes-down image m installs answer new it holds = stays-down image m answer new holds it.0 it.1
-  goes-down image m settles answer new it holds = stays-down image m answer new holds it.0 it.1
+  goes-down image m marks_or_cuts answer new it holds = stays-down image m answer new holds it.0 it.1
   goes-down image m (trims upto) answer new it holds = stays-down image m answer new holds it.0 it.1
   goes-down image m notes answer new it holds = stays-down image m answer new holds it.0 it.1
   goes-down image m (images other) answer new it holds = stays-down image m answer new holds it.0 it.1

@@ -2,7 +2,7 @@
 use Rattle.std.proofs.Common.{◌≡◌, ◌⊎◌, inl, inr, ⊎_elim, ◌<◌, ◌≤◌, ◌+◌, ◌-◌, ℕ, zero, suc, Bool, true, false, List, [], ◌∷◌, drop, length, IsTrue, None, Option, Result, Ok, Err, OnOk, OnErr, IfOk, IfErr, refl, sym, ap, subst, ◌∙◌, arith}
 use Rattle.std.proofs.lemmas.Bool.{false≢true, cases_lt}
 use Rattle.std.proofs.lemmas.List.{drop_all, drop-drop}
-use Rattle.journal_core.specs.Causes.{Told}
+use Rattle.journal_core.specs.Causes.{CauseState}
 use Rattle.journal_world.specs.declared.refusal.Refusal.{Refusal}
 use Rattle.journal_world.specs.declared.refusal.Refusal.TheVariants.{NoMemory, BadAddress, BadSize, TooLarge, Busy, DeviceFailed, BadLog, BadSuper, Stale, Stranger, Worn, Full, Closed, Fenced}
 use Rattle.journal_world.specs.Histories.{is_trusted, count, floor}
@@ -23,7 +23,7 @@ use Rattle.journal_objlog.specs.ObjectLogs.{IsCutLogged, KeepsMaps, OnlyReads as
 use Rattle.journal_objlog.proofs.StepsOfMaps.{KeepsMaps-refl}
 use Rattle.journal_core.specs.declared.step.LogStep.{LogStep}
 use Rattle.journal_core.specs.declared.step.LogStep.TheVariants.{Idle, Cut, Put, Logged, Marked}
-use Rattle.journal_core.specs.Memories.{IsMarkRefusal}
+use Rattle.journal_core.specs.Ledgers.{IsMarkRefusal}
 use Rattle.journal_core.specs.Durables.{DurableState, IsDurable, IsFault, IsCallRefusal, IsRoomRefusal, is_faulted, disk_of, Leaves, Crashes as CrashesDurable, LogAnswers as DurableAnswers, InstallAnswers as DurableInstalls, IsInstallRefusal as IsDurableRefusal, LeavesLog as DurableLeaves}
 use Rattle.journal_core.specs.Volatiles.{VolatileState, IsVolatile, outset_of}
 use Rattle.journal_core.specs.Pairs.{Tied, IsMarkDue, IsCutDue, IsRestDue, IsNothingDue, CutsBoth, MarksBoth, MarksAll, DoesWhatIsDue, IsUntied, IsCutRefusal, IsMarkingRefusal, IsRestRefusal, IsDueRefusal}
@@ -38,9 +38,9 @@ use Rattle.journal_core.proofs.Pairing.{begins_not, leaves_history, made_in, pla
 -- both parts judge by the same
 pub same_outset : (blocks : ℕ) (v : VolatileState) (d : DurableState) → IsPair blocks v d → outset_of v ≡ outset (core_of v d)
 same_outset blocks v d pair = λ i. record {
-  closed = v.memory.closed;
+  closed = v.ledger.closed;
   faulted = pair.fault i;
-  history = v.memory.history;
+  history = v.ledger.history;
   tail = tail_of v.tail.log;
   next = here i;
 }
@@ -53,10 +53,10 @@ pub crashes_pair : (blocks : ℕ) (v w : VolatileState) (d e : DurableState) →
     → Crashes (core_of v d) (core_of w e)
 crashes_pair blocks v w d e pair now crash = record {
   keeps = crash.keeps;
-  moments = λ honest. leaves_also (disk_of d).past (disk_of e).past (Leaves d) (LeavesHistory v.memory.history) (crash.moments honest)
-      (λ image left. leaves_history blocks d v.memory.history image pair.durable pair.tied.begins (omega (arith, pair.tied.marked)) left);
+  moments = λ honest. leaves_also (disk_of d).past (disk_of e).past (Leaves d) (LeavesHistory v.ledger.history) (crash.moments honest)
+      (λ image left. leaves_history blocks d v.ledger.history image pair.durable pair.tied.begins (omega (arith, pair.tied.marked)) left);
   images = λ honest image one.
-      leaves_history blocks e w.memory.history image now.durable now.tied.begins (omega (arith, now.tied.marked)) (crash.images honest image one);
+      leaves_history blocks e w.ledger.history image now.durable now.tied.begins (omega (arith, now.tied.marked)) (crash.images honest image one);
 }
 
 -- where no device call was made
@@ -119,7 +119,7 @@ module _ (blocks : ℕ) (v : VolatileState) (d : DurableState) (pair : IsPair bl
     fault = sym faulted;
   }
 
-  pub fails_as : (reached : Type 0) (cause : Told) → reached → IsFault d e cause → IsDeviceRefusal reached (core_of v d) (core_of (failed v) e) cause
+  pub fails_as : (reached : Type 0) (cause : CauseState) → reached → IsFault d e cause → IsDeviceRefusal reached (core_of v d) (core_of (failed v) e) cause
   fails_as reached cause far fault = record {
     unexplained = fault.unexplained;
     not_closed = running.0;
@@ -130,10 +130,10 @@ module _ (blocks : ℕ) (v : VolatileState) (d : DurableState) (pair : IsPair bl
 
   -- a refused call of either
   pub leaves_as : (w : VolatileState) → DurableLeaves d e → e ≡ record d { objects = e.objects } → core_of w e ≡ core_of v e → LeavesLog (core_of v d) (core_of w e)
-  leaves_as w leaves same memory = record {
+  leaves_as w leaves same unmoved = record {
     log = ap (λ (l : LogState). record l { room = e.objects.log.room }) leaves.log;
     maps = leaves.maps;
-    others = memory ∙ ap (core_of v) same;
+    others = unmoved ∙ ap (core_of v) same;
   }
 
   -- the logger's calls
@@ -147,7 +147,7 @@ module _ (blocks : ℕ) (v : VolatileState) (d : DurableState) (pair : IsPair bl
     others = ap (core_of v) it.1 ∙ ap (λ (n : ℕ). record (with_wal (core_of v d) e.objects) { logged = n }) (sym pair.tied.cut);
   }
 
-  pub log_fails : (why : Refusal Told) → IsCallRefusal d e why → IsLogRefusal (core_of v d) (core_of (failed v) e) why
+  pub log_fails : (why : Refusal CauseState) → IsCallRefusal d e why → IsLogRefusal (core_of v d) (core_of (failed v) e) why
   log_fails (DeviceFailed cause) it = fails_as (Unit {0}) cause tt it
   log_fails NoMemory it = absurd it
   log_fails BadAddress it = absurd it
@@ -163,7 +163,7 @@ module _ (blocks : ℕ) (v : VolatileState) (d : DurableState) (pair : IsPair bl
   log_fails (Closed cause) it = absurd it
   log_fails Fenced it = absurd it
 
-  pub call_faulted : (why : Refusal Told) → IsCallRefusal d e why → (is_faulted e ≡ true) × (e ≡ record d { objects = e.objects })
+  pub call_faulted : (why : Refusal CauseState) → IsCallRefusal d e why → (is_faulted e ≡ true) × (e ≡ record d { objects = e.objects })
   call_faulted (DeviceFailed cause) it = (it.faulted, it.others)
   call_faulted NoMemory it = absurd it
   call_faulted BadAddress it = absurd it
@@ -184,17 +184,17 @@ module _ (blocks : ℕ) (v : VolatileState) (d : DurableState) (pair : IsPair bl
     cut_logged : IsCutLogged d.objects
     cut_logged = pair.durable.idle running.1 none
 
-    all_logged : v.memory.cut ≡ d.logged
+    all_logged : v.ledger.cut ≡ d.logged
     all_logged = pair.tied.cut ∙ sym (pair.durable.rest cut_logged)
 
-    unmarked_not : (IsMarkDue v d → ⊥) → v.memory.cut ≤ floor v.memory.history
+    unmarked_not : (IsMarkDue v d → ⊥) → v.ledger.cut ≤ floor v.ledger.history
     unmarked_not other = ⊎_elim
-        (λ (more : floor v.memory.history < d.logged). absurd (other (record { cut = all_logged; more = more })))
-        (λ (le : d.logged ≤ floor v.memory.history). omega (arith, le, all_logged))
-        (cases_lt (floor v.memory.history) d.logged)
+        (λ (more : floor v.ledger.history < d.logged). absurd (other (record { cut = all_logged; more = more })))
+        (λ (le : d.logged ≤ floor v.ledger.history). omega (arith, le, all_logged))
+        (cases_lt (floor v.ledger.history) d.logged)
 
     idle_tail : IsNothingDue v d
-        → ((length (tail_of v.tail.log) ≡ 0) × (count v.memory.history ≤ floor v.memory.history)) ⊎ (free_positions d.objects < length (tail_of v.tail.log))
+        → ((length (tail_of v.tail.log) ≡ 0) × (count v.ledger.history ≤ floor v.ledger.history)) ⊎ (free_positions d.objects < length (tail_of v.tail.log))
     idle_tail nothing = ⊎_elim
         (λ (some : 0 < length (tail_of v.tail.log)). ⊎_elim
         (λ (more : free_positions d.objects < length (tail_of v.tail.log)). inr more)
@@ -203,14 +203,14 @@ module _ (blocks : ℕ) (v : VolatileState) (d : DurableState) (pair : IsPair bl
         (cases_lt (free_positions d.objects) (length (tail_of v.tail.log))))
         (λ (zero_le : length (tail_of v.tail.log) ≤ 0).
         let empty : length (tail_of v.tail.log) ≡ 0 = omega (arith, zero_le) in ⊎_elim
-        (λ (more : floor v.memory.history < count v.memory.history). absurd (nothing.rest (record {
+        (λ (more : floor v.ledger.history < count v.ledger.history). absurd (nothing.rest (record {
           logged = omega (arith, all_logged);
           rest = cut_logged;
           tail = nil_of (tail_of v.tail.log) empty;
           more = more;
         })))
-        (λ (le : count v.memory.history ≤ floor v.memory.history). inl (empty, le))
-        (cases_lt (floor v.memory.history) (count v.memory.history)))
+        (λ (le : count v.ledger.history ≤ floor v.ledger.history). inl (empty, le))
+        (cases_lt (floor v.ledger.history) (count v.ledger.history)))
         (cases_lt 0 (length (tail_of v.tail.log)))
 
     module _ (w : VolatileState) where
@@ -218,8 +218,8 @@ module _ (blocks : ℕ) (v : VolatileState) (d : DurableState) (pair : IsPair bl
       due_cut other cuts = record {
         place = record { marked = unmarked_not other; fits = cuts.due.fits };
         group = cuts.group.taken;
-        others = (λ i. core_of (cuts.memory i) (cuts.group.others i))
-            ∙ ap (λ (us : List Update). record (core_of v d) { objects = record { wal = e.objects; tail = us }; cut = count v.memory.history })
+        others = (λ i. core_of (cuts.volatile i) (cuts.group.others i))
+            ∙ ap (λ (us : List Update). record (core_of v d) { objects = record { wal = e.objects; tail = us }; cut = count v.ledger.history })
             (drop_all (next_position v.tail.log - v.tail.log.start) v.tail.log.updates (omega arith));
       }
 
@@ -228,19 +228,19 @@ module _ (blocks : ℕ) (v : VolatileState) (d : DurableState) (pair : IsPair bl
         steps = none;
         marks = record {
           rises = omega (arith, marks.due.more);
-          made = made_in blocks d v.memory.history pair.durable pair.tied.begins;
-          marked = λ i. core_of (marks.memory i) (marks.durable i);
+          made = made_in blocks d v.ledger.history pair.durable pair.tied.begins;
+          marked = λ i. core_of (marks.volatile i) (marks.durable i);
         };
         due = inl (sym all_logged, omega (arith, marks.due.more, all_logged));
       }
 
-      due_rest : (IsMarkDue v d → ⊥) → MarksAll v d w e → MarksDue (count v.memory.history) (core_of v d) (core_of w e)
+      due_rest : (IsMarkDue v d → ⊥) → MarksAll v d w e → MarksDue (count v.ledger.history) (core_of v d) (core_of w e)
       due_rest other marks = record {
         steps = none;
         marks = record {
           rises = omega (arith, marks.due.more);
           made = omega arith;
-          marked = λ i. core_of (marks.memory i) (marks.durable i);
+          marked = λ i. core_of (marks.volatile i) (marks.durable i);
         };
         due = inr (refl, record { marked = unmarked_not other; tail = ap length marks.due.tail; more = marks.due.more });
       }
@@ -255,23 +255,23 @@ module _ (blocks : ℕ) (v : VolatileState) (d : DurableState) (pair : IsPair bl
       due_done Logged does = absurd does
       due_done (Marked n) does = ⊎_elim
           (λ (both : (n ≡ d.logged) × MarksBoth v d w e). subst (λ (k : ℕ). MarksDue k (core_of v d) (core_of w e)) (sym both.0) (due_mark both.1))
-          (λ (all : (n ≡ count v.memory.history) × (IsMarkDue v d → ⊥) × MarksAll v d w e).
+          (λ (all : (n ≡ count v.ledger.history) × (IsMarkDue v d → ⊥) × MarksAll v d w e).
           subst (λ (k : ℕ). MarksDue k (core_of v d) (core_of w e)) (sym all.0) (due_rest all.1 all.2))
           does
 
       -- none of these touches the device
       pub due_fault : (step : LogStep) → DoesWhatIsDue v d step w e → (w.faulted ≡ v.faulted) × (is_faulted e ≡ is_faulted d)
       due_fault Idle does = (ap (λ (x : VolatileState). x.faulted) does.1, ap is_faulted does.2)
-      due_fault Cut does = (ap (λ (x : VolatileState). x.faulted) does.1.memory, ap (λ r. r.faulted) does.1.group.taken.disk)
+      due_fault Cut does = (ap (λ (x : VolatileState). x.faulted) does.1.volatile, ap (λ r. r.faulted) does.1.group.taken.disk)
       due_fault Put does = absurd does
       due_fault Logged does = absurd does
       due_fault (Marked n) does = ⊎_elim
-          (λ (both : (n ≡ d.logged) × MarksBoth v d w e). (ap (λ (x : VolatileState). x.faulted) both.1.memory, ap is_faulted both.1.durable))
-          (λ (all : (n ≡ count v.memory.history) × (IsMarkDue v d → ⊥) × MarksAll v d w e). (ap (λ (x : VolatileState). x.faulted) all.2.memory, ap is_faulted all.2.durable))
+          (λ (both : (n ≡ d.logged) × MarksBoth v d w e). (ap (λ (x : VolatileState). x.faulted) both.1.volatile, ap is_faulted both.1.durable))
+          (λ (all : (n ≡ count v.ledger.history) × (IsMarkDue v d → ⊥) × MarksAll v d w e). (ap (λ (x : VolatileState). x.faulted) all.2.volatile, ap is_faulted all.2.durable))
           does
 
     -- a mark that was due is refused
-    mark_refused : (why : Refusal Told) → IsMarkRefusal v.memory.history why → HasLogged (core_of v d) ⊎ HasUnmarked (core_of v d) → core_of v e ≡ core_of v d
+    mark_refused : (why : Refusal CauseState) → IsMarkRefusal v.ledger.history why → HasLogged (core_of v d) ⊎ HasUnmarked (core_of v d) → core_of v e ≡ core_of v d
         → IsLogRefusal (core_of v d) (core_of v e) why
     mark_refused (Worn cause) it due same = (running, none, due, it, same)
     mark_refused (Stale cause) it due same = (running, none, due, it, same)
@@ -289,8 +289,8 @@ module _ (blocks : ℕ) (v : VolatileState) (d : DurableState) (pair : IsPair bl
     mark_refused Fenced it due same = absurd it
 
     -- a tied pair has no mark above what is logged
-    above_not : (why : Refusal Told) → IsUntied v d d.logged why → ⊥
-    above_not (Stale cause) it = ⊎_elim (λ front. begins_not v.memory.history d.front (Stale cause) front pair.tied.begins)
+    above_not : (why : Refusal CauseState) → IsUntied v d d.logged why → ⊥
+    above_not (Stale cause) it = ⊎_elim (λ front. begins_not v.ledger.history d.front (Stale cause) front pair.tied.begins)
         (λ above. omega (arith, above.1, pair.tied.marked, pair.durable.marked_to_logged)) it
     above_not NoMemory it = ⊎_elim (λ x. x) (λ x. x) it
     above_not BadAddress it = ⊎_elim (λ x. x) (λ x. x) it
@@ -307,7 +307,7 @@ module _ (blocks : ℕ) (v : VolatileState) (d : DurableState) (pair : IsPair bl
     above_not Fenced it = ⊎_elim (λ x. x) (λ x. x) it
 
     -- room for the tail is refused for want of memory alone
-    room_refused : (why : Refusal Told) → IsRoomRefusal d (length (tail_of v.tail.log)) why → (why ≡ NoMemory) × FitsGroup d.objects (length (tail_of v.tail.log))
+    room_refused : (why : Refusal CauseState) → IsRoomRefusal d (length (tail_of v.tail.log)) why → (why ≡ NoMemory) × FitsGroup d.objects (length (tail_of v.tail.log))
     room_refused NoMemory it = (refl, it.1)
     room_refused (DeviceFailed cause) it = absurd (false≢true (sym running.1 ∙ it.0))
     room_refused (Worn cause) it = absurd (omega (arith, it.2, place_of blocks v pair.volatile, pair.tied.position, pair.volatile.small))
@@ -323,10 +323,10 @@ module _ (blocks : ℕ) (v : VolatileState) (d : DurableState) (pair : IsPair bl
     room_refused (Closed cause) it = absurd it
     room_refused Fenced it = absurd it
 
-    cut_refused : (why : Refusal Told) → (IsMarkDue v d → ⊥) → IsCutRefusal v d why → e ≡ record d { objects = with_room d.objects e.objects.log.room }
+    cut_refused : (why : Refusal CauseState) → (IsMarkDue v d → ⊥) → IsCutRefusal v d why → e ≡ record d { objects = with_room d.objects e.objects.log.room }
         → IsLogRefusal (core_of v d) (core_of v e) why
     cut_refused why other it same = ⊎_elim
-        (λ front. absurd (begins_not v.memory.history d.front why front pair.tied.begins))
+        (λ front. absurd (begins_not v.ledger.history d.front why front pair.tied.begins))
         (λ rest. ⊎_elim
         (λ (room : IsRoomRefusal d (length (tail_of v.tail.log)) why). let is = room_refused why room in by is.0 is.1)
         (λ (memory : IsCutDue v d × (why ≡ NoMemory)). by memory.1 memory.0.fits)
@@ -337,18 +337,18 @@ module _ (blocks : ℕ) (v : VolatileState) (d : DurableState) (pair : IsPair bl
         by is fits = subst (IsLogRefusal (core_of v d) (core_of v e)) (sym is)
             (running, record { marked = unmarked_not other; fits = fits }, ap (core_of v) same)
 
-    pub due_refused : (why : Refusal Told) → IsDueRefusal v d why e → IsLogRefusal (core_of v d) (core_of v e) why
+    pub due_refused : (why : Refusal CauseState) → IsDueRefusal v d why e → IsLogRefusal (core_of v d) (core_of v e) why
     due_refused why it = ⊎_elim
         (λ (mark : IsMarkingRefusal v d why × (e ≡ d)). ⊎_elim
         (λ untied. absurd (above_not why untied))
-        (λ (due : IsMarkDue v d × IsMarkRefusal v.memory.history why).
+        (λ (due : IsMarkDue v d × IsMarkRefusal v.ledger.history why).
         mark_refused why due.1 (inl (omega (arith, due.0.more, due.0.cut))) (ap (core_of v) mark.1))
         mark.0)
         (λ other. ⊎_elim
         (λ (cut : (IsMarkDue v d → ⊥) × IsCutRefusal v d why × (e ≡ record d { objects = with_room d.objects e.objects.log.room })). cut_refused why cut.0 cut.1 cut.2)
         (λ (rest : (IsMarkDue v d → ⊥) × IsRestRefusal v d why × (e ≡ d)). ⊎_elim
-        (λ front. absurd (begins_not v.memory.history d.front why front pair.tied.begins))
-        (λ (due : IsRestDue v d × IsMarkRefusal v.memory.history why).
+        (λ front. absurd (begins_not v.ledger.history d.front why front pair.tied.begins))
+        (λ (due : IsRestDue v d × IsMarkRefusal v.ledger.history why).
         mark_refused why due.1 (inr (record { marked = unmarked_not rest.0; tail = ap length due.0.tail; more = due.0.more })) (ap (core_of v) rest.2))
         rest.1)
         other)
@@ -357,7 +357,7 @@ module _ (blocks : ℕ) (v : VolatileState) (d : DurableState) (pair : IsPair bl
     roomed_same : e ≡ d → e ≡ record d { objects = with_room d.objects e.objects.log.room }
     roomed_same same = ap (λ (x : DurableState). record x { objects = with_room x.objects e.objects.log.room }) same
 
-    pub due_roomed : (why : Refusal Told) → IsDueRefusal v d why e → e ≡ record d { objects = with_room d.objects e.objects.log.room }
+    pub due_roomed : (why : Refusal CauseState) → IsDueRefusal v d why e → e ≡ record d { objects = with_room d.objects e.objects.log.room }
     due_roomed why it = ⊎_elim
         (λ (mark : IsMarkingRefusal v d why × (e ≡ d)). roomed_same mark.1)
         (λ other. ⊎_elim
@@ -391,20 +391,20 @@ module _ (blocks : ℕ) (v : VolatileState) (d : DurableState) (pair : IsPair bl
 
     -- the same of any answer
     module _ (w : VolatileState) where
-      pub due_ok : (r : Result LogStep (Refusal Told)) → IfOk r (λ step. DoesWhatIsDue v d step w e) → IfOk r (λ step. LogAnswers (core_of v d) step (core_of w e))
+      pub due_ok : (r : Result LogStep (Refusal CauseState)) → IfOk r (λ step. DoesWhatIsDue v d step w e) → IfOk r (λ step. LogAnswers (core_of v d) step (core_of w e))
       due_ok (Ok step) does = due_done w step does
       due_ok (Err why) does = tt
 
-      pub due_err : (r : Result LogStep (Refusal Told)) → IfErr r (λ why. IsDueRefusal v d why e) → OnErr r (w ≡ v) → IfErr r (IsLogRefusal (core_of v d) (core_of w e))
+      pub due_err : (r : Result LogStep (Refusal CauseState)) → IfErr r (λ why. IsDueRefusal v d why e) → OnErr r (w ≡ v) → IfErr r (IsLogRefusal (core_of v d) (core_of w e))
       due_err (Ok step) it same = tt
       due_err (Err why) it same = subst (λ (x : VolatileState). IsLogRefusal (core_of v d) (core_of x e) why) (sym same) (due_refused why it)
 
-      pub due_kept : (r : Result LogStep (Refusal Told)) → IfOk r (λ step. DoesWhatIsDue v d step w e) → IfErr r (λ why. IsDueRefusal v d why e) → OnErr r (w ≡ v)
+      pub due_kept : (r : Result LogStep (Refusal CauseState)) → IfOk r (λ step. DoesWhatIsDue v d step w e) → IfErr r (λ why. IsDueRefusal v d why e) → OnErr r (w ≡ v)
           → (w.faulted ≡ v.faulted) × (is_faulted e ≡ is_faulted d)
       due_kept (Ok step) does it same = due_fault w step does
       due_kept (Err why) does it same = (ap (λ (x : VolatileState). x.faulted) same, roomed_fault (due_roomed why it))
 
-      pub due_left : (r : Result LogStep (Refusal Told)) → IfErr r (λ why. IsDueRefusal v d why e) → OnErr r (w ≡ v)
+      pub due_left : (r : Result LogStep (Refusal CauseState)) → IfErr r (λ why. IsDueRefusal v d why e) → OnErr r (w ≡ v)
           → OnErr r (LeavesLog (core_of v d) (core_of w e) × TriesToLog (core_of v d) (core_of w e))
       due_left (Ok step) it same = tt
       due_left (Err why) it same = subst (λ (x : VolatileState). LeavesLog (core_of v d) (core_of x e) × TriesToLog (core_of v d) (core_of x e)) (sym same)
@@ -470,11 +470,11 @@ module _ (blocks : ℕ) (v : VolatileState) (d : DurableState) (pair : IsPair bl
     fault = ap (λ (x : VolatileState). x.faulted) same ∙ pair.fault ∙ running.1 ∙ sym fine;
   }
 
-  pub install_fails : (cause : Told) → IsDurableRefusal d e (DeviceFailed cause) → IsInstallRefusal (core_of v d) (core_of (failed v) e) (DeviceFailed cause)
+  pub install_fails : (cause : CauseState) → IsDurableRefusal d e (DeviceFailed cause) → IsInstallRefusal (core_of v d) (core_of (failed v) e) (DeviceFailed cause)
   install_fails cause it = fails_as (Unit {0}) cause tt it
 
   -- for want of memory nothing is done
-  pub install_unmade : (why : Refusal Told) → ((cause : Told) → why ≡ DeviceFailed cause → ⊥) → IsDurableRefusal d e why
+  pub install_unmade : (why : Refusal CauseState) → ((cause : CauseState) → why ≡ DeviceFailed cause → ⊥) → IsDurableRefusal d e why
       → IsInstallRefusal (core_of v d) (core_of v e) why × (e ≡ d)
   install_unmade NoMemory other it = ((running, it.1, it.2, ap (core_of v) it.3), it.3)
   install_unmade (DeviceFailed cause) other it = absurd (other cause refl)
@@ -511,15 +511,15 @@ module _ (blocks : ℕ) (v : VolatileState) (d : DurableState) (now : CoreState)
   pub leaves_lent : (IsTrue (disk_of d).honest → EveryImage (disk_of d).past (Leaves d)) → IsTrue (core_disk now).honest
       → EveryImage (core_disk now).past (LeavesHistory now.history)
   leaves_lent images = subst (λ (c : CoreState). IsTrue (core_disk c).honest → EveryImage (core_disk c).past (LeavesHistory c.history)) is
-      (λ honest image one. leaves_history blocks d v.memory.history image pair.durable pair.tied.begins (omega (arith, pair.tied.marked)) (images honest image one))
+      (λ honest image one. leaves_history blocks d v.ledger.history image pair.durable pair.tied.begins (omega (arith, pair.tied.marked)) (images honest image one))
 
   pub leaves_given : (disk : DiskState) → (IsTrue disk.honest → EveryImage disk.past (Leaves d)) → IsTrue disk.honest → EveryImage disk.past (LeavesHistory now.history)
   leaves_given disk images = subst (λ (c : CoreState). IsTrue disk.honest → EveryImage disk.past (LeavesHistory c.history)) is
-      (λ honest image one. leaves_history blocks d v.memory.history image pair.durable pair.tied.begins (omega (arith, pair.tied.marked)) (images honest image one))
+      (λ honest image one. leaves_history blocks d v.ledger.history image pair.durable pair.tied.begins (omega (arith, pair.tied.marked)) (images honest image one))
 
   pub trusted_seen : is_trusted now.history ≡ (core_disk now).honest
   trusted_seen = subst (λ (c : CoreState). is_trusted c.history ≡ (core_disk c).honest) is
-      (trusted-longer d.front v.memory.history pair.durable.begun pair.tied.begins ∙ pair.durable.trusted)
+      (trusted-longer d.front v.ledger.history pair.durable.begun pair.tied.begins ∙ pair.durable.trusted)
 
   pub size_seen : (core_disk now).past.size ≡ blocks
   size_seen = subst (λ (c : CoreState). (core_disk c).past.size ≡ blocks) is pair.durable.size
@@ -529,7 +529,7 @@ module _ (blocks : ℕ) (v : VolatileState) (d : DurableState) (now : CoreState)
 
 -- a session began, or it was stopped
 module _ (blocks : ℕ) (v : VolatileState) (d : DurableState) (pair : IsPair blocks v d) where
-  pub pair_noted : (next : ℕ) (closed : Bool) → IsPair blocks (record v { memory = record v.memory { next = next; closed = closed } }) d
+  pub pair_noted : (next : ℕ) (closed : Bool) → IsPair blocks (record v { ledger = record v.ledger { next = next; closed = closed } }) d
   pair_noted next closed = record {
     volatile = record {
       size = pair.volatile.size;
@@ -554,7 +554,7 @@ module _ (blocks : ℕ) (v : VolatileState) (d : DurableState) (pair : IsPair bl
     fault = pair.fault;
   }
 
-  pub pair_joined : {T E : Type 0} (w : VolatileState) (r : Result T E) → OnOk r (w ≡ record v { memory = record v.memory { next = v.memory.next + 1 } }) → OnErr r (w ≡ v)
+  pub pair_joined : {T E : Type 0} (w : VolatileState) (r : Result T E) → OnOk r (w ≡ record v { ledger = record v.ledger { next = v.ledger.next + 1 } }) → OnErr r (w ≡ v)
       → IsPair blocks w d
-  pair_joined w (Ok value) joined same = subst (λ (x : VolatileState). IsPair blocks x d) (sym joined) (pair_noted (v.memory.next + 1) v.memory.closed)
+  pair_joined w (Ok value) joined same = subst (λ (x : VolatileState). IsPair blocks x d) (sym joined) (pair_noted (v.ledger.next + 1) v.ledger.closed)
   pair_joined w (Err why) joined same = subst (λ (x : VolatileState). IsPair blocks x d) (sym same) pair

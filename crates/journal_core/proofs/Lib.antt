@@ -2,7 +2,7 @@ pub mod Stepping
 pub mod Committing
 pub mod Opening
 pub mod Remembering
-pub mod Looking
+pub mod Verifying
 pub mod Reading
 pub mod Covering
 pub mod Counting

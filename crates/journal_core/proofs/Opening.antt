@@ -16,7 +16,7 @@ use Rattle.journal_objlog.specs.MapLaws.{map_of-blocks, map_of-objects}
 use Rattle.journal_objlog.specs.ObjectLogs.{map_now, OnlyReads}
 use Rattle.journal_objlog.specs.ReadLaws.{now_read, images_read}
 use Rattle.journal_objlog.proofs.Openings.{failed_after}
-use Rattle.journal_core.specs.Causes.{Told, raised_of}
+use Rattle.journal_core.specs.Causes.{CauseState, raised_of}
 use mathlib.Core.List.{IsPrefix}
 use Rattle.std.proofs.lemmas.List.Elements.{All-cons}
 use Rattle.journal_world.specs.Histories.{floor}
@@ -24,7 +24,7 @@ use Rattle.journal_world.proofs.Prefixes.{IsPrefix-refl}
 use Rattle.journal_wal.specs.Tails.{TailState, empty_tail, cut_points}
 use Rattle.journal_wal.specs.declared.tail.CutPoint.{CutPoint}
 use Rattle.journal_objlog.specs.ObjectLogs.{end_of}
-use Rattle.journal_core.specs.Memories.{MemoryState}
+use Rattle.journal_core.specs.Ledgers.{LedgerState}
 use Rattle.journal_core.specs.Durables.{DurableState, IsDurable, begun_durable}
 use Rattle.journal_core.specs.Volatiles.{VolatileState, IsVolatile}
 use Rattle.journal_core.specs.Pairs.{Tied}
@@ -145,7 +145,7 @@ module _ (disk : DiskState) (opened objects : WalState) (keeps : Keeps disk (log
     raised_rule Fenced is = absurd is
 
     -- why the history was not begun, seen from outside
-    pub refuses_begin : (admitted : Result Bool (Refusal Unit)) (why : Refusal Told) → IfErr admitted (IsReadingRefusal (is_log_faulted objects))
+    pub refuses_begin : (admitted : Result Bool (Refusal Unit)) (why : Refusal CauseState) → IfErr admitted (IsReadingRefusal (is_log_faulted objects))
         → IsBeginRefusal rule objects admitted why → IsOpenRefusal rule disk (log_disk objects) why
     refuses_begin (Err refusal) why is because =
         subst (IsOpenRefusal rule disk (log_disk objects)) (sym because) (raised_rule refusal is)
@@ -171,27 +171,27 @@ pub none_begun : (history : List Entry) (m : Map) (trusted : Bool) → history �
 none_begun history m trusted is = ap commits is
 
 -- the pair that a mount begins with
-module _ (blocks : ℕ) (objects : WalState) (front : List Entry) (memory : MemoryState) (new : TailState) (m : Map) (trusted : Bool) (room : ℕ) (rest : AtRest objects)
-    (is : front ≡ memory.history) (begun : memory ≡ record { history = opening m trusted ∷ []; cut = 0; next = 0; closed = false })
+module _ (blocks : ℕ) (objects : WalState) (front : List Entry) (ledger : LedgerState) (new : TailState) (m : Map) (trusted : Bool) (room : ℕ) (rest : AtRest objects)
+    (is : front ≡ ledger.history) (begun : ledger ≡ record { history = opening m trusted ∷ []; cut = 0; next = 0; closed = false })
     (empty : new ≡ empty_tail blocks (end_of objects) room) where
-  begun_tied : Tied (record { memory = memory; tail = new; faulted = false }) (begun_durable objects front)
+  begun_tied : Tied (record { ledger = ledger; tail = new; faulted = false }) (begun_durable objects front)
   begun_tied = record {
     begins = subst (IsPrefix front) is (IsPrefix-refl front);
-    marked = ap (λ (x : MemoryState). floor x.history) begun;
+    marked = ap (λ (x : LedgerState). floor x.history) begun;
     trimmed = omega (arith, ap (λ (t : TailState). t.trimmed) empty);
-    cut = ap (λ (x : MemoryState). x.cut) begun;
+    cut = ap (λ (x : LedgerState). x.cut) begun;
     position = ap (λ (t : TailState). t.log.cut) empty ∙ rest.cut ∙ sym rest.next;
     logged = subst (λ (t : TailState). All (λ c. c.end ≤ end_of objects → c.commits ≤ 0) (cut_points t)) (sym empty)
         (All-cons (λ (c : CutPoint). c.end ≤ end_of objects → c.commits ≤ 0) (record { end = end_of objects; commits = 0 }) [] (λ below. omega arith)
         (λ k d lt. absurd (omega (arith, lt))));
   }
 
-  pub pair_begun : (v : VolatileState) (d : DurableState) → IsVolatile blocks v → IsDurable blocks d → v ≡ record { memory = memory; tail = new; faulted = false }
+  pub pair_begun : (v : VolatileState) (d : DurableState) → IsVolatile blocks v → IsDurable blocks d → v ≡ record { ledger = ledger; tail = new; faulted = false }
       → d ≡ begun_durable objects front → IsPair blocks v d
   pair_begun v d volatile durable memory_is durable_is = record {
     volatile = volatile;
     durable = durable;
     tied = subst (λ (x : VolatileState). Tied x d) (sym memory_is)
-        (subst (Tied (record { memory = memory; tail = new; faulted = false })) (sym durable_is) begun_tied);
+        (subst (Tied (record { ledger = ledger; tail = new; faulted = false })) (sym durable_is) begun_tied);
     fault = ap (λ (x : VolatileState). x.faulted) memory_is ∙ sym rest.fine ∙ sym (ap (λ (x : DurableState). is_log_faulted x.objects) durable_is);
   }

@@ -17,7 +17,7 @@ use Rattle.journal_wal.specs.Wal.{WalState, with_room}
 use Rattle.journal_wal.specs.Groups.{TakesGroup}
 use Rattle.journal_wal.specs.Tails.{TailState, DropsCuts, cut_points, cut_after}
 use Rattle.journal_objlog.specs.ObjectLogs.{end_of}
-use Rattle.journal_core.specs.Causes.{Told}
+use Rattle.journal_core.specs.Causes.{CauseState}
 use Rattle.journal_core.specs.Cores.{Leaves as LeavesHistory}
 use Rattle.journal_core.specs.Durables.{DurableState, Leaves, Crashes, IsDurable, TakesCut, LogAnswers, disk_of}
 use Rattle.journal_core.proofs.Enduring.{StaysCut}
@@ -32,7 +32,7 @@ use Rattle.journal_core.proofs.Fronts.{at-longer, count-longer}
 use Rattle.journal_core.proofs.Staying.{all_behind}
 
 -- a front that begins the history is not the longer
-pub begins_not : (history seen : List Entry) (why : Refusal Told) → IsFrontRefusal history seen why → IsPrefix seen history → ⊥
+pub begins_not : (history seen : List Entry) (why : Refusal CauseState) → IsFrontRefusal history seen why → IsPrefix seen history → ⊥
 begins_not history seen (Stale cause) why begins = omega (arith, why.1.1, IsPrefix-length seen history begins)
 begins_not history seen NoMemory why begins = why
 begins_not history seen BadAddress why begins = why
@@ -97,16 +97,16 @@ taken_roomed w room group new takes = record {
 
 -- a hold of both that cuts
 pub cuts_both : (v w : VolatileState) (d mid e : DurableState) (front : List Entry) (group : List Update) → IsCutDue v d
-    → w ≡ record v { memory = record v.memory { cut = count v.memory.history }; tail = cut_after v.tail (count v.memory.history) }
-    → mid ≡ record d { objects = with_room d.objects mid.objects.log.room } → front ≡ v.memory.history → group ≡ tail_of v.tail.log
+    → w ≡ record v { ledger = record v.ledger { cut = count v.ledger.history }; tail = cut_after v.tail (count v.ledger.history) }
+    → mid ≡ record d { objects = with_room d.objects mid.objects.log.room } → front ≡ v.ledger.history → group ≡ tail_of v.tail.log
     → TakesCut front group mid e → CutsBoth v d w e
-cuts_both v w d mid e front group due memory same whole is takes =
-    let begun : TakesCut v.memory.history group mid e = subst (λ (h : List Entry). TakesCut h group mid e) whole takes in
-    let all : TakesCut v.memory.history (tail_of v.tail.log) mid e = subst (λ (us : List Update). TakesCut v.memory.history us mid e) is begun in
-    let from : TakesCut v.memory.history (tail_of v.tail.log) (record d { objects = with_room d.objects mid.objects.log.room }) e =
-    subst (λ (m : DurableState). TakesCut v.memory.history (tail_of v.tail.log) m e) same all in record {
+cuts_both v w d mid e front group due volatile same whole is takes =
+    let begun : TakesCut v.ledger.history group mid e = subst (λ (h : List Entry). TakesCut h group mid e) whole takes in
+    let all : TakesCut v.ledger.history (tail_of v.tail.log) mid e = subst (λ (us : List Update). TakesCut v.ledger.history us mid e) is begun in
+    let from : TakesCut v.ledger.history (tail_of v.tail.log) (record d { objects = with_room d.objects mid.objects.log.room }) e =
+    subst (λ (m : DurableState). TakesCut v.ledger.history (tail_of v.tail.log) m e) same all in record {
       due = due;
-      memory = memory;
+      volatile = volatile;
       group = record { taken = taken_roomed d.objects mid.objects.log.room (tail_of v.tail.log) e.objects from.taken; others = from.others };
     }
 
@@ -120,19 +120,19 @@ place_of blocks v kept = omega (arith, start_to_cut, kept.cut_to_next, length-dr
 pub tied_cut : (blocks : ℕ) (v w : VolatileState) (d e : DurableState) → IsVolatile blocks v → CutsBoth v d w e → end_of e.objects < e.objects.log.cut
     → Tied v d → Tied w e
 tied_cut blocks v w d e kept cuts flies tied =
-    subst (λ (x : VolatileState). Tied x e) (sym cuts.memory) (subst (Tied later) (sym cuts.group.others) (record {
-      begins = IsPrefix-refl v.memory.history;
+    subst (λ (x : VolatileState). Tied x e) (sym cuts.volatile) (subst (Tied later) (sym cuts.group.others) (record {
+      begins = IsPrefix-refl v.ledger.history;
       marked = tied.marked;
       trimmed = tied.trimmed;
       cut = refl;
       position = omega (arith, next, here, place);
-      logged = All-push (λ c. c.end ≤ end_of e.objects → c.commits ≤ d.logged) (cut_points v.tail) (record { end = next_position v.tail.log; commits = count v.memory.history })
+      logged = All-push (λ c. c.end ≤ end_of e.objects → c.commits ≤ d.logged) (cut_points v.tail) (record { end = next_position v.tail.log; commits = count v.ledger.history })
           (λ k dflt lt below. tied.logged k dflt lt (omega (arith, below, same)))
           (λ below. absurd (omega (arith, below, flies, last, here, place)));
     }))
   where
     later : VolatileState
-    later = record v { memory = record v.memory { cut = count v.memory.history }; tail = cut_after v.tail (count v.memory.history) }
+    later = record v { ledger = record v.ledger { cut = count v.ledger.history }; tail = cut_after v.tail (count v.ledger.history) }
 
     place : next_position v.tail.log ≡ v.tail.log.cut + length (tail_of v.tail.log)
     place = place_of blocks v kept
@@ -150,12 +150,12 @@ tied_cut blocks v w d e kept cuts flies tied =
     same = ap (λ (l : LogState). l.logged) cuts.group.taken.log
 
 -- a hold of both that marks
-pub tied_mark : (v w : VolatileState) (d e : DurableState) → floor v.memory.history ≤ d.logged → v.memory.cut ≡ d.logged → MarksBoth v d w e → Tied v d → Tied w e
+pub tied_mark : (v w : VolatileState) (d e : DurableState) → floor v.ledger.history ≤ d.logged → v.ledger.cut ≡ d.logged → MarksBoth v d w e → Tied v d → Tied w e
 tied_mark v w d e low cut marks tied =
-    subst (λ (x : VolatileState). Tied x e) (sym marks.memory)
-    (subst (Tied (record v { memory = record v.memory { history = v.memory.history ++ stable d.logged ∷ []; cut = d.logged } })) (sym marks.durable) (record {
-      begins = IsPrefix-refl (v.memory.history ++ stable d.logged ∷ []);
-      marked = floor-mark v.memory.history d.logged low;
+    subst (λ (x : VolatileState). Tied x e) (sym marks.volatile)
+    (subst (Tied (record v { ledger = record v.ledger { history = v.ledger.history ++ stable d.logged ∷ []; cut = d.logged } })) (sym marks.durable) (record {
+      begins = IsPrefix-refl (v.ledger.history ++ stable d.logged ∷ []);
+      marked = floor-mark v.ledger.history d.logged low;
       trimmed = tied.trimmed;
       cut = sym cut ∙ tied.cut;
       position = tied.position;
@@ -187,50 +187,50 @@ tied_trim v d upto new drops home tied = record {
         (subst (All (λ c. c.end ≤ end_of d.objects → c.commits ≤ d.logged)) drops.points tied.logged)
 
 -- the marks of all commits, as the calls of the two parts make them
-pub marks_all : (v w : VolatileState) (d mid e : DurableState) (n : ℕ) (front again : List Entry) → IsRestDue v d → n ≡ count v.memory.history
-    → w ≡ record v { memory = record v.memory { history = v.memory.history ++ stable n ∷ []; cut = n } } → front ≡ w.memory.history → again ≡ w.memory.history
+pub marks_all : (v w : VolatileState) (d mid e : DurableState) (n : ℕ) (front again : List Entry) → IsRestDue v d → n ≡ count v.ledger.history
+    → w ≡ record v { ledger = record v.ledger { history = v.ledger.history ++ stable n ∷ []; cut = n } } → front ≡ w.ledger.history → again ≡ w.ledger.history
     → mid ≡ record d { front = front; logged = count front; coming = count front } → e ≡ record mid { front = again; marked = mid.logged }
     → MarksAll v d w e
-marks_all v w d mid e n front again due is memory first second reached marked = record {
+marks_all v w d mid e n front again due is volatile first second reached marked = record {
   due = due;
-  memory = memory ∙ ap (λ (k : ℕ). record v { memory = record v.memory { history = v.memory.history ++ stable k ∷ []; cut = k } }) is;
+  volatile = volatile ∙ ap (λ (k : ℕ). record v { ledger = record v.ledger { history = v.ledger.history ++ stable k ∷ []; cut = k } }) is;
   durable = marked
       ∙ ap (λ (m : DurableState). record m { front = again; marked = m.logged }) reached
       ∙ ap (λ (k : ℕ). record d { front = again; marked = k; logged = k; coming = k }) counted
-      ∙ ap (λ (h : List Entry). record d { front = h; marked = count v.memory.history; logged = count v.memory.history; coming = count v.memory.history }) (second ∙ longer);
+      ∙ ap (λ (h : List Entry). record d { front = h; marked = count v.ledger.history; logged = count v.ledger.history; coming = count v.ledger.history }) (second ∙ longer);
 }
   where
-    longer : w.memory.history ≡ v.memory.history ++ stable (count v.memory.history) ∷ []
-    longer = ap (λ (x : VolatileState). x.memory.history) memory ∙ ap (λ (k : ℕ). v.memory.history ++ stable k ∷ []) is
+    longer : w.ledger.history ≡ v.ledger.history ++ stable (count v.ledger.history) ∷ []
+    longer = ap (λ (x : VolatileState). x.ledger.history) volatile ∙ ap (λ (k : ℕ). v.ledger.history ++ stable k ∷ []) is
 
-    counted : count front ≡ count v.memory.history
-    counted = ap count (first ∙ longer) ∙ count-mark v.memory.history (count v.memory.history)
+    counted : count front ≡ count v.ledger.history
+    counted = ap count (first ∙ longer) ∙ count-mark v.ledger.history (count v.ledger.history)
 
 -- a hold of both that marks all commits
-pub tied_rest : (blocks : ℕ) (v w : VolatileState) (d e : DurableState) → IsVolatile blocks v → IsDurable blocks d → floor v.memory.history ≤ count v.memory.history
+pub tied_rest : (blocks : ℕ) (v w : VolatileState) (d e : DurableState) → IsVolatile blocks v → IsDurable blocks d → floor v.ledger.history ≤ count v.ledger.history
     → MarksAll v d w e → Tied v d → Tied w e
 tied_rest blocks v w d e held kept low marks tied =
-    subst (λ (x : VolatileState). Tied x e) (sym marks.memory) (subst (Tied later) (sym marks.durable) (record {
-      begins = IsPrefix-refl later.memory.history;
-      marked = floor-mark v.memory.history (count v.memory.history) low;
-      trimmed = omega (arith, tied.trimmed, made_in blocks d v.memory.history kept tied.begins);
+    subst (λ (x : VolatileState). Tied x e) (sym marks.volatile) (subst (Tied later) (sym marks.durable) (record {
+      begins = IsPrefix-refl later.ledger.history;
+      marked = floor-mark v.ledger.history (count v.ledger.history) low;
+      trimmed = omega (arith, tied.trimmed, made_in blocks d v.ledger.history kept tied.begins);
       cut = refl;
       position = tied.position;
       logged = λ k dflt lt below. let was = held.cuts k dflt lt in omega (arith, was.earlier, held.made);
     }))
   where
     later : VolatileState
-    later = record v { memory = record v.memory { history = v.memory.history ++ stable (count v.memory.history) ∷ []; cut = count v.memory.history } }
+    later = record v { ledger = record v.ledger { history = v.ledger.history ++ stable (count v.ledger.history) ∷ []; cut = count v.ledger.history } }
 
 -- the commits after those that are logged wrote nothing
-pub rest_since : (blocks : ℕ) (v : VolatileState) (n : ℕ) → IsVolatile blocks v → v.memory.cut ≤ n → tail_of v.tail.log ≡ []
-    → IsTrue (is_trusted (v.memory.history ++ stable (count v.memory.history) ∷ []))
-    → HaveAllSince blocks (v.memory.history ++ stable (count v.memory.history) ∷ []) n []
+pub rest_since : (blocks : ℕ) (v : VolatileState) (n : ℕ) → IsVolatile blocks v → v.ledger.cut ≤ n → tail_of v.tail.log ≡ []
+    → IsTrue (is_trusted (v.ledger.history ++ stable (count v.ledger.history) ∷ []))
+    → HaveAllSince blocks (v.ledger.history ++ stable (count v.ledger.history) ∷ []) n []
 rest_since blocks v n held le empty trusted =
-    since_later blocks (v.memory.history ++ stable (count v.memory.history) ∷ []) v.memory.cut n [] le
-    (since_mark blocks v.memory.history (count v.memory.history) v.memory.cut [] held.begun
-    (subst (HaveAllSince blocks v.memory.history v.memory.cut) empty
-    (held.updates (subst IsTrue (is_trusted-append v.memory.history (stable (count v.memory.history) ∷ []) held.begun) trusted)).since_last))
+    since_later blocks (v.ledger.history ++ stable (count v.ledger.history) ∷ []) v.ledger.cut n [] le
+    (since_mark blocks v.ledger.history (count v.ledger.history) v.ledger.cut [] held.begun
+    (subst (HaveAllSince blocks v.ledger.history v.ledger.cut) empty
+    (held.updates (subst IsTrue (is_trusted-append v.ledger.history (stable (count v.ledger.history) ∷ []) held.begun) trusted)).since_last))
 
 -- ---- holds of one part
 
@@ -269,12 +269,12 @@ tied_stays blocks v d e kept same stays tied = subst (Tied v) (sym same) (record
 })
 
 -- a commit
-pub tied_committed : (v w : VolatileState) (d : DurableState) (t : Transaction) → w.memory.history ≡ v.memory.history ++ commit t ∷ [] → w.memory.cut ≡ v.memory.cut
+pub tied_committed : (v w : VolatileState) (d : DurableState) (t : Transaction) → w.ledger.history ≡ v.ledger.history ++ commit t ∷ [] → w.ledger.cut ≡ v.ledger.cut
     → w.tail.trimmed ≡ v.tail.trimmed → cut_points w.tail ≡ cut_points v.tail → w.tail.log.cut ≡ v.tail.log.cut → Tied v d → Tied w d
 tied_committed v w d t added cut trimmed points position tied = record {
   begins = subst (IsPrefix d.front) (sym added)
-      (IsPrefix-trans d.front v.memory.history (v.memory.history ++ commit t ∷ []) tied.begins (commit t ∷ [], refl));
-  marked = ap floor added ∙ floor-commit v.memory.history t ∙ tied.marked;
+      (IsPrefix-trans d.front v.ledger.history (v.ledger.history ++ commit t ∷ []) tied.begins (commit t ∷ [], refl));
+  marked = ap floor added ∙ floor-commit v.ledger.history t ∙ tied.marked;
   trimmed = omega (arith, trimmed, tied.trimmed);
   cut = cut ∙ tied.cut;
   position = position ∙ tied.position;

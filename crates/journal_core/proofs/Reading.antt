@@ -6,9 +6,9 @@ use mathlib.Core.List.{IsPrefix}
 use Rattle.journal_world.specs.declared.address.Addr.{Addr}
 use Rattle.journal_world.specs.declared.refusal.Refusal.{Refusal}
 use Rattle.journal_world.specs.declared.refusal.Refusal.TheVariants.{NoMemory, BadAddress, BadSize, TooLarge, Busy, DeviceFailed, BadLog, BadSuper, Stale, Stranger, Worn, Full, Closed, Fenced}
-use Rattle.journal_core.specs.Causes.{Told}
+use Rattle.journal_core.specs.Causes.{CauseState}
 use Rattle.journal_core.specs.Transactions.{TransactionState}
-use Rattle.journal_core.specs.Outsets.{Outset, MayRead, IsLookRefusal}
+use Rattle.journal_core.specs.Outsets.{Outset, MayRead, IsCheckRefusal}
 use Rattle.journal_core.specs.Durables.{FetchedState}
 use Rattle.journal_core.specs.Volatiles.{VolatileState, IsReadRefusal as IsRefusedIn, outset_of}
 use Rattle.journal_core.specs.Cores.{CoreState, outset}
@@ -16,50 +16,50 @@ use Rattle.journal_core.specs.Steps.{IsReadRefusal}
 use Rattle.journal_core.proofs.Pairing.{begins_not}
 
 -- by what is known before the value is looked for
-look_refused : (blocks : ℕ) (c : CoreState) (t : TransactionState) (a : Addr) (why : Refusal Told) → IsLookRefusal blocks (outset c) t a why → IsReadRefusal blocks c t a c why
-look_refused blocks c t a BadAddress it = it
-look_refused blocks c t a (Stale cause) it = (it.0, it.1, it.2, refl)
-look_refused blocks c t a (Stranger cause) it = absurd it
-look_refused blocks c t a (Closed cause) it = record { unexplained = it.0; closed = it.1; same = refl }
-look_refused blocks c t a (DeviceFailed cause) it = record { unexplained = it.0; not_closed = it.1; fault = inl it.2; faulted = it.2; others = refl }
-look_refused blocks c t a NoMemory it = absurd it
-look_refused blocks c t a BadSize it = absurd it
-look_refused blocks c t a TooLarge it = absurd it
-look_refused blocks c t a Busy it = absurd it
-look_refused blocks c t a BadLog it = absurd it
-look_refused blocks c t a BadSuper it = absurd it
-look_refused blocks c t a (Worn cause) it = absurd it
-look_refused blocks c t a (Full cause) it = absurd it
-look_refused blocks c t a Fenced it = absurd it
+check_refused : (blocks : ℕ) (c : CoreState) (t : TransactionState) (a : Addr) (why : Refusal CauseState) → IsCheckRefusal blocks (outset c) t a why → IsReadRefusal blocks c t a c why
+check_refused blocks c t a BadAddress it = it
+check_refused blocks c t a (Stale cause) it = (it.0, it.1, it.2, refl)
+check_refused blocks c t a (Stranger cause) it = absurd it
+check_refused blocks c t a (Closed cause) it = record { unexplained = it.0; closed = it.1; same = refl }
+check_refused blocks c t a (DeviceFailed cause) it = record { unexplained = it.0; not_closed = it.1; fault = inl it.2; faulted = it.2; others = refl }
+check_refused blocks c t a NoMemory it = absurd it
+check_refused blocks c t a BadSize it = absurd it
+check_refused blocks c t a TooLarge it = absurd it
+check_refused blocks c t a Busy it = absurd it
+check_refused blocks c t a BadLog it = absurd it
+check_refused blocks c t a BadSuper it = absurd it
+check_refused blocks c t a (Worn cause) it = absurd it
+check_refused blocks c t a (Full cause) it = absurd it
+check_refused blocks c t a Fenced it = absurd it
 
 -- where nothing but a fetch can refuse it, and the fetch has seen no more of the history
-pub reads_not : (blocks : ℕ) (v : VolatileState) (c : CoreState) (t : TransactionState) (a : Addr) (f : FetchedState) (why : Refusal Told) → outset_of v ≡ outset c
-    → (MayRead blocks (outset_of v) t a → IsPrefix f.front v.memory.history) → IsRefusedIn blocks v t a f why → IsReadRefusal blocks c t a c why
+pub reads_not : (blocks : ℕ) (v : VolatileState) (c : CoreState) (t : TransactionState) (a : Addr) (f : FetchedState) (why : Refusal CauseState) → outset_of v ≡ outset c
+    → (MayRead blocks (outset_of v) t a → IsPrefix f.front v.ledger.history) → IsRefusedIn blocks v t a f why → IsReadRefusal blocks c t a c why
 reads_not blocks v c t a f why same begins it = ⊎_elim
-    (λ look. look_refused blocks c t a why (subst (λ (p : Outset). IsLookRefusal blocks p t a why) same look))
-    (λ front. absurd (begins_not v.memory.history f.front why front.1 (begins front.0)))
+    (λ look. check_refused blocks c t a why (subst (λ (p : Outset). IsCheckRefusal blocks p t a why) same look))
+    (λ front. absurd (begins_not v.ledger.history f.front why front.1 (begins front.0)))
     it
 
 -- what may be read is not refused by what is known
-may_look : (blocks : ℕ) (o : Outset) (t : TransactionState) (a : Addr) (why : Refusal Told) → MayRead blocks o t a → IsLookRefusal blocks o t a why → ⊥
-may_look blocks o t a BadAddress may it = false≢true (sym it.1 ∙ may.valid)
-may_look blocks o t a (Stale cause) may it = omega (arith, it.2.1.1, IsPrefix-length t.seen o.history may.later)
-may_look blocks o t a (Stranger cause) may it = it
-may_look blocks o t a (Closed cause) may it = false≢true (sym may.running.0 ∙ it.1)
-may_look blocks o t a (DeviceFailed cause) may it = false≢true (sym may.running.1 ∙ it.2)
-may_look blocks o t a NoMemory may it = it
-may_look blocks o t a BadSize may it = it
-may_look blocks o t a TooLarge may it = it
-may_look blocks o t a Busy may it = it
-may_look blocks o t a BadLog may it = it
-may_look blocks o t a BadSuper may it = it
-may_look blocks o t a (Worn cause) may it = it
-may_look blocks o t a (Full cause) may it = it
-may_look blocks o t a Fenced may it = it
+may_check : (blocks : ℕ) (o : Outset) (t : TransactionState) (a : Addr) (why : Refusal CauseState) → MayRead blocks o t a → IsCheckRefusal blocks o t a why → ⊥
+may_check blocks o t a BadAddress may it = false≢true (sym it.1 ∙ may.valid)
+may_check blocks o t a (Stale cause) may it = omega (arith, it.2.1.1, IsPrefix-length t.seen o.history may.later)
+may_check blocks o t a (Stranger cause) may it = it
+may_check blocks o t a (Closed cause) may it = false≢true (sym may.running.0 ∙ it.1)
+may_check blocks o t a (DeviceFailed cause) may it = false≢true (sym may.running.1 ∙ it.2)
+may_check blocks o t a NoMemory may it = it
+may_check blocks o t a BadSize may it = it
+may_check blocks o t a TooLarge may it = it
+may_check blocks o t a Busy may it = it
+may_check blocks o t a BadLog may it = it
+may_check blocks o t a BadSuper may it = it
+may_check blocks o t a (Worn cause) may it = it
+may_check blocks o t a (Full cause) may it = it
+may_check blocks o t a Fenced may it = it
 
-pub may_be_read : (blocks : ℕ) (v : VolatileState) (t : TransactionState) (a : Addr) (f : FetchedState) (why : Refusal Told) → MayRead blocks (outset_of v) t a
-    → IsPrefix f.front v.memory.history → IsRefusedIn blocks v t a f why → ⊥
+pub may_be_read : (blocks : ℕ) (v : VolatileState) (t : TransactionState) (a : Addr) (f : FetchedState) (why : Refusal CauseState) → MayRead blocks (outset_of v) t a
+    → IsPrefix f.front v.ledger.history → IsRefusedIn blocks v t a f why → ⊥
 may_be_read blocks v t a f why may begins it = ⊎_elim
-    (may_look blocks (outset_of v) t a why may)
-    (λ front. begins_not v.memory.history f.front why front.1 begins)
+    (may_check blocks (outset_of v) t a why may)
+    (λ front. begins_not v.ledger.history f.front why front.1 begins)
     it

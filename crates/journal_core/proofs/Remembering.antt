@@ -65,8 +65,8 @@ agrees_later seen history reads some begins still agrees trusted = λ k d lt.
     was = subst IsTrue (is_trusted-append seen begins.0 some) (subst (λ (h : List Entry). IsTrue (is_trusted h)) (sym begins.1) trusted)
 
 -- what was read under slots that are held has not moved, where these agree with the history: nothing is compared
-pub unmoved_under : (history : List Entry) (held : List HeldState) (t : TransactionState) → AgreeWith history held → AreUnder held t.seen t.reads → AreUnmoved history t
-unmoved_under history held t agree under = λ k d lt.
+pub verified_under : (history : List Entry) (held : List HeldState) (t : TransactionState) → AgreeWith history held → AreUnder held t.seen t.reads → AreUnmoved history t
+verified_under history held t agree under = λ k d lt.
     let here = under k d lt in
     ap (touched history) (sym here.3) ∙ sym (agrees_at held here.0 here.1 agree here.2) ∙ here.4
   where

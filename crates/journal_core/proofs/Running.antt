@@ -25,7 +25,7 @@ use Rattle.journal_disk.specs.Images.{IsImage, EveryImage}
 use Rattle.journal_objlog.specs.Maps.{OpensAs}
 use Rattle.journal_objlog.proofs.MapsOfBlocks.{same_objects}
 use Rattle.journal_history.specs.Tokens.{SessionState, made, next_transaction, Commits}
-use Rattle.journal_core.specs.Causes.{Told}
+use Rattle.journal_core.specs.Causes.{CauseState}
 use Rattle.journal_core.specs.Durables.{FetchedState, IsFetched, IsBlockAfter}
 use Rattle.journal_core.specs.Cores.{CoreState, Leaves, Crashes}
 use Rattle.journal_core.specs.Transactions.{TransactionState, begun}
@@ -331,7 +331,7 @@ module _ (rule : Map → Type 0) where
   goes-finishes m actor (Some d) crashed new it is at = absurd it
   goes-finishes m actor (Some d) reopened new it is at = absurd it
 
-  goes-fetched : (m : Mount) (actor : ℕ) (numbers : List ℕ) (result : Result FetchedState (Refusal Told)) (core : CoreState) (answer : Answer) (new : Machine)
+  goes-fetched : (m : Mount) (actor : ℕ) (numbers : List ℕ) (result : Result FetchedState (Refusal CauseState)) (core : CoreState) (answer : Answer) (new : Machine)
       → answer ≡ nothing → AnswersFetch (blocks_of m) m.core numbers result core → new ≡ up (keeping (with_core m core) actor result) → IsUp rule m
       → Goes rule m.core.history answer new
   goes-fetched m actor numbers (Err why) core answer new none it after is =
@@ -343,7 +343,7 @@ module _ (rule : Map → Type 0) where
       (fetched_kept (with_core m core) actor f (up_on m core is it.crash same)
       (subst (λ (h : List Entry). WasFetched h f) (sym same) (record { begins = it.begins; objects = it.objects })))
 
-  fence_crash : (session : ℕ) (old : CoreState) (result : Result (Unit {0}) (Refusal Told)) (new : CoreState) → AnswersFence session old result new → Crashes old new
+  fence_crash : (session : ℕ) (old : CoreState) (result : Result (Unit {0}) (Refusal CauseState)) (new : CoreState) → AnswersFence session old result new → Crashes old new
   fence_crash session old (Ok done) new it = it.crash
   fence_crash session old (Err why) new it = it.crash
 
@@ -370,7 +370,7 @@ module _ (rule : Map → Type 0) where
   goes-fences m session crashed new it is = absurd it
   goes-fences m session reopened new it is = absurd it
 
-  log_crash : (old : CoreState) (result : Result LogStep (Refusal Told)) (new : CoreState) → AnswersLog old result new → Crashes old new
+  log_crash : (old : CoreState) (result : Result LogStep (Refusal CauseState)) (new : CoreState) → AnswersLog old result new → Crashes old new
   log_crash old (Ok step) new it = it.crash
   log_crash old (Err why) new it = it.crash
 
@@ -398,7 +398,7 @@ module _ (rule : Map → Type 0) where
   goes-logs m reopened new it is = absurd it
 
 -- the installer leaves the history
-refused_install : (old new : CoreState) (refusal : Refusal Told) → IsInstallRefusal old new refusal → new.history ≡ old.history
+refused_install : (old new : CoreState) (refusal : Refusal CauseState) → IsInstallRefusal old new refusal → new.history ≡ old.history
 refused_install old new NoMemory why = ap (λ (c : CoreState). c.history) why.3
 refused_install old new (DeviceFailed cause) why = ap (λ (c : CoreState). c.history) why.others
 refused_install old new BadAddress why = absurd why
@@ -414,20 +414,20 @@ refused_install old new (Full cause) why = absurd why
 refused_install old new (Closed cause) why = ap (λ (c : CoreState). c.history) why.same
 refused_install old new Fenced why = absurd why
 
-installs_same : (old : CoreState) (result : Result InstallStep (Refusal Told)) (new : CoreState) → AnswersInstall old result new → new.history ≡ old.history
+installs_same : (old : CoreState) (result : Result InstallStep (Refusal CauseState)) (new : CoreState) → AnswersInstall old result new → new.history ≡ old.history
 installs_same old (Ok step) new it = ap (λ (c : CoreState). c.history) it.did.1
 installs_same old (Err why) new it = refused_install old new why it.refusal
 
-install_crash : (old : CoreState) (result : Result InstallStep (Refusal Told)) (new : CoreState) → AnswersInstall old result new → Crashes old new
+install_crash : (old : CoreState) (result : Result InstallStep (Refusal CauseState)) (new : CoreState) → AnswersInstall old result new → Crashes old new
 install_crash old (Ok step) new it = it.crash
 install_crash old (Err why) new it = it.crash
 
 -- nor does a new session change it
-joins_same : (old : CoreState) (result : Result SessionState (Refusal Told)) (new : CoreState) → AnswersSession old result new → new.history ≡ old.history
+joins_same : (old : CoreState) (result : Result SessionState (Refusal CauseState)) (new : CoreState) → AnswersSession old result new → new.history ≡ old.history
 joins_same old (Ok session) new it = ap (λ (c : CoreState). c.history) it.begins.others
 joins_same old (Err why) new it = ap (λ (c : CoreState). c.history) it.same
 
-joins_crash : (old : CoreState) (result : Result SessionState (Refusal Told)) (new : CoreState) → AnswersSession old result new → Crashes old new
+joins_crash : (old : CoreState) (result : Result SessionState (Refusal CauseState)) (new : CoreState) → AnswersSession old result new → Crashes old new
 joins_crash old (Ok session) new it = it.crash
 joins_crash old (Err why) new it = it.crash
 

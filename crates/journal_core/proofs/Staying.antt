@@ -23,7 +23,7 @@ use Rattle.journal_objlog.specs.Writes.{writes_block}
 use Rattle.journal_core.specs.Updates.{HaveAllSince, IsOrNone, AreObjectsOf}
 use Rattle.journal_core.specs.Durables.{FetchedState, IsFetched}
 use Rattle.journal_objlog.specs.ObjectTails.{blocks_of, known_updates, known_at}
-use Rattle.journal_core.specs.Memories.{MemoryState}
+use Rattle.journal_core.specs.Ledgers.{LedgerState}
 use Rattle.journal_core.specs.Volatiles.{VolatileState, IsCutOf, HasUpdates, IsVolatile}
 use Rattle.journal_core.proofs.Fronts.{append-some, trusted-longer}
 use Rattle.journal_core.proofs.Latest.{latest_mark, since_later, since_all, since_alike, since_mark, since_commit, latest_fetched, objects_no_other, objects_both, objects_kept, objects_commit, objects_appended}
@@ -34,47 +34,47 @@ all_behind P [] xs all = all
 all_behind P (e ∷ earlier) xs all = all_behind P earlier xs (All-tail P e (earlier ++ xs) all)
 
 -- all updates in memory are those since the last cut whose updates were dropped
-pub all_in_memory : (blocks : ℕ) (v : VolatileState) → HasUpdates blocks v → HaveAllSince blocks v.memory.history v.tail.trimmed v.tail.log.updates
+pub all_in_memory : (blocks : ℕ) (v : VolatileState) → HasUpdates blocks v → HaveAllSince blocks v.ledger.history v.tail.trimmed v.tail.log.updates
 all_in_memory blocks v has =
     let none : v.tail.log.start - v.tail.log.start ≡ 0 = omega arith in
-    subst (λ (k : ℕ). HaveAllSince blocks v.memory.history v.tail.trimmed (drop k v.tail.log.updates)) none
-    (All-head (λ c. HaveAllSince blocks v.memory.history c.commits (updates_from v.tail.log c.end)) (record { end = v.tail.log.start; commits = v.tail.trimmed }) v.tail.cuts has.since)
+    subst (λ (k : ℕ). HaveAllSince blocks v.ledger.history v.tail.trimmed (drop k v.tail.log.updates)) none
+    (All-head (λ c. HaveAllSince blocks v.ledger.history c.commits (updates_from v.tail.log c.end)) (record { end = v.tail.log.start; commits = v.tail.trimmed }) v.tail.cuts has.since)
 
 module _ (blocks : ℕ) (v : VolatileState) (kept : IsVolatile blocks v) where
   -- n commits were marked, those at the last cut or more
-  marked : (n : ℕ) → v.memory.cut ≤ n → n ≤ count v.memory.history
-      → IsVolatile blocks (record v { memory = record v.memory { history = v.memory.history ++ stable n ∷ []; cut = n } })
+  marked : (n : ℕ) → v.ledger.cut ≤ n → n ≤ count v.ledger.history
+      → IsVolatile blocks (record v { ledger = record v.ledger { history = v.ledger.history ++ stable n ∷ []; cut = n } })
   marked n rises made = record {
     size = kept.size;
-    begun = append-some v.memory.history (stable n ∷ []) kept.begun;
-    on_disk = ap (λ (m : Map). m.blocks) (opened-append v.memory.history (stable n ∷ []) kept.begun) ∙ kept.on_disk;
-    made = omega (arith, made, count-mark v.memory.history n);
+    begun = append-some v.ledger.history (stable n ∷ []) kept.begun;
+    on_disk = ap (λ (m : Map). m.blocks) (opened-append v.ledger.history (stable n ∷ []) kept.begun) ∙ kept.on_disk;
+    made = omega (arith, made, count-mark v.ledger.history n);
     cut_to_next = kept.cut_to_next;
     small = kept.small;
     cuts = λ k d lt. let was = kept.cuts k d lt in record { above = was.above; below = was.below; earlier = omega (arith, was.earlier, rises) };
-    updates = λ trusted. let has = kept.updates (subst IsTrue (is_trusted-append v.memory.history (stable n ∷ []) kept.begun) trusted) in record {
-      since = λ k d lt. since_mark blocks v.memory.history n _ _ kept.begun (has.since k d lt);
-      since_last = since_later blocks (v.memory.history ++ stable n ∷ []) v.memory.cut n (tail_of v.tail.log) rises
-          (since_mark blocks v.memory.history n v.memory.cut (tail_of v.tail.log) kept.begun has.since_last);
+    updates = λ trusted. let has = kept.updates (subst IsTrue (is_trusted-append v.ledger.history (stable n ∷ []) kept.begun) trusted) in record {
+      since = λ k d lt. since_mark blocks v.ledger.history n _ _ kept.begun (has.since k d lt);
+      since_last = since_later blocks (v.ledger.history ++ stable n ∷ []) v.ledger.cut n (tail_of v.tail.log) rises
+          (since_mark blocks v.ledger.history n v.ledger.cut (tail_of v.tail.log) kept.begun has.since_last);
     };
-    known = λ trusted. subst (λ (m : Map). AreObjectsOf blocks m (known_blocks v.tail)) (sym (latest_mark v.memory.history n kept.begun))
-        (kept.known (subst IsTrue (is_trusted-append v.memory.history (stable n ∷ []) kept.begun) trusted));
+    known = λ trusted. subst (λ (m : Map). AreObjectsOf blocks m (known_blocks v.tail)) (sym (latest_mark v.ledger.history n kept.begun))
+        (kept.known (subst IsTrue (is_trusted-append v.ledger.history (stable n ∷ []) kept.begun) trusted));
   }
 
-  pub kept_marked : {T E : Type 0} (n : ℕ) (new : MemoryState) (r : Result T E) → n ≤ count v.memory.history
-      → (n ≡ v.memory.cut) ⊎ (n ≡ count v.memory.history)
-      → OnOk r (new ≡ record v.memory { history = v.memory.history ++ stable n ∷ []; cut = n }) → OnErr r (new ≡ v.memory)
-      → IsVolatile blocks (record v { memory = new })
+  pub kept_marked : {T E : Type 0} (n : ℕ) (new : LedgerState) (r : Result T E) → n ≤ count v.ledger.history
+      → (n ≡ v.ledger.cut) ⊎ (n ≡ count v.ledger.history)
+      → OnOk r (new ≡ record v.ledger { history = v.ledger.history ++ stable n ∷ []; cut = n }) → OnErr r (new ≡ v.ledger)
+      → IsVolatile blocks (record v { ledger = new })
   kept_marked n new (Ok value) made due added same =
-      subst (λ (m : MemoryState). IsVolatile blocks (record v { memory = m })) (sym added) (marked n rises made)
+      subst (λ (m : LedgerState). IsVolatile blocks (record v { ledger = m })) (sym added) (marked n rises made)
     where
-      rises : v.memory.cut ≤ n
+      rises : v.ledger.cut ≤ n
       rises = ⊎_elim (λ is. omega (arith, is)) (λ is. omega (arith, is, kept.made)) due
   kept_marked n new (Err why) made due added same =
-      subst (λ (m : MemoryState). IsVolatile blocks (record v { memory = m })) (sym same) kept
+      subst (λ (m : LedgerState). IsVolatile blocks (record v { ledger = m })) (sym same) kept
 
   -- the tail was cut
-  pub kept_cut : IsVolatile blocks (record v { memory = record v.memory { cut = count v.memory.history }; tail = cut_after v.tail (count v.memory.history) })
+  pub kept_cut : IsVolatile blocks (record v { ledger = record v.ledger { cut = count v.ledger.history }; tail = cut_after v.tail (count v.ledger.history) })
   kept_cut = record {
     size = kept.size;
     begun = kept.begun;
@@ -86,22 +86,22 @@ module _ (blocks : ℕ) (v : VolatileState) (kept : IsVolatile blocks v) where
         (λ k d lt. let was = kept.cuts k d lt in record { above = was.above; below = omega (arith, was.below, kept.cut_to_next); earlier = omega (arith, was.earlier, kept.made) })
         (record { above = omega arith; below = omega arith; earlier = omega arith });
     updates = λ trusted. let has = kept.updates trusted in record {
-      since = All-push (λ c. HaveAllSince blocks v.memory.history c.commits (updates_from v.tail.log c.end)) (cut_points v.tail) p has.since none;
+      since = All-push (λ c. HaveAllSince blocks v.ledger.history c.commits (updates_from v.tail.log c.end)) (cut_points v.tail) p has.since none;
       since_last = none;
     };
     known = kept.known;
   }
     where
       p : CutPoint
-      p = record { end = next_position v.tail.log; commits = count v.memory.history }
+      p = record { end = next_position v.tail.log; commits = count v.ledger.history }
 
       later : VolatileState
-      later = record v { memory = record v.memory { cut = count v.memory.history }; tail = cut_after v.tail (count v.memory.history) }
+      later = record v { ledger = record v.ledger { cut = count v.ledger.history }; tail = cut_after v.tail (count v.ledger.history) }
 
-      none : HaveAllSince blocks v.memory.history (count v.memory.history) (drop (next_position v.tail.log - v.tail.log.start) v.tail.log.updates)
-      none = subst (HaveAllSince blocks v.memory.history (count v.memory.history))
+      none : HaveAllSince blocks v.ledger.history (count v.ledger.history) (drop (next_position v.tail.log - v.tail.log.start) v.tail.log.updates)
+      none = subst (HaveAllSince blocks v.ledger.history (count v.ledger.history))
           (sym (drop_all (next_position v.tail.log - v.tail.log.start) v.tail.log.updates (omega arith)))
-          (since_all blocks v.memory.history (count v.memory.history) (omega arith))
+          (since_all blocks v.ledger.history (count v.ledger.history) (omega arith))
 
   -- the updates of some first cuts were dropped
   module _ (upto : ℕ) (new : TailState) (drops : DropsCuts v.tail upto new) (left : All (λ c. upto < c.end) new.cuts)
@@ -149,20 +149,20 @@ module _ (blocks : ℕ) (v : VolatileState) (kept : IsVolatile blocks v) where
       );
       cuts = λ k d lt. let was = were k d lt in record { above = are_above k d lt; below = omega (arith, was.below, same_cut); earlier = was.earlier };
       updates = λ trusted. let has = kept.updates trusted in record {
-        since = λ k d lt. subst (HaveAllSince blocks v.memory.history _) (sym (since _ (are_above k d lt)))
-            (all_behind (λ c. HaveAllSince blocks v.memory.history c.commits (updates_from v.tail.log c.end)) drops.earlier (cut_points new)
-            (subst (All (λ c. HaveAllSince blocks v.memory.history c.commits (updates_from v.tail.log c.end))) drops.points has.since) k d lt);
-        since_last = subst (HaveAllSince blocks v.memory.history v.memory.cut)
+        since = λ k d lt. subst (HaveAllSince blocks v.ledger.history _) (sym (since _ (are_above k d lt)))
+            (all_behind (λ c. HaveAllSince blocks v.ledger.history c.commits (updates_from v.tail.log c.end)) drops.earlier (cut_points new)
+            (subst (All (λ c. HaveAllSince blocks v.ledger.history c.commits (updates_from v.tail.log c.end))) drops.points has.since) k d lt);
+        since_last = subst (HaveAllSince blocks v.ledger.history v.ledger.cut)
             (sym (since new.log.cut (omega (arith, start_to_cut, same_cut)) ∙ ap (λ (n : ℕ). drop (n - v.tail.log.start) v.tail.log.updates) same_cut))
             has.since_last;
       };
-      known = λ trusted. objects_no_other blocks (latest v.memory.history) (known_blocks v.tail) (known_blocks new) fewer (kept.known trusted);
+      known = λ trusted. objects_no_other blocks (latest v.ledger.history) (known_blocks v.tail) (known_blocks new) fewer (kept.known trusted);
     }
 
   -- other copies of home blocks
   module _ (home : List Update) where
-    pub kept_home : (IsTrue (is_trusted v.memory.history) → AreObjectsOf blocks (latest v.memory.history) (home ++ v.tail.log.updates))
-        → IsVolatile blocks (record v { tail = record v.tail { home = home } })
+    pub kept_home : (IsTrue (is_trusted v.ledger.history) → AreObjectsOf blocks (latest v.ledger.history) (home ++ v.tail.log.updates))
+        → IsVolatile blocks (record v { tail = record v.tail { cache = home } })
     kept_home are = record {
       size = kept.size;
       begun = kept.begun;
@@ -176,18 +176,18 @@ module _ (blocks : ℕ) (v : VolatileState) (kept : IsVolatile blocks v) where
     }
 
     -- those that were, in another order
-    pub kept_touched : MakeTheSame home v.tail.home → IsVolatile blocks (record v { tail = record v.tail { home = home } })
+    pub kept_touched : MakeTheSame home v.tail.cache → IsVolatile blocks (record v { tail = record v.tail { cache = home } })
     kept_touched same = kept_home (λ trusted.
-        objects_no_other blocks (latest v.memory.history) (known_blocks v.tail) (home ++ v.tail.log.updates)
-        (no_other_behind v.tail.home home v.tail.log.updates
+        objects_no_other blocks (latest v.ledger.history) (known_blocks v.tail) (home ++ v.tail.log.updates)
+        (no_other_behind v.tail.cache home v.tail.log.updates
         (record { blocks = λ b named. sym (same.blocks b) ∙ named; content = λ b x named. same.content b x }))
         (kept.known trusted))
 
     -- those that were and what was fetched
-    pub kept_copies : (fetched : List Update) → (IsTrue (is_trusted v.memory.history) → AreObjectsOf blocks (latest v.memory.history) (fetched ++ v.tail.log.updates))
-        → MakesNoOther (v.tail.home ++ fetched) home → IsVolatile blocks (record v { tail = record v.tail { home = home } })
+    pub kept_copies : (fetched : List Update) → (IsTrue (is_trusted v.ledger.history) → AreObjectsOf blocks (latest v.ledger.history) (fetched ++ v.tail.log.updates))
+        → MakesNoOther (v.tail.cache ++ fetched) home → IsVolatile blocks (record v { tail = record v.tail { cache = home } })
     kept_copies fetched are fewer = kept_home (λ trusted.
-        objects_kept blocks (latest v.memory.history) v.tail.home fetched home v.tail.log.updates (kept.known trusted) (are trusted) fewer)
+        objects_kept blocks (latest v.ledger.history) v.tail.cache fetched home v.tail.log.updates (kept.known trusted) (are trusted) fewer)
 
 -- what is read by updates that have the latest is the map's value
 pub read_latest : (blocks : ℕ) (history : List Entry) (fetched : List Update) (t : TailState) (a : Addr) (value : Value) → blocks_of t ≡ blocks
@@ -197,34 +197,34 @@ read_latest blocks history fetched t a value size are valid known =
     ((subst (λ (n : ℕ). AreObjectsOf n (latest history) (known_updates fetched t)) (sym size) are).values a valid)
 
 -- of the fetched blocks what is usable, without the copies of home blocks
-pub fetched_alone : (blocks : ℕ) (v : VolatileState) (f : FetchedState) → IsVolatile blocks v → IsFetched blocks f → IsTrue (is_trusted v.memory.history)
-    → IsPrefix f.front v.memory.history → v.tail.trimmed ≤ f.commits → AreObjectsOf blocks (latest v.memory.history) (f.updates ++ v.tail.log.updates)
+pub fetched_alone : (blocks : ℕ) (v : VolatileState) (f : FetchedState) → IsVolatile blocks v → IsFetched blocks f → IsTrue (is_trusted v.ledger.history)
+    → IsPrefix f.front v.ledger.history → v.tail.trimmed ≤ f.commits → AreObjectsOf blocks (latest v.ledger.history) (f.updates ++ v.tail.log.updates)
 fetched_alone blocks v f kept is trusted begins fresh =
-    latest_fetched blocks v.memory.history v.tail.trimmed v.tail.log.updates (all_in_memory blocks v (kept.updates trusted)) f.front f.commits is.begun begins is.made fresh
-    f.updates (is.objects (subst IsTrue (trusted-longer f.front v.memory.history is.begun begins) trusted))
+    latest_fetched blocks v.ledger.history v.tail.trimmed v.tail.log.updates (all_in_memory blocks v (kept.updates trusted)) f.front f.commits is.begun begins is.made fresh
+    f.updates (is.objects (subst IsTrue (trusted-longer f.front v.ledger.history is.begun begins) trusted))
 
 -- of the fetched blocks what is usable
-pub usable_latest : (blocks : ℕ) (v : VolatileState) (f : FetchedState) → IsVolatile blocks v → IsFetched blocks f → IsTrue (is_trusted v.memory.history)
-    → IsPrefix f.front v.memory.history → v.tail.trimmed ≤ f.commits → AreObjectsOf blocks (latest v.memory.history) (known_updates f.updates v.tail)
+pub usable_latest : (blocks : ℕ) (v : VolatileState) (f : FetchedState) → IsVolatile blocks v → IsFetched blocks f → IsTrue (is_trusted v.ledger.history)
+    → IsPrefix f.front v.ledger.history → v.tail.trimmed ≤ f.commits → AreObjectsOf blocks (latest v.ledger.history) (known_updates f.updates v.tail)
 usable_latest blocks v f kept is trusted begins fresh =
-    objects_both blocks (latest v.memory.history) f.updates v.tail.home v.tail.log.updates (fetched_alone blocks v f kept is trusted begins fresh) (kept.known trusted)
+    objects_both blocks (latest v.ledger.history) f.updates v.tail.cache v.tail.log.updates (fetched_alone blocks v f kept is trusted begins fresh) (kept.known trusted)
 
 -- memory alone
-pub unfetched_latest : (blocks : ℕ) (v : VolatileState) → IsVolatile blocks v → IsTrue (is_trusted v.memory.history) → AreObjectsOf blocks (latest v.memory.history) (known_updates [] v.tail)
+pub unfetched_latest : (blocks : ℕ) (v : VolatileState) → IsVolatile blocks v → IsTrue (is_trusted v.ledger.history) → AreObjectsOf blocks (latest v.ledger.history) (known_updates [] v.tail)
 unfetched_latest blocks v kept trusted = kept.known trusted
 
 -- a commit, whose updates come behind
-pub kept_added : (blocks : ℕ) (v : VolatileState) (t : Transaction) (prepared : List Update) (memory : MemoryState) (new : TailState) → IsVolatile blocks v
-    → memory.history ≡ v.memory.history ++ commit t ∷ [] → memory.cut ≡ v.memory.cut → new ≡ record v.tail { log = appended v.tail.log prepared }
+pub kept_added : (blocks : ℕ) (v : VolatileState) (t : Transaction) (prepared : List Update) (ledger : LedgerState) (new : TailState) → IsVolatile blocks v
+    → ledger.history ≡ v.ledger.history ++ commit t ∷ [] → ledger.cut ≡ v.ledger.cut → new ≡ record v.tail { log = appended v.tail.log prepared }
     → ((from : ℕ) → v.tail.log.start ≤ from → from ≤ v.tail.log.cut → MakeTheSame (updates_from new.log from) (updates_from v.tail.log from ++ prepared))
     → TakesUpdates v.tail.log prepared → ((b : ℕ) → updates_block prepared b ≡ writes_block t.writes b)
-    → (IsTrue (is_trusted v.memory.history) → AreObjectsOf blocks (overwritten (latest v.memory.history) t.writes) prepared)
-    → IsVolatile blocks (record v { memory = memory; tail = new })
-kept_added blocks v t prepared memory new kept added cut appends since takes named written = record {
+    → (IsTrue (is_trusted v.ledger.history) → AreObjectsOf blocks (overwritten (latest v.ledger.history) t.writes) prepared)
+    → IsVolatile blocks (record v { ledger = ledger; tail = new })
+kept_added blocks v t prepared ledger new kept added cut appends since takes named written = record {
   size = ap (λ (s : TailState). s.log.blocks) appends ∙ kept.size;
-  begun = subst (λ (h : List Entry). h ≢ []) (sym added) (append-some v.memory.history (commit t ∷ []) kept.begun);
-  on_disk = ap (λ (h : List Entry). (opened h).blocks) added ∙ ap (λ (m : Map). m.blocks) (opened-append v.memory.history (commit t ∷ []) kept.begun) ∙ kept.on_disk;
-  made = omega (arith, cut, kept.made, ap count added, count-commit v.memory.history t);
+  begun = subst (λ (h : List Entry). h ≢ []) (sym added) (append-some v.ledger.history (commit t ∷ []) kept.begun);
+  on_disk = ap (λ (h : List Entry). (opened h).blocks) added ∙ ap (λ (m : Map). m.blocks) (opened-append v.ledger.history (commit t ∷ []) kept.begun) ∙ kept.on_disk;
+  made = omega (arith, cut, kept.made, ap count added, count-commit v.ledger.history t);
   cut_to_next = omega (
     arith,
     ap (λ (s : TailState). s.log.cut) appends,
@@ -234,29 +234,29 @@ kept_added blocks v t prepared memory new kept added cut appends since takes nam
     length-absorbed_ge (tail_of v.tail.log) prepared,
   );
   small = omega (arith, ap (λ (s : TailState). next_position s.log) appends, takes.can.below);
-  cuts = subst (All (IsCutOf (record v { memory = memory; tail = new }))) (sym points)
+  cuts = subst (All (IsCutOf (record v { ledger = ledger; tail = new }))) (sym points)
       (λ k d lt. let was = kept.cuts k d lt in record {
         above = omega (arith, was.above, ap (λ (s : TailState). s.log.start) appends);
         below = omega (arith, was.below, ap (λ (s : TailState). s.log.cut) appends);
         earlier = omega (arith, was.earlier, cut);
       });
   updates = λ trusted.
-      let was : IsTrue (is_trusted v.memory.history) = subst IsTrue (ap is_trusted added ∙ is_trusted-append v.memory.history (commit t ∷ []) kept.begun) trusted in
+      let was : IsTrue (is_trusted v.ledger.history) = subst IsTrue (ap is_trusted added ∙ is_trusted-append v.ledger.history (commit t ∷ []) kept.begun) trusted in
       let has = kept.updates was in record {
-        since = subst (All (λ c. HaveAllSince blocks memory.history c.commits (updates_from new.log c.end))) (sym points)
+        since = subst (All (λ c. HaveAllSince blocks ledger.history c.commits (updates_from new.log c.end))) (sym points)
             (λ k d lt. let place = kept.cuts k d lt in after was _ _ place.above place.below (has.since k d lt));
-        since_last = subst (λ (n : ℕ). HaveAllSince blocks memory.history n (tail_of new.log)) (sym cut)
-            (subst (λ (n : ℕ). HaveAllSince blocks memory.history v.memory.cut (drop (n - new.log.start) new.log.updates)) (sym (ap (λ (s : TailState). s.log.cut) appends))
-            (after was v.memory.cut v.tail.log.cut start_to_cut (omega arith) has.since_last));
+        since_last = subst (λ (n : ℕ). HaveAllSince blocks ledger.history n (tail_of new.log)) (sym cut)
+            (subst (λ (n : ℕ). HaveAllSince blocks ledger.history v.ledger.cut (drop (n - new.log.start) new.log.updates)) (sym (ap (λ (s : TailState). s.log.cut) appends))
+            (after was v.ledger.cut v.tail.log.cut start_to_cut (omega arith) has.since_last));
       };
   known = λ trusted.
-      let was : IsTrue (is_trusted v.memory.history) = subst IsTrue (ap is_trusted added ∙ is_trusted-append v.memory.history (commit t ∷ []) kept.begun) trusted in
-      let m = overwritten (latest v.memory.history) t.writes in
-      subst (λ (s : TailState). AreObjectsOf blocks (latest memory.history) (known_blocks s)) (sym appends)
-      (subst (λ (k : Map). AreObjectsOf blocks k (v.tail.home ++ (appended v.tail.log prepared).updates))
-      (sym (ap latest added ∙ latest-commit v.memory.history t kept.begun))
-      (objects_appended blocks m v.tail.home v.tail.log prepared
-      (objects_commit blocks (latest v.memory.history) t.writes (known_blocks v.tail) prepared named (written was) (kept.known was))));
+      let was : IsTrue (is_trusted v.ledger.history) = subst IsTrue (ap is_trusted added ∙ is_trusted-append v.ledger.history (commit t ∷ []) kept.begun) trusted in
+      let m = overwritten (latest v.ledger.history) t.writes in
+      subst (λ (s : TailState). AreObjectsOf blocks (latest ledger.history) (known_blocks s)) (sym appends)
+      (subst (λ (k : Map). AreObjectsOf blocks k (v.tail.cache ++ (appended v.tail.log prepared).updates))
+      (sym (ap latest added ∙ latest-commit v.ledger.history t kept.begun))
+      (objects_appended blocks m v.tail.cache v.tail.log prepared
+      (objects_commit blocks (latest v.ledger.history) t.writes (known_blocks v.tail) prepared named (written was) (kept.known was))));
 }
   where
     points : cut_points new ≡ cut_points v.tail
@@ -265,9 +265,9 @@ kept_added blocks v t prepared memory new kept added cut appends since takes nam
     start_to_cut : v.tail.log.start ≤ v.tail.log.cut
     start_to_cut = (kept.cuts 0 (record { end = 0; commits = 0 }) (omega arith)).below
 
-    after : IsTrue (is_trusted v.memory.history) → (c from : ℕ) → v.tail.log.start ≤ from → from ≤ v.tail.log.cut
-        → HaveAllSince blocks v.memory.history c (updates_from v.tail.log from) → HaveAllSince blocks memory.history c (updates_from new.log from)
+    after : IsTrue (is_trusted v.ledger.history) → (c from : ℕ) → v.tail.log.start ≤ from → from ≤ v.tail.log.cut
+        → HaveAllSince blocks v.ledger.history c (updates_from v.tail.log from) → HaveAllSince blocks ledger.history c (updates_from new.log from)
     after trusted c from above below all =
-        since_alike blocks memory.history c (updates_from new.log from) (updates_from v.tail.log from ++ prepared) (since from above below)
+        since_alike blocks ledger.history c (updates_from new.log from) (updates_from v.tail.log from ++ prepared) (since from above below)
         (subst (λ (h : List Entry). HaveAllSince blocks h c (updates_from v.tail.log from ++ prepared)) (sym added)
-        (since_commit blocks v.memory.history t kept.begun prepared named (written trusted) c (updates_from v.tail.log from) all))
+        (since_commit blocks v.ledger.history t kept.begun prepared named (written trusted) c (updates_from v.tail.log from) all))

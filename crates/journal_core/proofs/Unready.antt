@@ -16,8 +16,8 @@ use Rattle.journal_objlog.specs.declared.tail_prepare.Preparation.TheVariants.{R
 use Rattle.journal_objlog.specs.ObjectTails.{blocks_of, known_updates, tail_base, with_tail_room, OverwritesKnown, IsTailWriteRefusal, IfReady, updates_with}
 use Rattle.journal_objlog.specs.Writes.{CanPrepare, IsWriteRefusal, are_valid, written_blocks, fresh_among}
 use Rattle.journal_history.specs.Tokens.{SessionState}
-use Rattle.journal_core.specs.Causes.{Told, raised_of}
-use Rattle.journal_core.specs.Memories.{ShowsLonger}
+use Rattle.journal_core.specs.Causes.{CauseState, raised_of}
+use Rattle.journal_core.specs.Ledgers.{ShowsLonger}
 use Rattle.journal_core.specs.Updates.{AreObjectsOf}
 use Rattle.journal_core.specs.Outsets.{IsPreparingRefusal, CanPrepare as CanPrepareWrites}
 use Rattle.journal_core.specs.Volatiles.{VolatileState, IsFrontRefusal, outset_of}
@@ -59,12 +59,12 @@ module _ (blocks : ℕ) (v : VolatileState) (fetched : List Update) (writes : Li
   few_blocks (Ok value) can why other = can.few
   few_blocks (Err refusal) can why other = ⊎_elim (λ first. early refusal first (λ is. other (ap Err is))) (λ late. late.0.few) why
 
-  module _ (s : SessionState) (room : length v.memory.history + 1 < 2 ^ 62) (small : s.number < 2 ^ 62) where
+  module _ (s : SessionState) (room : length v.ledger.history + 1 < 2 ^ 62) (small : s.number < 2 ^ 62) where
     -- the history and the session's number are not worn, so the log is
-    worn_log : (2 ^ 62 ≤ length v.memory.history + 1) ⊎ (2 ^ 62 ≤ s.number) ⊎ (2 ^ 62 ≤ next_position v.tail.log + fresh_among (tail_of v.tail.log) writes)
+    worn_log : (2 ^ 62 ≤ length v.ledger.history + 1) ⊎ (2 ^ 62 ≤ s.number) ⊎ (2 ^ 62 ≤ next_position v.tail.log + fresh_among (tail_of v.tail.log) writes)
         → next_position v.tail.log + fresh_among (tail_of v.tail.log) writes < 2 ^ 62 → ⊥
     worn_log worn unworn = ⊎_elim
-        (λ (is : 2 ^ 62 ≤ length v.memory.history + 1). omega (arith, is, room))
+        (λ (is : 2 ^ 62 ≤ length v.ledger.history + 1). omega (arith, is, room))
         (λ (other : (2 ^ 62 ≤ s.number) ⊎ (2 ^ 62 ≤ next_position v.tail.log + fresh_among (tail_of v.tail.log) writes)). ⊎_elim
         (λ (is : 2 ^ 62 ≤ s.number). omega (arith, is, small))
         (λ (is : 2 ^ 62 ≤ next_position v.tail.log + fresh_among (tail_of v.tail.log) writes). omega (arith, is, unworn))
@@ -90,7 +90,7 @@ module _ (blocks : ℕ) (v : VolatileState) (fetched : List Update) (writes : Li
     first_of (Closed cause) why = absurd why
     first_of Fenced why = absurd why
 
-    pub prepares_not : {T : Type 0} (answer : Result T (Refusal Unit)) (result : Result T (Refusal Told)) → IfOk answer (λ value. result ≡ Ok value)
+    pub prepares_not : {T : Type 0} (answer : Result T (Refusal Unit)) (result : Result T (Refusal CauseState)) → IfOk answer (λ value. result ≡ Ok value)
         → IfErr answer (λ refusal. result ≡ Err (raised_of refusal)) → IfErr answer (IsTailWriteRefusal (tail_base fetched v.tail) writes)
         → IfErr result (IsPreparingRefusal (outset_of v) s writes)
     prepares_not (Ok value) result ok err why = subst (λ r. IfErr r (IsPreparingRefusal (outset_of v) s writes)) (sym ok) tt
@@ -102,7 +102,7 @@ module _ (blocks : ℕ) (v : VolatileState) (fetched : List Update) (writes : Li
 -- what is prepared has the objects of the map overwritten
 pub raised_written : (blocks : ℕ) (m : Map) (writes : List Pair) (fetched : List Update) (old new : TailState) → blocks_of old ≡ blocks
     → new ≡ with_tail_room old new.log.room → AreObjectsOf blocks m (known_updates fetched old)
-    → (answer : Result Preparation (Refusal Unit)) (result : Result Preparation (Refusal Told)) → IfOk result (λ value. answer ≡ Ok value)
+    → (answer : Result Preparation (Refusal Unit)) (result : Result Preparation (Refusal CauseState)) → IfOk result (λ value. answer ≡ Ok value)
     → IfOk answer (IfReady (λ prepared. OverwritesKnown (blocks_of new) (known_updates fetched new) (updates_with new writes prepared) writes))
     → IfOk result (IfReady (λ prepared. AreObjectsOf blocks (overwritten m writes) (updates_with new writes prepared)))
 raised_written blocks m writes fetched old new size same are answer (Err why) is over = tt
@@ -117,7 +117,7 @@ raised_written blocks m writes fetched old new size same are answer (Ok (Ready p
     (subst (λ (n : ℕ). OverwritesKnown n (known_updates fetched old) all writes) size there)
 
 -- what a session has seen that is shown a longer front
-pub shows_front : (history seen : List Entry) (after : SessionState) (why : Refusal Told) → IsFrontRefusal history seen why → IsPrefix seen after.seen
+pub shows_front : (history seen : List Entry) (after : SessionState) (why : Refusal CauseState) → IsFrontRefusal history seen why → IsPrefix seen after.seen
     → ShowsLonger history after why
 shows_front history seen after (Stale cause) why begins = (
   IsPrefix-trans history seen after.seen why.1.0 begins,

@@ -12,7 +12,7 @@ use Rattle.journal_core.specs.declared.due.InstallCall.{InstallCall}
 use Rattle.journal_core.specs.declared.due.InstallCall.TheVariants.{Idle as IdleCall, Put as PutHome, Freed as FreedCall}
 use Rattle.journal_core.specs.declared.due.InstallFault.{InstallFault}
 use Rattle.journal_core.specs.declared.due.InstallFault.TheVariants.{NoMemory as NoRoom, Failed}
-use Rattle.journal_core.specs.Causes.{Told}
+use Rattle.journal_core.specs.Causes.{CauseState}
 
 -- what the logger's device call did, by its answer
 abbrev pub log_step_of : LogCall → GroupStep
@@ -20,7 +20,7 @@ log_step_of PutCall = Put
 log_step_of LoggedCall = Logged
 log_step_of (AtRest rest) = Idle
 
-abbrev pub log_answer : Result LogCall (Refusal Told) → Result GroupStep (Refusal Told)
+abbrev pub log_answer : Result LogCall (Refusal CauseState) → Result GroupStep (Refusal CauseState)
 log_answer (Ok call) = Ok (log_step_of call)
 log_answer (Err why) = Err why
 
@@ -31,11 +31,11 @@ install_step_of PutHome = PutInstall
 install_step_of (FreedCall upto) = Freed upto
 
 -- why it was not made
-abbrev pub install_refusal_of : InstallFault (Refusal Told) → Refusal Told
+abbrev pub install_refusal_of : InstallFault (Refusal CauseState) → Refusal CauseState
 install_refusal_of NoRoom = NoMemory
 install_refusal_of (Failed why) = why
 
-abbrev pub install_answer : Result InstallCall (InstallFault (Refusal Told)) → Result InstallStep (Refusal Told)
+abbrev pub install_answer : Result InstallCall (InstallFault (Refusal CauseState)) → Result InstallStep (Refusal CauseState)
 install_answer (Ok call) = Ok (install_step_of call)
 install_answer (Err fault) = Err (install_refusal_of fault)
 
@@ -45,6 +45,6 @@ IfFreed holds (FreedCall upto) = holds upto
 IfFreed holds other = Unit {0}
 
 -- where the device failed
-abbrev pub IfFailed : Type 0 → InstallFault (Refusal Told) → Type 0
+abbrev pub IfFailed : Type 0 → InstallFault (Refusal CauseState) → Type 0
 IfFailed holds NoRoom = Unit {0}
 IfFailed holds (Failed why) = holds

@@ -7,28 +7,28 @@ use Rattle.journal_core.specs.declared.refusal_number.RefusalNumber.{RefusalNumb
 use Rattle.journal_core.specs.declared.refusal_number.RefusalNumber.TheVariants.{J6, J9, J10, J11, J12, J13}
 
 -- What a cause has: the number of the refusal that it was made for, and the history that explains it, where one does
-pub record Told : Type 0 where
+pub record CauseState : Type 0 where
   pub number : RefusalNumber
   pub story : Option (List Entry)
 
 -- made for the refusal of this number, which no history explains
-abbrev pub unexplained : RefusalNumber → Told
+abbrev pub unexplained : RefusalNumber → CauseState
 unexplained number = record { number = number; story = None }
 
 -- made for the refusal of this number, which this history explains
-abbrev pub explained : RefusalNumber → List Entry → Told
+abbrev pub explained : RefusalNumber → List Entry → CauseState
 explained number history = record { number = number; story = Some history }
 
 -- the cause is of the refusal of this number, and no history explains it
-abbrev pub IsUnexplained : RefusalNumber → Told → Type 0
+abbrev pub IsUnexplained : RefusalNumber → CauseState → Type 0
 IsUnexplained number cause = cause ≡ unexplained number
 
 -- the cause is of the refusal of this number, and this history explains it
-abbrev pub IsExplained : RefusalNumber → List Entry → Told → Type 0
+abbrev pub IsExplained : RefusalNumber → List Entry → CauseState → Type 0
 IsExplained number history cause = cause ≡ explained number history
 
 -- the same refusal, with a cause of its number, which no history explains
-abbrev pub raised_of : {A : Type 0} → Refusal A → Refusal Told
+abbrev pub raised_of : {A : Type 0} → Refusal A → Refusal CauseState
 raised_of NoMemory = NoMemory
 raised_of BadAddress = BadAddress
 raised_of BadSize = BadSize

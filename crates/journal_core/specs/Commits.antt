@@ -9,7 +9,7 @@ use Rattle.journal_memlog.specs.Logs.{absorbed}
 use Rattle.journal_objlog.specs.ObjectLogs.{OnlyReads as OnlyReadsLog}
 use Rattle.journal_objlog.specs.Writes.{writes_block, written_blocks}
 use Rattle.journal_history.specs.Tokens.{SessionState, next_transaction as numbered, Commits}
-use Rattle.journal_core.specs.Causes.{Told}
+use Rattle.journal_core.specs.Causes.{CauseState}
 use Rattle.journal_core.specs.Transactions.{TransactionState}
 use Rattle.journal_core.specs.Outsets.{CanCommit as CanCommitFrom, IsCommitRefusal as IsRefusedFrom}
 use Rattle.journal_core.specs.Cores.{CoreState, ObjectsState, outset}
@@ -34,7 +34,7 @@ abbrev pub CanCommit : CoreState → SessionState → TransactionState → Type 
 CanCommit c s t = CanCommitFrom (outset c) s t
 
 -- Why a commit is refused: the first of these that holds, then J1 or a new J6
-abbrev pub IsCommitRefusal : CoreState → SessionState → TransactionState → CoreState → Refusal Told → Type 0
+abbrev pub IsCommitRefusal : CoreState → SessionState → TransactionState → CoreState → Refusal CauseState → Type 0
 IsCommitRefusal old s t new (Closed cause) = IsStopped old new cause
 IsCommitRefusal old s t new (DeviceFailed cause) = IsDeviceRefusal (CanCommit old s t) old new cause
 IsCommitRefusal old s t new other = IsRefusedFrom (outset old) s t other

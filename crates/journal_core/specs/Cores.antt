@@ -41,11 +41,11 @@ pub record CoreState : Type 0 where
 abbrev pub core_of : VolatileState → DurableState → CoreState
 core_of v d = record {
   objects = record { wal = d.objects; tail = tail_of v.tail.log };
-  history = v.memory.history;
-  cut = v.memory.cut;
+  history = v.ledger.history;
+  cut = v.ledger.cut;
   logged = d.logged;
-  next = v.memory.next;
-  closed = v.memory.closed;
+  next = v.ledger.next;
+  closed = v.ledger.closed;
 }
 
 -- how many blocks the tail has

@@ -1,5 +1,5 @@
 -- What contracts see of the core's durable part, what its type keeps by itself, and what its calls
--- do. The memory part is asked for none of it.
+-- do. The ledger is asked for none of it.
 use Rattle.std.specs.Prelude.{ℕ, ◌≡◌, ◌≢◌, ◌⊎◌, ◌<◌, ◌≤◌, ◌+◌, ◌^◌, Bool, true, false, IsTrue, List, [], All}
 use Rattle.journal_world.specs.declared.address.Addr.{Addr}
 use Rattle.journal_world.specs.declared.refusal.Refusal.{Refusal}
@@ -23,7 +23,7 @@ use Rattle.journal_wal.specs.declared.step.InstallStep.{InstallStep}
 use Rattle.journal_objlog.specs.Maps.{OpensAs, object_or_zeros}
 use Rattle.journal_objlog.specs.ObjectLogs.{map_cut, map_logged, MayOpenAs, IsCutLogged, KeepsMaps, is_faulted as is_log_faulted, disk_of as log_disk, start_of, end_of}
 use Rattle.journal_core.specs.declared.refusal_number.RefusalNumber.TheVariants.{J6, J11}
-use Rattle.journal_core.specs.Causes.{Told, IsUnexplained}
+use Rattle.journal_core.specs.Causes.{CauseState, IsUnexplained}
 
 -- What contracts see of the durable part
 pub record DurableState : Type 0 where
@@ -118,25 +118,25 @@ pub record TakesCut (front : List Entry) (group : List Update) (old new : Durabl
 -- Why calls are refused
 
 -- J6: the device failed before, or in this call
-pub record IsFault (old new : DurableState) (cause : Told) : Type 0 where
+pub record IsFault (old new : DurableState) (cause : CauseState) : Type 0 where
   pub unexplained : IsUnexplained J6 cause
   pub fault : IsTrue (is_faulted old) ⊎ HasFailed (disk_of old) (disk_of new)
   pub faulted : is_faulted new ≡ true
   pub others : new ≡ record old { objects = new.objects }
 
 -- why the logger's call is refused, and a fetch
-abbrev pub IsCallRefusal : DurableState → DurableState → Refusal Told → Type 0
+abbrev pub IsCallRefusal : DurableState → DurableState → Refusal CauseState → Type 0
 IsCallRefusal old new (DeviceFailed cause) = IsFault old new cause
 IsCallRefusal old new other = ⊥
 
 -- why the installer's call is refused
-abbrev pub IsInstallRefusal : DurableState → DurableState → Refusal Told → Type 0
+abbrev pub IsInstallRefusal : DurableState → DurableState → Refusal CauseState → Type 0
 IsInstallRefusal old new NoMemory =
     (is_faulted old ≡ false) × (install_steps old.objects ≡ 0) × (start_of old.objects < end_of old.objects) × (new ≡ old)
 IsInstallRefusal old new other = IsCallRefusal old new other
 
 -- why room for a group of so many blocks is refused: the first of these that holds
-abbrev pub IsRoomRefusal : DurableState → ℕ → Refusal Told → Type 0
+abbrev pub IsRoomRefusal : DurableState → ℕ → Refusal CauseState → Type 0
 IsRoomRefusal d blocks (DeviceFailed cause) = (is_faulted d ≡ true) × IsUnexplained J6 cause
 IsRoomRefusal d blocks (Worn cause) =
     (is_faulted d ≡ false) × FitsGroup d.objects blocks × (2 ^ 62 ≤ next_position d.objects.log + blocks) × IsUnexplained J11 cause

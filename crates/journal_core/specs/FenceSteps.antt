@@ -3,7 +3,7 @@ use Rattle.std.specs.Prelude.{ℕ, ◌≡◌, ◌⊎◌, ◌+◌, ◌++◌, ◌�
 use Rattle.journal_world.specs.declared.refusal.Refusal.{Refusal}
 use Rattle.journal_world.specs.Histories.{is_fenced}
 use Rattle.journal_world.specs.Histories.Entry.{fence}
-use Rattle.journal_core.specs.Causes.{Told}
+use Rattle.journal_core.specs.Causes.{CauseState}
 use Rattle.journal_core.specs.Fences.{IsFenceRefusal as IsRefusedFrom}
 use Rattle.journal_core.specs.Cores.{CoreState, Crashes, outset}
 
@@ -21,7 +21,7 @@ abbrev pub SetsFence : ℕ → CoreState → CoreState → Type 0
 SetsFence session old new = AddsFence session old new ⊎ HasFence session old new
 
 -- why there is no fence
-abbrev pub IsFenceRefusal : ℕ → CoreState → Refusal Told → Type 0
+abbrev pub IsFenceRefusal : ℕ → CoreState → Refusal CauseState → Type 0
 IsFenceRefusal session c why = IsRefusedFrom session (outset c) why
 
 -- A session is fenced
@@ -30,12 +30,12 @@ pub record FencesSession (session : ℕ) (old new : CoreState) : Type 0 where
   pub crash : Crashes old new
 
 -- A session's fence was refused
-pub record RefusesFence (session : ℕ) (old : CoreState) (why : Refusal Told) (new : CoreState) : Type 0 where
+pub record RefusesFence (session : ℕ) (old : CoreState) (why : Refusal CauseState) (new : CoreState) : Type 0 where
   pub refusal : IsFenceRefusal session old why
   pub same : new ≡ old
   pub crash : Crashes old new
 
 -- what a fence did, or why it was refused
-abbrev pub AnswersFence : ℕ → CoreState → Result (Unit {0}) (Refusal Told) → CoreState → Type 0
+abbrev pub AnswersFence : ℕ → CoreState → Result (Unit {0}) (Refusal CauseState) → CoreState → Type 0
 AnswersFence session old (Ok done) new = FencesSession session old new
 AnswersFence session old (Err why) new = RefusesFence session old why new

@@ -19,9 +19,9 @@ use Rattle.journal_history.specs.Tokens.{SessionState, CommitPlace, IsExact, Onl
 use Rattle.journal_core.specs.declared.volatile_commit.CommitStep.{CommitStep}
 use Rattle.journal_core.specs.declared.volatile_commit.CommitStep.TheVariants.{Done, Missing}
 use Rattle.journal_core.specs.declared.step.LogStep.{LogStep}
-use Rattle.journal_core.specs.Causes.{Told}
-use Rattle.journal_core.specs.Transactions.{TransactionState, FoundState}
-use Rattle.journal_core.specs.Memories.{IsNumberRefusal, IsStaleRefusal}
+use Rattle.journal_core.specs.Causes.{CauseState}
+use Rattle.journal_core.specs.Transactions.{TransactionState, ReadResultState}
+use Rattle.journal_core.specs.Ledgers.{IsNumberRefusal, IsStaleRefusal}
 use Rattle.journal_core.specs.Fences.{SetsFence, IsFenceRefusal}
 use Rattle.journal_core.specs.Outsets.{MayRead, CanCommit, IsCommitRefusal, GoesOn}
 use Rattle.journal_core.specs.Waits.{IsWaitRefusal, IsFlushRefusal}
@@ -43,10 +43,10 @@ pub record IsBetween (blocks : ℕ) (v : VolatileState) (d : DurableState) : Typ
 -- ---- holds of memory alone
 
 -- An object was read in memory
-pub record FindsInMemory (blocks : ℕ) (old : VolatileState) (t : TransactionState) (a : Addr) (answer : FoundState) (x : Value) (new : VolatileState) : Type 0 where
+pub record FindsInMemory (blocks : ℕ) (old : VolatileState) (t : TransactionState) (a : Addr) (answer : ReadResultState) (x : Value) (new : VolatileState) : Type 0 where
   pub may : MayRead blocks (outset_of old) t a
-  pub found : answer ≡ record { addr = a; seen = old.memory.history }
-  pub value : IsTrue (is_trusted old.memory.history) → x ≡ value_at (latest old.memory.history) a
+  pub found : answer ≡ record { addr = a; seen = old.ledger.history }
+  pub value : IsTrue (is_trusted old.ledger.history) → x ≡ value_at (latest old.ledger.history) a
   pub object : IsTrue (is_object blocks (a, x))
   pub same : new ≡ old
 
@@ -57,12 +57,12 @@ pub record LacksBlock (blocks : ℕ) (old : VolatileState) (t : TransactionState
   pub same : new ≡ old
 
 -- or it was refused
-pub record RefusesRead (blocks : ℕ) (old : VolatileState) (t : TransactionState) (a : Addr) (f : FetchedState) (why : Refusal Told) (new : VolatileState) : Type 0 where
+pub record RefusesRead (blocks : ℕ) (old : VolatileState) (t : TransactionState) (a : Addr) (f : FetchedState) (why : Refusal CauseState) (new : VolatileState) : Type 0 where
   pub refusal : IsReadRefusal blocks old t a f why
   pub same : new ≡ old
 
 -- what is answered, with what was fetched before, where the bytes read are these
-abbrev pub AnswersRead : ℕ → VolatileState → TransactionState → Addr → FetchedState → Result (Option FoundState) (Refusal Told) → Value → VolatileState → Type 0
+abbrev pub AnswersRead : ℕ → VolatileState → TransactionState → Addr → FetchedState → Result (Option ReadResultState) (Refusal CauseState) → Value → VolatileState → Type 0
 AnswersRead blocks old t a f (Ok (Some found)) x new = FindsInMemory blocks old t a found x new
 AnswersRead blocks old t a f (Ok None) x new = LacksBlock blocks old t a f new
 AnswersRead blocks old t a f (Err why) x new = RefusesRead blocks old t a f why new
@@ -71,7 +71,7 @@ AnswersRead blocks old t a f (Err why) x new = RefusesRead blocks old t a f why 
 pub record CommitsInMemory (blocks : ℕ) (old : VolatileState) (session : SessionState) (t : TransactionState) (new : VolatileState) (after : SessionState) : Type 0 where
   pub can : CanCommit (outset_of old) session t
   pub committed : IsCommitted t.reads t.writes session after old new
-  pub agrees : IsTrue (is_trusted old.memory.history) → Agrees (latest old.memory.history) t.reads
+  pub agrees : IsTrue (is_trusted old.ledger.history) → Agrees (latest old.ledger.history) t.reads
   pub kept : IsVolatile blocks new
 
 -- or blocks are to be fetched for it
@@ -82,85 +82,85 @@ pub record LacksBlocks (blocks : ℕ) (old : VolatileState) (session : SessionSt
   pub kept : IsVolatile blocks new
 
 -- or it was refused
-pub record RefusesCommit (blocks : ℕ) (old : VolatileState) (session : SessionState) (t : TransactionState) (why : Refusal Told) (new : VolatileState) : Type 0 where
+pub record RefusesCommit (blocks : ℕ) (old : VolatileState) (session : SessionState) (t : TransactionState) (why : Refusal CauseState) (new : VolatileState) : Type 0 where
   pub refusal : IsCommitRefusal (outset_of old) session t why
   pub same : new ≡ with_room old new.tail.log.room
   pub kept : IsVolatile blocks new
 
-abbrev pub AnswersCommit : ℕ → VolatileState → SessionState → TransactionState → FetchedState → Result (CommitStep CommitPlace) (Refusal Told) → VolatileState → SessionState → Type 0
+abbrev pub AnswersCommit : ℕ → VolatileState → SessionState → TransactionState → FetchedState → Result (CommitStep CommitPlace) (Refusal CauseState) → VolatileState → SessionState → Type 0
 AnswersCommit blocks old session t f (Ok (Done place)) new after = CommitsInMemory blocks old session t new after
 AnswersCommit blocks old session t f (Ok (Missing missing)) new after = LacksBlocks blocks old session t f missing.items new
 AnswersCommit blocks old session t f (Err why) new after = RefusesCommit blocks old session t why new
 
 -- There are other copies of blocks that are at home, and nothing else was done
 pub record KeepsCopies (blocks : ℕ) (old new : VolatileState) : Type 0 where
-  pub others : new ≡ record old { tail = record old.tail { home = new.tail.home } }
+  pub others : new ≡ record old { tail = record old.tail { cache = new.tail.cache } }
   pub kept : IsVolatile blocks new
 
 -- A session began
 pub record BeginsSession (old : VolatileState) (session : SessionState) (new : VolatileState) : Type 0 where
-  pub is : session ≡ record { number = old.memory.next; mine = old.memory.history; seen = old.memory.history }
-  pub fresh : commits_of old.memory.next old.memory.history ≡ []
-  pub unfenced : is_fenced old.memory.next old.memory.history ≡ false
-  pub others : new ≡ record old { memory = record old.memory { next = old.memory.next + 1 } }
+  pub is : session ≡ record { number = old.ledger.next; mine = old.ledger.history; seen = old.ledger.history }
+  pub fresh : commits_of old.ledger.next old.ledger.history ≡ []
+  pub unfenced : is_fenced old.ledger.next old.ledger.history ≡ false
+  pub others : new ≡ record old { ledger = record old.ledger { next = old.ledger.next + 1 } }
 
 -- or was refused
-pub record RefusesSession (old : VolatileState) (why : Refusal Told) (new : VolatileState) : Type 0 where
-  pub refusal : IsNumberRefusal old.memory.next why
+pub record RefusesSession (old : VolatileState) (why : Refusal CauseState) (new : VolatileState) : Type 0 where
+  pub refusal : IsNumberRefusal old.ledger.next why
   pub same : new ≡ old
 
-abbrev pub AnswersSession : VolatileState → Result SessionState (Refusal Told) → VolatileState → Type 0
+abbrev pub AnswersSession : VolatileState → Result SessionState (Refusal CauseState) → VolatileState → Type 0
 AnswersSession old (Ok session) new = BeginsSession old session new
 AnswersSession old (Err why) new = RefusesSession old why new
 
 -- A session is fenced, by one entry more, or by one that stands
 pub record FencesSession (blocks : ℕ) (session : ℕ) (old new : VolatileState) : Type 0 where
-  pub did : SetsFence session old.memory new.memory
-  pub others : new ≡ record old { memory = new.memory }
+  pub did : SetsFence session old.ledger new.ledger
+  pub others : new ≡ record old { ledger = new.ledger }
   pub kept : IsVolatile blocks new
 
 -- or that was refused
-pub record RefusesFence (session : ℕ) (old : VolatileState) (why : Refusal Told) (new : VolatileState) : Type 0 where
+pub record RefusesFence (session : ℕ) (old : VolatileState) (why : Refusal CauseState) (new : VolatileState) : Type 0 where
   pub refusal : IsFenceRefusal session (outset_of old) why
   pub same : new ≡ old
 
-abbrev pub AnswersFence : ℕ → ℕ → VolatileState → Result (Unit {0}) (Refusal Told) → VolatileState → Type 0
+abbrev pub AnswersFence : ℕ → ℕ → VolatileState → Result (Unit {0}) (Refusal CauseState) → VolatileState → Type 0
 AnswersFence blocks session old (Ok done) new = FencesSession blocks session old new
 AnswersFence blocks session old (Err why) new = RefusesFence session old why new
 
 -- It was stopped, and nothing else was done
 abbrev pub Stops : VolatileState → VolatileState → Type 0
-Stops old new = new ≡ record old { memory = record old.memory { closed = true } }
+Stops old new = new ≡ record old { ledger = record old.ledger { closed = true } }
 
 -- Marks: none of these holds changes a part
 
 -- The session has then seen the whole history, and is exact
 pub record SeesWhole (v : VolatileState) (session after : SessionState) : Type 0 where
-  pub shown : after.seen ≡ v.memory.history
+  pub shown : after.seen ≡ v.ledger.history
   pub exact : IsExact after
   pub extends : OnlyExtends session after
 
 -- So many commits are not marked yet, and nothing ends the wait for them
 pub record LacksMark (v : VolatileState) (n : ℕ) : Type 0 where
-  pub unmarked : floor v.memory.history < n
+  pub unmarked : floor v.ledger.history < n
   pub goes_on : GoesOn (outset_of v)
 
 -- whether so many commits are marked
-abbrev pub AnswersWait : VolatileState → SessionState → ℕ → Result Bool (Refusal Told) → SessionState → Type 0
-AnswersWait v session n (Ok true) after = (n ≤ floor v.memory.history) × SeesWhole v session after
+abbrev pub AnswersWait : VolatileState → SessionState → ℕ → Result Bool (Refusal CauseState) → SessionState → Type 0
+AnswersWait v session n (Ok true) after = (n ≤ floor v.ledger.history) × SeesWhole v session after
 AnswersWait v session n (Ok false) after = LacksMark v n × SeesWhole v session after
 AnswersWait v session n (Err why) after = IsWaitRefusal (outset_of v) session n why × (after ≡ session)
 
 -- whether all commits are marked that the session has seen
-abbrev pub AnswersFlush : VolatileState → SessionState → Result Bool (Refusal Told) → SessionState → Type 0
-AnswersFlush v session (Ok true) after = (count session.seen ≤ floor v.memory.history) × SeesWhole v session after
+abbrev pub AnswersFlush : VolatileState → SessionState → Result Bool (Refusal CauseState) → SessionState → Type 0
+AnswersFlush v session (Ok true) after = (count session.seen ≤ floor v.ledger.history) × SeesWhole v session after
 AnswersFlush v session (Ok false) after = LacksMark v (count session.seen) × (after ≡ session)
 AnswersFlush v session (Err why) after = IsFlushRefusal (outset_of v) session after why × OnlyExtends session after
 
 -- a session is shown the whole history
-abbrev pub AnswersShow : VolatileState → SessionState → Result (Unit {0}) (Refusal Told) → SessionState → Type 0
-AnswersShow v session (Ok done) after = (after.seen ≡ v.memory.history) × OnlyExtends session after
-AnswersShow v session (Err why) after = IsStaleRefusal v.memory.history why × OnlyExtends session after
+abbrev pub AnswersShow : VolatileState → SessionState → Result (Unit {0}) (Refusal CauseState) → SessionState → Type 0
+AnswersShow v session (Ok done) after = (after.seen ≡ v.ledger.history) × OnlyExtends session after
+AnswersShow v session (Err why) after = IsStaleRefusal v.ledger.history why × OnlyExtends session after
 
 -- ---- holds of the disk alone: each makes at most one call of the device that changes the disk
 
@@ -178,14 +178,14 @@ pub record FetchesBlocks (blocks : ℕ) (old : DurableState) (numbers : List ℕ
   pub crash : Crashes old new
 
 -- or the device failed
-pub record RefusesFetch (blocks : ℕ) (old : DurableState) (why : Refusal Told) (new : DurableState) : Type 0 where
+pub record RefusesFetch (blocks : ℕ) (old : DurableState) (why : Refusal CauseState) (new : DurableState) : Type 0 where
   pub refusal : IsCallRefusal old new why
   pub reads : OnlyReadsLog old.objects new.objects
   pub others : new ≡ record old { objects = new.objects }
   pub kept : IsDurable blocks new
   pub crash : Crashes old new
 
-abbrev pub AnswersFetch : ℕ → DurableState → List ℕ → Result FetchedState (Refusal Told) → DurableState → Type 0
+abbrev pub AnswersFetch : ℕ → DurableState → List ℕ → Result FetchedState (Refusal CauseState) → DurableState → Type 0
 AnswersFetch blocks old numbers (Ok f) new = FetchesBlocks blocks old numbers f new
 AnswersFetch blocks old numbers (Err why) new = RefusesFetch blocks old why new
 
@@ -197,14 +197,14 @@ pub record MakesGroupCall (blocks : ℕ) (old : DurableState) (step : GroupStep)
   pub crash : Crashes old new
 
 -- or the device failed, in the call that was due or before
-pub record FailsGroupCall (blocks : ℕ) (old : DurableState) (why : Refusal Told) (new : DurableState) : Type 0 where
+pub record FailsGroupCall (blocks : ℕ) (old : DurableState) (why : Refusal CauseState) (new : DurableState) : Type 0 where
   pub refusal : IsCallRefusal old new why
   pub left : LeavesLog old new
   pub tries : TriesDueCall (log_call old.objects) (disk_of old) (disk_of new)
   pub kept : IsDurable blocks new
   pub crash : Crashes old new
 
-abbrev pub AnswersGroupCall : ℕ → DurableState → Result GroupStep (Refusal Told) → DurableState → Type 0
+abbrev pub AnswersGroupCall : ℕ → DurableState → Result GroupStep (Refusal CauseState) → DurableState → Type 0
 AnswersGroupCall blocks old (Ok step) new = MakesGroupCall blocks old step new
 AnswersGroupCall blocks old (Err why) new = FailsGroupCall blocks old why new
 
@@ -216,21 +216,21 @@ pub record MakesHomeCall (blocks : ℕ) (old : DurableState) (step : InstallStep
   pub crash : Crashes old new
 
 -- or the device failed, or memory for the list of addresses was refused
-pub record FailsHomeCall (blocks : ℕ) (old : DurableState) (why : Refusal Told) (new : DurableState) : Type 0 where
+pub record FailsHomeCall (blocks : ℕ) (old : DurableState) (why : Refusal CauseState) (new : DurableState) : Type 0 where
   pub refusal : IsInstallRefusal old new why
   pub left : LeavesLog old new
   pub tries : TriesAhead old.objects new.objects
   pub kept : IsDurable blocks new
   pub crash : Crashes old new
 
-abbrev pub AnswersHomeCall : ℕ → DurableState → Result InstallStep (Refusal Told) → DurableState → Type 0
+abbrev pub AnswersHomeCall : ℕ → DurableState → Result InstallStep (Refusal CauseState) → DurableState → Type 0
 AnswersHomeCall blocks old (Ok step) new = MakesHomeCall blocks old step new
 AnswersHomeCall blocks old (Err why) new = FailsHomeCall blocks old why new
 
 -- ---- holds of both: no device call is made in any
 
 -- The first was done that was due of a mark, a cut, and a mark of the rest, or none is due
-pub record Settles (blocks : ℕ) (v : VolatileState) (d : DurableState) (step : LogStep) (w : VolatileState) (e : DurableState) : Type 0 where
+pub record MarksOrCuts (blocks : ℕ) (v : VolatileState) (d : DurableState) (step : LogStep) (w : VolatileState) (e : DurableState) : Type 0 where
   pub did : DoesWhatIsDue v d step w e
   pub volatile : IsVolatile blocks w
   pub durable : IsDurable blocks e
@@ -238,16 +238,16 @@ pub record Settles (blocks : ℕ) (v : VolatileState) (d : DurableState) (step :
   pub crash : Crashes d e
 
 -- or that was refused, and the log on the disk may have other room in memory
-pub record RefusesToSettle (blocks : ℕ) (v : VolatileState) (d : DurableState) (why : Refusal Told) (w : VolatileState) (e : DurableState) : Type 0 where
+pub record RefusesMarkOrCut (blocks : ℕ) (v : VolatileState) (d : DurableState) (why : Refusal CauseState) (w : VolatileState) (e : DurableState) : Type 0 where
   pub refusal : IsDueRefusal v d why e
-  pub memory : w ≡ v
+  pub volatile : w ≡ v
   pub durable : IsDurable blocks e
   pub tied : Tied v d → Tied w e
   pub crash : Crashes d e
 
-abbrev pub AnswersSettling : ℕ → VolatileState → DurableState → Result LogStep (Refusal Told) → VolatileState → DurableState → Type 0
-AnswersSettling blocks v d (Ok step) w e = Settles blocks v d step w e
-AnswersSettling blocks v d (Err why) w e = RefusesToSettle blocks v d why w e
+abbrev pub AnswersMarkOrCut : ℕ → VolatileState → DurableState → Result LogStep (Refusal CauseState) → VolatileState → DurableState → Type 0
+AnswersMarkOrCut blocks v d (Ok step) w e = MarksOrCuts blocks v d step w e
+AnswersMarkOrCut blocks v d (Err why) w e = RefusesMarkOrCut blocks v d why w e
 
 -- What is at home was dropped from memory, and nothing else was done. Each cut that is left ends
 -- above the freed positions
@@ -266,16 +266,16 @@ pub record NotesFault (v : VolatileState) (d : DurableState) (w : VolatileState)
 -- The disk was lent under both, to a session that has then seen the whole history, which has no
 -- mark that the disk lacks. Neither part changes
 pub record ShowsDisk (v : VolatileState) (d : DurableState) (session after : SessionState) : Type 0 where
-  pub shown : after.seen ≡ v.memory.history
+  pub shown : after.seen ≡ v.ledger.history
   pub extends : OnlyExtends session after
-  pub trusted : is_trusted v.memory.history ≡ (disk_of d).honest
-  pub images : IsTrue (disk_of d).honest → EveryImage (disk_of d).past (Leaves v.memory.history)
+  pub trusted : is_trusted v.ledger.history ≡ (disk_of d).honest
+  pub images : IsTrue (disk_of d).honest → EveryImage (disk_of d).past (Leaves v.ledger.history)
 
 -- or that was refused, which no pair is that is tied, unless the session has seen more
-pub record RefusesDisk (v : VolatileState) (d : DurableState) (session : SessionState) (why : Refusal Told) (after : SessionState) : Type 0 where
-  pub refusal : IsStaleRefusal v.memory.history why ⊎ (IsUntied v d d.marked why × (Tied v d → ⊥))
+pub record RefusesDisk (v : VolatileState) (d : DurableState) (session : SessionState) (why : Refusal CauseState) (after : SessionState) : Type 0 where
+  pub refusal : IsStaleRefusal v.ledger.history why ⊎ (IsUntied v d d.marked why × (Tied v d → ⊥))
   pub extends : OnlyExtends session after
 
-abbrev pub AnswersDisk : {A : Type 0} → VolatileState → DurableState → SessionState → Result A (Refusal Told) → SessionState → Type 0
+abbrev pub AnswersDisk : {A : Type 0} → VolatileState → DurableState → SessionState → Result A (Refusal CauseState) → SessionState → Type 0
 AnswersDisk v d session (Ok disk) after = ShowsDisk v d session after
 AnswersDisk v d session (Err why) after = RefusesDisk v d session why after

@@ -16,11 +16,11 @@ use Rattle.journal_history.specs.Tokens.{SessionState, CommitPlace, next_transac
 use Rattle.journal_wal.specs.declared.step.InstallStep.{InstallStep}
 use Rattle.journal_core.specs.declared.step.LogStep.{LogStep}
 use Rattle.journal_core.specs.declared.step.LogStep.TheVariants.{Marked}
-use Rattle.journal_core.specs.Causes.{Told}
+use Rattle.journal_core.specs.Causes.{CauseState}
 use Rattle.journal_core.specs.Cores.{CoreState, Crashes, IsRunning, OnlyReads, disk_of}
-use Rattle.journal_core.specs.Transactions.{TransactionState, FoundState, begun, AreUnmoved, Remembers, Overwrites}
+use Rattle.journal_core.specs.Transactions.{TransactionState, ReadResultState, begun, AreUnmoved, Remembers, Overwrites}
 use Rattle.journal_core.specs.Steps.{LogAnswers, IsLogRefusal, InstallAnswers, IsInstallRefusal, MayRead, IsReadRefusal, BeginsSession, IsSessionRefusal, Stops, IsFetchRefusal}
-use Rattle.journal_core.specs.Memories.{IsBehind}
+use Rattle.journal_core.specs.Ledgers.{IsBehind}
 use Rattle.journal_core.specs.Durables.{FetchedState, IsFetched, IsBlockAfter}
 use Rattle.journal_core.specs.Volatiles.{IsFrontRefusal}
 use Rattle.journal_core.specs.Commits.{IsCommitted, CanCommit, IsCommitRefusal}
@@ -109,14 +109,14 @@ pub record ReadsValue (blocks : ℕ) (old : CoreState) (t : TransactionState) (a
   pub remembers : Remembers t a v old.history after
 
 -- A read was refused
-pub record RefusesRead (blocks : ℕ) (old : CoreState) (t : TransactionState) (a : Addr) (why : Refusal Told) (new : CoreState) : Type 0 where
+pub record RefusesRead (blocks : ℕ) (old : CoreState) (t : TransactionState) (a : Addr) (why : Refusal CauseState) (new : CoreState) : Type 0 where
   pub refusal : IsReadRefusal blocks old t a new why
   pub reads : OnlyReads old.objects new.objects
   pub others : new ≡ record old { objects = new.objects }
   pub crash : Crashes old new
 
 -- what is answered, where the bytes read are these
-abbrev pub AnswersRead : ℕ → CoreState → TransactionState → Addr → Result FoundState (Refusal Told) → Value → CoreState → Type 0
+abbrev pub AnswersRead : ℕ → CoreState → TransactionState → Addr → Result ReadResultState (Refusal CauseState) → Value → CoreState → Type 0
 AnswersRead blocks old t a (Ok found) v new = FindsValue blocks old t a v new
 AnswersRead blocks old t a (Err why) v new = RefusesRead blocks old t a why new
 
@@ -124,7 +124,7 @@ AnswersRead blocks old t a (Err why) v new = RefusesRead blocks old t a why new
 -- found the value, or was not asked for want of memory to read into
 abbrev pub IsUnread : ℕ → CoreState → TransactionState → Addr → CoreState → Type 0
 IsUnread blocks old t a new =
-    ((why : Refusal Told) × RefusesRead blocks old t a why new)
+    ((why : Refusal CauseState) × RefusesRead blocks old t a why new)
     ⊎ ((v : Value) × FindsValue blocks old t a v new)
     ⊎ (MayRead blocks old t a × (new ≡ old))
 
@@ -137,14 +137,14 @@ pub record CommitsTransaction (old : CoreState) (session : SessionState) (d : Tr
   pub crash : Crashes old new
 
 -- A commit was refused
-pub record RefusesCommit (old : CoreState) (session : SessionState) (d : TransactionState) (why : Refusal Told) (new : CoreState) : Type 0 where
+pub record RefusesCommit (old : CoreState) (session : SessionState) (d : TransactionState) (why : Refusal CauseState) (new : CoreState) : Type 0 where
   pub refusal : IsCommitRefusal old session d new why
   pub reads : OnlyReads old.objects new.objects
   pub others : new ≡ record old { objects = new.objects }
   pub crash : Crashes old new
 
 -- what a commit did, or why it was refused
-abbrev pub AnswersCommit : CoreState → SessionState → TransactionState → Result CommitPlace (Refusal Told) → CoreState → SessionState → Type 0
+abbrev pub AnswersCommit : CoreState → SessionState → TransactionState → Result CommitPlace (Refusal CauseState) → CoreState → SessionState → Type 0
 AnswersCommit old session d (Ok place) new after = CommitsTransaction old session d new after
 AnswersCommit old session d (Err why) new after = RefusesCommit old session d why new
 
@@ -160,13 +160,13 @@ pub record FetchesBlocks (blocks : ℕ) (old : CoreState) (numbers : List ℕ) (
   pub crash : Crashes old new
 
 -- A fetch was refused
-pub record RefusesFetch (old : CoreState) (why : Refusal Told) (new : CoreState) : Type 0 where
+pub record RefusesFetch (old : CoreState) (why : Refusal CauseState) (new : CoreState) : Type 0 where
   pub refusal : IsFetchRefusal old new why
   pub reads : OnlyReads old.objects new.objects
   pub others : new ≡ record old { objects = new.objects }
   pub crash : Crashes old new
 
-abbrev pub AnswersFetch : ℕ → CoreState → List ℕ → Result FetchedState (Refusal Told) → CoreState → Type 0
+abbrev pub AnswersFetch : ℕ → CoreState → List ℕ → Result FetchedState (Refusal CauseState) → CoreState → Type 0
 AnswersFetch blocks old numbers (Ok fetched) new = FetchesBlocks blocks old numbers fetched new
 AnswersFetch blocks old numbers (Err why) new = RefusesFetch old why new
 
@@ -177,12 +177,12 @@ pub record LogsStep (old : CoreState) (step : LogStep) (new : CoreState) : Type 
   pub crash : Crashes old new
 
 -- The logger was refused a step
-pub record RefusesLog (old : CoreState) (why : Refusal Told) (new : CoreState) : Type 0 where
+pub record RefusesLog (old : CoreState) (why : Refusal CauseState) (new : CoreState) : Type 0 where
   pub refusal : IsLogRefusal old new why
   pub crash : Crashes old new
 
 -- what a step of the logger did, or why it was refused
-abbrev pub AnswersLog : CoreState → Result LogStep (Refusal Told) → CoreState → Type 0
+abbrev pub AnswersLog : CoreState → Result LogStep (Refusal CauseState) → CoreState → Type 0
 AnswersLog old (Ok step) new = LogsStep old step new
 AnswersLog old (Err why) new = RefusesLog old why new
 
@@ -193,12 +193,12 @@ pub record InstallsStep (old : CoreState) (step : InstallStep) (new : CoreState)
   pub crash : Crashes old new
 
 -- The installer was refused a step
-pub record RefusesInstall (old : CoreState) (why : Refusal Told) (new : CoreState) : Type 0 where
+pub record RefusesInstall (old : CoreState) (why : Refusal CauseState) (new : CoreState) : Type 0 where
   pub refusal : IsInstallRefusal old new why
   pub crash : Crashes old new
 
 -- what a step of the installer did, or why it was refused
-abbrev pub AnswersInstall : CoreState → Result InstallStep (Refusal Told) → CoreState → Type 0
+abbrev pub AnswersInstall : CoreState → Result InstallStep (Refusal CauseState) → CoreState → Type 0
 AnswersInstall old (Ok step) new = InstallsStep old step new
 AnswersInstall old (Err why) new = RefusesInstall old why new
 
@@ -208,13 +208,13 @@ pub record Joins (old : CoreState) (session : SessionState) (new : CoreState) : 
   pub crash : Crashes old new
 
 -- A session was refused
-pub record RefusesSession (old : CoreState) (why : Refusal Told) (new : CoreState) : Type 0 where
+pub record RefusesSession (old : CoreState) (why : Refusal CauseState) (new : CoreState) : Type 0 where
   pub refusal : IsSessionRefusal old why
   pub same : new ≡ old
   pub crash : Crashes old new
 
 -- a session began, or why it was refused
-abbrev pub AnswersSession : CoreState → Result SessionState (Refusal Told) → CoreState → Type 0
+abbrev pub AnswersSession : CoreState → Result SessionState (Refusal CauseState) → CoreState → Type 0
 AnswersSession old (Ok session) new = Joins old session new
 AnswersSession old (Err why) new = RefusesSession old why new
 
@@ -263,7 +263,7 @@ OverwritesUnderSlot old actor p (Some draft) true answer new =
 abbrev pub Finishes : Mount → ℕ → Option TransactionState → Answer → Machine → Type 0
 Finishes old actor None answer new = Ignores old answer new
 Finishes old actor (Some draft) nothing new =
-    (session : SessionState) × ((why : Refusal Told) × ((core : CoreState) × RefusesCommit old.core session draft why core
+    (session : SessionState) × ((why : Refusal CauseState) × ((core : CoreState) × RefusesCommit old.core session draft why core
     × (new ≡ up (ended (with_core old core) actor))))
 Finishes old actor (Some draft) (committed t) new =
     (session : SessionState) × ((after : SessionState) × ((core : CoreState) × (t ≡ next_transaction session draft.reads draft.writes)
@@ -271,20 +271,20 @@ Finishes old actor (Some draft) (committed t) new =
 Finishes old actor (Some draft) other new = ⊥
 
 -- what was fetched is the actor's from then on
-abbrev pub keeping : Mount → ℕ → Result FetchedState (Refusal Told) → Mount
+abbrev pub keeping : Mount → ℕ → Result FetchedState (Refusal CauseState) → Mount
 keeping m actor (Ok fetched) = with_fetched m actor fetched
 keeping m actor (Err why) = m
 
 -- blocks are fetched, or that is refused
 abbrev pub FetchesFor : Mount → ℕ → List ℕ → Answer → Machine → Type 0
 FetchesFor old actor numbers answer new =
-    (answer ≡ nothing) × ((result : Result FetchedState (Refusal Told)) × ((core : CoreState) × AnswersFetch (blocks_of old) old.core numbers result core
+    (answer ≡ nothing) × ((result : Result FetchedState (Refusal CauseState)) × ((core : CoreState) × AnswersFetch (blocks_of old) old.core numbers result core
     × (new ≡ up (keeping (with_core old core) actor result))))
 
 -- a step of the logger that marks is answered by its mark, and any other leaves the history
 abbrev pub MakesLogStep : Mount → Answer → Machine → Type 0
 MakesLogStep old nothing new =
-    (result : Result LogStep (Refusal Told)) × ((core : CoreState) × AnswersLog old.core result core
+    (result : Result LogStep (Refusal CauseState)) × ((core : CoreState) × AnswersLog old.core result core
     × (core.history ≡ old.core.history) × (new ≡ up (with_core old core)))
 MakesLogStep old (marked n) new =
     (core : CoreState) × LogsStep old.core (Marked n) core × (new ≡ up (with_core old core))
@@ -293,7 +293,7 @@ MakesLogStep old other new = ⊥
 -- a fence that is added is answered by it. One that stands already, and a refusal, leave the history
 abbrev pub MakesFence : Mount → ℕ → Answer → Machine → Type 0
 MakesFence old session nothing new =
-    (result : Result (Unit {0}) (Refusal Told)) × ((core : CoreState) × AnswersFence session old.core result core
+    (result : Result (Unit {0}) (Refusal CauseState)) × ((core : CoreState) × AnswersFence session old.core result core
     × (core.history ≡ old.core.history) × (new ≡ up (with_core old core)))
 MakesFence old session (fenced s) new =
     (s ≡ session) × ((core : CoreState) × AddsFence session old.core core × Crashes old.core core × (new ≡ up (with_core old core)))
@@ -310,12 +310,12 @@ HappensUp old (commits actor) answer new = Finishes old actor (old.transactions 
 HappensUp old (fetches actor numbers) answer new = FetchesFor old actor numbers answer new
 HappensUp old logs answer new = MakesLogStep old answer new
 HappensUp old joins answer new =
-    (answer ≡ nothing) × ((result : Result SessionState (Refusal Told)) × ((core : CoreState) × AnswersSession old.core result core
+    (answer ≡ nothing) × ((result : Result SessionState (Refusal CauseState)) × ((core : CoreState) × AnswersSession old.core result core
     × (new ≡ up (with_core old core))))
 HappensUp old (fences session) answer new = MakesFence old session answer new
 HappensUp old stops answer new = (answer ≡ nothing) × ((core : CoreState) × Stops old.core core × (new ≡ up (with_core old core)))
 HappensUp old installs answer new =
-    (answer ≡ nothing) × ((result : Result InstallStep (Refusal Told)) × ((core : CoreState) × AnswersInstall old.core result core
+    (answer ≡ nothing) × ((result : Result InstallStep (Refusal CauseState)) × ((core : CoreState) × AnswersInstall old.core result core
     × (new ≡ up (with_core old core))))
 HappensUp old (crashes image) answer new =
     (answer ≡ crashed) × ((core : CoreState) × Crashes old.core core
@@ -351,7 +351,7 @@ pub record IsUndisturbed (c : CoreState) (t : TransactionState) : Type 0 where
   pub later : IsPrefix t.seen c.history
   pub unmoved : AreUnmoved c.history t
   pub agrees : Agrees (latest c.history) t.reads
-  pub never_behind : (cause : Told) → IsBehind c.history t cause → ⊥
+  pub never_behind : (cause : CauseState) → IsBehind c.history t cause → ⊥
 
 -- What was fetched, however long ago, is what the first commits of the history left, so that it can
 -- be used in a later hold of another lock. No step is refused because the fetch had seen more of
@@ -360,4 +360,4 @@ pub record StaysFetched (c : CoreState) (f : FetchedState) : Type 0 where
   pub begins : IsPrefix f.front c.history
   pub made : f.commits ≤ count c.history
   pub blocks : All (IsBlockAfter (opened c.history).blocks c.history f.commits) f.updates
-  pub never_longer : (why : Refusal Told) → IsFrontRefusal c.history f.front why → ⊥
+  pub never_longer : (why : Refusal CauseState) → IsFrontRefusal c.history f.front why → ⊥

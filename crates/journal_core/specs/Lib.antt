@@ -1,9 +1,9 @@
 pub mod Causes
-pub mod Tallies
-pub mod Covers
+pub mod Sessions
+pub mod MarkedLengths
 pub mod SlotCounts
 pub mod Transactions
-pub mod Memories
+pub mod Ledgers
 pub mod Outsets
 pub mod Fences
 pub mod Waits

@@ -13,7 +13,7 @@ use Rattle.journal_wal.specs.Wal.{WalState, IsAtRest as AtRest, HasBoundsIn}
 use Rattle.journal_objlog.specs.ObjectLogs.{map_now, disk_of as log_disk}
 use Rattle.journal_objlog.specs.Maps.{OpensAs}
 use Rattle.journal_core.specs.declared.refusal_number.RefusalNumber.TheVariants.{J6, J9}
-use Rattle.journal_core.specs.Causes.{Told, IsUnexplained, IsExplained, raised_of}
+use Rattle.journal_core.specs.Causes.{CauseState, IsUnexplained, IsExplained, raised_of}
 use Rattle.journal_core.specs.Cores.{CoreState, disk_of, IsRunning}
 
 -- the disk is opened with this map: each image of it opens as the map
@@ -51,7 +51,7 @@ pub record Begins (rule : Map → Type 0) (disk : DiskState) (new : CoreState) :
   pub running : IsRunning new
 
 -- Why a disk is not opened. The number of blocks comes first, then the log, the rule and the book; J1 and J6 come as they are met
-abbrev pub IsOpenRefusal : (Map → Type 0) → DiskState → DiskState → Refusal Told → Type 0
+abbrev pub IsOpenRefusal : (Map → Type 0) → DiskState → DiskState → Refusal CauseState → Type 0
 IsOpenRefusal rule old new BadSuper =
     (IsInRange old → ⊥)
     ⊎ (IsInRange old × (IsTrue old.honest → (m : Map) × HoldsMap old m × (rule m → ⊥)))
@@ -70,7 +70,7 @@ pub record OnlyReadsDisk (old new : DiskState) : Type 0 where
   pub past : IsTrue old.honest → new.past ≡ old.past
 
 -- Why a history is not begun: the rule was not asked to its end, it does not hold, or it does and there is a history
-abbrev pub IsBeginRefusal : (Map → Type 0) → WalState → Result Bool (Refusal Unit) → Refusal Told → Type 0
+abbrev pub IsBeginRefusal : (Map → Type 0) → WalState → Result Bool (Refusal Unit) → Refusal CauseState → Type 0
 IsBeginRefusal rule objects (Err refusal) why = why ≡ raised_of refusal
 IsBeginRefusal rule objects (Ok admitted) BadSuper = IsTrue (log_disk objects).honest → rule (map_now objects) → ⊥
 IsBeginRefusal rule objects (Ok admitted) (Stale cause) =

@@ -8,12 +8,12 @@ use Rattle.journal_world.specs.Addresses.{is_valid}
 use Rattle.journal_world.specs.Maps.{Pair}
 use Rattle.journal_world.specs.Histories.{Entry, commits_of, is_fenced}
 use Rattle.journal_block.specs.declared.update.Update.{Update}
-use Rattle.journal_wal.specs.declared.append.TheConstants.{MAX_TAIL, MAX_UPDATES}
+use Rattle.journal_wal.specs.declared.limits.TheConstants.{MAX_TAIL, MAX_UPDATES}
 use Rattle.journal_objlog.specs.Writes.{written_blocks, fresh_among}
 use Rattle.journal_history.specs.Tokens.{SessionState, made}
 use Rattle.journal_core.specs.declared.refusal_number.RefusalNumber.TheVariants.{J6, J11, J12, J13}
-use Rattle.journal_core.specs.Causes.{Told, IsUnexplained}
-use Rattle.journal_core.specs.Memories.{HasSeen, IsBehind, IsStale, IsUnknown, MeetsFence}
+use Rattle.journal_core.specs.Causes.{CauseState, IsUnexplained}
+use Rattle.journal_core.specs.Ledgers.{HasSeen, IsBehind, IsStale, IsUnknown, MeetsFence}
 use Rattle.journal_core.specs.Transactions.{TransactionState, AreUnmoved}
 
 pub record Outset : Type 0 where
@@ -30,7 +30,7 @@ abbrev pub GoesOn : Outset → Type 0
 GoesOn o = (o.closed ≡ false) × (o.faulted ≡ false)
 
 -- why it goes on no more: it was stopped, or a device call failed before
-abbrev pub IsEndRefusal : Outset → Refusal Told → Type 0
+abbrev pub IsEndRefusal : Outset → Refusal CauseState → Type 0
 IsEndRefusal o (Closed cause) = IsUnexplained J13 cause × (o.closed ≡ true)
 IsEndRefusal o (DeviceFailed cause) = IsUnexplained J6 cause × (o.closed ≡ false) × (o.faulted ≡ true)
 IsEndRefusal o other = ⊥
@@ -43,10 +43,10 @@ pub record MayRead (blocks : ℕ) (o : Outset) (t : TransactionState) (a : Addr)
   pub unmoved : AreUnmoved o.history t
 
 -- why a read is refused by what is known then: the first of these that holds
-abbrev pub IsLookRefusal : ℕ → Outset → TransactionState → Addr → Refusal Told → Type 0
-IsLookRefusal blocks o t a BadAddress = GoesOn o × (is_valid blocks a ≡ false)
-IsLookRefusal blocks o t a (Stale cause) = GoesOn o × IsTrue (is_valid blocks a) × IsBehind o.history t cause
-IsLookRefusal blocks o t a other = IsEndRefusal o other
+abbrev pub IsCheckRefusal : ℕ → Outset → TransactionState → Addr → Refusal CauseState → Type 0
+IsCheckRefusal blocks o t a BadAddress = GoesOn o × (is_valid blocks a ≡ false)
+IsCheckRefusal blocks o t a (Stale cause) = GoesOn o × IsTrue (is_valid blocks a) × IsBehind o.history t cause
+IsCheckRefusal blocks o t a other = IsEndRefusal o other
 
 -- The history's length, the session's number or a position of the log would reach 2^62
 abbrev pub IsWorn : Outset → SessionState → List Pair → Type 0
@@ -76,7 +76,7 @@ pub record CanCommit (o : Outset) (s : SessionState) (t : TransactionState) : Ty
   pub writes : CanPrepare o s t.writes
 
 -- why writes are not made ready: the first of these that holds, then J1
-abbrev pub IsPreparingRefusal : Outset → SessionState → List Pair → Refusal Told → Type 0
+abbrev pub IsPreparingRefusal : Outset → SessionState → List Pair → Refusal CauseState → Type 0
 IsPreparingRefusal o s writes TooLarge = MAX_UPDATES < written_blocks writes
 IsPreparingRefusal o s writes (Worn cause) = (written_blocks writes ≤ MAX_UPDATES) × IsWorn o s writes × IsUnexplained J11 cause
 IsPreparingRefusal o s writes (Full cause) = (written_blocks writes ≤ MAX_UPDATES) × (IsWorn o s writes → ⊥) × IsFull o writes × IsUnexplained J12 cause
@@ -84,7 +84,7 @@ IsPreparingRefusal o s writes NoMemory = CanPrepare o s writes
 IsPreparingRefusal o s writes other = ⊥
 
 -- why a commit is refused: the first of these that holds, then J1
-abbrev pub IsCommitRefusal : Outset → SessionState → TransactionState → Refusal Told → Type 0
+abbrev pub IsCommitRefusal : Outset → SessionState → TransactionState → Refusal CauseState → Type 0
 IsCommitRefusal o s t (Stale cause) = GoesOn o × IsStale o.history cause
 IsCommitRefusal o s t (Stranger cause) = GoesOn o × HasSeen o.history s t × IsUnknown o.history s cause
 IsCommitRefusal o s t Fenced = GoesOn o × MeetsFence o.history s t

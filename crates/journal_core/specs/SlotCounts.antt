@@ -6,7 +6,7 @@ use Rattle.journal_world.specs.Maps.{Pair}
 use Rattle.journal_world.specs.Histories.{Entry, touched}
 use Rattle.journal_lockmap.specs.Numbers.{HeldState}
 use Rattle.journal_core.specs.declared.fenced_sessions.Run.{Run}
-use Rattle.journal_core.specs.Tallies.{IsTallied, AreFences}
+use Rattle.journal_core.specs.Sessions.{AreSessionCounts, AreFences}
 
 -- The numbers of commits that touched each slot are those of the history
 pub record AreCounts (counts : List ℕ) (history : List Entry) : Type 0 where
@@ -16,7 +16,7 @@ pub record AreCounts (counts : List ℕ) (history : List Entry) : Type 0 where
 -- What is kept beside the history: which sessions are fenced, and each session's and each slot's number of commits
 pub record KeepsCounts (fenced : List Run) (sessions counts : List ℕ) (history : List Entry) : Type 0 where
   pub fences : AreFences fenced history
-  pub tallied : IsTallied sessions history
+  pub per_session : AreSessionCounts sessions history
   pub touched : AreCounts counts history
 
 -- what is held agrees with the history: each slot was touched by as many commits as its token says

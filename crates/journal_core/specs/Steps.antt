@@ -15,9 +15,9 @@ use Rattle.journal_wal.specs.declared.step.InstallStep.{InstallStep}
 use Rattle.journal_core.specs.declared.step.LogStep.{LogStep}
 use Rattle.journal_core.specs.declared.step.LogStep.TheVariants.{Idle, Cut, Put, Logged, Marked}
 use Rattle.journal_core.specs.declared.refusal_number.RefusalNumber.TheVariants.{J6, J13}
-use Rattle.journal_core.specs.Causes.{Told, IsUnexplained}
+use Rattle.journal_core.specs.Causes.{CauseState, IsUnexplained}
 use Rattle.journal_core.specs.Transactions.{TransactionState}
-use Rattle.journal_core.specs.Memories.{IsBehind, IsNumberRefusal, IsStaleRefusal, IsMarkRefusal}
+use Rattle.journal_core.specs.Ledgers.{IsBehind, IsNumberRefusal, IsStaleRefusal, IsMarkRefusal}
 use Rattle.journal_core.specs.Outsets.{IsEndRefusal as IsEndOf, MayRead as MayReadFrom}
 use Rattle.journal_core.specs.Cores.{CoreState, is_faulted, IsRunning, disk_of, Crashes, tail_length, start_of, end_of, with_wal, outset}
 
@@ -34,13 +34,13 @@ pub record EndsCycle (old new : CoreState) : Type 0 where
   pub others : new ≡ record (with_wal old new.objects.wal) { logged = old.cut }
 
 -- The last group is marked, and the log has a place for the tail
-pub record HasPlace (c : CoreState) : Type 0 where
+pub record HasTailRoom (c : CoreState) : Type 0 where
   pub marked : c.cut ≤ floor c.history
   pub fits : FitsGroup c.objects.wal (tail_length c.objects)
 
 -- The tail was cut into a group, once the last one was marked
 pub record CutsGroup (old new : CoreState) : Type 0 where
-  pub place : HasPlace old
+  pub place : HasTailRoom old
   pub group : TakesGroup old.objects.wal old.objects.tail new.objects.wal
   pub others : new ≡ record old { objects = record { wal = new.objects.wal; tail = [] }; cut = count old.history }
 
@@ -84,13 +84,13 @@ LogAnswers old (Marked n) new = MarksDue n old new
 -- Why steps are refused
 
 -- J13: it was stopped, and is left as it is
-pub record IsStopped (old new : CoreState) (cause : Told) : Type 0 where
+pub record IsStopped (old new : CoreState) (cause : CauseState) : Type 0 where
   pub unexplained : IsUnexplained J13 cause
   pub closed : old.closed ≡ true
   pub same : new ≡ old
 
 -- J6: it was not stopped, and the device failed before, or the step came so far and the device failed in it
-pub record IsDeviceRefusal (reached : Type 0) (old new : CoreState) (cause : Told) : Type 0 where
+pub record IsDeviceRefusal (reached : Type 0) (old new : CoreState) (cause : CauseState) : Type 0 where
   pub unexplained : IsUnexplained J6 cause
   pub not_closed : old.closed ≡ false
   pub fault : IsTrue (is_faulted old) ⊎ (reached × HasFailed (disk_of old) (disk_of new))
@@ -116,10 +116,10 @@ abbrev pub TriesToInstall : CoreState → CoreState → Type 0
 TriesToInstall old new = TriesAhead old.objects.wal new.objects.wal
 
 -- why a step of the logger is refused, and what is left: a mark is, the device failed, or memory for a group is refused
-abbrev pub IsLogRefusal : CoreState → CoreState → Refusal Told → Type 0
+abbrev pub IsLogRefusal : CoreState → CoreState → Refusal CauseState → Type 0
 IsLogRefusal old new (Closed cause) = IsStopped old new cause
 IsLogRefusal old new (DeviceFailed cause) = IsDeviceRefusal (Unit {0}) old new cause
-IsLogRefusal old new NoMemory = IsRunning old × HasPlace old × IsRoomed old new
+IsLogRefusal old new NoMemory = IsRunning old × HasTailRoom old × IsRoomed old new
 IsLogRefusal old new refusal =
     IsRunning old × (log_steps old.objects.wal ≡ 0) × (HasLogged old ⊎ HasUnmarked old) × IsMarkRefusal old.history refusal × (new ≡ old)
 
@@ -128,7 +128,7 @@ abbrev pub InstallAnswers : CoreState → InstallStep → CoreState → Type 0
 InstallAnswers old step new = WalInstalls old.objects.wal step new.objects.wal × (new ≡ with_wal old new.objects.wal)
 
 -- why the installer's step is refused: J13, J6, or J1 where it plans
-abbrev pub IsInstallRefusal : CoreState → CoreState → Refusal Told → Type 0
+abbrev pub IsInstallRefusal : CoreState → CoreState → Refusal CauseState → Type 0
 IsInstallRefusal old new (Closed cause) = IsStopped old new cause
 IsInstallRefusal old new NoMemory =
     IsRunning old × (install_steps old.objects.wal ≡ 0) × (start_of old.objects < end_of old.objects) × (new ≡ old)
@@ -136,7 +136,7 @@ IsInstallRefusal old new (DeviceFailed cause) = IsDeviceRefusal (Unit {0}) old n
 IsInstallRefusal old new other = ⊥
 
 -- why blocks are not fetched: the device failed
-abbrev pub IsFetchRefusal : CoreState → CoreState → Refusal Told → Type 0
+abbrev pub IsFetchRefusal : CoreState → CoreState → Refusal CauseState → Type 0
 IsFetchRefusal old new (DeviceFailed cause) = IsDeviceRefusal (Unit {0}) old new cause
 IsFetchRefusal old new other = ⊥
 
@@ -145,7 +145,7 @@ abbrev pub MayRead : ℕ → CoreState → TransactionState → Addr → Type 0
 MayRead blocks c t a = MayReadFrom blocks (outset c) t a
 
 -- why an object is not read: the first of these that holds, then a new J6
-abbrev pub IsReadRefusal : ℕ → CoreState → TransactionState → Addr → CoreState → Refusal Told → Type 0
+abbrev pub IsReadRefusal : ℕ → CoreState → TransactionState → Addr → CoreState → Refusal CauseState → Type 0
 IsReadRefusal blocks old t addr new (Closed cause) = IsStopped old new cause
 IsReadRefusal blocks old t addr new (DeviceFailed cause) = IsDeviceRefusal (MayRead blocks old t addr) old new cause
 IsReadRefusal blocks old t addr new BadAddress = IsRunning old × (is_valid blocks addr ≡ false)
@@ -162,7 +162,7 @@ pub record BeginsSession (old : CoreState) (session : SessionState) (new : CoreS
   pub others : new ≡ record old { next = old.next + 1 }
 
 -- why there is no further session
-abbrev pub IsSessionRefusal : CoreState → Refusal Told → Type 0
+abbrev pub IsSessionRefusal : CoreState → Refusal CauseState → Type 0
 IsSessionRefusal c why = IsNumberRefusal c.next why
 
 -- It was stopped, and nothing else was done
@@ -171,9 +171,9 @@ pub record Stops (old new : CoreState) : Type 0 where
   pub crash : Crashes old new
 
 -- why it goes on no more: it was stopped, or a device call failed before
-abbrev pub IsEndRefusal : CoreState → Refusal Told → Type 0
+abbrev pub IsEndRefusal : CoreState → Refusal CauseState → Type 0
 IsEndRefusal c why = IsEndOf (outset c) why
 
 -- why a session is not shown the history
-abbrev pub IsShowRefusal : CoreState → Refusal Told → Type 0
+abbrev pub IsShowRefusal : CoreState → Refusal CauseState → Type 0
 IsShowRefusal c why = IsStaleRefusal c.history why

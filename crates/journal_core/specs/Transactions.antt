@@ -36,7 +36,7 @@ pub record Remembers (old : TransactionState) (a : Addr) (v : Value) (history : 
   pub others : new ≡ record old { reads = new.reads; seen = history }
 
 -- What a read found: an address, and the history at whose end its value was looked up
-pub record FoundState : Type 0 where
+pub record ReadResultState : Type 0 where
   pub addr : Addr
   pub seen : List Entry
 

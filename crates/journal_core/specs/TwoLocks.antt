@@ -18,15 +18,15 @@ use Rattle.journal_wal.specs.declared.step.GroupStep.{GroupStep}
 use Rattle.journal_wal.specs.declared.step.InstallStep.{InstallStep}
 use Rattle.journal_core.specs.declared.step.LogStep.{LogStep}
 use Rattle.journal_core.specs.declared.step.LogStep.TheVariants.{Marked}
-use Rattle.journal_core.specs.Causes.{Told}
+use Rattle.journal_core.specs.Causes.{CauseState}
 use Rattle.journal_core.specs.Cores.{core_of}
-use Rattle.journal_core.specs.Transactions.{TransactionState, FoundState, begun, AreUnmoved, Remembers, Overwrites}
-use Rattle.journal_core.specs.Memories.{IsBehind}
+use Rattle.journal_core.specs.Transactions.{TransactionState, ReadResultState, begun, AreUnmoved, Remembers, Overwrites}
+use Rattle.journal_core.specs.Ledgers.{IsBehind}
 use Rattle.journal_core.specs.Fences.{AddsFence}
 use Rattle.journal_core.specs.Durables.{DurableState, FetchedState, IsBlockAfter, Crashes, disk_of}
 use Rattle.journal_core.specs.Volatiles.{VolatileState, IsFrontRefusal}
 use Rattle.journal_core.specs.Openings.{Begins}
-use Rattle.journal_core.specs.Holds.{IsBetween, FindsInMemory, AnswersRead, CommitsInMemory, LacksBlocks, RefusesCommit, KeepsCopies, AnswersSession, FencesSession, AnswersFence, Stops, AnswersWait, AnswersFlush, AnswersShow, AnswersFetch, AnswersGroupCall, AnswersHomeCall, Settles, AnswersSettling, Trims, NotesFault, ShowsDisk, RefusesDisk}
+use Rattle.journal_core.specs.Holds.{IsBetween, FindsInMemory, AnswersRead, CommitsInMemory, LacksBlocks, RefusesCommit, KeepsCopies, AnswersSession, FencesSession, AnswersFence, Stops, AnswersWait, AnswersFlush, AnswersShow, AnswersFetch, AnswersGroupCall, AnswersHomeCall, MarksOrCuts, AnswersMarkOrCut, Trims, NotesFault, ShowsDisk, RefusesDisk}
 use Rattle.journal_core.specs.Outcomes.{Answer, TellsAll, IsLeftBetween, HoldsImage, is_actor}
 use Rattle.journal_core.specs.Outcomes.Answer.{nothing, value, committed, marked, fenced, waited, imaged, crashed, reopened}
 
@@ -55,7 +55,7 @@ pub data Event : Type 0 where
   fetches : ℕ → List ℕ → Event
   logs : Event
   installs : Event
-  settles : Event
+  marks_or_cuts : Event
   trims : ℕ → Event
   notes : Event
   images : List Bytes → Event
@@ -65,11 +65,11 @@ pub data Event : Type 0 where
 
 -- what stands under the memory lock, and what under the disk's
 pub record Parts : Type 0 where
-  pub memory : VolatileState
+  pub volatile : VolatileState
   pub durable : DurableState
 
 abbrev pub history_of : Parts → List Entry
-history_of p = p.memory.memory.history
+history_of p = p.volatile.ledger.history
 
 -- A mount: its two parts, the transaction that each actor has open, the actor that holds each slot,
 -- and all that each has fetched
@@ -93,14 +93,14 @@ abbrev pub holds : Mount → ℕ → Addr → Bool
 holds m actor a = is_actor (m.holders (slot_of a)) actor
 
 abbrev pub with_parts : Mount → VolatileState → DurableState → Mount
-with_parts m memory durable = record m { parts = record { memory = memory; durable = durable } }
+with_parts m volatile durable = record m { parts = record { volatile = volatile; durable = durable } }
 
 -- one part has gone on
-abbrev pub with_memory : Mount → VolatileState → Mount
-with_memory m memory = with_parts m memory m.parts.durable
+abbrev pub with_volatile : Mount → VolatileState → Mount
+with_volatile m volatile = with_parts m volatile m.parts.durable
 
 abbrev pub with_durable : Mount → DurableState → Mount
-with_durable m durable = with_parts m m.parts.memory durable
+with_durable m durable = with_parts m m.parts.volatile durable
 
 -- the actor has this transaction open, or none
 abbrev pub with_transaction : Mount → ℕ → Option TransactionState → Mount
@@ -124,8 +124,8 @@ blocks_of m = (opened (history_of m.parts)).blocks
 
 -- A mount begins, whose parts are apart from then on
 pub record BeginsApart (rule : Map → Type 0) (disk : DiskState) (p : Parts) : Type 0 where
-  pub begins : Begins rule disk (core_of p.memory p.durable)
-  pub between : IsBetween disk.past.size p.memory p.durable
+  pub begins : Begins rule disk (core_of p.volatile p.durable)
+  pub between : IsBetween disk.past.size p.volatile p.durable
 
 -- nothing is answered, and nothing changes
 abbrev pub Ignores : Mount → Answer → Machine → Type 0
@@ -149,12 +149,12 @@ abbrev pub ReadsUnderSlot : Mount → ℕ → Addr → Option TransactionState �
 ReadsUnderSlot old actor a None held answer new = Ignores old answer new
 ReadsUnderSlot old actor a (Some draft) false answer new = Ignores old answer new
 ReadsUnderSlot old actor a (Some draft) true nothing new =
-    (f : FetchedState) × ((r : Result (Option FoundState) (Refusal Told)) × ((x : Value) × ((w : VolatileState)
-    × AnswersRead (blocks_of old) old.parts.memory draft a f r x w × (new ≡ up (with_memory old w)))))
+    (f : FetchedState) × ((r : Result (Option ReadResultState) (Refusal CauseState)) × ((x : Value) × ((w : VolatileState)
+    × AnswersRead (blocks_of old) old.parts.volatile draft a f r x w × (new ≡ up (with_volatile old w)))))
 ReadsUnderSlot old actor a (Some draft) true (value b x) new =
-    (b ≡ a) × ((found : FoundState) × ((w : VolatileState) × ((after : TransactionState)
-    × FindsInMemory (blocks_of old) old.parts.memory draft a found x w × Remembers draft a x (history_of old.parts) after
-    × (new ≡ up (with_transaction (with_memory old w) actor (Some after))))))
+    (b ≡ a) × ((found : ReadResultState) × ((w : VolatileState) × ((after : TransactionState)
+    × FindsInMemory (blocks_of old) old.parts.volatile draft a found x w × Remembers draft a x (history_of old.parts) after
+    × (new ≡ up (with_transaction (with_volatile old w) actor (Some after))))))
 ReadsUnderSlot old actor a (Some draft) true other new = ⊥
 
 -- an object is remembered under its slot, or the overwrite is refused; no part is asked
@@ -173,16 +173,16 @@ abbrev pub Finishes : Mount → ℕ → Option TransactionState → Answer → M
 Finishes old actor None answer new = Ignores old answer new
 Finishes old actor (Some draft) nothing new =
     (session : SessionState) × ((w : VolatileState)
-    × (((why : Refusal Told) × RefusesCommit (blocks_of old) old.parts.memory session draft why w × (new ≡ up (ended (with_memory old w) actor)))
-    ⊎ ((f : FetchedState) × ((missing : List ℕ) × LacksBlocks (blocks_of old) old.parts.memory session draft f missing w
-    × (new ≡ up (with_memory old w))))))
+    × (((why : Refusal CauseState) × RefusesCommit (blocks_of old) old.parts.volatile session draft why w × (new ≡ up (ended (with_volatile old w) actor)))
+    ⊎ ((f : FetchedState) × ((missing : List ℕ) × LacksBlocks (blocks_of old) old.parts.volatile session draft f missing w
+    × (new ≡ up (with_volatile old w))))))
 Finishes old actor (Some draft) (committed t) new =
     (session : SessionState) × ((after : SessionState) × ((w : VolatileState) × (t ≡ next_transaction session draft.reads draft.writes)
-    × CommitsInMemory (blocks_of old) old.parts.memory session draft w after × (new ≡ up (ended (with_memory old w) actor))))
+    × CommitsInMemory (blocks_of old) old.parts.volatile session draft w after × (new ≡ up (ended (with_volatile old w) actor))))
 Finishes old actor (Some draft) other new = ⊥
 
 -- what was fetched is the actor's from then on
-abbrev pub keeping : Mount → ℕ → Result FetchedState (Refusal Told) → Mount
+abbrev pub keeping : Mount → ℕ → Result FetchedState (Refusal CauseState) → Mount
 keeping m actor (Ok fetched) = with_fetched m actor fetched
 keeping m actor (Err why) = m
 
@@ -190,45 +190,45 @@ keeping m actor (Err why) = m
 -- history
 abbrev pub MakesFence : Mount → ℕ → Answer → Machine → Type 0
 MakesFence old session nothing new =
-    (r : Result (Unit {0}) (Refusal Told)) × ((w : VolatileState) × AnswersFence (blocks_of old) session old.parts.memory r w
-    × (w.memory.history ≡ history_of old.parts) × (new ≡ up (with_memory old w)))
+    (r : Result (Unit {0}) (Refusal CauseState)) × ((w : VolatileState) × AnswersFence (blocks_of old) session old.parts.volatile r w
+    × (w.ledger.history ≡ history_of old.parts) × (new ≡ up (with_volatile old w)))
 MakesFence old session (fenced s) new =
-    (s ≡ session) × ((w : VolatileState) × AddsFence session old.parts.memory.memory w.memory × FencesSession (blocks_of old) session old.parts.memory w
-    × (new ≡ up (with_memory old w)))
+    (s ≡ session) × ((w : VolatileState) × AddsFence session old.parts.volatile.ledger w.ledger × FencesSession (blocks_of old) session old.parts.volatile w
+    × (new ≡ up (with_volatile old w)))
 MakesFence old session other new = ⊥
 
 -- what is due of both is done: a mark is answered by it, and any other leaves the history
-abbrev pub SettlesBoth : Mount → Answer → Machine → Type 0
-SettlesBoth old nothing new =
-    (r : Result LogStep (Refusal Told)) × ((w : VolatileState) × ((e : DurableState) × AnswersSettling (blocks_of old) old.parts.memory old.parts.durable r w e
-    × (w.memory.history ≡ history_of old.parts) × (new ≡ up (with_parts old w e))))
-SettlesBoth old (marked n) new =
-    (w : VolatileState) × ((e : DurableState) × Settles (blocks_of old) old.parts.memory old.parts.durable (Marked n) w e × (new ≡ up (with_parts old w e)))
-SettlesBoth old other new = ⊥
+abbrev pub MarksOrCutsBoth : Mount → Answer → Machine → Type 0
+MarksOrCutsBoth old nothing new =
+    (r : Result LogStep (Refusal CauseState)) × ((w : VolatileState) × ((e : DurableState) × AnswersMarkOrCut (blocks_of old) old.parts.volatile old.parts.durable r w e
+    × (w.ledger.history ≡ history_of old.parts) × (new ≡ up (with_parts old w e))))
+MarksOrCutsBoth old (marked n) new =
+    (w : VolatileState) × ((e : DurableState) × MarksOrCuts (blocks_of old) old.parts.volatile old.parts.durable (Marked n) w e × (new ≡ up (with_parts old w e)))
+MarksOrCutsBoth old other new = ⊥
 
 -- a mark that stands is answered by how many commits it is of. Else nothing is answered, and either
 -- way all stays as it is
 abbrev pub WaitsFor : Mount → ℕ → Answer → Machine → Type 0
 WaitsFor old n nothing new =
-    (session : SessionState) × ((after : SessionState) × ((r : Result Bool (Refusal Told)) × AnswersWait old.parts.memory session n r after × (new ≡ up old)))
+    (session : SessionState) × ((after : SessionState) × ((r : Result Bool (Refusal CauseState)) × AnswersWait old.parts.volatile session n r after × (new ≡ up old)))
 WaitsFor old n (waited k) new =
-    (k ≡ n) × ((session : SessionState) × ((after : SessionState) × AnswersWait old.parts.memory session n (Ok true) after × (new ≡ up old)))
+    (k ≡ n) × ((session : SessionState) × ((after : SessionState) × AnswersWait old.parts.volatile session n (Ok true) after × (new ≡ up old)))
 WaitsFor old n other new = ⊥
 
 -- the same of all commits that the session has seen
 abbrev pub Flushes : Mount → Answer → Machine → Type 0
 Flushes old nothing new =
-    (session : SessionState) × ((after : SessionState) × ((r : Result Bool (Refusal Told)) × AnswersFlush old.parts.memory session r after × (new ≡ up old)))
+    (session : SessionState) × ((after : SessionState) × ((r : Result Bool (Refusal CauseState)) × AnswersFlush old.parts.volatile session r after × (new ≡ up old)))
 Flushes old (waited k) new =
-    (session : SessionState) × ((after : SessionState) × (k ≡ count session.seen) × AnswersFlush old.parts.memory session (Ok true) after × (new ≡ up old))
+    (session : SessionState) × ((after : SessionState) × (k ≡ count session.seen) × AnswersFlush old.parts.volatile session (Ok true) after × (new ≡ up old))
 Flushes old other new = ⊥
 
 -- an image is taken of the disk that is lent under both, or the disk is not lent
 abbrev pub TakesImage : Mount → List Bytes → Answer → Machine → Type 0
 TakesImage old image nothing new =
-    (session : SessionState) × ((after : SessionState) × ((why : Refusal Told) × RefusesDisk old.parts.memory old.parts.durable session why after × (new ≡ up old)))
+    (session : SessionState) × ((after : SessionState) × ((why : Refusal CauseState) × RefusesDisk old.parts.volatile old.parts.durable session why after × (new ≡ up old)))
 TakesImage old image (imaged other) new =
-    (other ≡ image) × ((session : SessionState) × ((after : SessionState) × ShowsDisk old.parts.memory old.parts.durable session after
+    (other ≡ image) × ((session : SessionState) × ((after : SessionState) × ShowsDisk old.parts.volatile old.parts.durable session after
     × IsImage (disk_of old.parts.durable).past image × (new ≡ up old)))
 TakesImage old image other new = ⊥
 
@@ -241,29 +241,29 @@ HappensUp old (overwrites actor a v) answer new = OverwritesUnderSlot old actor 
 HappensUp old (aborts actor) answer new = (answer ≡ nothing) × (new ≡ up (ended old actor))
 HappensUp old (commits actor) answer new = Finishes old actor (old.transactions actor) answer new
 HappensUp old copies answer new =
-    (answer ≡ nothing) × ((w : VolatileState) × KeepsCopies (blocks_of old) old.parts.memory w × (new ≡ up (with_memory old w)))
+    (answer ≡ nothing) × ((w : VolatileState) × KeepsCopies (blocks_of old) old.parts.volatile w × (new ≡ up (with_volatile old w)))
 HappensUp old joins answer new =
-    (answer ≡ nothing) × ((r : Result SessionState (Refusal Told)) × ((w : VolatileState) × AnswersSession old.parts.memory r w × (new ≡ up (with_memory old w))))
+    (answer ≡ nothing) × ((r : Result SessionState (Refusal CauseState)) × ((w : VolatileState) × AnswersSession old.parts.volatile r w × (new ≡ up (with_volatile old w))))
 HappensUp old (fences session) answer new = MakesFence old session answer new
-HappensUp old stops answer new = (answer ≡ nothing) × ((w : VolatileState) × Stops old.parts.memory w × (new ≡ up (with_memory old w)))
+HappensUp old stops answer new = (answer ≡ nothing) × ((w : VolatileState) × Stops old.parts.volatile w × (new ≡ up (with_volatile old w)))
 HappensUp old (waits n) answer new = WaitsFor old n answer new
 HappensUp old flushes answer new = Flushes old answer new
 HappensUp old shows answer new =
-    (answer ≡ nothing) × ((session : SessionState) × ((after : SessionState) × ((r : Result (Unit {0}) (Refusal Told)) × AnswersShow old.parts.memory session r after × (new ≡ up old))))
+    (answer ≡ nothing) × ((session : SessionState) × ((after : SessionState) × ((r : Result (Unit {0}) (Refusal CauseState)) × AnswersShow old.parts.volatile session r after × (new ≡ up old))))
 HappensUp old (fetches actor numbers) answer new =
-    (answer ≡ nothing) × ((r : Result FetchedState (Refusal Told)) × ((e : DurableState) × AnswersFetch (blocks_of old) old.parts.durable numbers r e
+    (answer ≡ nothing) × ((r : Result FetchedState (Refusal CauseState)) × ((e : DurableState) × AnswersFetch (blocks_of old) old.parts.durable numbers r e
     × (new ≡ up (keeping (with_durable old e) actor r))))
 HappensUp old logs answer new =
-    (answer ≡ nothing) × ((r : Result GroupStep (Refusal Told)) × ((e : DurableState) × AnswersGroupCall (blocks_of old) old.parts.durable r e
+    (answer ≡ nothing) × ((r : Result GroupStep (Refusal CauseState)) × ((e : DurableState) × AnswersGroupCall (blocks_of old) old.parts.durable r e
     × (new ≡ up (with_durable old e))))
 HappensUp old installs answer new =
-    (answer ≡ nothing) × ((r : Result InstallStep (Refusal Told)) × ((e : DurableState) × AnswersHomeCall (blocks_of old) old.parts.durable r e
+    (answer ≡ nothing) × ((r : Result InstallStep (Refusal CauseState)) × ((e : DurableState) × AnswersHomeCall (blocks_of old) old.parts.durable r e
     × (new ≡ up (with_durable old e))))
-HappensUp old settles answer new = SettlesBoth old answer new
+HappensUp old marks_or_cuts answer new = MarksOrCutsBoth old answer new
 HappensUp old (trims upto) answer new =
-    (answer ≡ nothing) × ((w : VolatileState) × Trims (blocks_of old) old.parts.memory old.parts.durable upto w × (new ≡ up (with_memory old w)))
+    (answer ≡ nothing) × ((w : VolatileState) × Trims (blocks_of old) old.parts.volatile old.parts.durable upto w × (new ≡ up (with_volatile old w)))
 HappensUp old notes answer new =
-    (answer ≡ nothing) × ((w : VolatileState) × NotesFault old.parts.memory old.parts.durable w × (new ≡ up (with_memory old w)))
+    (answer ≡ nothing) × ((w : VolatileState) × NotesFault old.parts.volatile old.parts.durable w × (new ≡ up (with_volatile old w)))
 HappensUp old (images image) answer new = TakesImage old image answer new
 HappensUp old (crashes image) answer new =
     (answer ≡ crashed) × ((e : DurableState) × Crashes old.parts.durable e
@@ -300,7 +300,7 @@ pub record IsUndisturbed (history : List Entry) (t : TransactionState) : Type 0 
   pub later : IsPrefix t.seen history
   pub unmoved : AreUnmoved history t
   pub agrees : Agrees (latest history) t.reads
-  pub never_behind : (cause : Told) → IsBehind history t cause → ⊥
+  pub never_behind : (cause : CauseState) → IsBehind history t cause → ⊥
 
 -- What was fetched, however long ago, is what the first commits of the history left: it goes from a
 -- hold of one lock to a later hold of another. No hold is refused because the fetch had seen more of
@@ -309,4 +309,4 @@ pub record StaysFetched (history : List Entry) (f : FetchedState) : Type 0 where
   pub begins : IsPrefix f.front history
   pub made : f.commits ≤ count history
   pub blocks : All (IsBlockAfter (opened history).blocks history f.commits) f.updates
-  pub never_longer : (why : Refusal Told) → IsFrontRefusal history f.front why → ⊥
+  pub never_longer : (why : Refusal CauseState) → IsFrontRefusal history f.front why → ⊥

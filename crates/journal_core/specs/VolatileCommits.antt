@@ -21,19 +21,19 @@ pub record AppendsWrites (old new : TailState) (writes : List Pair) : Type 0 whe
 
 -- The session's transaction was committed, and nothing else was done
 pub record IsCommitted (reads writes : List Pair) (session after : SessionState) (old new : VolatileState) : Type 0 where
-  pub committed : Commits (numbered session reads writes) session after old.memory.history new.memory.history
+  pub committed : Commits (numbered session reads writes) session after old.ledger.history new.ledger.history
   pub logs : AppendsWrites old.tail new.tail writes
   pub others : new ≡ record old {
-    memory = record old.memory { history = new.memory.history; next = max old.memory.next (session.number + 1) };
+    ledger = record old.ledger { history = new.ledger.history; next = max old.ledger.next (session.number + 1) };
     tail = new.tail;
   }
 
 -- The transaction was added, and the updates that its writes make appended
 pub record IsAdded (t : Transaction) (updates : List Update) (session after : SessionState) (old new : VolatileState) : Type 0 where
-  pub committed : Commits t session after old.memory.history new.memory.history
+  pub committed : Commits t session after old.ledger.history new.ledger.history
   pub appends : new.tail ≡ record old.tail { log = appended old.tail.log updates }
   pub others : new ≡ record old {
-    memory = record old.memory { history = new.memory.history; next = max old.memory.next (session.number + 1) };
+    ledger = record old.ledger { history = new.ledger.history; next = max old.ledger.next (session.number + 1) };
     tail = new.tail;
   }
 

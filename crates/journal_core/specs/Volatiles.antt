@@ -13,17 +13,17 @@ use Rattle.journal_wal.specs.declared.tail.CutPoint.{CutPoint}
 use Rattle.journal_objlog.specs.ObjectTails.{blocks_of}
 use Rattle.journal_history.specs.Soundness.{IsLonger}
 use Rattle.journal_core.specs.declared.refusal_number.RefusalNumber.TheVariants.{J9}
-use Rattle.journal_core.specs.Causes.{Told, IsExplained}
-use Rattle.journal_core.specs.Memories.{MemoryState}
+use Rattle.journal_core.specs.Causes.{CauseState, IsExplained}
+use Rattle.journal_core.specs.Ledgers.{LedgerState}
 use Rattle.journal_core.specs.Transactions.{TransactionState}
 use Rattle.journal_core.specs.Updates.{HaveAllSince, AreObjectsOf}
-use Rattle.journal_core.specs.Outsets.{Outset, MayRead, IsLookRefusal}
+use Rattle.journal_core.specs.Outsets.{Outset, MayRead, IsCheckRefusal}
 use Rattle.journal_core.specs.Durables.{FetchedState}
 
 -- What contracts see of the volatile part
 pub record VolatileState : Type 0 where
   -- the history, and who may go on
-  pub memory : MemoryState
+  pub ledger : LedgerState
   -- the updates in memory
   pub tail : TailState
   -- a device call failed, so that reads, commits and steps are refused until the disk is opened again
@@ -32,9 +32,9 @@ pub record VolatileState : Type 0 where
 -- what its reads and commits are judged by
 abbrev pub outset_of : VolatileState → Outset
 outset_of v = record {
-  closed = v.memory.closed;
+  closed = v.ledger.closed;
   faulted = v.faulted;
-  history = v.memory.history;
+  history = v.ledger.history;
   tail = tail_of v.tail.log;
   next = next_position v.tail.log;
 }
@@ -43,12 +43,12 @@ outset_of v = record {
 pub record IsCutOf (v : VolatileState) (c : CutPoint) : Type 0 where
   pub above : v.tail.log.start ≤ c.end
   pub below : c.end ≤ v.tail.log.cut
-  pub earlier : c.commits ≤ v.memory.cut
+  pub earlier : c.commits ≤ v.ledger.cut
 
 -- What was written since: each cut, the last one too, is followed by all updates of the commits after it
 pub record HasUpdates (blocks : ℕ) (v : VolatileState) : Type 0 where
-  pub since : All (λ c. HaveAllSince blocks v.memory.history c.commits (updates_from v.tail.log c.end)) (cut_points v.tail)
-  pub since_last : HaveAllSince blocks v.memory.history v.memory.cut (tail_of v.tail.log)
+  pub since : All (λ c. HaveAllSince blocks v.ledger.history c.commits (updates_from v.tail.log c.end)) (cut_points v.tail)
+  pub since_last : HaveAllSince blocks v.ledger.history v.ledger.cut (tail_of v.tail.log)
 
 -- What it keeps by itself, on a disk of so many blocks. Where the history is trusted it is said of
 -- values: what the updates after a cut have of an address is what the map gives it after all
@@ -56,15 +56,15 @@ pub record HasUpdates (blocks : ℕ) (v : VolatileState) : Type 0 where
 -- A commit that wrote what stood there already may so have no update
 pub record IsVolatile (blocks : ℕ) (v : VolatileState) : Type 0 where
   pub size : blocks_of v.tail ≡ blocks
-  pub begun : v.memory.history ≢ []
-  pub on_disk : (opened v.memory.history).blocks ≡ blocks
-  pub made : v.memory.cut ≤ count v.memory.history
+  pub begun : v.ledger.history ≢ []
+  pub on_disk : (opened v.ledger.history).blocks ≡ blocks
+  pub made : v.ledger.cut ≤ count v.ledger.history
   pub cut_to_next : v.tail.log.cut ≤ next_position v.tail.log
   pub small : next_position v.tail.log < 2 ^ 62
   pub cuts : All (IsCutOf v) (cut_points v.tail)
-  pub updates : IsTrue (is_trusted v.memory.history) → HasUpdates blocks v
+  pub updates : IsTrue (is_trusted v.ledger.history) → HasUpdates blocks v
   -- what it knows of an address, by its updates or by a copy of its block alone, is what the latest map gives it
-  pub known : IsTrue (is_trusted v.memory.history) → AreObjectsOf blocks (latest v.memory.history) (known_blocks v.tail)
+  pub known : IsTrue (is_trusted v.ledger.history) → AreObjectsOf blocks (latest v.ledger.history) (known_blocks v.tail)
 
 -- how many positions of the log have updates up to the last cut, where it starts at this one
 abbrev pub used_positions : VolatileState → ℕ → ℕ
@@ -74,8 +74,8 @@ used_positions v start = v.tail.log.cut - start
 -- position: the last cut is marked, and there is no tail and no commit after the mark, or there
 -- are fewer free positions than the tail has blocks
 pub record HasNothingToLog (v : VolatileState) (start : ℕ) : Type 0 where
-  pub marked : v.memory.cut ≤ floor v.memory.history
-  pub rest : ((tail_of v.tail.log ≡ []) × (count v.memory.history ≤ floor v.memory.history))
+  pub marked : v.ledger.cut ≤ floor v.ledger.history
+  pub rest : ((tail_of v.tail.log ≡ []) × (count v.ledger.history ≤ floor v.ledger.history))
       ⊎ (LOG_POSITIONS - used_positions v start < length (tail_of v.tail.log))
 
 -- Of the fetched blocks those that may be used: all, unless what commits wrote after them was dropped from memory
@@ -83,12 +83,12 @@ abbrev pub usable : VolatileState → FetchedState → List Update
 usable v f = if nat_le v.tail.trimmed f.commits then f.updates else []
 
 -- why another part's front does not begin the history: it is the longer, as this cause has it
-abbrev pub IsFrontRefusal : List Entry → List Entry → Refusal Told → Type 0
+abbrev pub IsFrontRefusal : List Entry → List Entry → Refusal CauseState → Type 0
 IsFrontRefusal history seen (Stale cause) = IsExplained J9 seen cause × IsLonger history seen
 IsFrontRefusal history seen other = ⊥
 
 -- why an object is not read: by what is known before the value is looked for, or else the fetch has
 -- seen more of the history
-abbrev pub IsReadRefusal : ℕ → VolatileState → TransactionState → Addr → FetchedState → Refusal Told → Type 0
+abbrev pub IsReadRefusal : ℕ → VolatileState → TransactionState → Addr → FetchedState → Refusal CauseState → Type 0
 IsReadRefusal blocks v t a f why =
-    IsLookRefusal blocks (outset_of v) t a why ⊎ (MayRead blocks (outset_of v) t a × IsFrontRefusal v.memory.history f.front why)
+    IsCheckRefusal blocks (outset_of v) t a why ⊎ (MayRead blocks (outset_of v) t a × IsFrontRefusal v.ledger.history f.front why)

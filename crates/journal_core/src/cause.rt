@@ -19,9 +19,9 @@ pub struct Cause<'b, J: Naming, R: MapRule> {
 }
 
 impl<'b, J: Naming, R: MapRule> Model for Cause<'b, J, R> {
-    ghost use Rattle.journal_core.specs.Causes.{Told};
+    ghost use Rattle.journal_core.specs.Causes.{CauseState};
 
-    ghost Value = { Told };
+    ghost Value = { CauseState };
 
     ghost view = { λ cause. record { number = cause.number; story = cause.front } };
 }

@@ -7,7 +7,7 @@ ghost use Rattle.journal_lockmap.specs.Numbers.{AreApart, HoldsSlots, slots_of};
 ghost use Rattle.journal_core.specs.SlotCounts.{AgreeWith, AreUnder};
 ghost use Rattle.journal_core.specs.Transactions.{AreUnmoved};
 ghost use Rattle.journal_core.specs.Cores.{Crashes, IsRunning, OnlyReads};
-ghost use Rattle.journal_core.specs.Memories.{ShowsLonger};
+ghost use Rattle.journal_core.specs.Ledgers.{ShowsLonger};
 ghost use Rattle.journal_core.specs.Commits.{IsCommitted, CanCommit, IsCommitRefusal};
 ghost use Rattle.journal_core.specs.Interleavings.{AnswersCommit};
 
@@ -26,8 +26,8 @@ impl<'b, D: BlockDisk, R: MapRule, J: Naming> Core<'b, D, R, J> {
     /// overwrites the map by its writes, in memory. The receipt says where it stands. All memory and all reads
     /// from the device come before the history grows; it takes what memory the spares have first.
     ///
-    /// What it reads and writes lies under slots that are held, each once. A look at these, which is made first and waits
-    /// for nobody, shows that no other commit touched one since it was read: nothing is compared. What is held agrees
+    /// What it reads and writes lies under slots that are held, each once. They are verified first: that waits
+    /// for nobody, and shows that no other commit touched one since it was read: nothing is compared. What is held agrees
     /// with the history then too, and a refusal leaves it as it was.
     ///
     /// The first that applies of these refuses it: J13 `Closed` where the core was stopped, J6 `DeviceFailed` where
@@ -67,12 +67,12 @@ impl<'b, D: BlockDisk, R: MapRule, J: Naming> Core<'b, D, R, J> {
         ensures crash { Crashes self.old self.new }
         ensures event { AnswersCommit self.old session.old transaction.now result self.new session.new }
     {
-        self.look(rt, held);
-        self.commit_unmoved(rt, session, transaction, held, spares)
+        self.verify_tokens(rt, held);
+        self.commit_verified(rt, session, transaction, held, spares)
     }
 
-    // Commits as `commit_step` does, once a look has shown that what was read has not moved.
-    fn commit_unmoved<W: Wait>(
+    // Commits as `commit_step` does, once it was verified that what was read has not moved.
+    fn commit_verified<W: Wait>(
         &mut self,
         rt: &W,
         session: &mut Session<'b, J, R>,

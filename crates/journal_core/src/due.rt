@@ -16,9 +16,9 @@ pub struct UnnotedFault<'b, J: Naming, R: MapRule> {
 
 impl<'b, J: Naming, R: MapRule> Model for UnnotedFault<'b, J, R> {
     ghost use Rattle.journal_world.specs.declared.refusal.Refusal.{Refusal};
-    ghost use Rattle.journal_core.specs.Causes.{Told};
+    ghost use Rattle.journal_core.specs.Causes.{CauseState};
 
-    ghost Value = { Refusal Told };
+    ghost Value = { Refusal CauseState };
 
     ghost view = { λ fault. fault.why };
 }
@@ -47,7 +47,7 @@ impl FreedLog {
     }
 }
 
-/// No group is in flight, so that a cut or a mark may be due. `Durable::settle` does it.
+/// No group is in flight, so that a cut or a mark may be due. `Durable::mark_or_cut` does it.
 #[must_use]
 pub struct RestingLog {
     pub(crate) made: (),

@@ -9,7 +9,7 @@ ghost use Rattle.journal_core.specs.Durables.{IsDurable, Leaves, begun_durable, 
 
 use journal_disk::{BlockDisk, MemDisk};
 use journal_history::{Front, Naming};
-use journal_object::objects_law;
+use journal_object::prove_objects_law;
 use journal_objlog::ObjectLog;
 use journal_world::MapRule;
 use std::marker::Model;
@@ -49,7 +49,7 @@ impl<'b, D: BlockDisk, R: MapRule, J: Naming> Durable<'b, D, R, J> {
     {
         // Both are called for their contracts: the law of the map that blocks make, at this size.
         let _layout = objects.layout();
-        objects_law();
+        prove_objects_law();
         Durable {
             objects,
             front,
@@ -60,7 +60,7 @@ impl<'b, D: BlockDisk, R: MapRule, J: Naming> Durable<'b, D, R, J> {
     }
 
     /// It keeps what its type keeps. Called for its contract.
-    pub(crate) fn keeps(&self)
+    pub(crate) fn prove_invariant(&self)
         ensures { IsDurable J.blocks self.now }
     {
         let _marked = self.marked;

@@ -5,7 +5,7 @@ ghost use Rattle.journal_world.specs.Histories.{is_trusted, count};
 ghost use Rattle.journal_memlog.specs.Logs.{HasDistinctBlocks};
 ghost use Rattle.journal_wal.specs.Wal.{AreHomes, with_room};
 ghost use Rattle.journal_wal.specs.Groups.{FitsGroup, HasGroupRoom};
-ghost use Rattle.journal_wal.specs.declared.append.TheConstants.{MAX_TAIL};
+ghost use Rattle.journal_wal.specs.declared.limits.TheConstants.{MAX_TAIL};
 ghost use Rattle.journal_objlog.specs.ObjectLogs.{IsCutLogged, end_of};
 ghost use Rattle.journal_core.specs.Updates.{HaveAllSince};
 ghost use Rattle.journal_core.specs.Durables.{Crashes, TakesCut, IsRoomRefusal};
@@ -59,7 +59,7 @@ impl<'b, D: BlockDisk, R: MapRule, J: Naming> Durable<'b, D, R, J> {
 
     /// Notes that all commits of the history are logged, of which there are so many: those since wrote nothing, and no
     /// group is in flight.
-    pub(crate) fn reach(&mut self, front: Front<'b, J, R>, commits: u64)
+    pub(crate) fn note_all_logged(&mut self, front: Front<'b, J, R>, commits: u64)
         requires rest { IsCutLogged self.old.objects }
         requires longer { IsPrefix self.old.front front }
         requires counted { commits ≡ count front }
@@ -73,7 +73,7 @@ impl<'b, D: BlockDisk, R: MapRule, J: Naming> Durable<'b, D, R, J> {
     }
 
     /// Notes the mark of all commits that are logged, which the history has by now.
-    pub(crate) fn note_mark(&mut self, front: Front<'b, J, R>)
+    pub(crate) fn set_marked(&mut self, front: Front<'b, J, R>)
         requires longer { IsPrefix self.old.front front }
         ensures marks { self.new ≡ record self.old { front = front.entry; marked = self.old.logged } }
         ensures crash { Crashes self.old self.new }

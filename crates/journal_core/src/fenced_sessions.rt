@@ -1,6 +1,6 @@
 // Which sessions are fenced.
 ghost use Rattle.std.specs.Prelude.{◌≡◌, ◌<◌, ◌≤◌, ◌^◌, [], OnOk};
-ghost use Rattle.journal_core.specs.Tallies.{is_in_run, is_in_runs, HasPlace, TakesBelow, TakesAbove, NotesFence};
+ghost use Rattle.journal_core.specs.Sessions.{is_in_run, is_in_runs, HasSpareRun, TakesBelow, TakesAbove, NotesFence};
 
 use std::alloc::{AllocError, Global};
 use std::marker::Model;
@@ -33,7 +33,7 @@ impl Run {
 impl Model for FencedSessions {
     ghost use Rattle.std.specs.Prelude.{◌-◌, length};
     ghost use Rattle.std.specs.Vec.{vec_capacity};
-    ghost use Rattle.journal_core.specs.Tallies.{FencedState};
+    ghost use Rattle.journal_core.specs.Sessions.{FencedState};
 
     ghost Value = { FencedState };
 
@@ -65,14 +65,14 @@ impl FencedSessions {
     /// Makes a place, so that `insert` takes no memory.
     pub(crate) fn reserve(&mut self) -> Result<(), AllocError>
         ensures same { self.new.runs ≡ self.old.runs }
-        ensures place { OnOk result (HasPlace self.new) }
+        ensures place { OnOk result (HasSpareRun self.new) }
     {
         self.runs.reserve(1)
     }
 
     /// Keeps that the session is fenced, where `reserve` made the place. The runs beside it become one with it.
     pub(crate) fn insert(&mut self, session: u64)
-        requires place { HasPlace self.old }
+        requires place { HasSpareRun self.old }
         requires small { session < 2 ^ 62 }
         ensures { NotesFence session self.old.runs self.new.runs }
     {

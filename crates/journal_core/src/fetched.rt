@@ -34,7 +34,7 @@ impl<'b, J: Naming, R: MapRule> Model for Fetched<'b, J, R> {
 
 impl<'b, J: Naming, R: MapRule> Fetched<'b, J, R> {
     /// Of no blocks, with this front, so that what is not in memory is asked for. It takes no memory.
-    pub fn nothing(alloc: Global, front: Front<'b, J, R>) -> Fetched<'b, J, R>
+    pub fn empty(alloc: Global, front: Front<'b, J, R>) -> Fetched<'b, J, R>
         requires { front ≢ [] }
         ensures { result ≡ record { front = front.entry; commits = 0; updates = [] } }
     {
@@ -46,7 +46,7 @@ impl<'b, J: Naming, R: MapRule> Fetched<'b, J, R> {
     }
 
     /// It keeps what its type keeps. Called for its contract.
-    pub(crate) fn holds(&self)
+    pub(crate) fn prove_fetched(&self)
         ensures { IsFetched J.blocks self.now }
     {
         let _commits = self.commits;
@@ -99,7 +99,7 @@ impl<'b, D: BlockDisk, R: MapRule, J: Naming> Durable<'b, D, R, J> {
 }
 
 /// Memory for these blocks, to be fetched into. Refuses by J1 `NoMemory`, and by nothing else.
-pub fn rooms_of<C>(alloc: Global, blocks: &[u64]) -> Result<Vec<Update>, Refusal<C>>
+pub fn fetch_buffers<C>(alloc: Global, blocks: &[u64]) -> Result<Vec<Update>, Refusal<C>>
     ensures named { IfOk result (λ rooms. map (λ u. u.block) rooms.items ≡ blocks.now) }
     ensures refusal { IsOkUnless result Refusal.NoMemory }
 {

@@ -10,12 +10,12 @@ ghost use Rattle.journal_disk.specs.Images.{EveryImage};
 ghost use Rattle.journal_wal.specs.declared.step.InstallStep.TheVariants.{Freed};
 ghost use Rattle.journal_objlog.specs.ObjectLogs.{end_of};
 ghost use Rattle.journal_history.specs.Tokens.{OnlyExtends};
-ghost use Rattle.journal_core.specs.Memories.{IsStaleRefusal};
+ghost use Rattle.journal_core.specs.Ledgers.{IsStaleRefusal};
 ghost use Rattle.journal_core.specs.Durables.{is_faulted, disk_of};
 ghost use Rattle.journal_core.specs.Pairs.{IsUntied};
 ghost use Rattle.journal_core.specs.Cores.{Leaves};
 ghost use Rattle.journal_core.specs.CallAnswers.{log_answer, install_answer, IfFreed, IfFailed};
-ghost use Rattle.journal_core.specs.Holds.{AnswersFetch, AnswersGroupCall, AnswersHomeCall, AnswersSettling, Trims, NotesFault, AnswersDisk};
+ghost use Rattle.journal_core.specs.Holds.{AnswersFetch, AnswersGroupCall, AnswersHomeCall, AnswersMarkOrCut, Trims, NotesFault, AnswersDisk};
 
 use crate::cause::Cause;
 use crate::due::{FreedLog, InstallCall, InstallFault, LogCall, RestingLog, UnnotedFault};
@@ -41,21 +41,21 @@ impl<'b, D: BlockDisk, R: MapRule, J: Naming> Durable<'b, D, R, J> {
     {
         match self.advance_log() {
             Ok(GroupStep::Put) => {
-                self.keeps();
+                self.prove_invariant();
                 Ok(LogCall::Put)
             }
             Ok(GroupStep::Logged) => {
-                self.keeps();
+                self.prove_invariant();
                 Ok(LogCall::Logged)
             }
             Ok(GroupStep::Idle) => {
-                self.keeps();
+                self.prove_invariant();
                 Ok(LogCall::AtRest(RestingLog { made: () }))
             }
             // There is no tail in the durable part's log.
             Ok(GroupStep::Cut) => unreachable!(),
             Err(why) => {
-                self.keeps();
+                self.prove_invariant();
                 Err(UnnotedFault { why })
             }
         }
@@ -75,23 +75,23 @@ impl<'b, D: BlockDisk, R: MapRule, J: Naming> Durable<'b, D, R, J> {
     {
         match self.advance_install() {
             Ok(InstallStep::Idle) => {
-                self.keeps();
+                self.prove_invariant();
                 Ok(InstallCall::Idle)
             }
             Ok(InstallStep::Put) => {
-                self.keeps();
+                self.prove_invariant();
                 Ok(InstallCall::Put)
             }
             Ok(InstallStep::Freed(upto)) => {
-                self.keeps();
+                self.prove_invariant();
                 Ok(InstallCall::Freed(FreedLog { upto }))
             }
             Err(Refusal::NoMemory) => {
-                self.keeps();
+                self.prove_invariant();
                 Err(InstallFault::NoMemory)
             }
             Err(why) => {
-                self.keeps();
+                self.prove_invariant();
                 Err(InstallFault::Failed(UnnotedFault { why }))
             }
         }
@@ -113,12 +113,12 @@ impl<'b, D: BlockDisk, R: MapRule, J: Naming> Durable<'b, D, R, J> {
     {
         match self.fetch_blocks(updates) {
             Ok(fetched) => {
-                self.keeps();
-                fetched.holds();
+                self.prove_invariant();
+                fetched.prove_fetched();
                 Ok(fetched)
             }
             Err(why) => {
-                self.keeps();
+                self.prove_invariant();
                 Err(UnnotedFault { why })
             }
         }
@@ -132,44 +132,44 @@ impl<'b, D: BlockDisk, R: MapRule, J: Naming> Durable<'b, D, R, J> {
     /// `DeviceFailed` where the device failed before; J11 `Worn` where the history's length or a
     /// position would reach 2^62; J1 `NoMemory` where memory for the group is refused. Nothing is
     /// then marked or cut.
-    pub fn settle(
+    pub fn mark_or_cut(
         &mut self,
-        memory: &mut Volatile<'b, R, J>,
+        volatile: &mut Volatile<'b, R, J>,
         rest: RestingLog,
     ) -> Result<LogStep, Refusal<Cause<'b, J, R>>>
-        ensures event { AnswersSettling J.blocks memory.old self.old result memory.new self.new }
+        ensures event { AnswersMarkOrCut J.blocks volatile.old self.old result volatile.new self.new }
     {
         let RestingLog { made: _ } = rest;
-        let answer = self.do_due(memory);
-        self.keeps();
-        memory.keeps();
+        let answer = self.do_due(volatile);
+        self.prove_invariant();
+        volatile.prove_invariant();
         answer
     }
 
     /// A hold of both: drops from memory the updates that are at home, those of each cut that ends
     /// at the freed positions or before. It answers how far, as a step of the installer.
-    pub fn trim(&self, memory: &mut Volatile<'b, R, J>, freed: FreedLog) -> InstallStep
+    pub fn trim(&self, volatile: &mut Volatile<'b, R, J>, freed: FreedLog) -> InstallStep
         requires home { freed ≤ end_of self.now.objects }
-        ensures event { Trims J.blocks memory.old self.now freed memory.new }
+        ensures event { Trims J.blocks volatile.old self.now freed volatile.new }
         ensures told { result ≡ Freed freed }
     {
         let FreedLog { upto } = freed;
-        self.trim_memory(memory, upto);
-        memory.keeps();
+        self.trim_memory(volatile, upto);
+        volatile.prove_invariant();
         InstallStep::Freed(upto)
     }
 
     /// A hold of both: notes in memory that the device failed, and gives the refusal.
     pub fn note_fault(
         &self,
-        memory: &mut Volatile<'b, R, J>,
+        volatile: &mut Volatile<'b, R, J>,
         fault: UnnotedFault<'b, J, R>,
     ) -> Refusal<Cause<'b, J, R>>
         requires fault { IsTrue (is_faulted self.now) }
-        ensures event { NotesFault memory.old self.now memory.new }
+        ensures event { NotesFault volatile.old self.now volatile.new }
         ensures refusal { result ≡ fault.entry }
     {
-        memory.fail();
+        volatile.fail();
         let UnnotedFault { why } = fault;
         why
     }
@@ -182,17 +182,17 @@ impl<'b, D: BlockDisk, R: MapRule, J: Naming> Durable<'b, D, R, J> {
     /// the core, or where the disk's part lacks a mark. The session may then have seen more.
     pub fn show_disk(
         &self,
-        memory: &Volatile<'b, R, J>,
+        volatile: &Volatile<'b, R, J>,
         session: &mut Session<'b, J, R>,
     ) -> Result<&D, Refusal<Cause<'b, J, R>>>
         ensures disk { IfOk result (λ disk. D.state disk.now ≡ disk_of self.now) }
         ensures session { OnlyExtends session.old session.new }
         ensures trusted { OnOk result (is_trusted session.new.seen ≡ (disk_of self.now).honest) }
         ensures images { OnOk result (IsTrue (disk_of self.now).honest → EveryImage (disk_of self.now).past (Leaves session.new.seen)) }
-        ensures refusal { IfErr result (λ why. IsStaleRefusal memory.now.memory.history why ⊎ IsUntied memory.now self.now self.now.marked why) }
-        ensures event { AnswersDisk memory.now self.now session.old result session.new }
+        ensures refusal { IfErr result (λ why. IsStaleRefusal volatile.now.ledger.history why ⊎ IsUntied volatile.now self.now self.now.marked why) }
+        ensures event { AnswersDisk volatile.now self.now session.old result session.new }
     {
-        memory.show_step(session)?;
-        self.disk_under(memory)
+        volatile.show_step(session)?;
+        self.disk_under(volatile)
     }
 }

@@ -32,7 +32,7 @@ pub fn every_order_of_holds<R: MapRule>()
         IsLegal R.statement (history_of last.parts) }
     ensures between { (disk : DiskState) (first : Parts) (events : List Event) (answers : List Answer) (last : Mount) →
         IsTrue disk.honest → BeginsApart R.statement disk first → Run R.statement (mounted first) events answers (up last) →
-        IsBetween (blocks_of last) last.parts.memory last.parts.durable }
+        IsBetween (blocks_of last) last.parts.volatile last.parts.durable }
     ensures two_phase { (disk : DiskState) (first : Parts) (events : List Event) (answers : List Answer) (last : Mount) (actor : ℕ) (draft : TransactionState) →
         IsTrue disk.honest → BeginsApart R.statement disk first → Run R.statement (mounted first) events answers (up last) →
         last.transactions actor ≡ Some draft → IsUndisturbed (history_of last.parts) draft }

@@ -12,7 +12,7 @@ ghost use Rattle.journal_core.specs.Openings.{HasWellFormedLog, HasBoundsOf, Beg
 
 use crate::cause::{Cause, raise, raised};
 use crate::durable::Durable;
-use crate::memory::Memory;
+use crate::ledger::Ledger;
 use crate::refusal_number::RefusalNumber;
 use crate::state::Core;
 use crate::volatile::Volatile;
@@ -74,7 +74,7 @@ impl<'b, D: BlockDisk, R: MapRule, J: Naming> Core<'b, D, R, J> {
                 disk,
             });
         };
-        let Some((counts, slots, sessions, spare)) = memory_of(alloc, cell) else {
+        let Some((counts, slots, sessions, spare)) = slots_and_counts(alloc, cell) else {
             return Err(Refused {
                 refusal: Refusal::NoMemory,
                 disk,
@@ -101,8 +101,8 @@ impl<'b, D: BlockDisk, R: MapRule, J: Naming> Core<'b, D, R, J> {
         let (objects, admitted) = objects.admitted_by(rule);
         match begin(book, &objects, admitted) {
             Ok(writer) => {
-                let memory = Memory::new(alloc, writer, counts, sessions);
-                Ok((Core::begun(alloc, objects, memory, tail, spare), slots))
+                let ledger = Ledger::new(alloc, writer, counts, sessions);
+                Ok((Core::begun(alloc, objects, ledger, tail, spare), slots))
             }
             Err(refusal) => Err(Refused {
                 refusal,
@@ -115,29 +115,29 @@ impl<'b, D: BlockDisk, R: MapRule, J: Naming> Core<'b, D, R, J> {
     fn begun(
         alloc: Global,
         objects: ObjectLog<D>,
-        memory: Memory<'b, R, J>,
+        ledger: Ledger<'b, R, J>,
         tail: ObjectTail,
         spare: Vec<Update>,
     ) -> Core<'b, D, R, J>
         requires size { size_of objects ≡ J.blocks }
         requires rest { IsAtRest objects }
         requires images { IsTrue (disk_of objects).honest → EveryImage (disk_of objects).past (OpensAs (map_now objects)) }
-        requires begun { memory ≡ record { history = opening (map_now objects) (disk_of objects).honest ∷ []; cut = 0; next = 0; closed = false } }
+        requires begun { ledger ≡ record { history = opening (map_now objects) (disk_of objects).honest ∷ []; cut = 0; next = 0; closed = false } }
         requires tail { tail ≡ empty_tail J.blocks (end_of objects) tail.log.room }
         requires spare { length spare.items ≡ 1 }
         ensures { result ≡ record {
           objects = record { wal = objects; tail = [] };
-          history = memory.entry.history;
+          history = ledger.entry.history;
           cut = 0;
           logged = 0;
           next = 0;
           closed = false;
         } }
     {
-        let durable = Durable::new(objects, memory.front());
-        let volatile = Volatile::new(memory, tail);
-        durable.keeps();
-        volatile.keeps();
+        let durable = Durable::new(objects, ledger.front());
+        let volatile = Volatile::new(ledger, tail);
+        durable.prove_invariant();
+        volatile.prove_invariant();
         Core {
             alloc,
             durable,
@@ -149,15 +149,15 @@ impl<'b, D: BlockDisk, R: MapRule, J: Naming> Core<'b, D, R, J> {
 
 // The slots of a history without commits, the numbers of these and of its sessions, and memory for one block, where there
 // is memory.
-fn memory_of<J: Naming>(
+fn slots_and_counts<J: Naming>(
     alloc: Global,
     cell: SlotCell,
 ) -> Option<(SlotCounts<J>, Slots<J>, SessionCounts<J>, Vec<Update>)>
     requires cell { cell ≡ J.cell }
-    ensures counts { IfSome result (λ memory. memory.0 ≡ replicate SLOT_COUNT 0) }
-    ensures free { IfSome result (λ memory. memory.1 ≡ replicate SLOT_COUNT false) }
-    ensures sessions { IfSome result (λ memory. memory.2 ≡ []) }
-    ensures spare { IfSome result (λ memory. length memory.3.items ≡ 1) }
+    ensures counts { IfSome result (λ made. made.0 ≡ replicate SLOT_COUNT 0) }
+    ensures free { IfSome result (λ made. made.1 ≡ replicate SLOT_COUNT false) }
+    ensures sessions { IfSome result (λ made. made.2 ≡ []) }
+    ensures spare { IfSome result (λ made. length made.3.items ≡ 1) }
 {
     let (counts, slots, sessions) = SlotCounts::begin(alloc, cell).ok()?;
     let bytes = Block::try_new::<()>(alloc).ok()?;

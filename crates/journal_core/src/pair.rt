@@ -26,17 +26,17 @@ impl<'b, D: BlockDisk, R: MapRule, J: Naming> Durable<'b, D, R, J> {
     /// Answers J9 `Stale` where the history that this part has seen is the longer, or where it lacks a mark.
     pub(crate) fn disk_under(
         &self,
-        memory: &Volatile<'b, R, J>,
+        volatile: &Volatile<'b, R, J>,
     ) -> Result<&D, Refusal<Cause<'b, J, R>>>
         ensures disk { IfOk result (λ disk. D.state disk.now ≡ disk_of self.now) }
         ensures size { (disk_of self.now).past.size ≡ J.blocks }
-        ensures trusted { OnOk result (is_trusted memory.now.memory.history ≡ (disk_of self.now).honest) }
-        ensures images { IsTrue (disk_of self.now).honest → IfOk result (λ _. EveryImage (disk_of self.now).past (LeavesHistory memory.now.memory.history)) }
-        ensures refusal { IfErr result (IsUntied memory.now self.now self.now.marked) }
-        ensures only { Tied memory.now self.now → IfErr result (λ _. ⊥) }
+        ensures trusted { OnOk result (is_trusted volatile.now.ledger.history ≡ (disk_of self.now).honest) }
+        ensures images { IsTrue (disk_of self.now).honest → IfOk result (λ _. EveryImage (disk_of self.now).past (LeavesHistory volatile.now.ledger.history)) }
+        ensures refusal { IfErr result (IsUntied volatile.now self.now self.now.marked) }
+        ensures only { Tied volatile.now self.now → IfErr result (λ _. ⊥) }
     {
-        let front = memory.front_over(&self.front)?;
-        if self.marked < memory.memory.floor() {
+        let front = volatile.front_over(&self.front)?;
+        if self.marked < volatile.ledger.floor() {
             return Err(Refusal::Stale(Cause::of(RefusalNumber::J9, front)));
         }
         Ok(self.objects.disk())
@@ -50,27 +50,27 @@ impl<'b, D: BlockDisk, R: MapRule, J: Naming> Durable<'b, D, R, J> {
     /// where memory is refused. All is then as it was, but may have more room in memory.
     pub(crate) fn cut(
         &mut self,
-        memory: &mut Volatile<'b, R, J>,
+        volatile: &mut Volatile<'b, R, J>,
     ) -> Result<bool, Refusal<Cause<'b, J, R>>>
-        ensures cuts { IfOk result (λ done. IsTrue done → CutsBoth memory.old self.old memory.new self.new) }
-        ensures idle { IfOk result (λ done. done ≡ false → (memory.new ≡ memory.old) × (self.new ≡ self.old)) }
-        ensures only { IfOk result (λ done. done ≡ false → IsCutDue memory.old self.old → ⊥) }
-        ensures refusal { IfErr result (IsCutRefusal memory.old self.old) }
-        ensures memory { OnErr result (memory.new ≡ memory.old) }
+        ensures cuts { IfOk result (λ done. IsTrue done → CutsBoth volatile.old self.old volatile.new self.new) }
+        ensures idle { IfOk result (λ done. done ≡ false → (volatile.new ≡ volatile.old) × (self.new ≡ self.old)) }
+        ensures only { IfOk result (λ done. done ≡ false → IsCutDue volatile.old self.old → ⊥) }
+        ensures refusal { IfErr result (IsCutRefusal volatile.old self.old) }
+        ensures volatile { OnErr result (volatile.new ≡ volatile.old) }
         ensures durable { OnErr result (self.new ≡ record self.old { objects = with_room self.old.objects self.new.objects.log.room }) }
-        ensures tied { Tied memory.old self.old → Tied memory.new self.new }
+        ensures tied { Tied volatile.old self.old → Tied volatile.new self.new }
         ensures crash { Crashes self.old self.new }
     {
-        let front = memory.front_over(&self.front)?;
-        if self.logged < memory.memory.cut() {
+        let front = volatile.front_over(&self.front)?;
+        if self.logged < volatile.ledger.cut() {
             return Ok(false);
         }
-        let blocks = memory.tail.tail_len() as usize;
+        let blocks = volatile.tail.tail_len() as usize;
         if !self.reserve(blocks)? {
             return Ok(false);
         }
-        let group = memory.cut()?;
-        self.take(group, front, memory.memory.count());
+        let group = volatile.cut()?;
+        self.take(group, front, volatile.ledger.count());
         Ok(true)
     }
 
@@ -82,26 +82,26 @@ impl<'b, D: BlockDisk, R: MapRule, J: Naming> Durable<'b, D, R, J> {
     /// marked.
     pub(crate) fn mark(
         &mut self,
-        memory: &mut Volatile<'b, R, J>,
+        volatile: &mut Volatile<'b, R, J>,
     ) -> Result<bool, Refusal<Cause<'b, J, R>>>
-        ensures marks { IfOk result (λ done. IsTrue done → MarksBoth memory.old self.old memory.new self.new) }
-        ensures idle { IfOk result (λ done. done ≡ false → (memory.new ≡ memory.old) × (self.new ≡ self.old)) }
-        ensures only { IfOk result (λ done. done ≡ false → IsMarkDue memory.old self.old → ⊥) }
-        ensures refusal { IfErr result (IsMarkingRefusal memory.old self.old) }
-        ensures same { OnErr result ((memory.new ≡ memory.old) × (self.new ≡ self.old)) }
-        ensures tied { Tied memory.old self.old → Tied memory.new self.new }
+        ensures marks { IfOk result (λ done. IsTrue done → MarksBoth volatile.old self.old volatile.new self.new) }
+        ensures idle { IfOk result (λ done. done ≡ false → (volatile.new ≡ volatile.old) × (self.new ≡ self.old)) }
+        ensures only { IfOk result (λ done. done ≡ false → IsMarkDue volatile.old self.old → ⊥) }
+        ensures refusal { IfErr result (IsMarkingRefusal volatile.old self.old) }
+        ensures same { OnErr result ((volatile.new ≡ volatile.old) × (self.new ≡ self.old)) }
+        ensures tied { Tied volatile.old self.old → Tied volatile.new self.new }
         ensures crash { Crashes self.old self.new }
     {
-        let front = memory.front_over(&self.front)?;
-        let marked = memory.memory.floor();
+        let front = volatile.front_over(&self.front)?;
+        let marked = volatile.ledger.floor();
         if self.logged < marked {
             return Err(Refusal::Stale(Cause::of(RefusalNumber::J9, front)));
         }
-        if memory.memory.cut() != self.logged || marked == self.logged {
+        if volatile.ledger.cut() != self.logged || marked == self.logged {
             return Ok(false);
         }
-        memory.mark(self.logged)?;
-        self.note_mark(memory.memory.front());
+        volatile.mark(self.logged)?;
+        self.set_marked(volatile.ledger.front());
         Ok(true)
     }
 
@@ -112,24 +112,24 @@ impl<'b, D: BlockDisk, R: MapRule, J: Naming> Durable<'b, D, R, J> {
     /// `Worn` where its length would reach 2^62. Nothing is then marked.
     pub(crate) fn mark_rest(
         &mut self,
-        memory: &mut Volatile<'b, R, J>,
+        volatile: &mut Volatile<'b, R, J>,
     ) -> Result<bool, Refusal<Cause<'b, J, R>>>
-        ensures marks { IfOk result (λ done. IsTrue done → MarksAll memory.old self.old memory.new self.new) }
-        ensures idle { IfOk result (λ done. done ≡ false → (memory.new ≡ memory.old) × (self.new ≡ self.old)) }
-        ensures only { IfOk result (λ done. done ≡ false → IsRestDue memory.old self.old → ⊥) }
-        ensures refusal { IfErr result (IsRestRefusal memory.old self.old) }
-        ensures same { OnErr result ((memory.new ≡ memory.old) × (self.new ≡ self.old)) }
-        ensures tied { Tied memory.old self.old → Tied memory.new self.new }
+        ensures marks { IfOk result (λ done. IsTrue done → MarksAll volatile.old self.old volatile.new self.new) }
+        ensures idle { IfOk result (λ done. done ≡ false → (volatile.new ≡ volatile.old) × (self.new ≡ self.old)) }
+        ensures only { IfOk result (λ done. done ≡ false → IsRestDue volatile.old self.old → ⊥) }
+        ensures refusal { IfErr result (IsRestRefusal volatile.old self.old) }
+        ensures same { OnErr result ((volatile.new ≡ volatile.old) × (self.new ≡ self.old)) }
+        ensures tied { Tied volatile.old self.old → Tied volatile.new self.new }
         ensures crash { Crashes self.old self.new }
     {
-        memory.front_over(&self.front)?;
-        let commits = memory.memory.count();
-        if self.awaits_logging(memory) || commits <= memory.memory.floor() {
+        volatile.front_over(&self.front)?;
+        let commits = volatile.ledger.count();
+        if self.awaits_logging(volatile) || commits <= volatile.ledger.floor() {
             return Ok(false);
         }
-        memory.mark(commits)?;
-        self.reach(memory.memory.front(), commits);
-        self.note_mark(memory.memory.front());
+        volatile.mark(commits)?;
+        self.note_all_logged(volatile.ledger.front(), commits);
+        self.set_marked(volatile.ledger.front());
         Ok(true)
     }
 
@@ -137,45 +137,47 @@ impl<'b, D: BlockDisk, R: MapRule, J: Naming> Durable<'b, D, R, J> {
     /// wrote nothing. It is idle where there is none of these.
     pub(crate) fn do_due(
         &mut self,
-        memory: &mut Volatile<'b, R, J>,
+        volatile: &mut Volatile<'b, R, J>,
     ) -> Result<LogStep, Refusal<Cause<'b, J, R>>>
-        ensures ok { IfOk result (λ step. DoesWhatIsDue memory.old self.old step memory.new self.new) }
-        ensures refusal { IfErr result (λ why. IsDueRefusal memory.old self.old why self.new) }
-        ensures memory { OnErr result (memory.new ≡ memory.old) }
-        ensures tied { Tied memory.old self.old → Tied memory.new self.new }
+        ensures ok { IfOk result (λ step. DoesWhatIsDue volatile.old self.old step volatile.new self.new) }
+        ensures refusal { IfErr result (λ why. IsDueRefusal volatile.old self.old why self.new) }
+        ensures volatile { OnErr result (volatile.new ≡ volatile.old) }
+        ensures tied { Tied volatile.old self.old → Tied volatile.new self.new }
         ensures crash { Crashes self.old self.new }
     {
         let logged = self.logged;
-        if self.mark(memory)? {
+        if self.mark(volatile)? {
             return Ok(LogStep::Marked(logged));
         }
-        if self.cut(memory)? {
+        if self.cut(volatile)? {
             return Ok(LogStep::Cut);
         }
-        let commits = memory.memory.count();
-        if self.mark_rest(memory)? {
+        let commits = volatile.ledger.count();
+        if self.mark_rest(volatile)? {
             return Ok(LogStep::Marked(commits));
         }
         Ok(LogStep::Idle)
     }
 
     // Whether something that commits wrote is not logged yet.
-    fn awaits_logging(&self, memory: &Volatile<'b, R, J>) -> bool
-        ensures cut { result ≡ false → memory.now.memory.cut ≤ self.now.logged }
+    fn awaits_logging(&self, volatile: &Volatile<'b, R, J>) -> bool
+        ensures cut { result ≡ false → volatile.now.ledger.cut ≤ self.now.logged }
         ensures rest { result ≡ false → IsCutLogged self.now.objects }
-        ensures tail { result ≡ false → tail_of memory.now.tail.log ≡ [] }
-        ensures only { IsTrue result → IsRestDue memory.now self.now → ⊥ }
+        ensures tail { result ≡ false → tail_of volatile.now.tail.log ≡ [] }
+        ensures only { IsTrue result → IsRestDue volatile.now self.now → ⊥ }
     {
-        self.logged < memory.memory.cut() || self.objects.is_logging() || memory.tail.tail_len() > 0
+        self.logged < volatile.ledger.cut()
+            || self.objects.is_logging()
+            || volatile.tail.tail_len() > 0
     }
 
     /// Drops from memory what is at home: the updates of each cut that ends at the position or before it.
-    pub(crate) fn trim_memory(&self, memory: &mut Volatile<'b, R, J>, upto: u64)
-        ensures drops { DropsCuts memory.old.tail upto memory.new.tail }
-        ensures left { All (λ c. upto < c.end) memory.new.tail.cuts }
-        ensures others { memory.new ≡ record memory.old { tail = memory.new.tail } }
-        ensures tied { upto ≤ end_of self.now.objects → Tied memory.old self.now → Tied memory.new self.now }
+    pub(crate) fn trim_memory(&self, volatile: &mut Volatile<'b, R, J>, upto: u64)
+        ensures drops { DropsCuts volatile.old.tail upto volatile.new.tail }
+        ensures left { All (λ c. upto < c.end) volatile.new.tail.cuts }
+        ensures others { volatile.new ≡ record volatile.old { tail = volatile.new.tail } }
+        ensures tied { upto ≤ end_of self.now.objects → Tied volatile.old self.now → Tied volatile.new self.now }
     {
-        memory.trim(upto);
+        volatile.trim(upto);
     }
 }

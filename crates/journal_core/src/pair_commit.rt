@@ -8,7 +8,7 @@ ghost use Rattle.journal_lockmap.specs.Numbers.{AreApart, HoldsSlots, slots_of};
 ghost use Rattle.journal_core.specs.SlotCounts.{AgreeWith};
 ghost use Rattle.journal_core.specs.Cores.{Crashes, IsPair, IsRunning, OnlyReads, core_of};
 ghost use Rattle.journal_core.specs.Durables.{IsCallRefusal};
-ghost use Rattle.journal_core.specs.Memories.{ShowsLonger};
+ghost use Rattle.journal_core.specs.Ledgers.{ShowsLonger};
 ghost use Rattle.journal_core.specs.Transactions.{AreUnmoved};
 ghost use Rattle.journal_core.specs.Outsets.{IsCommitRefusal as IsRefusedFrom};
 ghost use Rattle.journal_core.specs.Volatiles.{outset_of};
@@ -16,7 +16,7 @@ ghost use Rattle.journal_core.specs.Commits.{IsCommitted, CanCommit, IsCommitRef
 
 use crate::cause::Cause;
 use crate::durable::Durable;
-use crate::fetched::{Fetched, rooms_of};
+use crate::fetched::{Fetched, fetch_buffers};
 use crate::transaction::Transaction;
 use crate::volatile::Volatile;
 use crate::volatile_commit::CommitStep;
@@ -35,7 +35,7 @@ impl<'b, D: BlockDisk, R: MapRule, J: Naming> Durable<'b, D, R, J> {
         &mut self,
         rt: &W,
         alloc: Global,
-        memory: &mut Volatile<'b, R, J>,
+        volatile: &mut Volatile<'b, R, J>,
         session: &mut Session<'b, J, R>,
         transaction: &Transaction<'b, J, R>,
         held: &mut [Held<J>],
@@ -43,35 +43,35 @@ impl<'b, D: BlockDisk, R: MapRule, J: Naming> Durable<'b, D, R, J> {
     ) -> Result<Receipt<'b, J, R>, Refusal<Cause<'b, J, R>>>
         requires rule { (m : Map) → m.blocks ≡ J.blocks → R.statement m → Agrees m transaction.now.reads
             → R.statement (overwritten m transaction.now.writes) }
-        requires unmoved { AreUnmoved memory.old.memory.history transaction.now }
+        requires unmoved { AreUnmoved volatile.old.ledger.history transaction.now }
         requires covered { HoldsSlots held.old transaction.now.writes }
         requires apart { AreApart held.old }
-        requires pair { IsPair J.blocks memory.old self.old }
-        ensures agree { OnOk result (AgreeWith memory.new.memory.history held.new) }
+        requires pair { IsPair J.blocks volatile.old self.old }
+        ensures agree { OnOk result (AgreeWith volatile.new.ledger.history held.new) }
         ensures slots { slots_of held.new ≡ slots_of held.old }
         ensures held { OnErr result (held.new ≡ held.old) }
-        ensures committed { OnOk result (IsCommitted transaction.now.reads transaction.now.writes session.old session.new (core_of memory.old self.old) (core_of memory.new self.new)) }
-        ensures receipt { IfOk result (IsReceiptFor (next_transaction session.old transaction.now.reads transaction.now.writes) memory.new.memory.history (length memory.old.memory.history)) }
-        ensures can { OnOk result (CanCommit (core_of memory.old self.old) session.old transaction.now) }
-        ensures agrees { OnOk result (IsTrue (is_trusted memory.old.memory.history) → Agrees (latest memory.old.memory.history) transaction.now.reads) }
-        ensures running { OnOk result (IsRunning (core_of memory.new self.new)) }
-        ensures refusal { IfErr result (IsCommitRefusal (core_of memory.old self.old) session.old transaction.now (core_of memory.new self.new)) }
-        ensures same { OnErr result (core_of memory.new self.new ≡ record (core_of memory.old self.old) { objects = (core_of memory.new self.new).objects }) }
-        ensures left { OnErr result (OnlyReads (core_of memory.old self.old).objects (core_of memory.new self.new).objects) }
+        ensures committed { OnOk result (IsCommitted transaction.now.reads transaction.now.writes session.old session.new (core_of volatile.old self.old) (core_of volatile.new self.new)) }
+        ensures receipt { IfOk result (IsReceiptFor (next_transaction session.old transaction.now.reads transaction.now.writes) volatile.new.ledger.history (length volatile.old.ledger.history)) }
+        ensures can { OnOk result (CanCommit (core_of volatile.old self.old) session.old transaction.now) }
+        ensures agrees { OnOk result (IsTrue (is_trusted volatile.old.ledger.history) → Agrees (latest volatile.old.ledger.history) transaction.now.reads) }
+        ensures running { OnOk result (IsRunning (core_of volatile.new self.new)) }
+        ensures refusal { IfErr result (IsCommitRefusal (core_of volatile.old self.old) session.old transaction.now (core_of volatile.new self.new)) }
+        ensures same { OnErr result (core_of volatile.new self.new ≡ record (core_of volatile.old self.old) { objects = (core_of volatile.new self.new).objects }) }
+        ensures left { OnErr result (OnlyReads (core_of volatile.old self.old).objects (core_of volatile.new self.new).objects) }
         ensures session { OnErr result (OnlyExtends session.old session.new) }
-        ensures longer { IfErr result (ShowsLonger memory.old.memory.history session.new) }
-        ensures pair { IsPair J.blocks memory.new self.new }
-        ensures crash { Crashes (core_of memory.old self.old) (core_of memory.new self.new) }
+        ensures longer { IfErr result (ShowsLonger volatile.old.ledger.history session.new) }
+        ensures pair { IsPair J.blocks volatile.new self.new }
+        ensures crash { Crashes (core_of volatile.old self.old) (core_of volatile.new self.new) }
     {
-        let nothing = Fetched::nothing(alloc, memory.memory.front());
-        let answer = memory.commit_unmoved(rt, session, transaction, held, spares, &nothing);
+        let nothing = Fetched::empty(alloc, volatile.ledger.front());
+        let answer = volatile.commit_verified(rt, session, transaction, held, spares, &nothing);
         // Called for its contract: what memory keeps by itself.
-        memory.keeps();
+        volatile.prove_invariant();
         match answer {
             Ok(CommitStep::Done(receipt)) => Ok(receipt),
             Ok(CommitStep::Missing(blocks)) => {
-                let rooms = rooms_of(alloc, &blocks)?;
-                self.commit_fetched(rt, memory, session, transaction, held, spares, rooms)
+                let rooms = fetch_buffers(alloc, &blocks)?;
+                self.commit_fetched(rt, volatile, session, transaction, held, spares, rooms)
             }
             Err(why) => Err(why),
         }
@@ -81,7 +81,7 @@ impl<'b, D: BlockDisk, R: MapRule, J: Naming> Durable<'b, D, R, J> {
     pub(crate) fn commit_fetched<W: Wait>(
         &mut self,
         rt: &W,
-        memory: &mut Volatile<'b, R, J>,
+        volatile: &mut Volatile<'b, R, J>,
         session: &mut Session<'b, J, R>,
         transaction: &Transaction<'b, J, R>,
         held: &mut [Held<J>],
@@ -90,32 +90,32 @@ impl<'b, D: BlockDisk, R: MapRule, J: Naming> Durable<'b, D, R, J> {
     ) -> Result<Receipt<'b, J, R>, Refusal<Cause<'b, J, R>>>
         requires rule { (m : Map) → m.blocks ≡ J.blocks → R.statement m → Agrees m transaction.now.reads
             → R.statement (overwritten m transaction.now.writes) }
-        requires unmoved { AreUnmoved memory.old.memory.history transaction.now }
+        requires unmoved { AreUnmoved volatile.old.ledger.history transaction.now }
         requires covered { HoldsSlots held.old transaction.now.writes }
         requires apart { AreApart held.old }
         requires blocks { All (λ u. u.block < J.blocks) rooms.items }
-        requires named { map (λ u. u.block) rooms.items ≡ missing_blocks J.blocks (known_updates [] memory.old.tail) transaction.now.writes }
-        requires pair { IsPair J.blocks memory.old self.old }
-        requires running { IsRunning (core_of memory.old self.old) }
-        ensures agree { OnOk result (AgreeWith memory.new.memory.history held.new) }
+        requires named { map (λ u. u.block) rooms.items ≡ missing_blocks J.blocks (known_updates [] volatile.old.tail) transaction.now.writes }
+        requires pair { IsPair J.blocks volatile.old self.old }
+        requires running { IsRunning (core_of volatile.old self.old) }
+        ensures agree { OnOk result (AgreeWith volatile.new.ledger.history held.new) }
         ensures slots { slots_of held.new ≡ slots_of held.old }
         ensures held { OnErr result (held.new ≡ held.old) }
-        ensures committed { OnOk result (IsCommitted transaction.now.reads transaction.now.writes session.old session.new (core_of memory.old self.old) (core_of memory.new self.new)) }
-        ensures receipt { IfOk result (IsReceiptFor (next_transaction session.old transaction.now.reads transaction.now.writes) memory.new.memory.history (length memory.old.memory.history)) }
-        ensures agrees { OnOk result (IsTrue (is_trusted memory.old.memory.history) → Agrees (latest memory.old.memory.history) transaction.now.reads) }
-        ensures running { OnOk result (IsRunning (core_of memory.new self.new)) }
+        ensures committed { OnOk result (IsCommitted transaction.now.reads transaction.now.writes session.old session.new (core_of volatile.old self.old) (core_of volatile.new self.new)) }
+        ensures receipt { IfOk result (IsReceiptFor (next_transaction session.old transaction.now.reads transaction.now.writes) volatile.new.ledger.history (length volatile.old.ledger.history)) }
+        ensures agrees { OnOk result (IsTrue (is_trusted volatile.old.ledger.history) → Agrees (latest volatile.old.ledger.history) transaction.now.reads) }
+        ensures running { OnOk result (IsRunning (core_of volatile.new self.new)) }
         ensures refusal { IfErr result (λ why.
-            IsCallRefusal self.old self.new why ⊎ IsRefusedFrom (outset_of memory.old) session.old transaction.now why) }
-        ensures same { OnErr result (core_of memory.new self.new ≡ record (core_of memory.old self.old) { objects = (core_of memory.new self.new).objects }) }
-        ensures left { OnErr result (OnlyReads (core_of memory.old self.old).objects (core_of memory.new self.new).objects) }
+            IsCallRefusal self.old self.new why ⊎ IsRefusedFrom (outset_of volatile.old) session.old transaction.now why) }
+        ensures same { OnErr result (core_of volatile.new self.new ≡ record (core_of volatile.old self.old) { objects = (core_of volatile.new self.new).objects }) }
+        ensures left { OnErr result (OnlyReads (core_of volatile.old self.old).objects (core_of volatile.new self.new).objects) }
         ensures session { OnErr result (OnlyExtends session.old session.new) }
-        ensures longer { IfErr result (ShowsLonger memory.old.memory.history session.new) }
-        ensures pair { IsPair J.blocks memory.new self.new }
-        ensures crash { Crashes (core_of memory.old self.old) (core_of memory.new self.new) }
+        ensures longer { IfErr result (ShowsLonger volatile.old.ledger.history session.new) }
+        ensures pair { IsPair J.blocks volatile.new self.new }
+        ensures crash { Crashes (core_of volatile.old self.old) (core_of volatile.new self.new) }
     {
-        let fetched = self.fetch_step(memory, rooms)?;
-        let answer = memory.commit_unmoved(rt, session, transaction, held, spares, &fetched);
-        memory.keeps();
+        let fetched = self.fetch_step(volatile, rooms)?;
+        let answer = volatile.commit_verified(rt, session, transaction, held, spares, &fetched);
+        volatile.prove_invariant();
         match answer {
             Ok(CommitStep::Done(receipt)) => Ok(receipt),
             Ok(CommitStep::Missing(_)) => unreachable!(),

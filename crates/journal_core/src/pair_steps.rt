@@ -25,25 +25,25 @@ impl<'b, D: BlockDisk, R: MapRule, J: Naming> Durable<'b, D, R, J> {
     /// what is due of both parts.
     pub(crate) fn log_step(
         &mut self,
-        memory: &mut Volatile<'b, R, J>,
+        volatile: &mut Volatile<'b, R, J>,
     ) -> Result<LogStep, Refusal<Cause<'b, J, R>>>
-        requires pair { IsPair J.blocks memory.old self.old }
-        requires running { IsRunning (core_of memory.old self.old) }
-        ensures ok { IfOk result (λ step. LogAnswers (core_of memory.old self.old) step (core_of memory.new self.new)) }
-        ensures running { OnOk result (IsRunning (core_of memory.new self.new)) }
-        ensures refusal { IfErr result (IsLogRefusal (core_of memory.old self.old) (core_of memory.new self.new)) }
-        ensures left { OnErr result (LeavesLog (core_of memory.old self.old) (core_of memory.new self.new)) }
-        ensures tries { OnErr result (TriesToLog (core_of memory.old self.old) (core_of memory.new self.new)) }
-        ensures pair { IsPair J.blocks memory.new self.new }
-        ensures fine { OnOk result (memory.new.faulted ≡ false) }
-        ensures crash { Crashes (core_of memory.old self.old) (core_of memory.new self.new) }
+        requires pair { IsPair J.blocks volatile.old self.old }
+        requires running { IsRunning (core_of volatile.old self.old) }
+        ensures ok { IfOk result (λ step. LogAnswers (core_of volatile.old self.old) step (core_of volatile.new self.new)) }
+        ensures running { OnOk result (IsRunning (core_of volatile.new self.new)) }
+        ensures refusal { IfErr result (IsLogRefusal (core_of volatile.old self.old) (core_of volatile.new self.new)) }
+        ensures left { OnErr result (LeavesLog (core_of volatile.old self.old) (core_of volatile.new self.new)) }
+        ensures tries { OnErr result (TriesToLog (core_of volatile.old self.old) (core_of volatile.new self.new)) }
+        ensures pair { IsPair J.blocks volatile.new self.new }
+        ensures fine { OnOk result (volatile.new.faulted ≡ false) }
+        ensures crash { Crashes (core_of volatile.old self.old) (core_of volatile.new self.new) }
     {
         match self.log_call() {
             Ok(LogCall::Put) => Ok(LogStep::Put),
             Ok(LogCall::Logged) => Ok(LogStep::Logged),
-            Ok(LogCall::AtRest(rest)) => self.settle(memory, rest),
+            Ok(LogCall::AtRest(rest)) => self.mark_or_cut(volatile, rest),
             Err(fault) => {
-                let why = self.note_fault(memory, fault);
+                let why = self.note_fault(volatile, fault);
                 Err(why)
             }
         }
@@ -52,25 +52,25 @@ impl<'b, D: BlockDisk, R: MapRule, J: Naming> Durable<'b, D, R, J> {
     /// Does the next thing of the installer. What is at home then is dropped from memory.
     pub(crate) fn install_step(
         &mut self,
-        memory: &mut Volatile<'b, R, J>,
+        volatile: &mut Volatile<'b, R, J>,
     ) -> Result<InstallStep, Refusal<Cause<'b, J, R>>>
-        requires pair { IsPair J.blocks memory.old self.old }
-        requires running { IsRunning (core_of memory.old self.old) }
-        ensures ok { IfOk result (λ step. InstallAnswers (core_of memory.old self.old) step (core_of memory.new self.new)) }
-        ensures running { OnOk result (IsRunning (core_of memory.new self.new)) }
-        ensures refusal { IfErr result (IsInstallRefusal (core_of memory.old self.old) (core_of memory.new self.new)) }
-        ensures left { OnErr result (LeavesLog (core_of memory.old self.old) (core_of memory.new self.new)) }
-        ensures tries { OnErr result (TriesToInstall (core_of memory.old self.old) (core_of memory.new self.new)) }
-        ensures pair { IsPair J.blocks memory.new self.new }
-        ensures crash { Crashes (core_of memory.old self.old) (core_of memory.new self.new) }
+        requires pair { IsPair J.blocks volatile.old self.old }
+        requires running { IsRunning (core_of volatile.old self.old) }
+        ensures ok { IfOk result (λ step. InstallAnswers (core_of volatile.old self.old) step (core_of volatile.new self.new)) }
+        ensures running { OnOk result (IsRunning (core_of volatile.new self.new)) }
+        ensures refusal { IfErr result (IsInstallRefusal (core_of volatile.old self.old) (core_of volatile.new self.new)) }
+        ensures left { OnErr result (LeavesLog (core_of volatile.old self.old) (core_of volatile.new self.new)) }
+        ensures tries { OnErr result (TriesToInstall (core_of volatile.old self.old) (core_of volatile.new self.new)) }
+        ensures pair { IsPair J.blocks volatile.new self.new }
+        ensures crash { Crashes (core_of volatile.old self.old) (core_of volatile.new self.new) }
     {
         match self.install_call() {
             Ok(InstallCall::Idle) => Ok(InstallStep::Idle),
             Ok(InstallCall::Put) => Ok(InstallStep::Put),
-            Ok(InstallCall::Freed(freed)) => Ok(self.trim(memory, freed)),
+            Ok(InstallCall::Freed(freed)) => Ok(self.trim(volatile, freed)),
             Err(InstallFault::NoMemory) => Err(Refusal::NoMemory),
             Err(InstallFault::Failed(fault)) => {
-                let why = self.note_fault(memory, fault);
+                let why = self.note_fault(volatile, fault);
                 Err(why)
             }
         }
@@ -79,28 +79,28 @@ impl<'b, D: BlockDisk, R: MapRule, J: Naming> Durable<'b, D, R, J> {
     /// Reads blocks as they are logged.
     pub(crate) fn fetch_step(
         &mut self,
-        memory: &mut Volatile<'b, R, J>,
+        volatile: &mut Volatile<'b, R, J>,
         updates: Vec<Update>,
     ) -> Result<Fetched<'b, J, R>, Refusal<Cause<'b, J, R>>>
         requires blocks { All (λ u. u.block < J.blocks) updates.items }
-        requires pair { IsPair J.blocks memory.old self.old }
-        requires running { IsRunning (core_of memory.old self.old) }
+        requires pair { IsPair J.blocks volatile.old self.old }
+        requires running { IsRunning (core_of volatile.old self.old) }
         ensures front { IfOk result (λ fetched. fetched.front ≡ self.new.front) }
         ensures commits { IfOk result (λ fetched. fetched.commits ≡ self.new.logged) }
         ensures named { IfOk result (λ fetched. map (λ u. u.block) fetched.updates ≡ map (λ u. u.block) updates.items) }
-        ensures memory { OnOk result (memory.new ≡ memory.old) }
-        ensures failed { OnErr result (memory.new ≡ record memory.old { faulted = true }) }
+        ensures volatile { OnOk result (volatile.new ≡ volatile.old) }
+        ensures failed { OnErr result (volatile.new ≡ record volatile.old { faulted = true }) }
         ensures refusal { IfErr result (IsCallRefusal self.old self.new) }
         ensures reads { OnlyReads self.old.objects self.new.objects }
         ensures others { self.new ≡ record self.old { objects = self.new.objects } }
-        ensures pair { IsPair J.blocks memory.new self.new }
+        ensures pair { IsPair J.blocks volatile.new self.new }
         ensures crash { CrashesDurable self.old self.new }
-        ensures event { AnswersFetch J.blocks (core_of memory.old self.old) (map (λ u. u.block) updates.items) result (core_of memory.new self.new) }
+        ensures event { AnswersFetch J.blocks (core_of volatile.old self.old) (map (λ u. u.block) updates.items) result (core_of volatile.new self.new) }
     {
         match self.fetch(updates) {
             Ok(fetched) => Ok(fetched),
             Err(fault) => {
-                let why = self.note_fault(memory, fault);
+                let why = self.note_fault(volatile, fault);
                 Err(why)
             }
         }

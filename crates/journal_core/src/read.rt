@@ -13,7 +13,7 @@ ghost use Rattle.journal_core.specs.Interleavings.{AnswersRead};
 use crate::cause::Cause;
 use crate::fetched::Fetched;
 use crate::state::Core;
-use crate::transaction::{Found, Transaction};
+use crate::transaction::{ReadResult, Transaction};
 use journal_block::Update;
 use journal_disk::BlockDisk;
 use journal_history::Naming;
@@ -27,8 +27,8 @@ impl<'b, D: BlockDisk, R: MapRule, J: Naming> Core<'b, D, R, J> {
     /// it found is for the transaction to remember, once the core is let go. The history stays. It takes no memory,
     /// and the address's block is read from the device only where it is not in memory.
     ///
-    /// What the transaction read before lies under slots that are held. A look at these, which is made first and waits
-    /// for nobody, shows that no commit touched one since: nothing is compared.
+    /// What the transaction read before lies under slots that are held. They are verified first: that waits
+    /// for nobody, and shows that no commit touched one since: nothing is compared.
     ///
     /// The first that applies of these refuses it: J13 `Closed` where the core was stopped, J6 `DeviceFailed` where
     /// the device failed before, J2 `BadAddress` where the address is not valid, J9 `Stale` where the transaction
@@ -40,7 +40,7 @@ impl<'b, D: BlockDisk, R: MapRule, J: Naming> Core<'b, D, R, J> {
         held: &mut [Held<J>],
         addr: Addr,
         into: &mut [u8],
-    ) -> Result<Found<'b, J, R>, Refusal<Cause<'b, J, R>>>
+    ) -> Result<ReadResult<'b, J, R>, Refusal<Cause<'b, J, R>>>
         requires size { IsTrue (is_valid J.blocks addr) → length into.old ≡ size_at J.blocks addr }
         requires under { AreUnder held.old transaction.now.seen transaction.now.reads }
         ensures agree { AgreeWith self.new.history held.new }
@@ -56,17 +56,17 @@ impl<'b, D: BlockDisk, R: MapRule, J: Naming> Core<'b, D, R, J> {
         ensures crash { Crashes self.old self.new }
         ensures event { AnswersRead J.blocks self.old transaction.now addr result into.new self.new }
     {
-        self.look(rt, held);
-        self.read_unmoved(transaction, addr, into)
+        self.verify_tokens(rt, held);
+        self.read_verified(transaction, addr, into)
     }
 
-    // Reads as `read_step` does, once a look has shown that what was read has not moved.
-    fn read_unmoved(
+    // Reads as `read_step` does, once it was verified that what was read has not moved.
+    fn read_verified(
         &mut self,
         transaction: &Transaction<'b, J, R>,
         addr: Addr,
         into: &mut [u8],
-    ) -> Result<Found<'b, J, R>, Refusal<Cause<'b, J, R>>>
+    ) -> Result<ReadResult<'b, J, R>, Refusal<Cause<'b, J, R>>>
         requires size { IsTrue (is_valid J.blocks addr) → length into.old ≡ size_at J.blocks addr }
         requires unmoved { AreUnmoved self.old.history transaction.now }
         ensures value { IsTrue (is_trusted self.old.history) → OnOk result (into.new ≡ value_at (latest self.old.history) addr) }
@@ -80,12 +80,12 @@ impl<'b, D: BlockDisk, R: MapRule, J: Naming> Core<'b, D, R, J> {
         ensures crash { Crashes self.old self.new }
         ensures event { AnswersRead J.blocks self.old transaction.now addr result into.new self.new }
     {
-        let nothing = Fetched::nothing(self.alloc, self.volatile.memory.front());
+        let nothing = Fetched::empty(self.alloc, self.volatile.ledger.front());
         // Called for its contract: how many blocks there are at least.
         let _layout = self.volatile.tail.layout();
         if let Some(found) = self
             .volatile
-            .read_unmoved(transaction, addr, &nothing, into)?
+            .read_verified(transaction, addr, &nothing, into)?
         {
             return Ok(found);
         }
@@ -95,10 +95,10 @@ impl<'b, D: BlockDisk, R: MapRule, J: Naming> Core<'b, D, R, J> {
             volatile,
             ..
         } = self;
-        let fetched = durable.fetch_step(volatile, room_of(room, addr.block))?;
+        let fetched = durable.fetch_step(volatile, fetch_buffer(room, addr.block))?;
         let answer = self
             .volatile
-            .read_unmoved(transaction, addr, &fetched, into);
+            .read_verified(transaction, addr, &fetched, into);
         let Fetched { updates, .. } = fetched;
         self.spare = updates;
         match answer {
@@ -111,7 +111,7 @@ impl<'b, D: BlockDisk, R: MapRule, J: Naming> Core<'b, D, R, J> {
 }
 
 // The memory of one block, as that of this one.
-fn room_of(mut room: Vec<Update>, block: u64) -> Vec<Update>
+fn fetch_buffer(mut room: Vec<Update>, block: u64) -> Vec<Update>
     requires { length room.items ≡ 1 }
     ensures { map (λ u. u.block) result.items ≡ block ∷ [] }
 {

@@ -20,7 +20,7 @@ use std::marker::Model;
 use std::sync::Wait;
 
 /// The history's length and the sessions' numbers stay below this.
-pub(crate) const LIMIT: u64 = 1 << 62;
+pub(crate) const MAX_HISTORY_LENGTH: u64 = 1 << 62;
 
 /// The numbers of a mount.
 #[derive(Clone, Copy, Debug, PartialEq, Eq)]
@@ -67,8 +67,8 @@ impl<'b, D: BlockDisk, R: MapRule, J: Naming> Core<'b, D, R, J> {
     {
         let (start, end) = self.durable.objects.log_range();
         Stat {
-            commits: self.volatile.memory.count(),
-            floor: self.volatile.memory.floor(),
+            commits: self.volatile.ledger.count(),
+            floor: self.volatile.ledger.floor(),
             start,
             end,
         }
@@ -86,12 +86,12 @@ impl<'b, D: BlockDisk, R: MapRule, J: Naming> Core<'b, D, R, J> {
 
     /// Shows that what is held agrees with the history: as many commits touched each slot as its token says. Nothing
     /// changes, and it waits for nobody.
-    pub(crate) fn look<W: Wait>(&mut self, rt: &W, held: &mut [Held<J>])
+    pub(crate) fn verify_tokens<W: Wait>(&mut self, rt: &W, held: &mut [Held<J>])
         ensures same { self.new ≡ self.old }
         ensures held { held.new ≡ held.old }
         ensures agree { AgreeWith self.old.history held.old }
     {
-        self.volatile.look(rt, held);
+        self.volatile.verify_tokens(rt, held);
     }
 
     /// The whole history. It is sound, its map has the journal's number of blocks, and it is trusted where the
@@ -102,7 +102,7 @@ impl<'b, D: BlockDisk, R: MapRule, J: Naming> Core<'b, D, R, J> {
         ensures trusted { is_trusted self.now.history ≡ (disk_of self.now).honest }
         ensures sound { IsSound R.statement self.now.history }
     {
-        self.volatile.memory.front()
+        self.volatile.ledger.front()
     }
 
     /// The disk, lent. Where it was honest and settled when it was opened, each image that a crash may leave of it

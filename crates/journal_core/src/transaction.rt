@@ -37,15 +37,15 @@ impl<'b, J: Naming, R: MapRule> Model for Transaction<'b, J, R> {
 /// What a read found, until its transaction remembers it: the address, and the history at whose end its value was
 /// looked up.
 #[derive(Drop)]
-pub struct Found<'b, J: Naming, R: MapRule> {
+pub struct ReadResult<'b, J: Naming, R: MapRule> {
     pub(crate) addr: Addr,
     pub(crate) front: Front<'b, J, R>,
 }
 
-impl<'b, J: Naming, R: MapRule> Model for Found<'b, J, R> {
-    ghost use Rattle.journal_core.specs.Transactions.{FoundState};
+impl<'b, J: Naming, R: MapRule> Model for ReadResult<'b, J, R> {
+    ghost use Rattle.journal_core.specs.Transactions.{ReadResultState};
 
-    ghost Value = { FoundState };
+    ghost Value = { ReadResultState };
 
     ghost view = { λ f. record { addr = f.addr; seen = f.front } };
 }
@@ -103,14 +103,14 @@ impl<'b, J: Naming, R: MapRule> Transaction<'b, J, R> {
     }
 
     /// Remembers the value that a read found. Nothing is copied, and it takes no memory.
-    pub fn remember(&mut self, found: Found<'b, J, R>, value: &Value)
+    pub fn remember(&mut self, found: ReadResult<'b, J, R>, value: &Value)
         requires object { IsTrue (is_object J.blocks (found.addr, value.now)) }
         requires value { IsTrue (is_trusted found.seen) → value.now ≡ value_at (latest found.seen) found.addr }
         requires later { IsPrefix self.old.seen found.seen }
         requires unmoved { AreUnmoved found.seen self.old }
         ensures remembered { Remembers self.old found.entry.addr value.now found.entry.seen self.new }
     {
-        let Found { addr, front } = found;
+        let ReadResult { addr, front } = found;
         self.reads = self.reads.with(addr, value);
         self.front = front;
     }

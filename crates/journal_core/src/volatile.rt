@@ -3,14 +3,14 @@ ghost use Rattle.std.specs.Prelude.{◌≡◌, ◌<◌, ◌+◌, ◌^◌, [], fa
 ghost use mathlib.Core.List.{IsPrefix};
 ghost use Rattle.journal_world.specs.Histories.{opened, commits_of, is_fenced, count};
 ghost use Rattle.journal_wal.specs.Tails.{empty_tail};
-ghost use Rattle.journal_core.specs.Memories.{IsNumberRefusal};
+ghost use Rattle.journal_core.specs.Ledgers.{IsNumberRefusal};
 ghost use Rattle.journal_core.specs.SlotCounts.{AgreeWith};
 ghost use Rattle.journal_core.specs.Outsets.{GoesOn, IsEndRefusal};
 ghost use Rattle.journal_core.specs.Volatiles.{IsVolatile, IsFrontRefusal, outset_of};
 ghost use Rattle.journal_core.specs.Holds.{AnswersSession, Stops};
 
 use crate::cause::Cause;
-use crate::memory::Memory;
+use crate::ledger::Ledger;
 use crate::refusal_number::RefusalNumber;
 use journal_history::{Front, Naming, Session};
 use journal_lockmap::Held;
@@ -26,7 +26,7 @@ use std::sync::Wait;
 /// is not here says so. The caller fetches it from the durable part, and makes the call again with what was fetched.
 #[derive(Drop)]
 pub struct Volatile<'b, R: MapRule, J: Naming> {
-    pub(crate) memory: Memory<'b, R, J>,
+    pub(crate) ledger: Ledger<'b, R, J>,
     pub(crate) tail: ObjectTail,
     // A device call failed.
     pub(crate) faulted: bool,
@@ -37,25 +37,25 @@ impl<'b, R: MapRule, J: Naming> Model for Volatile<'b, R, J> {
 
     ghost Value = { VolatileState };
 
-    ghost view = { λ v. record { memory = v.memory; tail = v.tail; faulted = v.faulted } };
+    ghost view = { λ v. record { ledger = v.ledger; tail = v.tail; faulted = v.faulted } };
 
-    ghost invariant = { λ v. IsVolatile J.blocks (record { memory = v.memory; tail = v.tail; faulted = v.faulted }) };
+    ghost invariant = { λ v. IsVolatile J.blocks (record { ledger = v.ledger; tail = v.tail; faulted = v.faulted }) };
 }
 
 impl<'b, R: MapRule, J: Naming> Volatile<'b, R, J> {
     /// That of a mount that begins, over a disk whose log ends at a position: no commit was made, and no block is known.
-    pub(crate) fn new(memory: Memory<'b, R, J>, tail: ObjectTail) -> Volatile<'b, R, J>
-        requires begun { memory.cut ≡ 0 }
-        requires none { count memory.history ≡ 0 }
-        requires blocks { (opened memory.history).blocks ≡ J.blocks }
+    pub(crate) fn new(ledger: Ledger<'b, R, J>, tail: ObjectTail) -> Volatile<'b, R, J>
+        requires begun { ledger.cut ≡ 0 }
+        requires none { count ledger.history ≡ 0 }
+        requires blocks { (opened ledger.history).blocks ≡ J.blocks }
         requires empty { tail ≡ empty_tail J.blocks tail.log.start tail.log.room }
         requires small { tail.log.start < 2 ^ 62 }
-        ensures { result ≡ record { memory = memory.entry; tail = tail; faulted = false } }
+        ensures { result ≡ record { ledger = ledger.entry; tail = tail; faulted = false } }
     {
         // Called for its contract: there is an opening.
-        let _len = memory.len();
+        let _len = ledger.len();
         Volatile {
-            memory,
+            ledger,
             tail,
             faulted: false,
         }
@@ -69,7 +69,7 @@ impl<'b, R: MapRule, J: Naming> Volatile<'b, R, J> {
     }
 
     /// It keeps what its type keeps. Called for its contract.
-    pub(crate) fn keeps(&self)
+    pub(crate) fn prove_invariant(&self)
         ensures { IsVolatile J.blocks self.now }
     {
         let _faulted = self.faulted;
@@ -81,7 +81,7 @@ impl<'b, R: MapRule, J: Naming> Volatile<'b, R, J> {
         ensures running { OnOk result (GoesOn (outset_of self.now)) }
         ensures refusal { IfErr result (IsEndRefusal (outset_of self.now)) }
     {
-        if self.memory.is_closed() {
+        if self.ledger.is_closed() {
             return Err(Refusal::Closed(Cause::none(RefusalNumber::J13)));
         }
         if self.faulted {
@@ -95,13 +95,13 @@ impl<'b, R: MapRule, J: Naming> Volatile<'b, R, J> {
         &self,
         seen: &Front<'b, J, R>,
     ) -> Result<Front<'b, J, R>, Refusal<Cause<'b, J, R>>>
-        ensures whole { IfOk result (λ front. front ≡ self.now.memory.history) }
-        ensures begins { OnOk result (IsPrefix seen.now self.now.memory.history) }
-        ensures refusal { IfErr result (IsFrontRefusal self.now.memory.history seen.now) }
+        ensures whole { IfOk result (λ front. front ≡ self.now.ledger.history) }
+        ensures begins { OnOk result (IsPrefix seen.now self.now.ledger.history) }
+        ensures refusal { IfErr result (IsFrontRefusal self.now.ledger.history seen.now) }
     {
-        let mut front = self.memory.front();
+        let mut front = self.ledger.front();
         front.see(seen);
-        if front.len() > self.memory.len() {
+        if front.len() > self.ledger.len() {
             return Err(Refusal::Stale(Cause::of(RefusalNumber::J9, front)));
         }
         Ok(front)
@@ -110,25 +110,25 @@ impl<'b, R: MapRule, J: Naming> Volatile<'b, R, J> {
     /// A hold of memory alone: a session of the next number, that no session had before and that is
     /// not fenced. Refuses by J11. It takes no memory.
     pub fn session(&mut self) -> Result<Session<'b, J, R>, Refusal<Cause<'b, J, R>>>
-        ensures is { IfOk result (λ session. session ≡ record { number = self.old.memory.next; mine = self.old.memory.history; seen = self.old.memory.history }) }
-        ensures fresh { commits_of self.old.memory.next self.old.memory.history ≡ [] }
-        ensures unfenced { is_fenced self.old.memory.next self.old.memory.history ≡ false }
-        ensures others { OnOk result (self.new ≡ record self.old { memory = record self.old.memory { next = self.old.memory.next + 1 } }) }
-        ensures refusal { IfErr result (IsNumberRefusal self.old.memory.next) }
+        ensures is { IfOk result (λ session. session ≡ record { number = self.old.ledger.next; mine = self.old.ledger.history; seen = self.old.ledger.history }) }
+        ensures fresh { commits_of self.old.ledger.next self.old.ledger.history ≡ [] }
+        ensures unfenced { is_fenced self.old.ledger.next self.old.ledger.history ≡ false }
+        ensures others { OnOk result (self.new ≡ record self.old { ledger = record self.old.ledger { next = self.old.ledger.next + 1 } }) }
+        ensures refusal { IfErr result (IsNumberRefusal self.old.ledger.next) }
         ensures same { OnErr result (self.new ≡ self.old) }
         ensures event { AnswersSession self.old result self.new }
     {
-        self.memory.session()
+        self.ledger.session()
     }
 
     /// Shows that what is held agrees with the history: as many commits touched each slot as its token says. Nothing
     /// changes, and it waits for nobody.
-    pub(crate) fn look<W: Wait>(&mut self, rt: &W, held: &mut [Held<J>])
+    pub(crate) fn verify_tokens<W: Wait>(&mut self, rt: &W, held: &mut [Held<J>])
         ensures same { self.new ≡ self.old }
         ensures held { held.new ≡ held.old }
-        ensures agree { AgreeWith self.old.memory.history held.old }
+        ensures agree { AgreeWith self.old.ledger.history held.old }
     {
-        self.memory.look(rt, held);
+        self.ledger.verify_tokens(rt, held);
     }
 
     /// Notes that a device call failed.
@@ -142,6 +142,6 @@ impl<'b, R: MapRule, J: Naming> Volatile<'b, R, J> {
     pub fn stop(&mut self)
         ensures event { Stops self.old self.new }
     {
-        self.memory.stop();
+        self.ledger.stop();
     }
 }

@@ -8,7 +8,7 @@ ghost use Rattle.journal_objlog.specs.ObjectTails.{blocks_of, known_updates, tai
 ghost use Rattle.journal_objlog.specs.Writes.{writes_block, written_blocks, IsPrepared};
 ghost use Rattle.journal_history.specs.Tokens.{made, next_transaction, OnlyExtends, IsReceiptFor};
 ghost use Rattle.journal_lockmap.specs.Numbers.{AreApart, HoldsSlots, slots_of};
-ghost use Rattle.journal_core.specs.Memories.{HasSeen, ShowsLonger, IsAdmissionRefusal, IsAddingRefusal};
+ghost use Rattle.journal_core.specs.Ledgers.{HasSeen, ShowsLonger, IsAdmissionRefusal, IsAddingRefusal};
 ghost use Rattle.journal_core.specs.SlotCounts.{AgreeWith, AreUnder};
 ghost use Rattle.journal_core.specs.Transactions.{AreUnmoved};
 ghost use Rattle.journal_core.specs.Updates.{AreObjectsOf};
@@ -23,7 +23,7 @@ ghost use Rattle.journal_core.specs.Holds.{AnswersCommit};
 use crate::cause::{Cause, raise};
 use crate::fetched::Fetched;
 use crate::refusal_number::RefusalNumber;
-use crate::state::LIMIT;
+use crate::state::MAX_HISTORY_LENGTH;
 use crate::transaction::Transaction;
 use crate::volatile::Volatile;
 use journal_block::Update;
@@ -48,8 +48,8 @@ impl<'b, R: MapRule, J: Naming> Volatile<'b, R, J> {
     /// that is written, but not as a whole, has to be in memory, or fetched and still usable: where
     /// some are not, nothing is committed, and the answer is these.
     ///
-    /// What it reads and writes lies under slots that are held, each once. A look at these, which
-    /// is made first and waits for nobody, shows that no other commit touched one since it was
+    /// What it reads and writes lies under slots that are held, each once. They are verified first: that
+    /// waits for nobody, and shows that no other commit touched one since it was
     /// read: nothing is compared. What is held agrees with the history then too.
     ///
     /// The first that applies of these refuses it: J13 `Closed` where it was stopped, J6
@@ -74,13 +74,13 @@ impl<'b, R: MapRule, J: Naming> Volatile<'b, R, J> {
         requires under { AreUnder held.old transaction.now.seen transaction.now.reads }
         requires covered { HoldsSlots held.old transaction.now.writes }
         requires apart { AreApart held.old }
-        ensures agree { AgreeWith self.new.memory.history held.new }
+        ensures agree { AgreeWith self.new.ledger.history held.new }
         ensures slots { slots_of held.new ≡ slots_of held.old }
         ensures held { OnErr result (held.new ≡ held.old) }
         ensures committed { IfOk result (IfDone (λ _. IsCommitted transaction.now.reads transaction.now.writes session.old session.new self.old self.new)) }
-        ensures receipt { IfOk result (IfDone (IsReceiptFor (next_transaction session.old transaction.now.reads transaction.now.writes) self.new.memory.history (length self.old.memory.history))) }
+        ensures receipt { IfOk result (IfDone (IsReceiptFor (next_transaction session.old transaction.now.reads transaction.now.writes) self.new.ledger.history (length self.old.ledger.history))) }
         ensures can { OnOk result (CanCommit (outset_of self.old) session.old transaction.now) }
-        ensures agrees { OnOk result (IsTrue (is_trusted self.old.memory.history) → Agrees (latest self.old.memory.history) transaction.now.reads) }
+        ensures agrees { OnOk result (IsTrue (is_trusted self.old.ledger.history) → Agrees (latest self.old.ledger.history) transaction.now.reads) }
         ensures missing { IfOk result (IfMissing (λ blocks.
             blocks ≡ missing_blocks J.blocks (known_updates (usable self.old fetched.now) self.old.tail) transaction.now.writes)) }
         ensures below { IfOk result (IfMissing (λ blocks. All (λ b. b < J.blocks) blocks)) }
@@ -90,17 +90,17 @@ impl<'b, R: MapRule, J: Naming> Volatile<'b, R, J> {
         ensures refusal { IfErr result (IsCommitRefusal (outset_of self.old) session.old transaction.now) }
         ensures same { OnErr result (self.new ≡ with_room self.old self.new.tail.log.room) }
         ensures session { OnErr result (OnlyExtends session.old session.new) }
-        ensures longer { IfErr result (ShowsLonger self.old.memory.history session.new) }
+        ensures longer { IfErr result (ShowsLonger self.old.ledger.history session.new) }
         ensures event { AnswersCommit J.blocks self.old session.old transaction.now fetched.now result self.new session.new }
     {
-        self.look(rt, held);
-        let answer = self.commit_unmoved(rt, session, transaction, held, spares, fetched);
-        self.keeps();
+        self.verify_tokens(rt, held);
+        let answer = self.commit_verified(rt, session, transaction, held, spares, fetched);
+        self.prove_invariant();
         answer
     }
 
-    // Commits as `commit` does, once a look has shown that what was read has not moved.
-    pub(crate) fn commit_unmoved<W: Wait>(
+    // Commits as `commit` does, once it was verified that what was read has not moved.
+    pub(crate) fn commit_verified<W: Wait>(
         &mut self,
         rt: &W,
         session: &mut Session<'b, J, R>,
@@ -111,16 +111,16 @@ impl<'b, R: MapRule, J: Naming> Volatile<'b, R, J> {
     ) -> Result<CommitStep<Receipt<'b, J, R>>, Refusal<Cause<'b, J, R>>>
         requires rule { (m : Map) → m.blocks ≡ J.blocks → R.statement m → Agrees m transaction.now.reads
             → R.statement (overwritten m transaction.now.writes) }
-        requires unmoved { AreUnmoved self.old.memory.history transaction.now }
+        requires unmoved { AreUnmoved self.old.ledger.history transaction.now }
         requires covered { HoldsSlots held.old transaction.now.writes }
         requires apart { AreApart held.old }
-        ensures agree { IfOk result (IfDone (λ _. AgreeWith self.new.memory.history held.new)) }
+        ensures agree { IfOk result (IfDone (λ _. AgreeWith self.new.ledger.history held.new)) }
         ensures slots { slots_of held.new ≡ slots_of held.old }
         ensures held { OnErr result (held.new ≡ held.old) }
         ensures committed { IfOk result (IfDone (λ _. IsCommitted transaction.now.reads transaction.now.writes session.old session.new self.old self.new)) }
-        ensures receipt { IfOk result (IfDone (IsReceiptFor (next_transaction session.old transaction.now.reads transaction.now.writes) self.new.memory.history (length self.old.memory.history))) }
+        ensures receipt { IfOk result (IfDone (IsReceiptFor (next_transaction session.old transaction.now.reads transaction.now.writes) self.new.ledger.history (length self.old.ledger.history))) }
         ensures can { OnOk result (CanCommit (outset_of self.old) session.old transaction.now) }
-        ensures agrees { OnOk result (IsTrue (is_trusted self.old.memory.history) → Agrees (latest self.old.memory.history) transaction.now.reads) }
+        ensures agrees { OnOk result (IsTrue (is_trusted self.old.ledger.history) → Agrees (latest self.old.ledger.history) transaction.now.reads) }
         ensures missing { IfOk result (IfMissing (λ blocks.
             blocks ≡ missing_blocks J.blocks (known_updates (usable self.old fetched.now) self.old.tail) transaction.now.writes)) }
         ensures below { IfOk result (IfMissing (λ blocks. All (λ b. b < J.blocks) blocks)) }
@@ -130,7 +130,7 @@ impl<'b, R: MapRule, J: Naming> Volatile<'b, R, J> {
         ensures refusal { IfErr result (IsCommitRefusal (outset_of self.old) session.old transaction.now) }
         ensures same { OnErr result (self.new ≡ with_room self.old self.new.tail.log.room) }
         ensures session { OnErr result (OnlyExtends session.old session.new) }
-        ensures longer { IfErr result (ShowsLonger self.old.memory.history session.new) }
+        ensures longer { IfErr result (ShowsLonger self.old.ledger.history session.new) }
         ensures event { (d : DurableState) → IsPair J.blocks self.old d → IfOk result (IfDone (λ _.
             CommitsTransaction (core_of self.old d) session.old transaction.now (core_of self.new d) session.new)) }
     {
@@ -146,7 +146,7 @@ impl<'b, R: MapRule, J: Naming> Volatile<'b, R, J> {
         match self.prepare(session, &transaction.writes, spares, blocks)? {
             Preparation::Ready(prepared) => {
                 let receipt = self.add(rt, session, transaction, held, prepared)?;
-                self.keeps();
+                self.prove_invariant();
                 Ok(CommitStep::Done(receipt))
             }
             Preparation::Missing(blocks) => Ok(CommitStep::Missing(blocks)),
@@ -161,17 +161,17 @@ impl<'b, R: MapRule, J: Naming> Volatile<'b, R, J> {
         session: &mut Session<'b, J, R>,
         transaction: &Transaction<'b, J, R>,
     ) -> Result<(), Refusal<Cause<'b, J, R>>>
-        requires unmoved { AreUnmoved self.old.memory.history transaction.now }
+        requires unmoved { AreUnmoved self.old.ledger.history transaction.now }
         ensures same { self.new ≡ self.old }
-        ensures own { OnOk result (length (commits_of session.old.number self.old.memory.history) ≡ made session.old) }
-        ensures seen { OnOk result (HasSeen self.old.memory.history session.old transaction.now) }
-        ensures unfenced { OnOk result (is_fenced session.old.number self.old.memory.history ≡ false) }
-        ensures agrees { OnOk result (IsTrue (is_trusted self.old.memory.history) → Agrees (latest self.old.memory.history) transaction.now.reads) }
+        ensures own { OnOk result (length (commits_of session.old.number self.old.ledger.history) ≡ made session.old) }
+        ensures seen { OnOk result (HasSeen self.old.ledger.history session.old transaction.now) }
+        ensures unfenced { OnOk result (is_fenced session.old.number self.old.ledger.history ≡ false) }
+        ensures agrees { OnOk result (IsTrue (is_trusted self.old.ledger.history) → Agrees (latest self.old.ledger.history) transaction.now.reads) }
         ensures session { OnlyExtends session.old session.new }
-        ensures refusal { IfErr result (IsAdmissionRefusal self.old.memory.history session.old transaction.now) }
-        ensures longer { IfErr result (ShowsLonger self.old.memory.history session.new) }
+        ensures refusal { IfErr result (IsAdmissionRefusal self.old.ledger.history session.old transaction.now) }
+        ensures longer { IfErr result (ShowsLonger self.old.ledger.history session.new) }
     {
-        self.memory.admit(rt, session, transaction)
+        self.ledger.admit(rt, session, transaction)
     }
 
     // Makes the writes ready, with all the memory that they take, or tells which blocks have to be fetched first.
@@ -184,17 +184,17 @@ impl<'b, R: MapRule, J: Naming> Volatile<'b, R, J> {
         blocks: &[Update],
     ) -> Result<Preparation, Refusal<Cause<'b, J, R>>>
         requires objects { IsTrue (are_objects J.blocks writes.now) }
-        requires latest { IsTrue (is_trusted self.old.memory.history) → AreObjectsOf J.blocks (latest self.old.memory.history) (known_updates blocks.now self.old.tail) }
+        requires latest { IsTrue (is_trusted self.old.ledger.history) → AreObjectsOf J.blocks (latest self.old.ledger.history) (known_updates blocks.now self.old.tail) }
         ensures ready { IfOk result (IfReady (TakesPrepared self.new.tail writes.now)) }
         ensures prepared { IfOk result (IfReady (λ prepared.
             IsPrepared true (tail_base blocks.now self.new.tail) (updates_with self.new.tail writes.now prepared) writes.now)) }
-        ensures written { IsTrue (is_trusted self.old.memory.history) → IfOk result (IfReady (λ prepared.
-            AreObjectsOf J.blocks (overwritten (latest self.old.memory.history) writes.now) (updates_with self.new.tail writes.now prepared))) }
+        ensures written { IsTrue (is_trusted self.old.ledger.history) → IfOk result (IfReady (λ prepared.
+            AreObjectsOf J.blocks (overwritten (latest self.old.ledger.history) writes.now) (updates_with self.new.tail writes.now prepared))) }
         ensures missing { IfOk result (IfUnready (λ missing. missing ≡ missing_blocks J.blocks (known_updates blocks.now self.old.tail) writes.now)) }
         ensures below { IfOk result (IfUnready (λ missing. All (λ b. b < J.blocks) missing)) }
         ensures some { IfOk result (IfUnready (λ missing. missing ≢ [])) }
         ensures can { OnOk result (CanPrepare (outset_of self.old) session.now writes.now) }
-        ensures room { OnOk result ((length self.old.memory.history + 1 < 2 ^ 62) × (session.now.number < 2 ^ 62)) }
+        ensures room { OnOk result ((length self.old.ledger.history + 1 < 2 ^ 62) × (session.now.number < 2 ^ 62)) }
         ensures refusal { IfErr result (IsPreparingRefusal (outset_of self.old) session.now writes.now) }
         ensures same { self.new ≡ with_room self.old self.new.tail.log.room }
     {
@@ -204,7 +204,7 @@ impl<'b, R: MapRule, J: Naming> Volatile<'b, R, J> {
         if is_too_large(&prepared) {
             return Err(Refusal::TooLarge);
         }
-        if self.memory.len() >= LIMIT - 1 || session.number() >= LIMIT {
+        if self.ledger.len() >= MAX_HISTORY_LENGTH - 1 || session.number() >= MAX_HISTORY_LENGTH {
             return Err(Refusal::Worn(Cause::none(RefusalNumber::J11)));
         }
         raise(prepared)
@@ -223,29 +223,29 @@ impl<'b, R: MapRule, J: Naming> Volatile<'b, R, J> {
         requires writes { IsTrue (are_objects J.blocks transaction.now.writes) }
         requires rule { (m : Map) → m.blocks ≡ J.blocks → R.statement m → Agrees m transaction.now.reads
             → R.statement (overwritten m transaction.now.writes) }
-        requires agrees { IsTrue (is_trusted self.old.memory.history) → Agrees (latest self.old.memory.history) transaction.now.reads }
-        requires own { length (commits_of session.old.number self.old.memory.history) ≡ made session.old }
-        requires unfenced { is_fenced session.old.number self.old.memory.history ≡ false }
-        requires room { length self.old.memory.history + 1 < 2 ^ 62 }
+        requires agrees { IsTrue (is_trusted self.old.ledger.history) → Agrees (latest self.old.ledger.history) transaction.now.reads }
+        requires own { length (commits_of session.old.number self.old.ledger.history) ≡ made session.old }
+        requires unfenced { is_fenced session.old.number self.old.ledger.history ≡ false }
+        requires room { length self.old.ledger.history + 1 < 2 ^ 62 }
         requires small { session.old.number < 2 ^ 62 }
         requires ready { TakesPrepared self.old.tail transaction.now.writes prepared }
         requires named { (b : ℕ) → updates_block (updates_with self.old.tail transaction.now.writes prepared) b ≡ writes_block transaction.now.writes b }
-        requires written { IsTrue (is_trusted self.old.memory.history)
-            → AreObjectsOf J.blocks (overwritten (latest self.old.memory.history) transaction.now.writes) (updates_with self.old.tail transaction.now.writes prepared) }
+        requires written { IsTrue (is_trusted self.old.ledger.history)
+            → AreObjectsOf J.blocks (overwritten (latest self.old.ledger.history) transaction.now.writes) (updates_with self.old.tail transaction.now.writes prepared) }
         requires covered { HoldsSlots held.old transaction.now.writes }
         requires apart { AreApart held.old }
-        ensures agree { OnOk result (AgreeWith self.new.memory.history held.new) }
+        ensures agree { OnOk result (AgreeWith self.new.ledger.history held.new) }
         ensures slots { slots_of held.new ≡ slots_of held.old }
         ensures held { OnErr result (held.new ≡ held.old) }
         ensures added { OnOk result (IsAdded (next_transaction session.old transaction.now.reads transaction.now.writes)
             (updates_with self.old.tail transaction.now.writes prepared) session.old session.new self.old self.new) }
-        ensures receipt { IfOk result (IsReceiptFor (next_transaction session.old transaction.now.reads transaction.now.writes) self.new.memory.history (length self.old.memory.history)) }
-        ensures refusal { IfErr result (IsAddingRefusal self.old.memory.history) }
+        ensures receipt { IfOk result (IsReceiptFor (next_transaction session.old transaction.now.reads transaction.now.writes) self.new.ledger.history (length self.old.ledger.history)) }
+        ensures refusal { IfErr result (IsAddingRefusal self.old.ledger.history) }
         ensures same { OnErr result (self.new ≡ self.old) }
         ensures session { OnErr result (OnlyExtends session.old session.new) }
-        ensures longer { IfErr result (ShowsLonger self.old.memory.history session.new) }
+        ensures longer { IfErr result (ShowsLonger self.old.ledger.history session.new) }
     {
-        let receipt = self.memory.commit(rt, session, transaction, held)?;
+        let receipt = self.ledger.commit(rt, session, transaction, held)?;
         // Nothing fails from here on.
         self.tail.apply(prepared, &transaction.writes);
         Ok(receipt)

@@ -5,8 +5,8 @@ ghost use Rattle.journal_world.specs.Histories.Entry.{stable};
 ghost use Rattle.journal_memlog.specs.Logs.{HasDistinctBlocks, tail_of};
 ghost use Rattle.journal_wal.specs.Wal.{AreHomes};
 ghost use Rattle.journal_wal.specs.Tails.{DropsCuts, cut_after};
-ghost use Rattle.journal_wal.specs.declared.append.TheConstants.{MAX_TAIL};
-ghost use Rattle.journal_core.specs.Memories.{IsMarkRefusal};
+ghost use Rattle.journal_wal.specs.declared.limits.TheConstants.{MAX_TAIL};
+ghost use Rattle.journal_core.specs.Ledgers.{IsMarkRefusal};
 ghost use Rattle.journal_core.specs.Updates.{HaveAllSince, AreObjectsOf};
 ghost use Rattle.journal_core.specs.Holds.{KeepsCopies};
 
@@ -23,19 +23,19 @@ impl<'b, R: MapRule, J: Naming> Volatile<'b, R, J> {
     /// Answers J1 `NoMemory`, and nothing else, where memory for the copy is refused. All is then as it was.
     pub(crate) fn cut(&mut self) -> Result<Vec<Update>, Refusal<Cause<'b, J, R>>>
         ensures group { IfOk result (λ group. group.items ≡ tail_of self.old.tail.log) }
-        ensures all { IsTrue (is_trusted self.old.memory.history) → IfOk result (λ group. HaveAllSince J.blocks self.old.memory.history self.old.memory.cut group.items) }
+        ensures all { IsTrue (is_trusted self.old.ledger.history) → IfOk result (λ group. HaveAllSince J.blocks self.old.ledger.history self.old.ledger.cut group.items) }
         ensures few { IfOk result (λ group. length group.items ≤ MAX_TAIL) }
         ensures homes { IfOk result (λ group. AreHomes J.blocks group.items) }
         ensures distinct { IfOk result (λ group. HasDistinctBlocks group.items) }
         ensures ok { OnOk result (self.new ≡ record self.old {
-          memory = record self.old.memory { cut = count self.old.memory.history };
-          tail = cut_after self.old.tail (count self.old.memory.history);
+          ledger = record self.old.ledger { cut = count self.old.ledger.history };
+          tail = cut_after self.old.tail (count self.old.ledger.history);
         }) }
         ensures err { OnErr result (self.new ≡ self.old) }
         ensures refusal { IsOkUnless result Refusal.NoMemory }
     {
-        let group = raise(self.tail.cut(self.memory.count()))?;
-        self.memory.note_cut();
+        let group = raise(self.tail.cut(self.ledger.count()))?;
+        self.ledger.note_cut();
         Ok(group)
     }
 
@@ -44,11 +44,11 @@ impl<'b, R: MapRule, J: Naming> Volatile<'b, R, J> {
         ensures event { KeepsCopies J.blocks self.old self.new }
     {
         self.touch_copy(block);
-        self.keeps();
+        self.prove_invariant();
     }
 
     fn touch_copy(&mut self, block: u64)
-        ensures { self.new ≡ record self.old { tail = record self.old.tail { home = self.new.tail.home } } }
+        ensures { self.new ≡ record self.old { tail = record self.old.tail { cache = self.new.tail.cache } } }
     {
         self.tail.touch(block);
     }
@@ -60,11 +60,11 @@ impl<'b, R: MapRule, J: Naming> Volatile<'b, R, J> {
         ensures event { KeepsCopies J.blocks self.old self.new }
     {
         self.keep_copies(fetched);
-        self.keeps();
+        self.prove_invariant();
     }
 
     fn keep_copies(&mut self, fetched: Fetched<'b, J, R>)
-        ensures { self.new ≡ record self.old { tail = record self.old.tail { home = self.new.tail.home } } }
+        ensures { self.new ≡ record self.old { tail = record self.old.tail { cache = self.new.tail.cache } } }
     {
         if self.can_keep(&fetched) {
             let Fetched { updates, .. } = fetched;
@@ -74,8 +74,8 @@ impl<'b, R: MapRule, J: Naming> Volatile<'b, R, J> {
 
     // Whether what commits wrote after the fetch is in memory.
     fn can_keep(&self, fetched: &Fetched<'b, J, R>) -> bool
-        ensures { IsTrue result → IsTrue (is_trusted self.now.memory.history)
-            → AreObjectsOf J.blocks (latest self.now.memory.history) (fetched.now.updates ++ self.now.tail.log.updates) }
+        ensures { IsTrue result → IsTrue (is_trusted self.now.ledger.history)
+            → AreObjectsOf J.blocks (latest self.now.ledger.history) (fetched.now.updates ++ self.now.tail.log.updates) }
     {
         let Ok(_front) = self.front_over(&fetched.front) else {
             return false;
@@ -96,15 +96,15 @@ impl<'b, R: MapRule, J: Naming> Volatile<'b, R, J> {
     /// Marks that n commits are stable, those at the last cut or all, and tells it. Refuses by J11 and J9, and is then as
     /// it was.
     pub(crate) fn mark(&mut self, n: u64) -> Result<(), Refusal<Cause<'b, J, R>>>
-        requires rises { floor self.old.memory.history ≤ n }
-        requires made { n ≤ count self.old.memory.history }
-        requires due { (n ≡ self.old.memory.cut) ⊎ (n ≡ count self.old.memory.history) }
+        requires rises { floor self.old.ledger.history ≤ n }
+        requires made { n ≤ count self.old.ledger.history }
+        requires due { (n ≡ self.old.ledger.cut) ⊎ (n ≡ count self.old.ledger.history) }
         ensures added { OnOk result (self.new ≡ record self.old {
-          memory = record self.old.memory { history = self.old.memory.history ++ stable n ∷ []; cut = n };
+          ledger = record self.old.ledger { history = self.old.ledger.history ++ stable n ∷ []; cut = n };
         }) }
-        ensures refusal { IfErr result (IsMarkRefusal self.old.memory.history) }
+        ensures refusal { IfErr result (IsMarkRefusal self.old.ledger.history) }
         ensures same { OnErr result (self.new ≡ self.old) }
     {
-        self.memory.mark(n)
+        self.ledger.mark(n)
     }
 }

@@ -28,9 +28,9 @@ impl<'b, R: MapRule, J: Naming> Volatile<'b, R, J> {
         session: &mut Session<'b, J, R>,
         target: u64,
     ) -> Result<(), Refusal<Cause<'b, J, R>>>
-        ensures did { OnOk result (SetsFence target self.old.memory self.new.memory) }
-        ensures others { self.new ≡ record self.old { memory = self.new.memory } }
-        ensures shown { OnOk result (session.new.seen ≡ self.new.memory.history) }
+        ensures did { OnOk result (SetsFence target self.old.ledger self.new.ledger) }
+        ensures others { self.new ≡ record self.old { ledger = self.new.ledger } }
+        ensures shown { OnOk result (session.new.seen ≡ self.new.ledger.history) }
         ensures fenced { OnOk result (is_fenced target session.new.seen ≡ true) }
         ensures refusal { IfErr result (IsFenceRefusal target (outset_of self.old)) }
         ensures same { OnErr result (self.new ≡ self.old) }
@@ -38,7 +38,7 @@ impl<'b, R: MapRule, J: Naming> Volatile<'b, R, J> {
         ensures event { AnswersFence J.blocks target self.old result self.new }
     {
         let answer = self.set_fence(rt, session, target);
-        self.keeps();
+        self.prove_invariant();
         answer
     }
 
@@ -49,15 +49,15 @@ impl<'b, R: MapRule, J: Naming> Volatile<'b, R, J> {
         session: &mut Session<'b, J, R>,
         target: u64,
     ) -> Result<(), Refusal<Cause<'b, J, R>>>
-        ensures did { OnOk result (SetsFence target self.old.memory self.new.memory) }
-        ensures others { self.new ≡ record self.old { memory = self.new.memory } }
-        ensures shown { OnOk result (session.new.seen ≡ self.new.memory.history) }
+        ensures did { OnOk result (SetsFence target self.old.ledger self.new.ledger) }
+        ensures others { self.new ≡ record self.old { ledger = self.new.ledger } }
+        ensures shown { OnOk result (session.new.seen ≡ self.new.ledger.history) }
         ensures fenced { OnOk result (is_fenced target session.new.seen ≡ true) }
         ensures refusal { IfErr result (IsFenceRefusal target (outset_of self.old)) }
         ensures same { OnErr result (self.new ≡ self.old) }
         ensures session { OnlyExtends session.old session.new }
     {
         self.check_running()?;
-        self.memory.fence(rt, session, target)
+        self.ledger.fence(rt, session, target)
     }
 }

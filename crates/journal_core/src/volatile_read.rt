@@ -12,13 +12,13 @@ ghost use Rattle.journal_core.specs.Updates.{AreObjectsOf};
 ghost use Rattle.journal_core.specs.Durables.{DurableState};
 ghost use Rattle.journal_core.specs.Cores.{IsPair, core_of};
 ghost use Rattle.journal_core.specs.Interleavings.{FindsValue};
-ghost use Rattle.journal_core.specs.Outsets.{MayRead, IsLookRefusal};
+ghost use Rattle.journal_core.specs.Outsets.{MayRead, IsCheckRefusal};
 ghost use Rattle.journal_core.specs.Volatiles.{IsReadRefusal, IsFrontRefusal, outset_of, usable};
 ghost use Rattle.journal_core.specs.Holds.{AnswersRead};
 
 use crate::cause::{Cause, raise};
 use crate::fetched::Fetched;
-use crate::transaction::{Found, Transaction};
+use crate::transaction::{ReadResult, Transaction};
 use crate::volatile::Volatile;
 use journal_block::Update;
 use journal_history::Naming;
@@ -32,8 +32,8 @@ impl<'b, R: MapRule, J: Naming> Volatile<'b, R, J> {
     /// block, as it was fetched. Answers none where the block is to be fetched: it was not, or what
     /// commits wrote after the fetch is not in memory any more. It takes no memory.
     ///
-    /// What was read before lies under slots that are held. A look at these, which is made first
-    /// and waits for nobody, shows that no commit touched one since: nothing is compared. Nothing
+    /// What was read before lies under slots that are held. They are verified first: that
+    /// waits for nobody, and shows that no commit touched one since: nothing is compared. Nothing
     /// changes.
     ///
     /// The first that applies of these refuses it: J13 `Closed` where it was stopped, J6
@@ -47,23 +47,23 @@ impl<'b, R: MapRule, J: Naming> Volatile<'b, R, J> {
         addr: Addr,
         fetched: &Fetched<'b, J, R>,
         into: &mut [u8],
-    ) -> Result<Option<Found<'b, J, R>>, Refusal<Cause<'b, J, R>>>
+    ) -> Result<Option<ReadResult<'b, J, R>>, Refusal<Cause<'b, J, R>>>
         requires size { IsTrue (is_valid J.blocks addr) → length into.old ≡ size_at J.blocks addr }
         requires under { AreUnder held.old transaction.now.seen transaction.now.reads }
-        ensures agree { AgreeWith self.new.memory.history held.new }
+        ensures agree { AgreeWith self.new.ledger.history held.new }
         ensures held { held.new ≡ held.old }
         ensures same { self.new ≡ self.old }
-        ensures value { IsTrue (is_trusted self.old.memory.history) → IfOk result (λ found. IsSome found → into.new ≡ value_at (latest self.old.memory.history) addr) }
+        ensures value { IsTrue (is_trusted self.old.ledger.history) → IfOk result (λ found. IsSome found → into.new ≡ value_at (latest self.old.ledger.history) addr) }
         ensures object { IfOk result (λ found. IsSome found → IsTrue (is_object J.blocks (addr, into.new))) }
-        ensures found { IfOk result (λ found. IfSome found (λ found. found ≡ record { addr = addr; seen = self.old.memory.history })) }
+        ensures found { IfOk result (λ found. IfSome found (λ found. found ≡ record { addr = addr; seen = self.old.ledger.history })) }
         ensures stays { IfOk result (λ found. found ≡ None → into.new ≡ into.old) }
         ensures lacks { IfOk result (λ found. found ≡ None → known_at (usable self.old fetched.now) self.old.tail addr ≡ None) }
         ensures may { OnOk result (MayRead J.blocks (outset_of self.old) transaction.now addr) }
         ensures refusal { IfErr result (IsReadRefusal J.blocks self.old transaction.now addr fetched.now) }
         ensures event { AnswersRead J.blocks self.old transaction.now addr fetched.now result into.new self.new }
     {
-        self.look(rt, held);
-        self.read_unmoved(transaction, addr, fetched, into)
+        self.verify_tokens(rt, held);
+        self.read_verified(transaction, addr, fetched, into)
     }
 
     /// Looks and refuses a read as `read` does, by what is known before the value is looked for: J13, J6, J2, and by what
@@ -76,29 +76,29 @@ impl<'b, R: MapRule, J: Naming> Volatile<'b, R, J> {
         addr: Addr,
     ) -> Result<(), Refusal<Cause<'b, J, R>>>
         requires under { AreUnder held.old transaction.now.seen transaction.now.reads }
-        ensures agree { AgreeWith self.new.memory.history held.new }
+        ensures agree { AgreeWith self.new.ledger.history held.new }
         ensures held { held.new ≡ held.old }
         ensures same { self.new ≡ self.old }
         ensures may { OnOk result (MayRead J.blocks (outset_of self.old) transaction.now addr) }
-        ensures refusal { IfErr result (IsLookRefusal J.blocks (outset_of self.old) transaction.now addr) }
+        ensures refusal { IfErr result (IsCheckRefusal J.blocks (outset_of self.old) transaction.now addr) }
     {
-        self.look(rt, held);
-        self.check_unmoved(transaction, addr)
+        self.verify_tokens(rt, held);
+        self.check_verified(transaction, addr)
     }
 
-    // Reads as `read` does, once a look has shown that what was read has not moved.
-    pub(crate) fn read_unmoved(
+    // Reads as `read` does, once it was verified that what was read has not moved.
+    pub(crate) fn read_verified(
         &self,
         transaction: &Transaction<'b, J, R>,
         addr: Addr,
         fetched: &Fetched<'b, J, R>,
         into: &mut [u8],
-    ) -> Result<Option<Found<'b, J, R>>, Refusal<Cause<'b, J, R>>>
+    ) -> Result<Option<ReadResult<'b, J, R>>, Refusal<Cause<'b, J, R>>>
         requires size { IsTrue (is_valid J.blocks addr) → length into.old ≡ size_at J.blocks addr }
-        requires unmoved { AreUnmoved self.now.memory.history transaction.now }
-        ensures value { IsTrue (is_trusted self.now.memory.history) → IfOk result (λ found. IsSome found → into.new ≡ value_at (latest self.now.memory.history) addr) }
+        requires unmoved { AreUnmoved self.now.ledger.history transaction.now }
+        ensures value { IsTrue (is_trusted self.now.ledger.history) → IfOk result (λ found. IsSome found → into.new ≡ value_at (latest self.now.ledger.history) addr) }
         ensures object { IfOk result (λ found. IsSome found → IsTrue (is_object J.blocks (addr, into.new))) }
-        ensures found { IfOk result (λ found. IfSome found (λ found. found ≡ record { addr = addr; seen = self.now.memory.history })) }
+        ensures found { IfOk result (λ found. IfSome found (λ found. found ≡ record { addr = addr; seen = self.now.ledger.history })) }
         ensures stays { IfOk result (λ found. found ≡ None → into.new ≡ into.old) }
         ensures lacks { IfOk result (λ found. found ≡ None → known_at (usable self.now fetched.now) self.now.tail addr ≡ None) }
         ensures may { OnOk result (MayRead J.blocks (outset_of self.now) transaction.now addr) }
@@ -106,32 +106,32 @@ impl<'b, R: MapRule, J: Naming> Volatile<'b, R, J> {
         ensures event { (d : DurableState) → IsPair J.blocks self.now d → IfOk result (λ found. IsSome found →
             FindsValue J.blocks (core_of self.now d) transaction.now addr into.new (core_of self.now d)) }
     {
-        self.check_unmoved(transaction, addr)?;
+        self.check_verified(transaction, addr)?;
         let blocks = self.usable(fetched)?;
         if !raise(self.tail.read(addr, blocks, into))? {
             return Ok(None);
         }
-        Ok(Some(Found {
+        Ok(Some(ReadResult {
             addr,
-            front: self.memory.front(),
+            front: self.ledger.front(),
         }))
     }
 
-    // Refuses a read as `check_read` does, once a look has shown that what was read has not moved.
-    pub(crate) fn check_unmoved(
+    // Refuses a read as `check_read` does, once it was verified that what was read has not moved.
+    pub(crate) fn check_verified(
         &self,
         transaction: &Transaction<'b, J, R>,
         addr: Addr,
     ) -> Result<(), Refusal<Cause<'b, J, R>>>
-        requires unmoved { AreUnmoved self.now.memory.history transaction.now }
+        requires unmoved { AreUnmoved self.now.ledger.history transaction.now }
         ensures may { OnOk result (MayRead J.blocks (outset_of self.now) transaction.now addr) }
-        ensures refusal { IfErr result (IsLookRefusal J.blocks (outset_of self.now) transaction.now addr) }
+        ensures refusal { IfErr result (IsCheckRefusal J.blocks (outset_of self.now) transaction.now addr) }
     {
         self.check_running()?;
         if !self.tail.layout().is_valid(addr) {
             return Err(Refusal::BadAddress);
         }
-        self.memory.check_transaction(transaction)
+        self.ledger.check_transaction(transaction)
     }
 
     // The fetched blocks that may be used. Refuses by J9 where the fetch has seen more of the history.
@@ -140,10 +140,10 @@ impl<'b, R: MapRule, J: Naming> Volatile<'b, R, J> {
         fetched: &'a Fetched<'b, J, R>,
     ) -> Result<&'a [Update], Refusal<Cause<'b, J, R>>>
         ensures blocks { IfOk result (λ blocks. blocks.now ≡ usable self.now fetched.now) }
-        ensures latest { IsTrue (is_trusted self.now.memory.history) → IfOk result (λ blocks.
-            AreObjectsOf J.blocks (latest self.now.memory.history) (known_updates blocks.now self.now.tail)) }
-        ensures begins { OnOk result (IsPrefix fetched.now.front self.now.memory.history) }
-        ensures refusal { IfErr result (IsFrontRefusal self.now.memory.history fetched.now.front) }
+        ensures latest { IsTrue (is_trusted self.now.ledger.history) → IfOk result (λ blocks.
+            AreObjectsOf J.blocks (latest self.now.ledger.history) (known_updates blocks.now self.now.tail)) }
+        ensures begins { OnOk result (IsPrefix fetched.now.front self.now.ledger.history) }
+        ensures refusal { IfErr result (IsFrontRefusal self.now.ledger.history fetched.now.front) }
     {
         self.front_over(&fetched.front)?;
         if self.tail.trimmed() <= fetched.commits {

@@ -4,7 +4,7 @@ ghost use mathlib.Core.List.{IsPrefix};
 ghost use Rattle.journal_world.specs.Histories.{commits_of, count, floor};
 ghost use Rattle.journal_history.specs.Tokens.{made, IsExact, OnlyExtends};
 ghost use Rattle.journal_memlog.specs.Logs.{tail_of};
-ghost use Rattle.journal_core.specs.Memories.{IsStaleRefusal, IsStrayRefusal};
+ghost use Rattle.journal_core.specs.Ledgers.{IsStaleRefusal, IsStrayRefusal};
 ghost use Rattle.journal_core.specs.Volatiles.{outset_of, used_positions, HasNothingToLog};
 ghost use Rattle.journal_core.specs.Waits.{MayWait, IsWaitRefusal, IsFlushRefusal};
 ghost use Rattle.journal_core.specs.Holds.{AnswersWait, AnswersFlush, AnswersShow};
@@ -31,40 +31,40 @@ impl<'b, R: MapRule, J: Naming> Volatile<'b, R, J> {
         n: u64,
     ) -> Result<bool, Refusal<Cause<'b, J, R>>>
         ensures same { self.new ≡ self.old }
-        ensures answer { IfOk result (λ marked. IsTrue marked ↔ (n ≤ floor self.old.memory.history)) }
+        ensures answer { IfOk result (λ marked. IsTrue marked ↔ (n ≤ floor self.old.ledger.history)) }
         ensures goes_on { OnOk result (MayWait (outset_of self.old) n) }
-        ensures shown { OnOk result (session.new.seen ≡ self.old.memory.history) }
+        ensures shown { OnOk result (session.new.seen ≡ self.old.ledger.history) }
         ensures exact { OnOk result (IsExact session.new) }
         ensures extends { OnlyExtends session.old session.new }
         ensures refusal { IfErr result (IsWaitRefusal (outset_of self.old) session.old n) }
         ensures stays { OnErr result (session.new ≡ session.old) }
         ensures event { AnswersWait self.old session.old n result session.new }
     {
-        self.look_for_mark(rt, session, n)
+        self.find_mark(rt, session, n)
     }
 
     // Looks for a mark as `wait_step` does.
-    fn look_for_mark<W: Wait>(
+    fn find_mark<W: Wait>(
         &mut self,
         rt: &W,
         session: &mut Session<'b, J, R>,
         n: u64,
     ) -> Result<bool, Refusal<Cause<'b, J, R>>>
         ensures same { self.new ≡ self.old }
-        ensures answer { IfOk result (λ marked. IsTrue marked ↔ (n ≤ floor self.old.memory.history)) }
+        ensures answer { IfOk result (λ marked. IsTrue marked ↔ (n ≤ floor self.old.ledger.history)) }
         ensures goes_on { OnOk result (MayWait (outset_of self.old) n) }
-        ensures shown { OnOk result (session.new.seen ≡ self.old.memory.history) }
+        ensures shown { OnOk result (session.new.seen ≡ self.old.ledger.history) }
         ensures exact { OnOk result (IsExact session.new) }
         ensures extends { OnlyExtends session.old session.new }
         ensures refusal { IfErr result (IsWaitRefusal (outset_of self.old) session.old n) }
         ensures stays { OnErr result (session.new ≡ session.old) }
     {
-        let marked = n <= self.memory.floor();
+        let marked = n <= self.ledger.floor();
         if !marked {
             self.check_running()?;
         }
         self.check_session(rt, session)?;
-        self.memory.show_whole(session);
+        self.ledger.show_whole(session);
         Ok(marked)
     }
 
@@ -83,42 +83,42 @@ impl<'b, R: MapRule, J: Naming> Volatile<'b, R, J> {
         session: &mut Session<'b, J, R>,
     ) -> Result<bool, Refusal<Cause<'b, J, R>>>
         ensures same { self.new ≡ self.old }
-        ensures answer { IfOk result (λ marked. IsTrue marked ↔ (count session.old.seen ≤ floor self.old.memory.history)) }
+        ensures answer { IfOk result (λ marked. IsTrue marked ↔ (count session.old.seen ≤ floor self.old.ledger.history)) }
         ensures goes_on { OnOk result (MayWait (outset_of self.old) (count session.old.seen)) }
-        ensures shown { IfOk result (λ marked. IsTrue marked → session.new.seen ≡ self.old.memory.history) }
+        ensures shown { IfOk result (λ marked. IsTrue marked → session.new.seen ≡ self.old.ledger.history) }
         ensures exact { IfOk result (λ marked. IsTrue marked → IsExact session.new) }
         ensures stays { IfOk result (λ marked. marked ≡ false → session.new ≡ session.old) }
         ensures extends { OnlyExtends session.old session.new }
         ensures refusal { IfErr result (IsFlushRefusal (outset_of self.old) session.old session.new) }
         ensures event { AnswersFlush self.old session.old result session.new }
     {
-        self.look_for_marks(rt, session)
+        self.find_marks(rt, session)
     }
 
     // Looks for the marks of what the session has seen as `flush_step` does.
-    fn look_for_marks<W: Wait>(
+    fn find_marks<W: Wait>(
         &mut self,
         rt: &W,
         session: &mut Session<'b, J, R>,
     ) -> Result<bool, Refusal<Cause<'b, J, R>>>
         ensures same { self.new ≡ self.old }
-        ensures answer { IfOk result (λ marked. IsTrue marked ↔ (count session.old.seen ≤ floor self.old.memory.history)) }
+        ensures answer { IfOk result (λ marked. IsTrue marked ↔ (count session.old.seen ≤ floor self.old.ledger.history)) }
         ensures goes_on { OnOk result (MayWait (outset_of self.old) (count session.old.seen)) }
-        ensures shown { IfOk result (λ marked. IsTrue marked → session.new.seen ≡ self.old.memory.history) }
+        ensures shown { IfOk result (λ marked. IsTrue marked → session.new.seen ≡ self.old.ledger.history) }
         ensures exact { IfOk result (λ marked. IsTrue marked → IsExact session.new) }
         ensures stays { IfOk result (λ marked. marked ≡ false → session.new ≡ session.old) }
         ensures extends { OnlyExtends session.old session.new }
         ensures refusal { IfErr result (IsFlushRefusal (outset_of self.old) session.old session.new) }
     {
         self.check_session(rt, session)?;
-        if self.memory.has_marked(session) {
-            self.memory.show_whole(session);
+        if self.ledger.has_marked(session) {
+            self.ledger.show_whole(session);
             return Ok(true);
         }
         match self.check_running() {
             Ok(()) => Ok(false),
             Err(why) => {
-                self.memory.show_whole(session);
+                self.ledger.show_whole(session);
                 Err(why)
             }
         }
@@ -132,11 +132,11 @@ impl<'b, R: MapRule, J: Naming> Volatile<'b, R, J> {
     ) -> Result<(), Refusal<Cause<'b, J, R>>>
         ensures same { self.new ≡ self.old }
         ensures session { session.new ≡ session.old }
-        ensures seen { OnOk result (IsPrefix session.old.seen self.old.memory.history) }
-        ensures own { OnOk result (length (commits_of session.old.number self.old.memory.history) ≡ made session.old) }
-        ensures refusal { IfErr result (IsStrayRefusal self.old.memory.history session.old) }
+        ensures seen { OnOk result (IsPrefix session.old.seen self.old.ledger.history) }
+        ensures own { OnOk result (length (commits_of session.old.number self.old.ledger.history) ≡ made session.old) }
+        ensures refusal { IfErr result (IsStrayRefusal self.old.ledger.history session.old) }
     {
-        self.memory.check_session(rt, session)
+        self.ledger.check_session(rt, session)
     }
 
     /// A hold of memory alone: shows the session the whole history.
@@ -145,25 +145,25 @@ impl<'b, R: MapRule, J: Naming> Volatile<'b, R, J> {
     /// more.
     pub fn show_step(&self, session: &mut Session<'b, J, R>) -> Result<(), Refusal<Cause<'b, J, R>>>
         ensures extends { OnlyExtends session.old session.new }
-        ensures shown { OnOk result (session.new.seen ≡ self.now.memory.history) }
-        ensures refusal { IfErr result (IsStaleRefusal self.now.memory.history) }
+        ensures shown { OnOk result (session.new.seen ≡ self.now.ledger.history) }
+        ensures refusal { IfErr result (IsStaleRefusal self.now.ledger.history) }
         ensures event { AnswersShow self.now session.old result session.new }
     {
-        self.memory.show(session)
+        self.ledger.show(session)
     }
 
     /// How many commits the history has.
     pub fn commits(&self) -> u64
-        ensures { result ≡ count self.now.memory.history }
+        ensures { result ≡ count self.now.ledger.history }
     {
-        self.memory.count()
+        self.ledger.count()
     }
 
     /// How many of them are marked as stable.
     pub fn floor(&self) -> u64
-        ensures { result ≡ floor self.now.memory.history }
+        ensures { result ≡ floor self.now.ledger.history }
     {
-        self.memory.floor()
+        self.ledger.floor()
     }
 
     /// How many blocks the next cut hands out: those that commits wrote since the last one.
@@ -188,13 +188,13 @@ impl<'b, R: MapRule, J: Naming> Volatile<'b, R, J> {
     pub fn has_nothing_to_log(&self, start: u64) -> bool
         ensures { IsTrue result ↔ HasNothingToLog self.now start }
     {
-        let floor = self.memory.floor();
-        if floor < self.memory.cut() {
+        let floor = self.ledger.floor();
+        if floor < self.ledger.cut() {
             return false;
         }
         let tail = self.tail.tail_len();
         if tail == 0 {
-            return self.memory.count() <= floor;
+            return self.ledger.count() <= floor;
         }
         LOG_POSITIONS.saturating_sub(self.used_positions(start)) < tail
     }

@@ -21,7 +21,7 @@ use journal_circ::{Circ, MAX_SEALED_BLOCKS};
 use journal_disk::{BlockDisk, MemDisk};
 use journal_history::{Book, Naming, Receipt, Session};
 use journal_lockmap::SlotCell;
-use journal_twophase::{Journal, Txn, WaitFault, Waited, Why};
+use journal_twophase::{Journal, JournalRefusal, Txn, WaitFault, Waited};
 use journal_world::{Addr, AnyMap, Refusal, Step};
 use std::alloc::Global;
 use std::fmt::Debug;
@@ -38,7 +38,7 @@ type OpenTxn<'j, 'b, D, J> = Txn<'j, 'b, D, AnyMap, J>;
 
 type Client<'b, J> = Session<'b, J, AnyMap>;
 
-type Reason<'b, J> = Why<'b, J, AnyMap>;
+type Reason<'b, J> = JournalRefusal<'b, J, AnyMap>;
 
 /// How many blocks a disk has.
 const BLOCKS: u64 = 800;

@@ -5,7 +5,7 @@ use crate::steps::{Gate, INSTALLER, LOGGER, OneStep, run};
 use journal_core::Cause;
 use journal_disk::BlockDisk;
 use journal_history::Naming;
-use journal_twophase::{Journal, Why};
+use journal_twophase::{Journal, JournalRefusal};
 use journal_world::{MapRule, Refusal, Step};
 use std::rt::Clock;
 use std::sync::Wait;
@@ -27,7 +27,7 @@ impl<'j, 'b, D: BlockDisk, R: MapRule, J: Naming> OneStep for Logger<'j, 'b, D, 
     type Cause = Cause<'b, J, R>;
 
     fn step<W: Wait + Clock>(&self, rt: &W) -> Result<Step, Refusal<Cause<'b, J, R>>> {
-        self.journal.log_gathered(rt)
+        self.journal.log_step_grouped(rt)
     }
 
     fn idle<W: Wait>(&self, rt: &W) {
@@ -36,7 +36,7 @@ impl<'j, 'b, D: BlockDisk, R: MapRule, J: Naming> OneStep for Logger<'j, 'b, D, 
 }
 
 // A journal, whose installer makes the steps. It is lazy: an eager one would take every second pair of barriers from
-// the logger, though positions are needed only where the log is crowded.
+// the logger, though positions are needed only where the log is past its threshold.
 struct Installer<'j, 'b, D: BlockDisk, R: MapRule, J: Naming> {
     journal: &'j Journal<'b, D, R, J>,
 }
@@ -51,7 +51,7 @@ impl<'j, 'b, D: BlockDisk, R: MapRule, J: Naming> OneStep for Installer<'j, 'b, 
     type Cause = Cause<'b, J, R>;
 
     fn step<W: Wait + Clock>(&self, rt: &W) -> Result<Step, Refusal<Cause<'b, J, R>>> {
-        self.journal.install_where_crowded(rt)
+        self.journal.install_past_threshold(rt)
     }
 
     fn idle<W: Wait>(&self, rt: &W) {
@@ -62,7 +62,7 @@ impl<'j, 'b, D: BlockDisk, R: MapRule, J: Naming> OneStep for Installer<'j, 'b, 
 /// Runs a logger and an installer for the journal, each in a thread of its own, and returns when both have ended:
 /// after `Journal::stop`, or where a step of each was refused by another refusal than J1. A step that J1 refuses is
 /// tried again. The logger passes the gate as `LOGGER`, the installer as `INSTALLER`. The clock is asked for nothing but
-/// how long the logger lets a group grow (`Journal::log_gathered`).
+/// how long the logger lets a group grow (`Journal::log_step_grouped`).
 ///
 /// Answers J1 `NoMemory`, and nothing else, where a thread was refused. The journal is then stopped, and a thread that
 /// was made has ended.
@@ -73,7 +73,7 @@ pub fn start<
     J: Naming + Send + Sync,
     G: Gate + Sync,
     H: Threads + Wait + Clock + Sync,
->(rt: &H, journal: &Journal<'b, D, R, J>, gate: &G) -> Result<(), Why<'b, J, R>>
+>(rt: &H, journal: &Journal<'b, D, R, J>, gate: &G) -> Result<(), JournalRefusal<'b, J, R>>
     ensures { IsOkUnless result Refusal.NoMemory }
 {
     let refused = thread::scope(thread::scope_env(), rt, |scope| {

@@ -3,7 +3,7 @@ ghost use Rattle.std.specs.Prelude.{◌≡◌};
 
 use journal_disk::BlockDisk;
 use journal_history::{Naming, Session};
-use journal_twophase::{Journal, Txn, WaitFault, Waited, Why};
+use journal_twophase::{Journal, JournalRefusal, Txn, WaitFault, Waited};
 use journal_world::{Addr, AnyMap};
 use std::alloc::Global;
 use std::sync::Wait;
@@ -19,7 +19,7 @@ pub fn look<'b, D: BlockDisk, J: Naming, W: Wait>(
     alloc: Global,
     journal: &Journal<'b, D, AnyMap, J>,
     session: &mut Session<'b, J, AnyMap>,
-) -> Result<u64, Why<'b, J, AnyMap>> {
+) -> Result<u64, JournalRefusal<'b, J, AnyMap>> {
     let mut txn = journal.begin(alloc, session);
     let found = read(rt, &mut txn);
     // A transaction has to be ended: one that is let go does not compile.
@@ -49,7 +49,7 @@ pub fn add_one<'b, D: BlockDisk, J: Naming, W: Wait>(
 fn read_and_add<'j, 'b, D: BlockDisk, J: Naming, W: Wait>(
     rt: &W,
     txn: &mut Txn<'j, 'b, D, AnyMap, J>,
-) -> Result<(), Why<'b, J, AnyMap>> {
+) -> Result<(), JournalRefusal<'b, J, AnyMap>> {
     let next = read(rt, txn)?.wrapping_add(1);
     let mut inode = [0; INODE_BYTES];
     inode[..8].copy_from_slice(&next.to_le_bytes());
@@ -60,7 +60,7 @@ fn read_and_add<'j, 'b, D: BlockDisk, J: Naming, W: Wait>(
 fn read<'j, 'b, D: BlockDisk, J: Naming, W: Wait>(
     rt: &W,
     txn: &mut Txn<'j, 'b, D, AnyMap, J>,
-) -> Result<u64, Why<'b, J, AnyMap>> {
+) -> Result<u64, JournalRefusal<'b, J, AnyMap>> {
     let value = txn.read(rt, COUNTER)?;
     match value.bytes() {
         [a, b, c, d, e, f, g, h, ..] => Ok(u64::from_le_bytes([*a, *b, *c, *d, *e, *f, *g, *h])),

@@ -6,7 +6,7 @@ use journal_daemon::{OpenGate, start};
 use journal_disk::FileDisk;
 use journal_history::{Book, Naming, Session};
 use journal_lockmap::SlotCell;
-use journal_twophase::{Journal, Why};
+use journal_twophase::{Journal, JournalRefusal};
 use journal_world::AnyMap;
 use std::alloc::Global;
 use std::marker::Brand;

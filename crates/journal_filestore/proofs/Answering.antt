@@ -10,8 +10,8 @@ use Rattle.journal_inode.specs.declared.node.Node.TheVariants.{Root, File}
 use Rattle.journal_inode.specs.Sound.{node_at, IsInPlace, IsSoundFile, HasSoundFiles}
 use Rattle.journal_filestore.specs.declared.reply.Attributes.{Attributes}
 use Rattle.journal_filestore.specs.declared.status.Status.{Status}
-use Rattle.journal_filestore.specs.declared.find.Place.{Place}
-use Rattle.journal_filestore.specs.declared.find.Place.TheVariants.{Gone, Directory, Regular}
+use Rattle.journal_filestore.specs.declared.find.Target.{Target}
+use Rattle.journal_filestore.specs.declared.find.Target.TheVariants.{Gone, Directory, Regular}
 use Rattle.journal_filestore.specs.Files.{FileData, Files, is_file_number, with_entry, files_of}
 use Rattle.journal_filestore.specs.Operations.{FileTarget, Outcome, file_target, attributes, attributes_of_node, changed}
 use Rattle.journal_filestore.specs.Operations.FileTarget.{gone, root, file}
@@ -35,7 +35,7 @@ pub no_root : {version : FormatVersion} (m : Map) (j : ℕ) (t : Time) → HasSo
 no_root {version} m j t sound number is =
     not_root j t (IsFileNumber-test j number).from (subst (IsInPlace j) is (sound.placed j (IsFileNumber-test j number).to))
 
-module _ {A : Type 0} {version : FormatVersion} (blocks : ℕ) (k : Files → FileTarget → Outcome A) (i generation : ℕ) (p : Place) (t0 t1 : TxnState) (fresh : t0.writes ≡ []) (found : LearnsThat version blocks t0 t1 (λ m. IsAt version i generation m p)) where
+module _ {A : Type 0} {version : FormatVersion} (blocks : ℕ) (k : Files → FileTarget → Outcome A) (i generation : ℕ) (p : Target) (t0 t1 : TxnState) (fresh : t0.writes ≡ []) (found : LearnsThat version blocks t0 t1 (λ m. IsAt version i generation m p)) where
   abbrev pub case_of : Files → Result A Status → Files → Type 0
   case_of F r F2 = (r, F2) ≡ k F (file_target F i generation)
 

@@ -13,7 +13,7 @@ use Rattle.journal_inode.specs.declared.node.Node.TheVariants.{File}
 use Rattle.journal_inode.specs.declared.node.TheConstants.{MORE_BLOCKS}
 use Rattle.journal_inode.specs.Places.{object}
 use Rattle.journal_inode.specs.Places.Object.{block}
-use Rattle.journal_inode.specs.Versions.{most_bytes, more_count, room_of}
+use Rattle.journal_inode.specs.Versions.{most_bytes, extra_count, room_of}
 use Rattle.journal_inode.specs.Sound.{file_blocks, stored, content, IsDataBlock, IsSoundFile, RepeatsNoBlock, HasSoundFiles}
 use Rattle.journal_filestore.proofs.Replacing.{Replaces, IsSoundNode, IsInPlace-file, Sound-replaced}
 use Rattle.journal_filestore.specs.Files.{is_file_number, entry_of}
@@ -40,7 +40,7 @@ module _ (version : FormatVersion) where
     pub timed : g.mtime.nanos ≤ MAX_NANOS
     pub on_disk : AllByRecursion (IsDataBlock n.blocks) (file_blocks version g)
     pub distinct : RepeatsNoBlock version g
-    pub absent : drop (more_count version g.size) g.more ≡ replicate (MORE_BLOCKS - more_count version g.size) 0
+    pub absent : drop (extra_count version g.size) g.more ≡ replicate (MORE_BLOCKS - extra_count version g.size) 0
     pub sized : AllByRecursion (λ b. length (object n (block b)) ≡ BLOCK_BYTES) (file_blocks version g)
     pub held_bytes : stored version n g ≡ p ++ replicate (room_of version g.size - length p) 0
 

@@ -16,7 +16,7 @@ use Rattle.journal_inode.specs.declared.place.TheConstants.{INODES}
 use Rattle.journal_inode.specs.Places.{Object, IsOnDisk, object}
 use Rattle.journal_inode.specs.Places.Object.{superblock, bit, inode, block}
 use Rattle.journal_inode.specs.Nodes.{inode_bytes, Fits}
-use Rattle.journal_inode.specs.Versions.{most_bytes, more_count, room_of}
+use Rattle.journal_inode.specs.Versions.{most_bytes, extra_count, room_of}
 use Rattle.journal_inode.specs.Sound.{node_at, file_blocks, held, stored, IsAmong, HasBlock, IsTaken, IsDataBlock, IsBit, IsSoundFile, HasSoundFiles}
 use Rattle.journal_filestore.specs.Files.{is_file_number}
 use Rattle.journal_filestore.specs.Doing.{Write, HasBit, AreClear, bits_written, blocks_written, Puts}
@@ -193,7 +193,7 @@ pub record IsNodeOf (version : FormatVersion) (g : FileNode) (p : List ℕ) : Ty
   pub size : g.size ≡ length p
   pub small : length p ≤ most_bytes version
   pub timed : g.mtime.nanos ≤ MAX_NANOS
-  pub absent : drop (more_count version g.size) g.more ≡ replicate (MORE_BLOCKS - more_count version g.size) 0
+  pub absent : drop (extra_count version g.size) g.more ≡ replicate (MORE_BLOCKS - extra_count version g.size) 0
   pub fits : Fits (File g)
 
 -- The file at number i becomes g, whose blocks are kept ones and new ones, in which these bytes are written to some in the middle

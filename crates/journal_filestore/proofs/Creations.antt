@@ -7,14 +7,14 @@ use Rattle.journal_world.specs.declared.layout.TheConstants.{BLOCK_BYTES}
 use Rattle.journal_world.specs.declared.moment.TheConstants.{MAX_NANOS}
 use Rattle.journal_world.specs.Maps.{Map}
 use Rattle.journal_twophase.specs.Transactions.{TxnState}
-use Rattle.journal_wal.specs.declared.append.TheConstants.{MAX_UPDATES}
+use Rattle.journal_wal.specs.declared.limits.TheConstants.{MAX_UPDATES}
 use Rattle.journal_inode.specs.declared.version.FormatVersion.{FormatVersion}
 use Rattle.journal_inode.specs.declared.node.Time.{Time}
 use Rattle.journal_inode.specs.declared.node.FileNode.{FileNode}
 use Rattle.journal_inode.specs.declared.node.Node.{Node}
 use Rattle.journal_inode.specs.declared.node.Node.TheVariants.{Free, Root, File}
 use Rattle.journal_inode.specs.Nodes.{Fits}
-use Rattle.journal_inode.specs.Versions.{most_bytes, more_count}
+use Rattle.journal_inode.specs.Versions.{most_bytes, extra_count}
 use Rattle.journal_inode.specs.Sound.{node_at, content, IsSoundFile, HasSoundFiles}
 use Rattle.journal_inode.proofs.Blocks.{more_fits}
 use Rattle.journal_filestore.specs.declared.reply.Found.{Found}
@@ -23,15 +23,15 @@ use Rattle.journal_filestore.specs.declared.status.Status.TheVariants.{Exists, T
 use Rattle.journal_filestore.specs.declared.settings.NewTime.{NewTime}
 use Rattle.journal_filestore.specs.declared.settings.NewTime.TheVariants.{Leave, Server, Client}
 use Rattle.journal_filestore.specs.declared.settings.Settings.{Settings}
-use Rattle.journal_filestore.specs.declared.settings.How.{How}
-use Rattle.journal_filestore.specs.declared.settings.How.TheVariants.{Unchecked, Guarded, Exclusive}
+use Rattle.journal_filestore.specs.declared.settings.CreateMode.{CreateMode}
+use Rattle.journal_filestore.specs.declared.settings.CreateMode.TheVariants.{Unchecked, Guarded, Exclusive}
 use Rattle.journal_filestore.specs.Files.{FileData, Files, is_file_number, with_entry, entry_of, files_of}
 use Rattle.journal_filestore.specs.Operations.{attributes, attributes_of_node, of_root, number_of_name, is_no_time, is_too_big, time_after, resized, with_settings, new_file, created, create_new, create_file, create_number, create_how, create_case, file_target}
-use Rattle.journal_filestore.specs.declared.find.Place.{Place}
-use Rattle.journal_filestore.specs.declared.find.Place.TheVariants.{Directory}
+use Rattle.journal_filestore.specs.declared.find.Target.{Target}
+use Rattle.journal_filestore.specs.declared.find.Target.TheVariants.{Directory}
 use Rattle.journal_filestore.specs.Handles.{data_of, asked, found_node, IsAt}
 use Rattle.journal_filestore.specs.Doing.{LearnsThat, WritesEach, AreClear, AreFresh, file_written, Leads, Puts, Makes, Does}
-use Rattle.journal_filestore.specs.Changes.{more_of, LacksBlocks, HasChanged}
+use Rattle.journal_filestore.specs.Changes.{extra_blocks_of, LacksBlocks, HasChanged}
 use Rattle.journal_filestore.proofs.Doings.{Makes-told, Makes-like, Tells-nothing, Tells-like, Tells-both, Does-made}
 use Rattle.journal_filestore.proofs.FilesReplaced.{IsFileNumber-test}
 use Rattle.journal_filestore.proofs.Finding.{entry_at, case-directory, IsAt-is}
@@ -45,12 +45,12 @@ use Rattle.journal_filestore.proofs.Setting.{time_after-timed, size_fits}
 use Rattle.journal_filestore.proofs.Creating.{Puts-created}
 
 -- how it is asked for
-pub create-unsupported : (version : FormatVersion) (room : Bool) (name : List ℕ) (how : How) (now : Time) (F : Files) → asked how ≡ None → create_how version room name how now F ≡ (Err NotSupported, F)
+pub create-unsupported : (version : FormatVersion) (room : Bool) (name : List ℕ) (how : CreateMode) (now : Time) (F : Files) → asked how ≡ None → create_how version room name how now F ≡ (Err NotSupported, F)
 create-unsupported version room name Exclusive now F is = refl
 create-unsupported version room name (Guarded s) now F is = absurd (let e : Some (s, true) ≡ None = is in cc)
 create-unsupported version room name (Unchecked s) now F is = absurd (let e : Some (s, false) ≡ None = is in cc)
 
-pub create-asked : (version : FormatVersion) (room : Bool) (name : List ℕ) (how : How) (now : Time) (F : Files) (x : Settings × Bool) → asked how ≡ Some x → create_how version room name how now F ≡ create_number version room x.1 x.0 now F (number_of_name name)
+pub create-asked : (version : FormatVersion) (room : Bool) (name : List ℕ) (how : CreateMode) (now : Time) (F : Files) (x : Settings × Bool) → asked how ≡ Some x → create_how version room name how now F ≡ create_number version room x.1 x.0 now F (number_of_name name)
 create-asked version room name Exclusive now F x is = absurd (let e : None ≡ Some x = is in cc)
 create-asked version room name (Guarded s) now F x is =
     let e : (s, true) ≡ x = cc is in ap (λ (y : Settings × Bool). create_number version room y.1 y.0 now F (number_of_name name)) e
@@ -97,7 +97,7 @@ module _ (version : FormatVersion) (blocks : ℕ) (s : Settings) (now : Time) (j
         (
           sound,
           sym (cond-false _ _ _ free ∙ cond-false _ _ _ small
-              ∙ cond-true _ _ _ (lacks version _ _ (subst (λ k. more_count version k < more_count version (unwrap_or s.size k)) (sym whole.whole) short.needed))),
+              ∙ cond-true _ _ _ (lacks version _ _ (subst (λ k. extra_count version k < extra_count version (unwrap_or s.size k)) (sym whole.whole) short.needed))),
         ),
       ))
 
@@ -150,15 +150,15 @@ module _ (version : FormatVersion) (blocks : ℕ) (s : Settings) (now : Time) (j
 
   -- blocks are found free; they, their bits and the inode are overwritten
   pub Makes-new : (rest bytes : List ℕ) (f : FileNode) (answer : Found) (t1 t2 : TxnState) → is_too_big version s.size ≡ false → last ≢ 4294967295 → now.nanos ≤ MAX_NANOS
-      → LearnsThat version blocks t0 t1 (λ m. AreClear m (f.block ∷ rest)) → AreFresh (1 + more_count version (unwrap_or s.size 0)) (f.block ∷ rest)
-      → WritesEach blocks t1 t2 (file_written j f (f.block ∷ rest) (f.block ∷ rest) bytes) → bytes ≡ replicate (BLOCK_BYTES * (1 + more_count version (unwrap_or s.size 0))) 0
-      → f.generation ≡ last + 1 → f.size ≡ unwrap_or s.size 0 → f.mtime ≡ time_after (Some 0) s.mtime now now → f.more ≡ more_of rest [] → Fits (File f) → answer ≡ found_node j f t
+      → LearnsThat version blocks t0 t1 (λ m. AreClear m (f.block ∷ rest)) → AreFresh (1 + extra_count version (unwrap_or s.size 0)) (f.block ∷ rest)
+      → WritesEach blocks t1 t2 (file_written j f (f.block ∷ rest) (f.block ∷ rest) bytes) → bytes ≡ replicate (BLOCK_BYTES * (1 + extra_count version (unwrap_or s.size 0))) 0
+      → f.generation ≡ last + 1 → f.size ≡ unwrap_or s.size 0 → f.mtime ≡ time_after (Some 0) s.mtime now now → f.more ≡ extra_blocks_of rest [] → Fits (File f) → answer ≡ found_node j f t
       → Makes version blocks t0 t2 (News (Ok answer))
   Makes-new rest bytes f answer t1 t2 small young in_second told new_ones wrote zeros_are born_is size_is mtime_is more_is fits answered =
       Makes-each blocks t0 t1 t2 _ _ (file_written j f (f.block ∷ rest) (f.block ∷ rest) bytes) fresh told wrote few
       (λ m after sound clear becomes here root_is.
       let puts : Puts version m after j (record { generation = f.generation; file = Some (record { bytes = replicate f.size 0; mtime = f.mtime }) }) =
-      Puts-created version m after j last f rest bytes number sound here more_is node new_size clear (zeros_are ∙ ap (λ k. replicate (BLOCK_BYTES * (1 + more_count version k)) 0) (sym size_is)) becomes in (
+      Puts-created version m after j last f rest bytes number sound here more_is node new_size clear (zeros_are ∙ ap (λ k. replicate (BLOCK_BYTES * (1 + extra_count version k)) 0) (sym size_is)) becomes in (
         true,
         (
           puts.sound,
@@ -173,8 +173,8 @@ module _ (version : FormatVersion) (blocks : ℕ) (s : Settings) (now : Time) (j
       fits_file : f.size ≤ most_bytes version
       fits_file = subst (λ k. k ≤ most_bytes version) (sym size_is) (size_fits version s.size 0 small (omega arith))
 
-      new_size : AreFresh (1 + more_count version f.size) (f.block ∷ rest)
-      new_size = subst (λ k. AreFresh (1 + more_count version k) (f.block ∷ rest)) (sym size_is) new_ones
+      new_size : AreFresh (1 + extra_count version f.size) (f.block ∷ rest)
+      new_size = subst (λ k. AreFresh (1 + extra_count version k) (f.block ∷ rest)) (sym size_is) new_ones
 
       few : length (file_written j f (f.block ∷ rest) (f.block ∷ rest) bytes) ≤ MAX_UPDATES
       few = omega (arith, length-file_written j f (f.block ∷ rest) (f.block ∷ rest) bytes, new_size.count, more_fits version f.size fits_file)
@@ -194,23 +194,23 @@ module _ (version : FormatVersion) (blocks : ℕ) (s : Settings) (now : Time) (j
 
   -- so many were taken
   pub Makes-new_taken : (taken rest bytes : List ℕ) (f : FileNode) (answer : Found) (took : Bool) (t1 t2 : TxnState) → is_too_big version s.size ≡ false → last ≢ 4294967295 → now.nanos ≤ MAX_NANOS
-      → took ≡ true → LearnsThat version blocks t0 t1 (λ m. took ≡ true → AreClear m taken) → taken ≡ f.block ∷ rest → AreFresh (1 + more_count version (unwrap_or s.size 0)) taken
-      → WritesEach blocks t1 t2 (file_written j f taken taken bytes) → bytes ≡ replicate (BLOCK_BYTES * (1 + more_count version (unwrap_or s.size 0))) 0
-      → f.generation ≡ last + 1 → f.size ≡ unwrap_or s.size 0 → f.mtime ≡ time_after (Some 0) s.mtime now now → f.more ≡ more_of rest [] → Fits (File f) → answer ≡ found_node j f t
+      → took ≡ true → LearnsThat version blocks t0 t1 (λ m. took ≡ true → AreClear m taken) → taken ≡ f.block ∷ rest → AreFresh (1 + extra_count version (unwrap_or s.size 0)) taken
+      → WritesEach blocks t1 t2 (file_written j f taken taken bytes) → bytes ≡ replicate (BLOCK_BYTES * (1 + extra_count version (unwrap_or s.size 0))) 0
+      → f.generation ≡ last + 1 → f.size ≡ unwrap_or s.size 0 → f.mtime ≡ time_after (Some 0) s.mtime now now → f.more ≡ extra_blocks_of rest [] → Fits (File f) → answer ≡ found_node j f t
       → Makes version blocks t0 t2 (News (Ok answer))
   Makes-new_taken taken rest bytes f answer took t1 t2 small young in_second is_taken told taken_is new_ones wrote zeros_are born_is size_is mtime_is more_is fits answered =
       Makes-new rest bytes f answer t1 t2 small young in_second
       (subst (λ xs. LearnsThat version blocks t0 t1 (λ m. AreClear m xs)) taken_is (Tells-like blocks t0 t1 _ _ (λ m sound clear. clear is_taken) told))
-      (subst (AreFresh (1 + more_count version (unwrap_or s.size 0))) taken_is new_ones)
+      (subst (AreFresh (1 + extra_count version (unwrap_or s.size 0))) taken_is new_ones)
       (subst (λ xs. WritesEach blocks t1 t2 (file_written j f xs xs bytes)) taken_is wrote)
       zeros_are born_is size_is mtime_is more_is fits answered
 
 -- The case with some room
-abbrev pub CaseOf : FormatVersion → List ℕ → How → Time → ℕ → ℕ → Files → Result Found Status → Files → Type 0
+abbrev pub CaseOf : FormatVersion → List ℕ → CreateMode → Time → ℕ → ℕ → Files → Result Found Status → Files → Type 0
 CaseOf version name how now i generation F r F2 = (room : Bool) × ((r, F2) ≡ create_case version room name how now F (file_target F i generation))
 
 -- what it does whatever room there is
-pub Does-room : (version : FormatVersion) (blocks : ℕ) (name : List ℕ) (how : How) (now : Time) (i generation : ℕ) (t : TxnState) (answer : Result Found Status) (room : Bool)
+pub Does-room : (version : FormatVersion) (blocks : ℕ) (name : List ℕ) (how : CreateMode) (now : Time) (i generation : ℕ) (t : TxnState) (answer : Result Found Status) (room : Bool)
     → Does version blocks (λ F r F2. (r, F2) ≡ create_case version room name how now F (file_target F i generation)) t.reads t.writes answer
     → Does version blocks (CaseOf version name how now i generation) t.reads t.writes answer
 Does-room version blocks name how now i generation t answer room does = record {
@@ -220,7 +220,7 @@ Does-room version blocks name how now i generation t answer room does = record {
 }
 
 -- what it does by the inode that it read in the root
-pub Does-tail : (version : FormatVersion) (blocks : ℕ) (name : List ℕ) (how : How) (now : Time) (i generation : ℕ) (p : Place) (t : Time) (j : ℕ) (n : Node) (t0 t1 t2 t3 : TxnState) (answer : Result Found Status) (Q : Map → Map → Type 0)
+pub Does-tail : (version : FormatVersion) (blocks : ℕ) (name : List ℕ) (how : CreateMode) (now : Time) (i generation : ℕ) (p : Target) (t : Time) (j : ℕ) (n : Node) (t0 t1 t2 t3 : TxnState) (answer : Result Found Status) (Q : Map → Map → Type 0)
     → LearnsThat version blocks t0 t1 (λ m. IsAt version i generation m p) → p ≡ Directory t → LearnsThat version blocks t1 t2 (λ m. node_at m j ≡ n) → Makes version blocks t2 t3 Q
     → ((m after : Map) → HasSoundFiles version m → (files_of version m).root ≡ t → node_at m j ≡ n → Q m after → HasSoundFiles version after × ((room : Bool) × ((answer, files_of version after) ≡ create_how version room name how now (files_of version m))))
     → Does version blocks (CaseOf version name how now i generation) t3.reads t3.writes answer
@@ -233,7 +233,7 @@ Does-tail version blocks name how now i generation p t j n t0 t1 t2 t3 answer Q 
     ))
 
 -- In the root, with a name and a time, it goes by the number's inode
-module _ (version : FormatVersion) (name : List ℕ) (how : How) (s : Settings) (guarded : Bool) (now : Time) (j : ℕ) (how_is : asked how ≡ Some (s, guarded)) (named : Some j ≡ number_of_name name) (timed : is_no_time s.mtime ≡ false) (number : is_file_number j ≡ true) where
+module _ (version : FormatVersion) (name : List ℕ) (how : CreateMode) (s : Settings) (guarded : Bool) (now : Time) (j : ℕ) (how_is : asked how ≡ Some (s, guarded)) (named : Some j ≡ number_of_name name) (timed : is_no_time s.mtime ≡ false) (number : is_file_number j ≡ true) where
   create-node : (room : Bool) (m : Map) (n : Node) → node_at m j ≡ n
       → create_how version room name how now (files_of version m) ≡ create_file version room guarded s now (files_of version m) j (entry_of version m n).file
   create-node room m n is =

@@ -11,20 +11,20 @@ use Rattle.journal_world.specs.Histories.Entry.{commit}
 use Rattle.journal_world.proofs.Prefixes.{IsPrefix-trans, IsPrefix-length}
 use Rattle.journal_world.proofs.MapsOfHistories.{is_trusted-append}
 use Rattle.journal_history.specs.Tokens.{SessionState, OnlyExtends, CommitPlace, IsExact}
-use Rattle.journal_core.specs.Causes.{Told}
+use Rattle.journal_core.specs.Causes.{CauseState}
 use Rattle.journal_twophase.specs.Transactions.{TxnState, core_of}
 use Rattle.journal_twophase.specs.Commits.{IsCommitted}
 use Rattle.journal_inode.specs.declared.version.FormatVersion.{FormatVersion}
 use Rattle.journal_inode.specs.Sound.{HasSoundFiles}
 use Rattle.journal_filestore.specs.declared.fault.Fault.{Fault}
 use Rattle.journal_filestore.specs.declared.fault.Fault.TheVariants.{Refused, Unsure}
-use Rattle.journal_filestore.specs.declared.owed.Owed.{Owed}
-use Rattle.journal_filestore.specs.declared.owed.Owed.TheVariants.{Nothing, Wait}
-use Rattle.journal_filestore.specs.declared.owed.Committed.{Committed}
+use Rattle.journal_filestore.specs.declared.pending_wait.PendingWait.{PendingWait}
+use Rattle.journal_filestore.specs.declared.pending_wait.PendingWait.TheVariants.{Nothing, Wait}
+use Rattle.journal_filestore.specs.declared.pending_wait.Committed.{Committed}
 use Rattle.journal_filestore.specs.declared.status.Status.{Status}
 use Rattle.journal_filestore.specs.Files.{Files, files_of}
 use Rattle.journal_filestore.specs.Doing.{Does}
-use Rattle.journal_filestore.specs.Done.{IsMadeAt, IsDone, IsOperationFault, IsAnswered, IsReceiptOf, IsOwed, IsCommittedBy, IsAnsweredSoon, IsPaid, IsWait, owed_for}
+use Rattle.journal_filestore.specs.Done.{IsMadeAt, IsDone, IsOperationFault, IsAnswered, IsReceiptOf, IsWaitOf, IsCommittedBy, IsAnsweredNoWait, IsWaitOver, IsWait, pending_wait_for}
 
 -- an entry that is no opening says nothing of trust
 trusted_before : (found : List Entry) (t : Transaction) (rest : List Entry) → is_trusted (found ++ commit t ∷ rest) ≡ is_trusted found
@@ -79,16 +79,16 @@ module _ {A : Type 0} {version : FormatVersion} (blocks : ℕ) (case : Files →
       }
 
   -- it is owed where the transaction waits: where the operation does, and is answered Ok
-  pub IsCommittedBy-ended : (waits waited : Bool) (owed : Owed CommitPlace) → (IsTrue waits → OnOk answer (IsTrue waited)) → (IsTrue waited → IsTrue waits) → owed ≡ owed_for waited receipt
-      → Does version blocks case t.reads t.writes answer → IsCommittedBy version waits case old new (record { answer = answer; owed = owed })
-  IsCommittedBy-ended waits waited owed when only owes does = record {
+  pub IsCommittedBy-ended : (waits waited : Bool) (wait : PendingWait CommitPlace) → (IsTrue waits → OnOk answer (IsTrue waited)) → (IsTrue waited → IsTrue waits) → wait ≡ pending_wait_for waited receipt
+      → Does version blocks case t.reads t.writes answer → IsCommittedBy version waits case old new (record { answer = answer; wait = wait })
+  IsCommittedBy-ended waits waited wait when only owes does = record {
     place = length c.found;
     made = IsMadeAt-committed does;
     exact = c.exact;
-    owed = subst (λ o. IsOwed waits answer new.seen (length c.found) o) (sym owes) (owing waited when only);
+    wait = subst (λ o. IsWaitOf waits answer new.seen (length c.found) o) (sym owes) (owing waited when only);
   }
     where
-      owing : (w : Bool) → (IsTrue waits → OnOk answer (IsTrue w)) → (IsTrue w → IsTrue waits) → IsOwed waits answer new.seen (length c.found) (owed_for w receipt)
+      owing : (w : Bool) → (IsTrue waits → OnOk answer (IsTrue w)) → (IsTrue w → IsTrue waits) → IsWaitOf waits answer new.seen (length c.found) (pending_wait_for w receipt)
       owing true when only = (only refl, IsReceiptOf-committed)
       owing false when only = λ waiting. none_true answer (when waiting)
 
@@ -121,12 +121,12 @@ module _ {A : Type 0} {version : FormatVersion} (case : Files → Result A Statu
   }
 
   -- what was owed is paid
-  pub IsDone-paid : (waits : Bool) (done : Committed A CommitPlace) → IsCommittedBy version waits case old middle done → IsPaid done.owed new → IsExact new → IsDone version waits case old new done.answer
+  pub IsDone-paid : (waits : Bool) (done : Committed A CommitPlace) → IsCommittedBy version waits case old middle done → IsWaitOver done.wait new → IsExact new → IsDone version waits case old new done.answer
   IsDone-paid waits done is paid exact = record {
     place = is.place;
     made = IsMadeAt-seen done.answer is.place is.made;
     exact = exact;
-    stable = λ waiting. stable_where done.owed is.owed paid waiting;
+    stable = λ waiting. stable_where done.wait is.wait paid waiting;
   }
     where
       covered : (receipt : CommitPlace) → IsReceiptOf middle.seen is.place receipt → receipt.count ≤ floor new.seen → count (take (is.place + 1) new.seen) ≤ floor new.seen
@@ -140,15 +140,15 @@ module _ {A : Type 0} {version : FormatVersion} (case : Files → Result A Statu
       never (Ok x) P none = absurd none
       never (Err e) P none = tt
 
-      stable_where : (owed : Owed CommitPlace) → IsOwed waits done.answer middle.seen is.place owed → IsPaid owed new → IsTrue waits → OnOk done.answer (count (take (is.place + 1) new.seen) ≤ floor new.seen)
+      stable_where : (wait : PendingWait CommitPlace) → IsWaitOf waits done.answer middle.seen is.place wait → IsWaitOver wait new → IsTrue waits → OnOk done.answer (count (take (is.place + 1) new.seen) ≤ floor new.seen)
       stable_where Nothing owes paid waiting = never done.answer _ (owes waiting)
       stable_where (Wait receipt) owes paid waiting = always done.answer _ (covered receipt owes.1 paid)
 
   -- what was owed is refused
-  pub IsFault-unpaid : (waits : Bool) (done : Committed A CommitPlace) (why : Refusal Told) → IsCommittedBy version waits case old middle done → IsWait done.owed → IsOperationFault version waits case old new (Unsure why)
-  IsFault-unpaid waits done why is wait = (waiting done.owed is.owed wait, (done.answer, is.place, IsMadeAt-seen done.answer is.place is.made))
+  pub IsFault-unpaid : (waits : Bool) (done : Committed A CommitPlace) (why : Refusal CauseState) → IsCommittedBy version waits case old middle done → IsWait done.wait → IsOperationFault version waits case old new (Unsure why)
+  IsFault-unpaid waits done why is wait = (waiting done.wait is.wait wait, (done.answer, is.place, IsMadeAt-seen done.answer is.place is.made))
     where
-      waiting : (owed : Owed CommitPlace) → IsOwed waits done.answer middle.seen is.place owed → IsWait owed → IsTrue waits
+      waiting : (wait : PendingWait CommitPlace) → IsWaitOf waits done.answer middle.seen is.place wait → IsWait wait → IsTrue waits
       waiting Nothing owes wait = absurd wait
       waiting (Wait receipt) owes wait = owes.0
 
@@ -166,12 +166,12 @@ module _ {A : Type 0} (version : FormatVersion) (case : Files → Result A Statu
     ruled = is.ruled;
   }
 
-  pub IsSoon-later : (waits : Bool) (r : Result (Committed A CommitPlace) (Refusal Told)) → IsAnsweredSoon version waits case middle new r → IsAnsweredSoon version waits case old new r
+  pub IsSoon-later : (waits : Bool) (r : Result (Committed A CommitPlace) (Refusal CauseState)) → IsAnsweredNoWait version waits case middle new r → IsAnsweredNoWait version waits case old new r
   IsSoon-later waits (Ok done) is = record {
     place = is.place;
     made = IsMadeAt-later done.answer is.place is.made;
     exact = is.exact;
-    owed = is.owed;
+    wait = is.wait;
   }
   IsSoon-later waits (Err why) is = OnlyExtends-trans old middle new more is
 
@@ -189,7 +189,7 @@ module _ {A : Type 0} (version : FormatVersion) (case other : Files → Result A
     ruled = is.ruled;
   }
 
-  pub IsAnswered-like : (waits : Bool) (old new : SessionState) (r : Result (Result A Status) (Fault Told)) → IsAnswered version waits case old new r → IsAnswered version waits other old new r
+  pub IsAnswered-like : (waits : Bool) (old new : SessionState) (r : Result (Result A Status) (Fault CauseState)) → IsAnswered version waits case old new r → IsAnswered version waits other old new r
   IsAnswered-like waits old new (Ok answer) done = record {
     place = done.place;
     made = IsMadeAt-like old new answer done.place done.made;
@@ -199,11 +199,11 @@ module _ {A : Type 0} (version : FormatVersion) (case other : Files → Result A
   IsAnswered-like waits old new (Err (Refused why)) is = is
   IsAnswered-like waits old new (Err (Unsure why)) is = (is.0, (is.1.0, is.1.1, IsMadeAt-like old new is.1.0 is.1.1 is.1.2))
 
-  pub IsSoon-like : (waits : Bool) (old new : SessionState) (r : Result (Committed A CommitPlace) (Refusal Told)) → IsAnsweredSoon version waits case old new r → IsAnsweredSoon version waits other old new r
+  pub IsSoon-like : (waits : Bool) (old new : SessionState) (r : Result (Committed A CommitPlace) (Refusal CauseState)) → IsAnsweredNoWait version waits case old new r → IsAnsweredNoWait version waits other old new r
   IsSoon-like waits old new (Ok done) is = record {
     place = is.place;
     made = IsMadeAt-like old new done.answer is.place is.made;
     exact = is.exact;
-    owed = is.owed;
+    wait = is.wait;
   }
   IsSoon-like waits old new (Err why) is = is

@@ -11,7 +11,7 @@ use Rattle.journal_inode.specs.declared.node.TheConstants.{MORE_BLOCKS}
 use Rattle.journal_twophase.specs.Transactions.{TxnState}
 use Rattle.journal_inode.specs.Places.{object}
 use Rattle.journal_inode.specs.Places.Object.{block}
-use Rattle.journal_inode.specs.Versions.{most_bytes, more_count}
+use Rattle.journal_inode.specs.Versions.{most_bytes, extra_count}
 use Rattle.journal_inode.specs.Sound.{file_blocks, held, stored, content, IsSoundFile}
 use Rattle.journal_inode.proofs.Blocks.{length-blocks, length-held}
 use Rattle.journal_filestore.specs.declared.read.TheConstants.{READ_BYTES}
@@ -69,23 +69,23 @@ bytes-blocks version m f offset n first after sound many some within first_is af
     middle : List ℕ
     middle = slice_range (f.block ∷ f.more) first after
 
-    count : length bl ≡ 1 + more_count version f.size
+    count : length bl ≡ 1 + extra_count version f.size
     count = length-blocks version f many sound.small
 
     after_low : after ≤ length bl
-    after_low = let last : (offset + n - 1) / BLOCK_BYTES ≤ more_count version f.size = byte_in_block version f.size (offset + n) (omega (arith, some)) within sound.small in omega (arith, count, after_is, last)
+    after_low = let last : (offset + n - 1) / BLOCK_BYTES ≤ extra_count version f.size = byte_in_block version f.size (offset + n) (omega (arith, some)) within sound.small in omega (arith, count, after_is, last)
 
     first_low : first ≤ after
     first_low = omega (arith, first_is, after_is, some)
 
-    numbers_are : f.block ∷ f.more ≡ bl ++ drop (more_count version f.size) f.more
-    numbers_are = ap (λ xs. f.block ∷ xs) (whole_list (more_count version f.size) f.more)
+    numbers_are : f.block ∷ f.more ≡ bl ++ drop (extra_count version f.size) f.more
+    numbers_are = ap (λ xs. f.block ∷ xs) (whole_list (extra_count version f.size) f.more)
       where
         whole_list : (k : ℕ) (xs : List ℕ) → xs ≡ take k xs ++ drop k xs
         whole_list k xs = same_lists _ _ (search (rules, places)) (λ i d h. grind (arith, places))
 
     middle_is : middle ≡ slice_range bl first after
-    middle_is = ap (λ xs. slice_range xs first after) numbers_are ∙ piece_of_front bl (drop (more_count version f.size) f.more) first after after_low
+    middle_is = ap (λ xs. slice_range xs first after) numbers_are ∙ piece_of_front bl (drop (extra_count version f.size) f.more) first after after_low
 
     parts : take first bl ++ middle ++ drop after bl ≡ bl
     parts = ap (λ xs. take first bl ++ xs ++ drop after bl) middle_is ∙ in_three bl first after first_low after_low

@@ -15,16 +15,16 @@ use Rattle.journal_world.proofs.Lookups.{same_addr}
 use Rattle.journal_inode.specs.declared.place.TheConstants.{INODES}
 use Rattle.journal_inode.specs.Places.{addr_of}
 use Rattle.journal_inode.specs.Places.Object.{inode, block}
-use Rattle.journal_wal.specs.declared.append.TheConstants.{MAX_UPDATES}
+use Rattle.journal_wal.specs.declared.limits.TheConstants.{MAX_UPDATES}
 use Rattle.journal_objlog.specs.Writes.{writes_block, written_blocks}
 use Rattle.journal_history.specs.Tokens.{SessionState}
-use Rattle.journal_core.specs.Causes.{Told}
+use Rattle.journal_core.specs.Causes.{CauseState}
 use Rattle.journal_core.specs.Transactions.{TransactionState}
 use Rattle.journal_twophase.specs.Transactions.{TxnState, IsReadRefusal, IsOverwriteRefusal}
 use Rattle.journal_twophase.specs.Commits.{IsCommitRefusal}
-use Rattle.journal_filestore.specs.Faults.{IsFilesRefusal, IsGivenUp, fault_at}
+use Rattle.journal_filestore.specs.Faults.{IsFilesRefusal, IsAttemptEnd, fault_at}
 
-pub read_given_up : (blocks : ℕ) (t : TxnState) (a : Addr) (why : Refusal Told) → IsReadRefusal blocks t a why → IsGivenUp (fault_at a why)
+pub read_given_up : (blocks : ℕ) (t : TxnState) (a : Addr) (why : Refusal CauseState) → IsReadRefusal blocks t a why → IsAttemptEnd (fault_at a why)
 read_given_up blocks t a NoMemory is = tt
 read_given_up blocks t a BadAddress is = tt
 read_given_up blocks t a BadSize is = absurd is.1
@@ -41,7 +41,7 @@ read_given_up blocks t a (Closed cause) is = is
 read_given_up blocks t a Fenced is = absurd is.1
 
 -- where the value is of the address's kind
-pub overwrite_given_up : (blocks : ℕ) (t : TxnState) (a : Addr) (v : Value) (why : Refusal Told) → (IsTrue (is_valid blocks a) → is_value_at (kind_of blocks a.block) v ≡ true) → IsOverwriteRefusal blocks t a v why → IsGivenUp (fault_at a why)
+pub overwrite_given_up : (blocks : ℕ) (t : TxnState) (a : Addr) (v : Value) (why : Refusal CauseState) → (IsTrue (is_valid blocks a) → is_value_at (kind_of blocks a.block) v ≡ true) → IsOverwriteRefusal blocks t a v why → IsAttemptEnd (fault_at a why)
 overwrite_given_up blocks t a v NoMemory kind is = tt
 overwrite_given_up blocks t a v BadAddress kind is = tt
 overwrite_given_up blocks t a v BadSize kind is = absurd (let same : true ≡ false = sym (kind is.0) ∙ is.1 in cc)
@@ -88,7 +88,7 @@ unfolding zeros_of
 length-zero_block = length-replicate {A = ℕ} 4096 0
 
 -- where few blocks are written
-pub commit_refused : (t : TransactionState) (s : SessionState) (why : Refusal Told) → written_blocks t.writes ≤ MAX_UPDATES → IsCommitRefusal t s why → IsFilesRefusal why
+pub commit_refused : (t : TransactionState) (s : SessionState) (why : Refusal CauseState) → written_blocks t.writes ≤ MAX_UPDATES → IsCommitRefusal t s why → IsFilesRefusal why
 commit_refused t s NoMemory few is = tt
 commit_refused t s BadAddress few is = tt
 commit_refused t s BadSize few is = is

@@ -8,7 +8,7 @@ use Rattle.journal_world.specs.declared.layout.TheConstants.{BLOCK_BYTES}
 use Rattle.journal_world.specs.declared.moment.TheConstants.{MAX_NANOS}
 use Rattle.journal_world.specs.Maps.{Map}
 use Rattle.journal_twophase.specs.Transactions.{TxnState}
-use Rattle.journal_wal.specs.declared.append.TheConstants.{MAX_UPDATES}
+use Rattle.journal_wal.specs.declared.limits.TheConstants.{MAX_UPDATES}
 use Rattle.journal_inode.specs.declared.version.FormatVersion.{FormatVersion}
 use Rattle.journal_inode.specs.declared.node.Time.{Time}
 use Rattle.journal_inode.specs.declared.node.FileNode.{FileNode}
@@ -18,7 +18,7 @@ use Rattle.journal_inode.specs.declared.place.TheConstants.{INODES}
 use Rattle.journal_inode.specs.Places.{object}
 use Rattle.journal_inode.specs.Places.Object.{block}
 use Rattle.journal_inode.specs.Nodes.{Fits}
-use Rattle.journal_inode.specs.Versions.{most_bytes, more_count, room_of}
+use Rattle.journal_inode.specs.Versions.{most_bytes, extra_count, room_of}
 use Rattle.journal_inode.specs.Sound.{node_at, file_blocks, held, content, IsSoundFile, HasSoundFiles}
 use Rattle.journal_inode.proofs.Blocks.{more_fits, room_enough, length-blocks, length-held}
 use Rattle.journal_filestore.specs.declared.settings.NewTime.{NewTime}
@@ -78,7 +78,7 @@ changed_of version blocks old new i f size mtime bytes (Some h) g changes is =
     subst (HasChanged version blocks old new i f size mtime bytes) (let e : Some h ≡ Some g = is in let same : h ≡ g = cc in same) changes
 
 -- blocks are asked for and not handed out
-pub lacks_taken : (version : FormatVersion) (blocks : ℕ) (old new : TxnState) (took : Bool) (from to count : ℕ) (P : Map → Type 0) → took ≡ false → (took ≡ false → 0 < count) → count ≡ more_count version to - more_count version from
+pub lacks_taken : (version : FormatVersion) (blocks : ℕ) (old new : TxnState) (took : Bool) (from to count : ℕ) (P : Map → Type 0) → took ≡ false → (took ≡ false → 0 < count) → count ≡ extra_count version to - extra_count version from
     → LearnsThat version blocks old new P → LacksBlocks version blocks old new from to
 lacks_taken version blocks old new took from to count P none short count_is told = record {
   needed = let some : 0 < count = short none in omega (arith, some, count_is);
@@ -87,27 +87,27 @@ lacks_taken version blocks old new took from to count P none short count_is told
 
 -- A file gets zeros behind its bytes
 module _ (version : FormatVersion) (m n : Map) (i : ℕ) (f : FileNode) (fresh bytes : List ℕ) (size : ℕ) (mtime : Time) (number : is_file_number i ≡ true) (sound : HasSoundFiles version m) (is_file : node_at m i ≡ File f)
-    (many : length f.more ≡ MORE_BLOCKS) (fits : Fits (File (with_blocks f (more_count version f.size) fresh size mtime))) (more : f.size ≤ size) (small : size ≤ most_bytes version) (timed : f.mtime.nanos ≤ MAX_NANOS → mtime.nanos ≤ MAX_NANOS)
-    (new_ones : AreFresh (more_count version size - more_count version f.size) fresh) (clear : AreClear m fresh) (zeros_are : bytes ≡ replicate (BLOCK_BYTES * length fresh) 0) where
-  Puts-grown : Becomes m n (file_written i (with_blocks f (more_count version f.size) fresh size mtime) fresh fresh bytes)
+    (many : length f.more ≡ MORE_BLOCKS) (fits : Fits (File (with_blocks f (extra_count version f.size) fresh size mtime))) (more : f.size ≤ size) (small : size ≤ most_bytes version) (timed : f.mtime.nanos ≤ MAX_NANOS → mtime.nanos ≤ MAX_NANOS)
+    (new_ones : AreFresh (extra_count version size - extra_count version f.size) fresh) (clear : AreClear m fresh) (zeros_are : bytes ≡ replicate (BLOCK_BYTES * length fresh) 0) where
+  Puts-grown : Becomes m n (file_written i (with_blocks f (extra_count version f.size) fresh size mtime) fresh fresh bytes)
       → Puts version m n i (record { generation = f.generation; file = Some (record { bytes = content version m f ++ replicate (size - f.size) 0; mtime = mtime }) })
   Puts-grown is =
       Puts-changed version m n i node p bl [] fresh bl fresh [] bytes number sound
       (subst (HadBlocks version m i) (sym (append-nil bl)) (HadBlocks-file version m i f low sound is_file)) (distinct_pairs fresh new_ones.distinct) new_ones.bits clear
-      (blocks_more version node (take (more_count version f.size) f.more) fresh refl kept_size) (sym (append-nil (bl ++ fresh))) (λ b has. stays b has)
+      (blocks_more version node (take (extra_count version f.size) f.more) fresh refl kept_size) (sym (append-nil (bl ++ fresh))) (λ b has. stays b has)
       (ap length zeros_are ∙ length-replicate {A = ℕ} (BLOCK_BYTES * length fresh) 0) is
       (record {
         born = old.born;
         size = size_is;
         small = subst (λ k. k ≤ most_bytes version) size_is small;
         timed = timed old.timed;
-        absent = absent_more version node (take (more_count version f.size) f.more) fresh refl kept_size;
+        absent = absent_more version node (take (extra_count version f.size) f.more) fresh refl kept_size;
         fits = fits;
       })
       holds
     where
       node : FileNode
-      node = with_blocks f (more_count version f.size) fresh size mtime
+      node = with_blocks f (extra_count version f.size) fresh size mtime
 
       bl : List ℕ
       bl = file_blocks version f
@@ -121,10 +121,10 @@ module _ (version : FormatVersion) (m n : Map) (i : ℕ) (f : FileNode) (fresh b
       old : IsSoundFile version m f
       old = sound.files i f low is_file
 
-      more_size : more_count version f.size + length fresh ≡ more_count version size
-      more_size = let rises : more_count version f.size ≤ more_count version size = more_rises version f.size size more in omega (arith, rises, new_ones.count)
+      more_size : extra_count version f.size + length fresh ≡ extra_count version size
+      more_size = let rises : extra_count version f.size ≤ extra_count version size = more_rises version f.size size more in omega (arith, rises, new_ones.count)
 
-      kept_size : length (take (more_count version f.size) f.more) + length fresh ≡ more_count version size
+      kept_size : length (take (extra_count version f.size) f.more) + length fresh ≡ extra_count version size
       kept_size = ap (λ k. k + length fresh) (length-kept version f f.size many old.small) ∙ more_size
 
       size_is : size ≡ length p
@@ -148,8 +148,8 @@ module _ (version : FormatVersion) (m n : Map) (i : ℕ) (f : FileNode) (fresh b
 
 pub Makes-grown : (version : FormatVersion) (blocks i : ℕ) (f g : FileNode) (fresh bytes : List ℕ) (size : ℕ) (mtime : Time) (t0 t1 t2 : TxnState) (took : Bool) → t0.writes ≡ [] → took ≡ true
     → LearnsThat version blocks t0 t1 (λ m. took ≡ true → AreClear m fresh) → WritesEach blocks t1 t2 (file_written i g fresh fresh bytes)
-    → g ≡ with_blocks f (more_count version f.size) fresh size mtime → Fits (File g) → length f.more ≡ MORE_BLOCKS → f.size ≤ size → size ≤ most_bytes version → (f.mtime.nanos ≤ MAX_NANOS → mtime.nanos ≤ MAX_NANOS)
-    → AreFresh (more_count version size - more_count version f.size) fresh → bytes ≡ replicate (BLOCK_BYTES * length fresh) 0
+    → g ≡ with_blocks f (extra_count version f.size) fresh size mtime → Fits (File g) → length f.more ≡ MORE_BLOCKS → f.size ≤ size → size ≤ most_bytes version → (f.mtime.nanos ≤ MAX_NANOS → mtime.nanos ≤ MAX_NANOS)
+    → AreFresh (extra_count version size - extra_count version f.size) fresh → bytes ≡ replicate (BLOCK_BYTES * length fresh) 0
     → HasChanged version blocks t0 t2 i f size mtime (λ m. content version m f ++ replicate (size - f.size) 0) g
 Makes-grown version blocks i f g fresh bytes size mtime t0 t1 t2 took none is_taken told wrote is fits many more small timed new_ones zeros_are = record {
   attributes = ap (attributes_of_node i) is;
@@ -172,10 +172,10 @@ front_of_front xs a b less = same_lists _ _ (search (rules, places)) (λ i d h. 
 
 -- A file is cut off, and gives blocks up
 module _ (version : FormatVersion) (m n : Map) (i : ℕ) (f : FileNode) (b : ℕ) (cut v bytes : List ℕ) (size : ℕ) (mtime : Time) (number : is_file_number i ≡ true) (sound : HasSoundFiles version m) (is_file : node_at m i ≡ File f)
-    (many : length f.more ≡ MORE_BLOCKS) (fits : Fits (File (with_blocks f (more_count version size) [] size mtime))) (less : size < f.size) (timed : f.mtime.nanos ≤ MAX_NANOS → mtime.nanos ≤ MAX_NANOS)
-    (b_is : get_or (f.block ∷ f.more) (more_count version size) b ≡ b) (cut_is : cut ≡ slice_range (f.block ∷ f.more) (more_count version size + 1) (more_count version f.size + 1))
-    (v_is : object m (block b) ≡ v) (bytes_are : bytes ≡ take (size - BLOCK_BYTES * more_count version size) v ++ replicate (length v - (size - BLOCK_BYTES * more_count version size)) 0) where
-  Puts-shrunk : Becomes m n (bits_written 0 cut ++ file_written i (with_blocks f (more_count version size) [] size mtime) [] (b ∷ []) bytes)
+    (many : length f.more ≡ MORE_BLOCKS) (fits : Fits (File (with_blocks f (extra_count version size) [] size mtime))) (less : size < f.size) (timed : f.mtime.nanos ≤ MAX_NANOS → mtime.nanos ≤ MAX_NANOS)
+    (b_is : get_or (f.block ∷ f.more) (extra_count version size) b ≡ b) (cut_is : cut ≡ slice_range (f.block ∷ f.more) (extra_count version size + 1) (extra_count version f.size + 1))
+    (v_is : object m (block b) ≡ v) (bytes_are : bytes ≡ take (size - BLOCK_BYTES * extra_count version size) v ++ replicate (length v - (size - BLOCK_BYTES * extra_count version size)) 0) where
+  Puts-shrunk : Becomes m n (bits_written 0 cut ++ file_written i (with_blocks f (extra_count version size) [] size mtime) [] (b ∷ []) bytes)
       → Puts version m n i (record { generation = f.generation; file = Some (record { bytes = take size (content version m f); mtime = mtime }) })
   Puts-shrunk is =
       Puts-changed version m n i node p kept cut [] (take last bl) (b ∷ []) [] bytes number sound
@@ -192,10 +192,10 @@ module _ (version : FormatVersion) (m n : Map) (i : ℕ) (f : FileNode) (b : ℕ
       holds
     where
       node : FileNode
-      node = with_blocks f (more_count version size) [] size mtime
+      node = with_blocks f (extra_count version size) [] size mtime
 
       last : ℕ
-      last = more_count version size
+      last = extra_count version size
 
       bl : List ℕ
       bl = file_blocks version f
@@ -218,7 +218,7 @@ module _ (version : FormatVersion) (m n : Map) (i : ℕ) (f : FileNode) (b : ℕ
       small : size ≤ most_bytes version
       small = omega (arith, less, old.small)
 
-      rises : last ≤ more_count version f.size
+      rises : last ≤ extra_count version f.size
       rises = more_rises version size f.size (omega (arith, less))
 
       kept_size : length (take last f.more) + 0 ≡ last
@@ -229,12 +229,12 @@ module _ (version : FormatVersion) (m n : Map) (i : ℕ) (f : FileNode) (b : ℕ
       first_are =
           take-suc numbers last b (let enough : last ≤ MORE_BLOCKS = more_fits version size small in omega (arith, many, enough))
           ∙ ap (λ x. take last numbers ++ x ∷ []) b_is
-          ∙ ap (λ xs. xs ++ b ∷ []) (sym (front_of_front numbers last (suc (more_count version f.size)) (omega (arith, rises))))
+          ∙ ap (λ xs. xs ++ b ∷ []) (sym (front_of_front numbers last (suc (extra_count version f.size)) (omega (arith, rises))))
 
       all_are : bl ≡ kept ++ cut
       all_are =
-          sym (ap (λ k. take k numbers) (add-one (more_count version f.size)))
-          ∙ sym (front_and_piece numbers (last + 1) (more_count version f.size + 1) (omega (arith, rises)))
+          sym (ap (λ k. take k numbers) (add-one (extra_count version f.size)))
+          ∙ sym (front_and_piece numbers (last + 1) (extra_count version f.size + 1) (omega (arith, rises)))
           ∙ ap (λ xs. take (last + 1) numbers ++ xs) (sym cut_is)
           ∙ ap (λ k. take k numbers ++ cut) (add-one last)
           ∙ ap (λ xs. xs ++ cut) first_are
@@ -296,10 +296,10 @@ module _ (version : FormatVersion) (m n : Map) (i : ℕ) (f : FileNode) (b : ℕ
 
 pub Makes-shrunk : (version : FormatVersion) (blocks i : ℕ) (f g : FileNode) (b : ℕ) (cut v bytes : List ℕ) (size : ℕ) (mtime : Time) (t0 t1 t2 t3 : TxnState) → t0.writes ≡ []
     → LearnsThat version blocks t0 t1 (λ m. object m (block b) ≡ v) → WritesEach blocks t1 t2 (bits_written 0 cut) → WritesEach blocks t2 t3 (file_written i g [] (b ∷ []) bytes)
-    → g ≡ with_blocks f (more_count version size) [] size mtime → Fits (File g) → length f.more ≡ MORE_BLOCKS → size < f.size → f.size ≤ most_bytes version → (f.mtime.nanos ≤ MAX_NANOS → mtime.nanos ≤ MAX_NANOS)
-    → get_or (f.block ∷ f.more) (more_count version size) b ≡ b → cut ≡ slice_range (f.block ∷ f.more) (more_count version size + 1) (more_count version f.size + 1)
+    → g ≡ with_blocks f (extra_count version size) [] size mtime → Fits (File g) → length f.more ≡ MORE_BLOCKS → size < f.size → f.size ≤ most_bytes version → (f.mtime.nanos ≤ MAX_NANOS → mtime.nanos ≤ MAX_NANOS)
+    → get_or (f.block ∷ f.more) (extra_count version size) b ≡ b → cut ≡ slice_range (f.block ∷ f.more) (extra_count version size + 1) (extra_count version f.size + 1)
     → length cut ≤ MORE_BLOCKS
-    → bytes ≡ take (size - BLOCK_BYTES * more_count version size) v ++ replicate (length v - (size - BLOCK_BYTES * more_count version size)) 0
+    → bytes ≡ take (size - BLOCK_BYTES * extra_count version size) v ++ replicate (length v - (size - BLOCK_BYTES * extra_count version size)) 0
     → HasChanged version blocks t0 t3 i f size mtime (λ m. take size (content version m f)) g
 Makes-shrunk version blocks i f g b cut v bytes size mtime t0 t1 t2 t3 none told wrote_bits wrote_file is fits many less small timed b_is cut_is cut_few bytes_are = record {
   attributes = ap (attributes_of_node i) is;

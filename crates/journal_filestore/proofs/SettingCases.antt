@@ -6,7 +6,7 @@ use Rattle.journal_world.specs.Maps.{Map}
 use Rattle.journal_inode.specs.declared.version.FormatVersion.{FormatVersion}
 use Rattle.journal_inode.specs.declared.node.Time.{Time}
 use Rattle.journal_inode.specs.declared.node.FileNode.{FileNode}
-use Rattle.journal_inode.specs.Versions.{more_count}
+use Rattle.journal_inode.specs.Versions.{extra_count}
 use Rattle.journal_inode.specs.Sound.{content, IsSoundFile}
 use Rattle.journal_filestore.specs.declared.settings.Settings.{Settings}
 use Rattle.journal_filestore.specs.declared.status.Status.TheVariants.{Invalid, TooBig, NotSync, NoSpace}
@@ -27,7 +27,7 @@ module _ (version : FormatVersion) (s : Settings) (guard : Option Time) (now : T
   pub set-too_big : (room : Bool) → is_other_time guard d.mtime ≡ false → is_no_time s.mtime ≡ false → is_too_big version s.size ≡ true → setattr_case version room s guard now F (file i d) ≡ (Err TooBig, F)
   set-too_big room same timed is = cond-false _ _ _ same ∙ cond-false _ _ _ timed ∙ cond-true _ _ _ is
 
-  pub set-no_space : is_other_time guard d.mtime ≡ false → is_no_time s.mtime ≡ false → is_too_big version s.size ≡ false → more_count version (length d.bytes) < more_count version (unwrap_or s.size (length d.bytes))
+  pub set-no_space : is_other_time guard d.mtime ≡ false → is_no_time s.mtime ≡ false → is_too_big version s.size ≡ false → extra_count version (length d.bytes) < extra_count version (unwrap_or s.size (length d.bytes))
       → setattr_case version false s guard now F (file i d) ≡ (Err NoSpace, F)
   set-no_space same timed small more =
       cond-false _ _ _ same ∙ cond-false _ _ _ timed ∙ cond-false _ _ _ small ∙ cond-true _ _ _ (lacks version (length d.bytes) (unwrap_or s.size (length d.bytes)) more)

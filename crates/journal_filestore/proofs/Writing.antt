@@ -14,13 +14,13 @@ use Rattle.journal_inode.specs.declared.place.TheConstants.{INODES}
 use Rattle.journal_inode.specs.Places.{object}
 use Rattle.journal_inode.specs.Places.Object.{block}
 use Rattle.journal_inode.specs.Nodes.{Fits}
-use Rattle.journal_inode.specs.Versions.{most_bytes, more_count, room_of}
+use Rattle.journal_inode.specs.Versions.{most_bytes, extra_count, room_of}
 use Rattle.journal_inode.specs.Sound.{node_at, file_blocks, held, content, IsSoundFile, HasSoundFiles}
 use Rattle.journal_inode.proofs.Blocks.{room_enough, length-blocks, length-held}
 use Rattle.journal_filestore.specs.Files.{is_file_number}
 use Rattle.journal_filestore.specs.Operations.{placed, with_data}
 use Rattle.journal_filestore.specs.Doing.{AreClear, AreFresh, file_written, Puts}
-use Rattle.journal_filestore.specs.Changes.{more_of, with_blocks}
+use Rattle.journal_filestore.specs.Changes.{extra_blocks_of, with_blocks}
 use Rattle.journal_filestore.proofs.FilesReplaced.{IsFileNumber-test}
 use Rattle.journal_filestore.proofs.Placing.{length-placed}
 use Rattle.journal_filestore.proofs.Among.{Among, among_left, among_right, all_among, all_from, distinct_pairs, held_append}
@@ -31,7 +31,7 @@ use Rattle.journal_filestore.proofs.Changing.{HadBlocks, HadBlocks-file, Puts-ch
 
 -- the file after bytes were written to it, which has these blocks more
 abbrev pub written : FormatVersion → FileNode → List ℕ → ℕ → List ℕ → Time → FileNode
-written version f fresh offset bs now = with_blocks f (more_count version f.size) fresh (max f.size (offset + length bs)) now
+written version f fresh offset bs now = with_blocks f (extra_count version f.size) fresh (max f.size (offset + length bs)) now
 
 -- Old blocks and new ones, of which those from one place to another are overwritten: those before, in the middle and behind
 pub record AreSpread (old fresh rest : List ℕ) (first after : ℕ) : Type 0 where
@@ -101,8 +101,8 @@ AreSpread-new old fresh rest first after less is = record {
 
 module _ (version : FormatVersion) (m n : Map) (i : ℕ) (f : FileNode) (fresh bs bytes : List ℕ) (offset first after : ℕ) (now : Time) (number : is_file_number i ≡ true) (sound : HasSoundFiles version m) (is_file : node_at m i ≡ File f)
     (many : length f.more ≡ MORE_BLOCKS) (fits : Fits (File (written version f fresh offset bs now))) (some : 0 < length bs) (small_end : offset + length bs ≤ most_bytes version) (timed : now.nanos ≤ MAX_NANOS)
-    (new_ones : AreFresh (more_count version (max f.size (offset + length bs)) - more_count version f.size) fresh) (clear : AreClear m fresh)
-    (first_is : first ≡ min (more_count version f.size + 1) (offset / BLOCK_BYTES)) (after_is : after ≡ (offset + length bs - 1) / BLOCK_BYTES + 1) where
+    (new_ones : AreFresh (extra_count version (max f.size (offset + length bs)) - extra_count version f.size) fresh) (clear : AreClear m fresh)
+    (first_is : first ≡ min (extra_count version f.size + 1) (offset / BLOCK_BYTES)) (after_is : after ≡ (offset + length bs - 1) / BLOCK_BYTES + 1) where
   low : i < INODES
   low = (IsFileNumber-test i number).to
 
@@ -113,29 +113,29 @@ module _ (version : FormatVersion) (m n : Map) (i : ℕ) (f : FileNode) (fresh b
   bl = file_blocks version f
 
   abbrev pub numbers : List ℕ
-  numbers = f.block ∷ more_of (take (more_count version f.size) f.more) fresh
+  numbers = f.block ∷ extra_blocks_of (take (extra_count version f.size) f.more) fresh
 
-  had_count : length bl ≡ 1 + more_count version f.size
+  had_count : length bl ≡ 1 + extra_count version f.size
   had_count = length-blocks version f many old.small
 
-  more_size : more_count version f.size + length fresh ≡ more_count version (max f.size (offset + length bs))
+  more_size : extra_count version f.size + length fresh ≡ extra_count version (max f.size (offset + length bs))
   more_size =
-      let rises : more_count version f.size ≤ more_count version (max f.size (offset + length bs)) = more_rises version f.size (max f.size (offset + length bs)) (omega arith) in
+      let rises : extra_count version f.size ≤ extra_count version (max f.size (offset + length bs)) = more_rises version f.size (max f.size (offset + length bs)) (omega arith) in
       omega (arith, rises, new_ones.count)
 
   abbrev pub rest : List ℕ
-  rest = replicate (MORE_BLOCKS - (length (take (more_count version f.size) f.more) + length fresh)) 0
+  rest = replicate (MORE_BLOCKS - (length (take (extra_count version f.size) f.more) + length fresh)) 0
 
   are_spread : AreSpread bl fresh rest first after
   are_spread = by_fresh (cases_eq (length fresh) 0)
     where
-      end_fits : (offset + length bs - 1) / BLOCK_BYTES ≤ more_count version (max f.size (offset + length bs))
+      end_fits : (offset + length bs - 1) / BLOCK_BYTES ≤ extra_count version (max f.size (offset + length bs))
       end_fits = last_fits version f.size (offset + length bs) (omega (arith, some)) small_end
 
       by_fresh : (length fresh ≡ 0) ⊎ (length fresh ≡ 0 → ⊥) → AreSpread bl fresh rest first after
       by_fresh (inl none) = AreSpread-old bl fresh rest first after (no_length fresh none) (omega (arith, first_is, after_is, some)) (omega (arith, had_count, after_is, end_fits, more_size, none))
       by_fresh (inr new) =
-          let last : more_count version (max f.size (offset + length bs)) ≡ (offset + length bs - 1) / BLOCK_BYTES =
+          let last : extra_count version (max f.size (offset + length bs)) ≡ (offset + length bs - 1) / BLOCK_BYTES =
           last_is version f.size (offset + length bs) (omega (arith, some)) (omega (arith, more_size, λ (none : length fresh ≡ 0). new none)) in
           AreSpread-new bl fresh rest first after (omega (arith, first_is, had_count)) (omega (arith, had_count, after_is, last, more_size))
 
@@ -179,7 +179,7 @@ module _ (version : FormatVersion) (m n : Map) (i : ℕ) (f : FileNode) (fresh b
       spread-placed (held m (take first bl)) (held m middle) (held m (drop after bl)) (content version m f) bs bytes (BLOCK_BYTES * first) (room_of version f.size) (BLOCK_BYTES * length fresh) offset
       length-before stored_is (subst (λ k. k ≤ room_of version f.size) (sym old.whole) (room_enough version f.size old.small)) (behind are_spread.last)
       (omega (arith, first_is)) (omega (arith, first_is, after_is, some, fresh_count, length-middle))
-      (let end_fits : (offset + length bs - 1) / BLOCK_BYTES ≤ more_count version (max f.size (offset + length bs)) = last_fits version f.size (offset + length bs) (omega (arith, some)) small_end in omega (arith, end_fits, more_size, some))
+      (let end_fits : (offset + length bs - 1) / BLOCK_BYTES ≤ extra_count version (max f.size (offset + length bs)) = last_fits version f.size (offset + length bs) (omega (arith, some)) small_end in omega (arith, end_fits, more_size, some))
       (are ∙ ap (λ k. with_data (held m middle ++ replicate k 0) (offset - BLOCK_BYTES * first) bs) (omega (arith, changed_count, fresh_count)))
       ∙ ap (λ k. placed (content version m f) offset bs ++ replicate (k - length (placed (content version m f) offset bs)) 0) (omega (arith, more_size))
     where
@@ -202,18 +202,18 @@ module _ (version : FormatVersion) (m n : Map) (i : ℕ) (f : FileNode) (fresh b
   Puts-written whole are is =
       Puts-changed version m n i (written version f fresh offset bs now) (placed (content version m f) offset bs) bl [] fresh (take first bl) changed (drop after bl) bytes number sound
       (subst (HadBlocks version m i) (sym (append-nil bl)) (HadBlocks-file version m i f low sound is_file)) (distinct_pairs fresh new_ones.distinct) new_ones.bits clear
-      (blocks_more version (written version f fresh offset bs now) (take (more_count version f.size) f.more) fresh refl kept_size) are_spread.parts in_old whole is
+      (blocks_more version (written version f fresh offset bs now) (take (extra_count version f.size) f.more) fresh refl kept_size) are_spread.parts in_old whole is
       (record {
         born = old.born;
         size = size;
         small = subst (λ k. k ≤ most_bytes version) size (omega (arith, old.small, small_end));
         timed = timed;
-        absent = absent_more version (written version f fresh offset bs now) (take (more_count version f.size) f.more) fresh refl kept_size;
+        absent = absent_more version (written version f fresh offset bs now) (take (extra_count version f.size) f.more) fresh refl kept_size;
         fits = fits;
       })
       (holds are)
     where
-      kept_size : length (take (more_count version f.size) f.more) + length fresh ≡ more_count version (max f.size (offset + length bs))
+      kept_size : length (take (extra_count version f.size) f.more) + length fresh ≡ extra_count version (max f.size (offset + length bs))
       kept_size = ap (λ k. k + length fresh) (length-kept version f f.size many old.small) ∙ more_size
 
       size : max f.size (offset + length bs) ≡ length (placed (content version m f) offset bs)

@@ -6,14 +6,14 @@ use Rattle.journal_world.specs.declared.layout.TheConstants.{BLOCK_BYTES}
 use Rattle.journal_world.specs.declared.moment.TheConstants.{MAX_NANOS}
 use Rattle.journal_world.specs.Maps.{Map}
 use Rattle.journal_twophase.specs.Transactions.{TxnState}
-use Rattle.journal_wal.specs.declared.append.TheConstants.{MAX_UPDATES}
+use Rattle.journal_wal.specs.declared.limits.TheConstants.{MAX_UPDATES}
 use Rattle.journal_inode.specs.declared.version.FormatVersion.{FormatVersion}
 use Rattle.journal_inode.specs.declared.node.Time.{Time}
 use Rattle.journal_inode.specs.declared.node.FileNode.{FileNode}
 use Rattle.journal_inode.specs.declared.node.Node.TheVariants.{File}
 use Rattle.journal_inode.specs.declared.node.TheConstants.{MORE_BLOCKS}
 use Rattle.journal_inode.specs.Nodes.{Fits}
-use Rattle.journal_inode.specs.Versions.{most_bytes, more_count}
+use Rattle.journal_inode.specs.Versions.{most_bytes, extra_count}
 use Rattle.journal_inode.specs.Sound.{file_blocks, held, content, IsSoundFile, HasSoundFiles}
 use Rattle.journal_inode.proofs.Blocks.{more_fits, length-blocks}
 use Rattle.journal_filestore.specs.declared.reply.Attributes.{Attributes}
@@ -32,12 +32,12 @@ use Rattle.journal_filestore.proofs.Writing.{written, length-piece, length-middl
 use Rattle.journal_filestore.proofs.Answering.{attributes-data}
 
 -- blocks are needed that are not handed out
-pub lacks : (version : FormatVersion) (old new : ℕ) → more_count version old < more_count version new → lacks_blocks version false old new ≡ true
-lacks version old new more = ap (λ t. t && true) (lt-ltb (more_count version old) (more_count version new) more)
+pub lacks : (version : FormatVersion) (old new : ℕ) → extra_count version old < extra_count version new → lacks_blocks version false old new ≡ true
+lacks version old new more = ap (λ t. t && true) (lt-ltb (extra_count version old) (extra_count version new) more)
 
 -- with room none are lacked
 pub has_room : (version : FormatVersion) (old new : ℕ) → lacks_blocks version true old new ≡ false
-has_room version old new = by_test (nat_lt (more_count version old) (more_count version new))
+has_room version old new = by_test (nat_lt (extra_count version old) (extra_count version new))
   where
     by_test : (t : Bool) → (t && false) ≡ false
     by_test true = refl
@@ -65,7 +65,7 @@ module _ (version : FormatVersion) (room : Bool) (offset count : ℕ) (bs : List
 
 -- it needs more blocks than are handed out
 pub write-no_space : (version : FormatVersion) (offset count : ℕ) (bs : List ℕ) (now : Time) (F : Files) (i : ℕ) (d : FileData) → count ≡ length bs → count ≢ 0 → offset + count ≤ most_bytes version
-    → more_count version (length d.bytes) < more_count version (max (length d.bytes) (offset + count)) → write_case version false offset count bs now F (file i d) ≡ (Err NoSpace, F)
+    → extra_count version (length d.bytes) < extra_count version (max (length d.bytes) (offset + count)) → write_case version false offset count bs now F (file i d) ≡ (Err NoSpace, F)
 write-no_space version offset count bs now F i d same some fits more =
     cond-false _ _ _ (not_from_true _ (eq-eqb count (length bs) same))
     ∙ cond-false _ _ _ (ne_eqb count 0 some)
@@ -97,12 +97,12 @@ module _ (version : FormatVersion) (blocks i offset : ℕ) (bs : List ℕ) (now 
   -- what is made of the file
   pub Makes-write : t0.writes ≡ [] → LearnsThat version blocks t0 t1 P → WritesEach blocks t1 t2 (file_written i g fresh (slice_range numbers first after) bytes)
       → g ≡ written version f fresh offset bs now → Fits (File g) → length f.more ≡ MORE_BLOCKS → f.size ≤ most_bytes version → 0 < length bs → offset + length bs ≤ most_bytes version → now.nanos ≤ MAX_NANOS
-      → AreFresh (more_count version g.size - more_count version f.size) fresh
-      → first ≡ min (more_count version f.size + 1) (offset / BLOCK_BYTES) → after ≡ (offset + length bs - 1) / BLOCK_BYTES + 1
+      → AreFresh (extra_count version g.size - extra_count version f.size) fresh
+      → first ≡ min (extra_count version f.size + 1) (offset / BLOCK_BYTES) → after ≡ (offset + length bs - 1) / BLOCK_BYTES + 1
       → length (slice_range numbers first after) ≡ after - first → length bytes ≡ BLOCK_BYTES * length (slice_range numbers first after)
-      → ((m : Map) → P m → length (held m (slice_range numbers first (min (1 + more_count version f.size) after))) ≡ BLOCK_BYTES * length (slice_range numbers first (min (1 + more_count version f.size) after))
-      → bytes ≡ with_data (held m (slice_range numbers first (min (1 + more_count version f.size) after))
-      ++ replicate (BLOCK_BYTES * length (slice_range numbers first after) - BLOCK_BYTES * length (slice_range numbers first (min (1 + more_count version f.size) after))) 0) (offset - BLOCK_BYTES * first) bs)
+      → ((m : Map) → P m → length (held m (slice_range numbers first (min (1 + extra_count version f.size) after))) ≡ BLOCK_BYTES * length (slice_range numbers first (min (1 + extra_count version f.size) after))
+      → bytes ≡ with_data (held m (slice_range numbers first (min (1 + extra_count version f.size) after))
+      ++ replicate (BLOCK_BYTES * length (slice_range numbers first after) - BLOCK_BYTES * length (slice_range numbers first (min (1 + extra_count version f.size) after))) 0) (offset - BLOCK_BYTES * first) bs)
       → Makes version blocks t0 t2 (λ m n. AreClear m fresh → FileBecomes version m n i f (placed (content version m f) offset bs) now)
   Makes-write none told wrote is fits many small some ends timed new_ones first_is after_is span whole placing =
       Makes-each blocks t0 t1 t2 P _ (file_written i g fresh (slice_range numbers first after) bytes) none told wrote
@@ -113,19 +113,19 @@ module _ (version : FormatVersion) (blocks i offset : ℕ) (bs : List ℕ) (now 
 
       few : length (file_written i g fresh (slice_range numbers first after) bytes) ≤ MAX_UPDATES
       few =
-          let grown : more_count version g.size ≤ MORE_BLOCKS = more_fits version g.size (subst (λ k. k ≤ most_bytes version) (sym (ap (λ x. x.size) is)) (omega (arith, small, ends))) in
-          let last : (offset + length bs - 1) / BLOCK_BYTES ≤ more_count version (max f.size (offset + length bs)) = last_fits version f.size (offset + length bs) (omega (arith, some)) ends in
-          let same : more_count version g.size ≡ more_count version (max f.size (offset + length bs)) = ap (λ x. more_count version x.size) is in
+          let grown : extra_count version g.size ≤ MORE_BLOCKS = more_fits version g.size (subst (λ k. k ≤ most_bytes version) (sym (ap (λ x. x.size) is)) (omega (arith, small, ends))) in
+          let last : (offset + length bs - 1) / BLOCK_BYTES ≤ extra_count version (max f.size (offset + length bs)) = last_fits version f.size (offset + length bs) (omega (arith, some)) ends in
+          let same : extra_count version g.size ≡ extra_count version (max f.size (offset + length bs)) = ap (λ x. extra_count version x.size) is in
           omega (arith, length-file_written i g fresh (slice_range numbers first after) bytes, new_ones.count, span, after_is, grown, last, same)
 
-      had_count : length (file_blocks version f) ≡ 1 + more_count version f.size
+      had_count : length (file_blocks version f) ≡ 1 + extra_count version f.size
       had_count = length-blocks version f many small
 
       fits_node : Fits (File node)
       fits_node = subst (λ x. Fits (File x)) is fits
 
-      new_node : AreFresh (more_count version node.size - more_count version f.size) fresh
-      new_node = subst (λ x. AreFresh (more_count version x.size - more_count version f.size) fresh) is new_ones
+      new_node : AreFresh (extra_count version node.size - extra_count version f.size) fresh
+      new_node = subst (λ x. AreFresh (extra_count version x.size - extra_count version f.size) fresh) is new_ones
 
       part : FileNode → ℕ → List ℕ
       part x had = slice_range (x.block ∷ x.more) first (min had after)
@@ -135,15 +135,15 @@ module _ (version : FormatVersion) (blocks i offset : ℕ) (bs : List ℕ) (now 
       shows m n sound p becomes clear number here =
           Puts-written version m n i f fresh bs bytes offset first after now number sound here many fits_node some ends timed new_node clear first_is after_is
           (subst (λ x. length bytes ≡ BLOCK_BYTES * length (slice_range (x.block ∷ x.more) first after)) is whole)
-          (subst (are node) (sym had_count) (subst (λ x. are x (1 + more_count version f.size)) is (placing m p length_part)))
+          (subst (are node) (sym had_count) (subst (λ x. are x (1 + extra_count version f.size)) is (placing m p length_part)))
           (subst (λ x. Becomes m n (file_written i x fresh (slice_range (x.block ∷ x.more) first after) bytes)) is becomes)
         where
           are : FileNode → ℕ → Type 0
           are x had = bytes ≡ with_data (held m (part x had) ++ replicate (BLOCK_BYTES * length (slice_range (x.block ∷ x.more) first after) - BLOCK_BYTES * length (part x had)) 0) (offset - BLOCK_BYTES * first) bs
 
-          length_part : length (held m (part g (1 + more_count version f.size))) ≡ BLOCK_BYTES * length (part g (1 + more_count version f.size))
+          length_part : length (held m (part g (1 + extra_count version f.size))) ≡ BLOCK_BYTES * length (part g (1 + extra_count version f.size))
           length_part =
-              subst (λ x. length (held m (part x (1 + more_count version f.size))) ≡ BLOCK_BYTES * length (part x (1 + more_count version f.size))) (sym is)
+              subst (λ x. length (held m (part x (1 + extra_count version f.size))) ≡ BLOCK_BYTES * length (part x (1 + extra_count version f.size))) (sym is)
               (subst (λ had. length (held m (part node had)) ≡ BLOCK_BYTES * length (part node had)) had_count
               (length-middle version m n i f fresh bs bytes offset first after now number sound here many fits_node some ends timed new_node clear first_is after_is))
 
@@ -157,11 +157,11 @@ length-with_data old bs offset fits =
 
 module _ (version : FormatVersion) (blocks i offset : ℕ) (bs : List ℕ) (now : Time) (f g : FileNode) (fresh : List ℕ) (first after : ℕ) (t0 t1 t2 : TxnState) (none : t0.writes ≡ []) (is : g ≡ written version f fresh offset bs now) (fits : Fits (File g))
     (many : length f.more ≡ MORE_BLOCKS) (small : f.size ≤ most_bytes version) (some : 0 < length bs) (ends : offset + length bs ≤ most_bytes version) (timed : now.nanos ≤ MAX_NANOS)
-    (new_ones : AreFresh (more_count version g.size - more_count version f.size) fresh) (first_is : first ≡ min (more_count version f.size + 1) (offset / BLOCK_BYTES)) (after_is : after ≡ (offset + length bs - 1) / BLOCK_BYTES + 1) where
+    (new_ones : AreFresh (extra_count version g.size - extra_count version f.size) fresh) (first_is : first ≡ min (extra_count version f.size + 1) (offset / BLOCK_BYTES)) (after_is : after ≡ (offset + length bs - 1) / BLOCK_BYTES + 1) where
   after_low : after ≤ 1 + MORE_BLOCKS
   after_low =
-      let last : (offset + length bs - 1) / BLOCK_BYTES ≤ more_count version (max f.size (offset + length bs)) = last_fits version f.size (offset + length bs) (omega (arith, some)) ends in
-      let enough : more_count version (max f.size (offset + length bs)) ≤ MORE_BLOCKS = more_fits version (max f.size (offset + length bs)) (omega (arith, small, ends)) in
+      let last : (offset + length bs - 1) / BLOCK_BYTES ≤ extra_count version (max f.size (offset + length bs)) = last_fits version f.size (offset + length bs) (omega (arith, some)) ends in
+      let enough : extra_count version (max f.size (offset + length bs)) ≤ MORE_BLOCKS = more_fits version (max f.size (offset + length bs)) (omega (arith, small, ends)) in
       omega (arith, last, enough, after_is)
 
   piece_length : (to : ℕ) → to ≤ after → length (slice_range (g.block ∷ g.more) first to) ≡ to - first
@@ -170,8 +170,8 @@ module _ (version : FormatVersion) (blocks i offset : ℕ) (bs : List ℕ) (now 
   span : length (slice_range (g.block ∷ g.more) first after) ≡ after - first
   span = piece_length after (omega arith)
 
-  part_length : length (slice_range (g.block ∷ g.more) first (min (1 + more_count version f.size) after)) ≡ min (1 + more_count version f.size) after - first
-  part_length = piece_length (min (1 + more_count version f.size) after) (omega arith)
+  part_length : length (slice_range (g.block ∷ g.more) first (min (1 + extra_count version f.size) after)) ≡ min (1 + extra_count version f.size) after - first
+  part_length = piece_length (min (1 + extra_count version f.size) after) (omega arith)
 
   -- the bytes fill all blocks that change
   pub Makes-write_whole : WritesEach blocks t0 t2 (file_written i g fresh (slice_range (g.block ∷ g.more) first after) bs) → length bs ≡ BLOCK_BYTES * length (slice_range (g.block ∷ g.more) first after)
@@ -183,13 +183,13 @@ module _ (version : FormatVersion) (blocks i offset : ℕ) (bs : List ℕ) (now 
       (fills ∙ sym (length-append (held m middle) (replicate {A = ℕ} zeros 0) ∙ ap (λ k. length (held m middle) + k) (length-replicate {A = ℕ} zeros 0) ∙ (omega (arith, part_whole, part_length, span)))))
     where
       middle : List ℕ
-      middle = slice_range (g.block ∷ g.more) first (min (1 + more_count version f.size) after)
+      middle = slice_range (g.block ∷ g.more) first (min (1 + extra_count version f.size) after)
 
       zeros : ℕ
       zeros = BLOCK_BYTES * length (slice_range (g.block ∷ g.more) first after) - BLOCK_BYTES * length middle
 
   -- what they do not fill was read
-  pub Makes-write_read : (middle buffer bytes : List ℕ) → middle ≡ slice_range (g.block ∷ g.more) first (min (1 + more_count version f.size) after)
+  pub Makes-write_read : (middle buffer bytes : List ℕ) → middle ≡ slice_range (g.block ∷ g.more) first (min (1 + extra_count version f.size) after)
       → LearnsThat version blocks t0 t1 (λ m. buffer ≡ held m middle ++ replicate (BLOCK_BYTES * length (slice_range (g.block ∷ g.more) first after) - BLOCK_BYTES * length middle) 0)
       → length buffer ≡ BLOCK_BYTES * length (slice_range (g.block ∷ g.more) first after) → bytes ≡ with_data buffer (offset - BLOCK_BYTES * first) bs
       → WritesEach blocks t1 t2 (file_written i g fresh (slice_range (g.block ∷ g.more) first after) bytes)

@@ -7,19 +7,19 @@ use Rattle.journal_inode.specs.declared.node.Time.{Time}
 use Rattle.journal_inode.specs.declared.node.FileNode.{FileNode}
 use Rattle.journal_inode.specs.declared.node.Node.TheVariants.{File}
 use Rattle.journal_inode.specs.declared.node.TheConstants.{MORE_BLOCKS}
-use Rattle.journal_inode.specs.Versions.{more_count}
+use Rattle.journal_inode.specs.Versions.{extra_count}
 use Rattle.journal_inode.specs.Sound.{node_at}
 use Rattle.journal_filestore.specs.Files.{is_file_number}
 use Rattle.journal_filestore.specs.Operations.{attributes_of_node}
 use Rattle.journal_filestore.specs.Doing.{LearnsThat, Puts, Makes}
 
 -- the numbers of further blocks: these, then those, and zeros
-abbrev pub more_of : List ℕ → List ℕ → List ℕ
-more_of kept fresh = kept ++ fresh ++ replicate (MORE_BLOCKS - (length kept + length fresh)) 0
+abbrev pub extra_blocks_of : List ℕ → List ℕ → List ℕ
+extra_blocks_of kept fresh = kept ++ fresh ++ replicate (MORE_BLOCKS - (length kept + length fresh)) 0
 
 -- the inode of a file with another size and time, so many of its further blocks, and new ones after them
 abbrev pub with_blocks : FileNode → ℕ → List ℕ → ℕ → Time → FileNode
-with_blocks f kept fresh size mtime = record f { size = size; more = more_of (take kept f.more) fresh; mtime = mtime }
+with_blocks f kept fresh size mtime = record f { size = size; more = extra_blocks_of (take kept f.more) fresh; mtime = mtime }
 
 -- the file f at number i is one of these bytes and this time then
 abbrev pub FileBecomes : FormatVersion → Map → Map → ℕ → FileNode → List ℕ → Time → Type 0
@@ -28,7 +28,7 @@ FileBecomes version m n i f bytes mtime =
 
 -- Blocks are not handed out that a file of the new size has beside those of the old one: the transaction only read
 pub record LacksBlocks (version : FormatVersion) (blocks : ℕ) (old new : TxnState) (from to : ℕ) : Type 0 where
-  pub needed : more_count version from < more_count version to
+  pub needed : extra_count version from < extra_count version to
   pub told : LearnsThat version blocks old new (λ m. Unit {0})
 
 -- The file became one of this size, time and bytes, which its inode has

@@ -6,16 +6,16 @@ use Rattle.journal_world.specs.declared.refusal.Refusal.{Refusal}
 use Rattle.journal_world.specs.Histories.{Entry, commits_of, count, floor, is_trusted, at, latest}
 use Rattle.journal_world.specs.Histories.Entry.{commit}
 use Rattle.journal_history.specs.Tokens.{SessionState, OnlyExtends, IsExact, CommitPlace}
-use Rattle.journal_core.specs.Causes.{Told}
+use Rattle.journal_core.specs.Causes.{CauseState}
 use Rattle.journal_twophase.specs.Transactions.{TxnState, core_of}
 use Rattle.journal_twophase.specs.Commits.{IsCommitted}
 use Rattle.journal_inode.specs.declared.version.FormatVersion.{FormatVersion}
 use Rattle.journal_inode.specs.Sound.{HasSoundFiles}
 use Rattle.journal_filestore.specs.declared.fault.Fault.{Fault}
 use Rattle.journal_filestore.specs.declared.fault.Fault.TheVariants.{Refused, Unsure}
-use Rattle.journal_filestore.specs.declared.owed.Owed.{Owed}
-use Rattle.journal_filestore.specs.declared.owed.Owed.TheVariants.{Nothing, Wait}
-use Rattle.journal_filestore.specs.declared.owed.Committed.{Committed}
+use Rattle.journal_filestore.specs.declared.pending_wait.PendingWait.{PendingWait}
+use Rattle.journal_filestore.specs.declared.pending_wait.PendingWait.TheVariants.{Nothing, Wait}
+use Rattle.journal_filestore.specs.declared.pending_wait.Committed.{Committed}
 use Rattle.journal_filestore.specs.declared.status.Status.{Status}
 use Rattle.journal_filestore.specs.Files.{Files, files_of}
 
@@ -43,12 +43,12 @@ pub record IsDone {A : Type 0} (version : FormatVersion) (waits : Bool) (case : 
   pub stable : IsTrue waits → OnOk answer (count (take (place + 1) new.seen) ≤ floor new.seen)
 
 -- Refused, it was not done. In doubt, it was done with some answer that the case gives, and is not known to be stable
-abbrev pub IsOperationFault : {A : Type 0} → FormatVersion → Bool → (Files → Result A Status → Files → Type 0) → SessionState → SessionState → Fault Told → Type 0
+abbrev pub IsOperationFault : {A : Type 0} → FormatVersion → Bool → (Files → Result A Status → Files → Type 0) → SessionState → SessionState → Fault CauseState → Type 0
 IsOperationFault version waits case old new (Refused why) = OnlyExtends old new
 IsOperationFault {A} version waits case old new (Unsure why) = IsTrue waits × ((answer : Result A Status) × (place : ℕ) × IsMadeAt version case old new answer place)
 
 -- What an operation comes to
-abbrev pub IsAnswered : {A : Type 0} → FormatVersion → Bool → (Files → Result A Status → Files → Type 0) → SessionState → SessionState → Result (Result A Status) (Fault Told) → Type 0
+abbrev pub IsAnswered : {A : Type 0} → FormatVersion → Bool → (Files → Result A Status → Files → Type 0) → SessionState → SessionState → Result (Result A Status) (Fault CauseState) → Type 0
 IsAnswered version waits case old new (Ok answer) = IsDone version waits case old new answer
 IsAnswered version waits case old new (Err fault) = IsOperationFault version waits case old new fault
 
@@ -59,9 +59,9 @@ pub record IsReceiptOf (history : List Entry) (index : ℕ) (receipt : CommitPla
   pub counted : receipt.count ≡ count (take (index + 1) history)
 
 -- What is owed for an answer whose commit stands at this place: a success that waits is owed the wait for its receipt, and else nothing is
-abbrev pub IsOwed : {A : Type 0} → Bool → Result A Status → List Entry → ℕ → Owed CommitPlace → Type 0
-IsOwed waits answer history place Nothing = IsTrue waits → OnOk answer ⊥
-IsOwed waits answer history place (Wait receipt) = IsTrue waits × IsReceiptOf history place receipt
+abbrev pub IsWaitOf : {A : Type 0} → Bool → Result A Status → List Entry → ℕ → PendingWait CommitPlace → Type 0
+IsWaitOf waits answer history place Nothing = IsTrue waits → OnOk answer ⊥
+IsWaitOf waits answer history place (Wait receipt) = IsTrue waits × IsReceiptOf history place receipt
 
 -- The operation is committed, and answered. What waits is not waited for yet
 pub record IsCommittedBy {A : Type 0} (version : FormatVersion) (waits : Bool) (case : Files → Result A Status → Files → Type 0) (old new : SessionState) (done : Committed A CommitPlace) : Type 0 where
@@ -69,30 +69,30 @@ pub record IsCommittedBy {A : Type 0} (version : FormatVersion) (waits : Bool) (
   pub made : IsMadeAt version case old new done.answer place
   -- the session has no other commits
   pub exact : IsExact new
-  pub owed : IsOwed waits done.answer new.seen place done.owed
+  pub wait : IsWaitOf waits done.answer new.seen place done.wait
 
 -- What an operation comes to that is not waited for. Refused, it was not done
-abbrev pub IsAnsweredSoon : {A : Type 0} → FormatVersion → Bool → (Files → Result A Status → Files → Type 0) → SessionState → SessionState → Result (Committed A CommitPlace) (Refusal Told) → Type 0
-IsAnsweredSoon version waits case old new (Ok done) = IsCommittedBy version waits case old new done
-IsAnsweredSoon version waits case old new (Err why) = OnlyExtends old new
+abbrev pub IsAnsweredNoWait : {A : Type 0} → FormatVersion → Bool → (Files → Result A Status → Files → Type 0) → SessionState → SessionState → Result (Committed A CommitPlace) (Refusal CauseState) → Type 0
+IsAnsweredNoWait version waits case old new (Ok done) = IsCommittedBy version waits case old new done
+IsAnsweredNoWait version waits case old new (Err why) = OnlyExtends old new
 
 -- a mark covers what was owed
-abbrev pub IsPaid : Owed CommitPlace → SessionState → Type 0
-IsPaid Nothing s = Unit {0}
-IsPaid (Wait receipt) s = receipt.count ≤ floor s.seen
+abbrev pub IsWaitOver : PendingWait CommitPlace → SessionState → Type 0
+IsWaitOver Nothing s = Unit {0}
+IsWaitOver (Wait receipt) s = receipt.count ≤ floor s.seen
 
 -- something is owed
-abbrev pub IsWait : Owed CommitPlace → Type 0
+abbrev pub IsWait : PendingWait CommitPlace → Type 0
 IsWait Nothing = ⊥
 IsWait (Wait receipt) = Unit {0}
 
 -- what is owed for a commit, where it waits or not
-abbrev pub owed_for : {P : Type 0} → Bool → P → Owed P
-owed_for true receipt = Wait receipt
-owed_for false receipt = Nothing
+abbrev pub pending_wait_for : {P : Type 0} → Bool → P → PendingWait P
+pending_wait_for true receipt = Wait receipt
+pending_wait_for false receipt = Nothing
 
--- The transaction was committed, and its receipt is owed where it waits
-pub record Ends (version : FormatVersion) (blocks : ℕ) (t : TxnState) (waits : Bool) (old new : SessionState) (owed : Owed CommitPlace) : Type 0 where
+-- The transaction was committed, and its receipt is to be waited for where it waits
+pub record Ends (version : FormatVersion) (blocks : ℕ) (t : TxnState) (waits : Bool) (old new : SessionState) (wait : PendingWait CommitPlace) : Type 0 where
   pub receipt : CommitPlace
   pub committed : IsCommitted (HasSoundFiles version) blocks t.began (core_of t) old new receipt
-  pub owes : owed ≡ owed_for waits receipt
+  pub owes : wait ≡ pending_wait_for waits receipt

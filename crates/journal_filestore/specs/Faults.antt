@@ -4,7 +4,7 @@ use Rattle.journal_world.specs.declared.refusal.Refusal.{Refusal}
 use Rattle.journal_world.specs.declared.refusal.Refusal.TheVariants.{NoMemory, BadAddress, Busy, DeviceFailed, Stale, Stranger, Worn, Closed, Fenced}
 use Rattle.journal_history.specs.Tokens.{SessionState}
 use Rattle.journal_core.specs.declared.refusal_number.RefusalNumber.TheVariants.{J6, J9, J10, J11, J13}
-use Rattle.journal_core.specs.Causes.{Told, IsUnexplained}
+use Rattle.journal_core.specs.Causes.{CauseState, IsUnexplained}
 use Rattle.journal_twophase.specs.Journals.{IsShown}
 use Rattle.journal_twophase.specs.Waits.{IsWaitRefusal}
 use Rattle.journal_filestore.specs.declared.fault.Fault.{Fault}
@@ -13,7 +13,7 @@ use Rattle.journal_filestore.specs.declared.operation.AttemptFault.{AttemptFault
 use Rattle.journal_filestore.specs.declared.operation.AttemptFault.TheVariants.{Held, Refused}
 
 -- Why a transaction on files is refused: never for the size of a value or for too many blocks, and never for room
-abbrev pub IsFilesRefusal : Refusal Told → Type 0
+abbrev pub IsFilesRefusal : Refusal CauseState → Type 0
 IsFilesRefusal NoMemory = Unit {0}
 IsFilesRefusal BadAddress = Unit {0}
 IsFilesRefusal Busy = Unit {0}
@@ -26,7 +26,7 @@ IsFilesRefusal Fenced = Unit {0}
 IsFilesRefusal other = ⊥
 
 -- Why an operation has no answer: it is refused, or its wait until it is stable is, after which the session has seen this
-abbrev pub IsFaultOf : SessionState → Fault Told → Type 0
+abbrev pub IsFaultOf : SessionState → Fault CauseState → Type 0
 IsFaultOf s (fault.Refused why) = IsFilesRefusal why
 IsFaultOf s (fault.Unsure why) = IsWaitRefusal s why
 
@@ -36,6 +36,6 @@ fault_at addr Busy = Held addr
 fault_at addr other = Refused other
 
 -- Why an attempt is given up
-abbrev pub IsGivenUp : AttemptFault Told → Type 0
-IsGivenUp (Held addr) = Unit {0}
-IsGivenUp (Refused why) = IsFilesRefusal why
+abbrev pub IsAttemptEnd : AttemptFault CauseState → Type 0
+IsAttemptEnd (Held addr) = Unit {0}
+IsAttemptEnd (Refused why) = IsFilesRefusal why

@@ -10,12 +10,12 @@ use Rattle.journal_inode.specs.declared.node.Node.TheVariants.{Free, Root, File}
 use Rattle.journal_inode.specs.Nodes.{Fits}
 use Rattle.journal_inode.specs.Versions.{most_bytes}
 use Rattle.journal_inode.specs.Sound.{node_at, content}
-use Rattle.journal_filestore.specs.declared.find.Place.{Place}
-use Rattle.journal_filestore.specs.declared.find.Place.TheVariants.{Gone, Directory, Regular}
+use Rattle.journal_filestore.specs.declared.find.Target.{Target}
+use Rattle.journal_filestore.specs.declared.find.Target.TheVariants.{Gone, Directory, Regular}
 use Rattle.journal_filestore.specs.declared.reply.Found.{Found}
 use Rattle.journal_filestore.specs.declared.settings.Settings.{Settings}
-use Rattle.journal_filestore.specs.declared.settings.How.{How}
-use Rattle.journal_filestore.specs.declared.settings.How.TheVariants.{Unchecked, Guarded, Exclusive}
+use Rattle.journal_filestore.specs.declared.settings.CreateMode.{CreateMode}
+use Rattle.journal_filestore.specs.declared.settings.CreateMode.TheVariants.{Unchecked, Guarded, Exclusive}
 use Rattle.journal_filestore.specs.Files.{FileData, is_file_number, files_of}
 use Rattle.journal_filestore.specs.Operations.{attributes_of_node, of_root, file_target}
 use Rattle.journal_filestore.specs.Operations.FileTarget.{gone, root, file}
@@ -29,7 +29,7 @@ abbrev pub data_of : FormatVersion → Map → FileNode → FileData
 data_of version m f = record { bytes = content version m f; mtime = f.mtime }
 
 -- what is asked for of a file that is created, and whether it may not be there yet
-abbrev pub asked : How → Option (Settings × Bool)
+abbrev pub asked : CreateMode → Option (Settings × Bool)
 asked (Unchecked s) = Some (s, false)
 asked (Guarded s) = Some (s, true)
 asked Exclusive = None
@@ -39,13 +39,13 @@ abbrev pub found_node : ℕ → FileNode → Time → Found
 found_node i f mtime = record { generation = f.generation; file = attributes_of_node i f; root = of_root mtime }
 
 -- what an inode is to a handle of this number and generation
-abbrev pub place_of : Node → ℕ → ℕ → Place
-place_of (Free g) i generation = Gone
-place_of (Root t) i generation = if i == 1 && generation == 1 then Directory t else Gone
-place_of (File f) i generation = if f.generation == generation then Regular f else Gone
+abbrev pub target_of : Node → ℕ → ℕ → Target
+target_of (Free g) i generation = Gone
+target_of (Root t) i generation = if i == 1 && generation == 1 then Directory t else Gone
+target_of (File f) i generation = if f.generation == generation then Regular f else Gone
 
 -- This is what the handle names
-abbrev pub IsAt : FormatVersion → ℕ → ℕ → Map → Place → Type 0
+abbrev pub IsAt : FormatVersion → ℕ → ℕ → Map → Target → Type 0
 IsAt version i generation m Gone = file_target (files_of version m) i generation ≡ gone
 IsAt version i generation m (Directory t) = (file_target (files_of version m) i generation ≡ root) × ((files_of version m).root ≡ t)
 IsAt version i generation m (Regular f) =
@@ -57,7 +57,7 @@ IsSmall version (File f) = f.size ≤ most_bytes version
 IsSmall version _ = Unit {0}
 
 -- the numbers of a file's inode fit their bytes, its blocks are enough, and the root alone is a directory
-abbrev pub IsPlace : FormatVersion → ℕ → Place → Type 0
-IsPlace version i (Regular f) = Fits (File f) × IsSmall version (File f)
-IsPlace version i (Directory t) = i ≡ 1
-IsPlace version i Gone = Unit {0}
+abbrev pub IsTarget : FormatVersion → ℕ → Target → Type 0
+IsTarget version i (Regular f) = Fits (File f) × IsSmall version (File f)
+IsTarget version i (Directory t) = i ≡ 1
+IsTarget version i Gone = Unit {0}

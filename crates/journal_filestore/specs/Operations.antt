@@ -5,7 +5,7 @@ use Rattle.journal_inode.specs.declared.version.FormatVersion.{FormatVersion}
 use Rattle.journal_inode.specs.declared.version.FormatVersion.TheVariants.{One, Two}
 use Rattle.journal_inode.specs.declared.node.Time.{Time}
 use Rattle.journal_inode.specs.declared.node.FileNode.{FileNode}
-use Rattle.journal_inode.specs.Versions.{most_bytes, more_count}
+use Rattle.journal_inode.specs.Versions.{most_bytes, extra_count}
 use Rattle.journal_filestore.specs.declared.read.TheConstants.{READ_BYTES}
 use Rattle.journal_filestore.specs.declared.status.Status.{Status}
 use Rattle.journal_filestore.specs.declared.status.Status.TheVariants.{NoEntry, Exists, NotDirectory, Invalid, TooBig, NoSpace, Stale, NotSync, NotSupported}
@@ -15,8 +15,8 @@ use Rattle.journal_filestore.specs.declared.reply.Found.{Found}
 use Rattle.journal_filestore.specs.declared.settings.NewTime.{NewTime}
 use Rattle.journal_filestore.specs.declared.settings.NewTime.TheVariants.{Leave, Server, Client}
 use Rattle.journal_filestore.specs.declared.settings.Settings.{Settings}
-use Rattle.journal_filestore.specs.declared.settings.How.{How}
-use Rattle.journal_filestore.specs.declared.settings.How.TheVariants.{Unchecked, Guarded, Exclusive}
+use Rattle.journal_filestore.specs.declared.settings.CreateMode.{CreateMode}
+use Rattle.journal_filestore.specs.declared.settings.CreateMode.TheVariants.{Unchecked, Guarded, Exclusive}
 use Rattle.journal_filestore.specs.declared.settings.Stability.{Stability}
 use Rattle.journal_filestore.specs.declared.settings.Stability.TheVariants.{Unstable, Stable}
 use Rattle.journal_filestore.specs.Files.{FileData, FileEntry, Files, is_file_number, with_entry}
@@ -102,7 +102,7 @@ is_too_big version (Some size) = nat_lt (most_bytes version) size
 
 -- the blocks that a file of the new size has beside those of the old one are not handed out. In version 1 there are none
 abbrev pub lacks_blocks : FormatVersion → Bool → ℕ → ℕ → Bool
-lacks_blocks version room old new = nat_lt (more_count version old) (more_count version new) && not room
+lacks_blocks version room old new = nat_lt (extra_count version old) (extra_count version new) && not room
 
 -- on the root, which never changes
 abbrev pub root_set : Settings → Option Time → Time → Result Changed Status
@@ -233,12 +233,12 @@ create_number version room guarded s now F None = refused Invalid F
 create_number version room guarded s now F (Some i) =
     if is_no_time s.mtime then refused Invalid F else create_file version room guarded s now F i (F.at i).file
 
-abbrev pub create_how : FormatVersion → Bool → List ℕ → How → Time → Files → Outcome Found
+abbrev pub create_how : FormatVersion → Bool → List ℕ → CreateMode → Time → Files → Outcome Found
 create_how version room name Exclusive now F = refused NotSupported F
 create_how version room name (Guarded s) now F = create_number version room true s now F (number_of_name name)
 create_how version room name (Unchecked s) now F = create_number version room false s now F (number_of_name name)
 
-abbrev pub create_case : FormatVersion → Bool → List ℕ → How → Time → Files → FileTarget → Outcome Found
+abbrev pub create_case : FormatVersion → Bool → List ℕ → CreateMode → Time → Files → FileTarget → Outcome Found
 create_case version room name how now F dir = in_root F dir (create_how version room name how now F)
 
 -- REMOVE: the root's attributes, which stay; the generation is kept
@@ -269,7 +269,7 @@ pub data Call : Type 0 where
   lookup : ℕ → ℕ → List ℕ → Call
   read : ℕ → ℕ → ℕ → ℕ → Call
   write : ℕ → ℕ → ℕ → ℕ → List ℕ → Call
-  create : ℕ → ℕ → List ℕ → How → Call
+  create : ℕ → ℕ → List ℕ → CreateMode → Call
   remove : ℕ → ℕ → List ℕ → Call
   commit : ℕ → ℕ → Call
 
@@ -295,7 +295,7 @@ pub data Op (version : FormatVersion) : Call → Time → Files → Reply → Fi
       → (r, F2) ≡ read_case version offset count F (file_target F i g) → Op version (read i g offset count) now F (bytes_read r) F2
   answers_write : (i g offset count : ℕ) (bs : List ℕ) (room : Bool) (now : Time) (F F2 : Files) (r : Result Changed Status)
       → (r, F2) ≡ write_case version room offset count bs now F (file_target F i g) → Op version (write i g offset count bs) now F (wrote r) F2
-  answers_create : (i g : ℕ) (name : List ℕ) (how : How) (room : Bool) (now : Time) (F F2 : Files) (r : Result Found Status)
+  answers_create : (i g : ℕ) (name : List ℕ) (how : CreateMode) (room : Bool) (now : Time) (F F2 : Files) (r : Result Found Status)
       → (r, F2) ≡ create_case version room name how now F (file_target F i g) → Op version (create i g name how) now F (made r) F2
   answers_remove : (i g : ℕ) (name : List ℕ) (now : Time) (F F2 : Files) (r : Result Attributes Status)
       → (r, F2) ≡ remove_case name F (file_target F i g) → Op version (remove i g name) now F (removed r) F2

@@ -8,13 +8,13 @@ ghost use Rattle.journal_inode.specs.declared.node.Node.TheVariants.{File};
 ghost use Rattle.journal_inode.specs.Nodes.{Fits};
 ghost use Rattle.journal_inode.specs.declared.place.TheConstants.{INODES};
 ghost use Rattle.journal_inode.specs.Sound.{held};
-ghost use Rattle.journal_filestore.specs.Faults.{IsGivenUp};
-ghost use Rattle.journal_filestore.specs.Changes.{more_of, with_blocks};
+ghost use Rattle.journal_filestore.specs.Faults.{IsAttemptEnd};
+ghost use Rattle.journal_filestore.specs.Changes.{extra_blocks_of, with_blocks};
 ghost use Rattle.journal_filestore.specs.Doing.{LearnsThat, WritesEach, HasReadNoBlocks, HasReadNoData, HasBit, AreClear, AreFresh, bits_written, blocks_written, file_written};
 
+use crate::block_reservation::BlockReservation;
 use crate::objects::{read_bit, read_block, write_bit, write_block, write_node};
-use crate::operation::{AttemptFault, GivenUp};
-use crate::space::Space;
+use crate::operation::{AttemptEnd, AttemptFault};
 use crate::store::FileTxn;
 use journal_disk::BlockDisk;
 use journal_history::Naming;
@@ -28,13 +28,13 @@ pub(crate) fn read_blocks<'j, 'b, D: BlockDisk, J: Naming, V: Version, W: Wait>(
     rt: &W,
     txn: &mut FileTxn<'j, 'b, D, J, V>,
     numbers: &[u64],
-) -> Result<Vec<u8>, GivenUp<'b, J, V>>
+) -> Result<Vec<u8>, AttemptEnd<'b, J, V>>
     requires some { 0 < length numbers.now }
     requires unread { HasReadNoBlocks txn.old }
     requires writes { txn.old.writes ≡ [] }
     ensures told { IfOk result (λ bytes. LearnsThat V.VERSION J.blocks txn.old txn.new (λ m. held m numbers.now ≡ bytes.items)) }
     ensures whole { IfOk result (λ bytes. length bytes.items ≡ BLOCK_BYTES * length numbers.now) }
-    ensures refusal { IfErr result IsGivenUp }
+    ensures refusal { IfErr result IsAttemptEnd }
 {
     let mut bytes = read_block(rt, txn, numbers[0])?.into_bytes();
     for j in 1..numbers.len() {
@@ -53,14 +53,14 @@ fn are_clear<'j, 'b, D: BlockDisk, J: Naming, V: Version, W: Wait>(
     rt: &W,
     txn: &mut FileTxn<'j, 'b, D, J, V>,
     numbers: &[u64],
-) -> Result<bool, GivenUp<'b, J, V>>
+) -> Result<bool, AttemptEnd<'b, J, V>>
     requires rising { IsStrictlyIncreasing numbers.now }
     requires unread { HasReadNoData txn.old }
     requires writes { txn.old.writes ≡ [] }
     ensures told { IfOk result (λ clear. LearnsThat V.VERSION J.blocks txn.old txn.new (λ m. IsTrue clear → AreClear m numbers.now)) }
     ensures bits { IfOk result (λ clear. IsTrue clear → AllByRecursion HasBit numbers.now) }
     ensures unread { OnOk result (HasReadNoBlocks txn.new) }
-    ensures refusal { IfErr result IsGivenUp }
+    ensures refusal { IfErr result IsAttemptEnd }
 {
     for number in numbers {
         if read_bit(rt, txn, *number)? {
@@ -74,9 +74,9 @@ fn are_clear<'j, 'b, D: BlockDisk, J: Naming, V: Version, W: Wait>(
 pub(crate) fn take_blocks<'j, 'b, D: BlockDisk, J: Naming, V: Version, W: Wait>(
     rt: &W,
     txn: &mut FileTxn<'j, 'b, D, J, V>,
-    space: &mut Space,
+    space: &mut BlockReservation,
     count: usize,
-) -> Result<bool, GivenUp<'b, J, V>>
+) -> Result<bool, AttemptEnd<'b, J, V>>
     requires space { space.old.taken.items ≡ [] }
     requires unread { HasReadNoData txn.old }
     requires writes { txn.old.writes ≡ [] }
@@ -84,7 +84,7 @@ pub(crate) fn take_blocks<'j, 'b, D: BlockDisk, J: Naming, V: Version, W: Wait>(
     ensures fresh { IfOk result (λ took. IsTrue took → AreFresh count space.new.taken.items) }
     ensures short { IfOk result (λ took. took ≡ false → 0 < count) }
     ensures unread { OnOk result (HasReadNoBlocks txn.new) }
-    ensures refusal { IfErr result IsGivenUp }
+    ensures refusal { IfErr result IsAttemptEnd }
 {
     if count == 0 {
         return Ok(true);
@@ -101,9 +101,9 @@ pub(crate) fn write_bits<'j, 'b, D: BlockDisk, J: Naming, V: Version, W: Wait>(
     txn: &mut FileTxn<'j, 'b, D, J, V>,
     numbers: &[u64],
     is_set: bool,
-) -> Result<(), GivenUp<'b, J, V>>
+) -> Result<(), AttemptEnd<'b, J, V>>
     ensures writes { OnOk result (WritesEach J.blocks txn.old txn.new (bits_written (if is_set then 1 else 0) numbers.now)) }
-    ensures refusal { IfErr result IsGivenUp }
+    ensures refusal { IfErr result IsAttemptEnd }
 {
     for number in numbers {
         write_bit(rt, txn, *number, is_set)?;
@@ -117,10 +117,10 @@ fn write_blocks<'j, 'b, D: BlockDisk, J: Naming, V: Version, W: Wait>(
     txn: &mut FileTxn<'j, 'b, D, J, V>,
     numbers: &[u64],
     bytes: &[u8],
-) -> Result<(), GivenUp<'b, J, V>>
+) -> Result<(), AttemptEnd<'b, J, V>>
     requires whole { length bytes.now ≡ BLOCK_BYTES * length numbers.now }
     ensures writes { OnOk result (WritesEach J.blocks txn.old txn.new (blocks_written numbers.now bytes.now)) }
-    ensures refusal { IfErr result IsGivenUp }
+    ensures refusal { IfErr result IsAttemptEnd }
 {
     for j in 0..numbers.len() {
         let from = j * BLOCK_BYTES;
@@ -138,11 +138,11 @@ pub(crate) fn write_file<'j, 'b, D: BlockDisk, J: Naming, V: Version, W: Wait>(
     fresh: &[u64],
     numbers: &[u64],
     bytes: &[u8],
-) -> Result<(), GivenUp<'b, J, V>>
+) -> Result<(), AttemptEnd<'b, J, V>>
     requires number { number < INODES }
     requires whole { length bytes.now ≡ BLOCK_BYTES * length numbers.now }
     ensures writes { OnOk result (WritesEach J.blocks txn.old txn.new (file_written number file fresh.now numbers.now bytes.now)) }
-    ensures refusal { IfErr result IsGivenUp }
+    ensures refusal { IfErr result IsAttemptEnd }
 {
     write_bits(rt, txn, fresh, true)?;
     write_blocks(rt, txn, numbers, bytes)?;
@@ -156,7 +156,7 @@ pub(crate) fn read_span<'j, 'b, D: BlockDisk, J: Naming, V: Version, W: Wait>(
     numbers: &[u64],
     count: usize,
     alloc: Global,
-) -> Result<Vec<u8>, GivenUp<'b, J, V>>
+) -> Result<Vec<u8>, AttemptEnd<'b, J, V>>
     requires fits { length numbers.now ≤ count }
     requires few { count ≤ 1 + MORE_BLOCKS }
     requires unread { HasReadNoBlocks txn.old }
@@ -164,7 +164,7 @@ pub(crate) fn read_span<'j, 'b, D: BlockDisk, J: Naming, V: Version, W: Wait>(
     ensures told { IfOk result (λ bytes. LearnsThat V.VERSION J.blocks txn.old txn.new
         (λ m. bytes.items ≡ held m numbers.now ++ replicate (BLOCK_BYTES * count - BLOCK_BYTES * length numbers.now) 0)) }
     ensures whole { IfOk result (λ bytes. length bytes.items ≡ BLOCK_BYTES * count) }
-    ensures refusal { IfErr result IsGivenUp }
+    ensures refusal { IfErr result IsAttemptEnd }
 {
     if numbers.is_empty() {
         return Ok(vec![in alloc; 0; count * BLOCK_BYTES]?);
@@ -189,16 +189,16 @@ pub(crate) fn with_blocks(
 {
     FileNode {
         size,
-        more: more_of(&file.more[..kept], fresh),
+        more: extra_blocks_of(&file.more[..kept], fresh),
         mtime,
         ..file
     }
 }
 
 // The numbers of further blocks that an inode has: these, and then new ones.
-pub(crate) fn more_of(kept: &[u64], fresh: &[u64]) -> [u64; MORE_BLOCKS]
+pub(crate) fn extra_blocks_of(kept: &[u64], fresh: &[u64]) -> [u64; MORE_BLOCKS]
     requires { length kept.now + length fresh.now ≤ MORE_BLOCKS }
-    ensures numbers { result ≡ more_of kept.now fresh.now }
+    ensures numbers { result ≡ extra_blocks_of kept.now fresh.now }
     ensures fits { (k : ℕ) → slice_index result k < 2 ^ 64 }
 {
     let mut more = [0; MORE_BLOCKS];

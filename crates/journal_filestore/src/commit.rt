@@ -1,18 +1,18 @@
 // COMMIT.
 ghost use Rattle.std.specs.Prelude.{◌≡◌, true, IfErr};
 ghost use Rattle.journal_inode.specs.declared.node.Time.{Time};
-ghost use Rattle.journal_filestore.specs.Done.{IsAnswered, IsAnsweredSoon};
+ghost use Rattle.journal_filestore.specs.Done.{IsAnswered, IsAnsweredNoWait};
 ghost use Rattle.journal_filestore.specs.Faults.{IsFaultOf, IsFilesRefusal};
 ghost use Rattle.journal_filestore.specs.Operations.{Op, file_target, commit_case};
 ghost use Rattle.journal_filestore.specs.Operations.Call.{commit};
 ghost use Rattle.journal_filestore.specs.Operations.Reply.{committed};
 
-use crate::find::{Place, find};
-use crate::operation::{GivenUp, Operation};
+use crate::block_reservation::BlockReservation;
+use crate::find::{Target, find};
+use crate::operation::{AttemptEnd, Operation};
 use crate::reply::attributes_of;
-use crate::space::Space;
 use crate::store::{Answer, FileFault, FileTxn};
-use crate::{Attributes, FileStore, Handle, Soon, Status};
+use crate::{Attributes, CommitResult, FileStore, Handle, Status};
 use journal_disk::BlockDisk;
 use journal_history::{Naming, Session};
 use journal_inode::{SoundFiles, Version};
@@ -39,12 +39,12 @@ impl<J: Naming, V: Version> Operation<J, V> for Commit {
         &self,
         rt: &W,
         txn: &mut FileTxn<'j, 'b, D, J, V>,
-        _space: &mut Space,
-    ) -> Result<Answer<Attributes>, GivenUp<'b, J, V>> {
+        _space: &mut BlockReservation,
+    ) -> Result<Answer<Attributes>, AttemptEnd<'b, J, V>> {
         match find(rt, txn, self.handle)? {
-            Place::Gone => Ok(Err(Status::Stale)),
-            Place::Directory(_) => Ok(Err(Status::Invalid)),
-            Place::Regular(file) => Ok(Ok(attributes_of(self.handle.number, file))),
+            Target::Gone => Ok(Err(Status::Stale)),
+            Target::Directory(_) => Ok(Err(Status::Invalid)),
+            Target::Regular(file) => Ok(Ok(attributes_of(self.handle.number, file))),
         }
     }
 }
@@ -67,17 +67,17 @@ impl<'b, D: BlockDisk, J: Naming, V: Version> FileStore<'b, D, J, V> {
         self.run(rt, session, &Commit { handle })
     }
 
-    /// COMMIT up to its commit: as `commit` does it, and answered before it is stable. Where that waits, what is owed is the
+    /// COMMIT up to its commit: as `commit` does it, and answered before it is stable. Where that waits, what is pending is the
     /// wait for its receipt, by `Journal::wait_stable`: the answer stands in the history, and a crash before may lose it.
-    pub fn commit_soon<W: Wait>(
+    pub fn commit_no_wait<W: Wait>(
         &self,
         rt: &W,
         session: &mut Session<'b, J, SoundFiles<V>>,
         handle: Handle,
-    ) -> Soon<'b, J, Attributes, V>
-        ensures answered { IsAnsweredSoon V.VERSION true (λ F r F2. (now : Time) → Op V.VERSION (commit handle.number handle.generation) now F (committed r) F2) session.old session.new result }
+    ) -> CommitResult<'b, J, Attributes, V>
+        ensures answered { IsAnsweredNoWait V.VERSION true (λ F r F2. (now : Time) → Op V.VERSION (commit handle.number handle.generation) now F (committed r) F2) session.old session.new result }
         ensures refusal { IfErr result IsFilesRefusal }
     {
-        self.run_soon(rt, session, &Commit { handle })
+        self.run_no_wait(rt, session, &Commit { handle })
     }
 }

@@ -6,23 +6,23 @@ ghost use Rattle.journal_inode.specs.Versions.{most_bytes};
 ghost use Rattle.journal_inode.specs.Sound.{node_at};
 ghost use Rattle.journal_filestore.specs.Files.{is_file_number, files_of};
 ghost use Rattle.journal_filestore.specs.Doing.{HasReadNoData, Leads, Makes};
-ghost use Rattle.journal_filestore.specs.Done.{IsAnswered, IsAnsweredSoon};
-ghost use Rattle.journal_filestore.specs.Faults.{IsFaultOf, IsGivenUp, IsFilesRefusal};
+ghost use Rattle.journal_filestore.specs.Done.{IsAnswered, IsAnsweredNoWait};
+ghost use Rattle.journal_filestore.specs.Faults.{IsFaultOf, IsAttemptEnd, IsFilesRefusal};
 ghost use Rattle.journal_filestore.specs.Handles.{time_of, data_of, asked, found_node};
 ghost use Rattle.journal_filestore.specs.Operations.{Op, file_target, create_case, create_new, create_file, is_no_time};
 ghost use Rattle.journal_filestore.specs.Operations.Call.{create};
 ghost use Rattle.journal_filestore.specs.Operations.Reply.{made};
 
-use crate::blocks::{more_of, take_blocks, write_file};
-use crate::find::{Place, find};
+use crate::block_reservation::BlockReservation;
+use crate::blocks::{extra_blocks_of, take_blocks, write_file};
+use crate::find::{Target, find};
 use crate::name::number_of;
 use crate::objects::read_node;
-use crate::operation::{GivenUp, Operation};
+use crate::operation::{AttemptEnd, Operation};
 use crate::reply::{attributes_of, root_attributes};
 use crate::set_file::{is_no_time, is_too_big, set_file, time_after};
-use crate::space::Space;
 use crate::store::{Answer, FileFault, FileTxn};
-use crate::{FileStore, Found, Handle, How, Settings, Soon, Status};
+use crate::{CommitResult, CreateMode, FileStore, Found, Handle, Settings, Status};
 use journal_disk::BlockDisk;
 use journal_history::{Naming, Session};
 use journal_inode::{FileNode, Node, SoundFiles, Time, Version};
@@ -34,7 +34,7 @@ use std::sync::Wait;
 pub(crate) struct Create<'a> {
     directory: Handle,
     name: &'a [u8],
-    how: How,
+    how: CreateMode,
     moment: Moment,
 }
 
@@ -53,12 +53,12 @@ impl<'a, J: Naming, V: Version> Operation<J, V> for Create<'a> {
         &self,
         rt: &W,
         txn: &mut FileTxn<'j, 'b, D, J, V>,
-        space: &mut Space,
-    ) -> Result<Answer<Found>, GivenUp<'b, J, V>> {
+        space: &mut BlockReservation,
+    ) -> Result<Answer<Found>, AttemptEnd<'b, J, V>> {
         let root = match find(rt, txn, self.directory)? {
-            Place::Gone => return Ok(Err(Status::Stale)),
-            Place::Regular(_) => return Ok(Err(Status::NotDirectory)),
-            Place::Directory(mtime) => mtime,
+            Target::Gone => return Ok(Err(Status::Stale)),
+            Target::Regular(_) => return Ok(Err(Status::NotDirectory)),
+            Target::Directory(mtime) => mtime,
         };
         let Some((settings, is_guarded)) = asked(self.how) else {
             return Ok(Err(Status::NotSupported));
@@ -78,13 +78,13 @@ impl<'a, J: Naming, V: Version> Operation<J, V> for Create<'a> {
 }
 
 // What is asked for, and whether the file may not be there yet.
-fn asked(how: How) -> Option<(Settings, bool)>
+fn asked(how: CreateMode) -> Option<(Settings, bool)>
     ensures { result ≡ asked how }
 {
     match how {
-        How::Unchecked(settings) => Some((settings, false)),
-        How::Guarded(settings) => Some((settings, true)),
-        How::Exclusive => None,
+        CreateMode::Unchecked(settings) => Some((settings, false)),
+        CreateMode::Guarded(settings) => Some((settings, true)),
+        CreateMode::Exclusive => None,
     }
 }
 
@@ -94,13 +94,13 @@ impl<'a> Create<'a> {
         &self,
         rt: &W,
         txn: &mut FileTxn<'j, 'b, D, J, V>,
-        space: &mut Space,
+        space: &mut BlockReservation,
         root: Time,
         number: u32,
         file: FileNode,
         settings: Settings,
         is_guarded: bool,
-    ) -> Result<Answer<Found>, GivenUp<'b, J, V>>
+    ) -> Result<Answer<Found>, AttemptEnd<'b, J, V>>
         requires number { is_file_number number ≡ true }
         requires fits { Fits (File file) }
         requires whole { file.size ≤ most_bytes V.VERSION }
@@ -110,7 +110,7 @@ impl<'a> Create<'a> {
         requires writes { txn.old.writes ≡ [] }
         ensures makes { IfOk result (λ answer. Makes V.VERSION J.blocks txn.old txn.new (λ m n. node_at m number ≡ File file → (files_of V.VERSION m).root ≡ root
             → (room : Bool) × Leads V.VERSION n answer (create_file V.VERSION room is_guarded settings (time_of self.now.moment) (files_of V.VERSION m) number (Some (data_of V.VERSION m file))))) }
-        ensures refusal { IfErr result IsGivenUp }
+        ensures refusal { IfErr result IsAttemptEnd }
     {
         if is_guarded {
             return Ok(Err(Status::Exists));
@@ -129,12 +129,12 @@ impl<'a> Create<'a> {
         &self,
         rt: &W,
         txn: &mut FileTxn<'j, 'b, D, J, V>,
-        space: &mut Space,
+        space: &mut BlockReservation,
         root: Time,
         number: u32,
         last: u32,
         settings: Settings,
-    ) -> Result<Answer<Found>, GivenUp<'b, J, V>>
+    ) -> Result<Answer<Found>, AttemptEnd<'b, J, V>>
         requires number { is_file_number number ≡ true }
         requires timed { is_no_time settings.mtime ≡ false }
         requires space { space.old.taken.items ≡ [] }
@@ -142,7 +142,7 @@ impl<'a> Create<'a> {
         requires writes { txn.old.writes ≡ [] }
         ensures makes { IfOk result (λ answer. Makes V.VERSION J.blocks txn.old txn.new (λ m n. node_at m number ≡ Free last → (files_of V.VERSION m).root ≡ root
             → (room : Bool) × Leads V.VERSION n answer (create_new V.VERSION room settings (time_of self.now.moment) (files_of V.VERSION m) number))) }
-        ensures refusal { IfErr result IsGivenUp }
+        ensures refusal { IfErr result IsAttemptEnd }
     {
         if is_too_big(V::VERSION, settings.size) {
             return Ok(Err(Status::TooBig));
@@ -151,7 +151,7 @@ impl<'a> Create<'a> {
             return Ok(Err(Status::NoSpace));
         }
         let size = settings.size.unwrap_or(0);
-        let count = 1 + V::VERSION.more_count(size);
+        let count = 1 + V::VERSION.extra_count(size);
         if !take_blocks(rt, txn, space, count)? {
             return Ok(Err(Status::NoSpace));
         }
@@ -159,7 +159,7 @@ impl<'a> Create<'a> {
             generation: last + 1,
             size,
             block: space.taken[0],
-            more: more_of(&space.taken[1..], &[]),
+            more: extra_blocks_of(&space.taken[1..], &[]),
             mtime: time_after(settings, self.moment, Time::at(self.moment)),
         };
         let zeros = vec![in space.alloc; 0; count * BLOCK_BYTES]?;
@@ -195,7 +195,7 @@ impl<'b, D: BlockDisk, J: Naming, V: Version> FileStore<'b, D, J, V> {
         session: &mut Session<'b, J, SoundFiles<V>>,
         directory: Handle,
         name: &[u8],
-        how: How,
+        how: CreateMode,
         now: Moment,
     ) -> Result<Answer<Found>, FileFault<'b, J, V>>
         ensures answered { IsAnswered V.VERSION true (λ F r F2. Op V.VERSION (create directory.number directory.generation name.now how) (time_of now) F (made r) F2) session.old session.new result }
@@ -210,18 +210,18 @@ impl<'b, D: BlockDisk, J: Naming, V: Version> FileStore<'b, D, J, V> {
         self.run(rt, session, &create)
     }
 
-    /// CREATE up to its commit: as `create` does it, and answered before it is stable. Where that waits, what is owed is the
+    /// CREATE up to its commit: as `create` does it, and answered before it is stable. Where that waits, what is pending is the
     /// wait for its receipt, by `Journal::wait_stable`: the answer stands in the history, and a crash before may lose it.
-    pub fn create_soon<W: Wait>(
+    pub fn create_no_wait<W: Wait>(
         &self,
         rt: &W,
         session: &mut Session<'b, J, SoundFiles<V>>,
         directory: Handle,
         name: &[u8],
-        how: How,
+        how: CreateMode,
         now: Moment,
-    ) -> Soon<'b, J, Found, V>
-        ensures answered { IsAnsweredSoon V.VERSION true (λ F r F2. Op V.VERSION (create directory.number directory.generation name.now how) (time_of now) F (made r) F2) session.old session.new result }
+    ) -> CommitResult<'b, J, Found, V>
+        ensures answered { IsAnsweredNoWait V.VERSION true (λ F r F2. Op V.VERSION (create directory.number directory.generation name.now how) (time_of now) F (made r) F2) session.old session.new result }
         ensures refusal { IfErr result IsFilesRefusal }
     {
         let create = Create {
@@ -230,6 +230,6 @@ impl<'b, D: BlockDisk, J: Naming, V: Version> FileStore<'b, D, J, V> {
             how,
             moment: now,
         };
-        self.run_soon(rt, session, &create)
+        self.run_no_wait(rt, session, &create)
     }
 }

@@ -2,12 +2,12 @@
 ghost use Rattle.std.specs.Prelude.{◌≡◌, [], IfOk, IfErr, OnOk};
 ghost use Rattle.journal_inode.specs.Places.Object.{inode};
 ghost use Rattle.journal_filestore.specs.Doing.{LearnsThat, ReadsOnly, HasReadNoData};
-ghost use Rattle.journal_filestore.specs.Faults.{IsGivenUp};
-ghost use Rattle.journal_filestore.specs.Handles.{IsAt, IsPlace, place_of};
+ghost use Rattle.journal_filestore.specs.Faults.{IsAttemptEnd};
+ghost use Rattle.journal_filestore.specs.Handles.{IsAt, IsTarget, target_of};
 
 use crate::Handle;
 use crate::objects::read_node;
-use crate::operation::GivenUp;
+use crate::operation::AttemptEnd;
 use crate::store::FileTxn;
 use journal_disk::BlockDisk;
 use journal_history::Naming;
@@ -16,7 +16,7 @@ use std::sync::Wait;
 
 // What a handle names.
 #[derive(Clone, Copy, Debug, PartialEq, Eq)]
-pub enum Place {
+pub enum Target {
     // Nothing any more.
     Gone,
     // The root.
@@ -30,25 +30,25 @@ pub(crate) fn find<'j, 'b, D: BlockDisk, J: Naming, V: Version, W: Wait>(
     rt: &W,
     txn: &mut FileTxn<'j, 'b, D, J, V>,
     handle: Handle,
-) -> Result<Place, GivenUp<'b, J, V>>
+) -> Result<Target, AttemptEnd<'b, J, V>>
     requires reads { txn.old.reads ≡ [] }
     requires writes { txn.old.writes ≡ [] }
     ensures told { IfOk result (λ place. LearnsThat V.VERSION J.blocks txn.old txn.new (λ m. IsAt V.VERSION handle.number handle.generation m place)) }
     ensures reads { OnOk result (ReadsOnly txn.old txn.new (inode handle.number)) }
     ensures no_data { OnOk result (HasReadNoData txn.new) }
-    ensures fits { IfOk result (IsPlace V.VERSION handle.number) }
-    ensures refusal { IfErr result IsGivenUp }
+    ensures fits { IfOk result (IsTarget V.VERSION handle.number) }
+    ensures refusal { IfErr result IsAttemptEnd }
 {
     let node = read_node(rt, txn, handle.number)?;
-    Ok(place_of(node, handle.number, handle.generation))
+    Ok(target_of(node, handle.number, handle.generation))
 }
 
-fn place_of(node: Node, number: u32, generation: u32) -> Place
-    ensures { result ≡ place_of node number generation }
+fn target_of(node: Node, number: u32, generation: u32) -> Target
+    ensures { result ≡ target_of node number generation }
 {
     match node {
-        Node::Root(mtime) if number == 1 && generation == 1 => Place::Directory(mtime),
-        Node::File(file) if file.generation == generation => Place::Regular(file),
-        _ => Place::Gone,
+        Node::Root(mtime) if number == 1 && generation == 1 => Target::Directory(mtime),
+        Node::File(file) if file.generation == generation => Target::Regular(file),
+        _ => Target::Gone,
     }
 }

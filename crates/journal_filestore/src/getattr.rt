@@ -7,10 +7,10 @@ ghost use Rattle.journal_filestore.specs.Operations.{Op, file_target, getattr_ca
 ghost use Rattle.journal_filestore.specs.Operations.Call.{getattr};
 ghost use Rattle.journal_filestore.specs.Operations.Reply.{got};
 
-use crate::find::{Place, find};
-use crate::operation::{GivenUp, Operation};
+use crate::block_reservation::BlockReservation;
+use crate::find::{Target, find};
+use crate::operation::{AttemptEnd, Operation};
 use crate::reply::{attributes_of, root_attributes};
-use crate::space::Space;
 use crate::store::{Answer, FileFault, FileTxn};
 use crate::{Attributes, FileStore, Handle, Status};
 use journal_disk::BlockDisk;
@@ -39,12 +39,12 @@ impl<J: Naming, V: Version> Operation<J, V> for GetAttr {
         &self,
         rt: &W,
         txn: &mut FileTxn<'j, 'b, D, J, V>,
-        _space: &mut Space,
-    ) -> Result<Answer<Attributes>, GivenUp<'b, J, V>> {
+        _space: &mut BlockReservation,
+    ) -> Result<Answer<Attributes>, AttemptEnd<'b, J, V>> {
         match find(rt, txn, self.handle)? {
-            Place::Gone => Ok(Err(Status::Stale)),
-            Place::Directory(mtime) => Ok(Ok(root_attributes(mtime))),
-            Place::Regular(file) => Ok(Ok(attributes_of(self.handle.number, file))),
+            Target::Gone => Ok(Err(Status::Stale)),
+            Target::Directory(mtime) => Ok(Ok(root_attributes(mtime))),
+            Target::Regular(file) => Ok(Ok(attributes_of(self.handle.number, file))),
         }
     }
 }

@@ -14,6 +14,7 @@
 //! operation, and `specs/Done.antt` what an operation is in the history.
 #![tactic(auto)]
 
+mod block_reservation;
 mod blocks;
 mod commit;
 mod create;
@@ -25,7 +26,7 @@ mod lookup;
 mod name;
 mod objects;
 mod operation;
-mod owed;
+mod pending_wait;
 mod portion;
 mod read;
 mod remove;
@@ -33,17 +34,16 @@ mod reply;
 mod set_file;
 mod set_size;
 mod settings;
-mod space;
 mod status;
 mod store;
 mod write;
 
 pub use fault::Fault;
 pub use handle::Handle;
-pub use owed::{Committed, Owed, Soon};
+pub use pending_wait::{CommitResult, Committed, PendingWait};
 pub use portion::Portion;
 pub use read::READ_BYTES;
 pub use reply::{Attributes, Changed, Found};
-pub use settings::{How, NewTime, Settings, Stability};
+pub use settings::{CreateMode, NewTime, Settings, Stability};
 pub use status::Status;
 pub use store::{Answer, FileFault, FileStore};

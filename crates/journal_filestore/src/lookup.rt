@@ -7,12 +7,12 @@ ghost use Rattle.journal_filestore.specs.Operations.{Op, file_target, lookup_cas
 ghost use Rattle.journal_filestore.specs.Operations.Call.{lookup};
 ghost use Rattle.journal_filestore.specs.Operations.Reply.{found};
 
-use crate::find::{Place, find};
+use crate::block_reservation::BlockReservation;
+use crate::find::{Target, find};
 use crate::name::number_of;
 use crate::objects::read_node;
-use crate::operation::{GivenUp, Operation};
+use crate::operation::{AttemptEnd, Operation};
 use crate::reply::{attributes_of, root_attributes};
-use crate::space::Space;
 use crate::store::{Answer, FileFault, FileTxn};
 use crate::{FileStore, Found, Handle, Status};
 use journal_disk::BlockDisk;
@@ -42,12 +42,12 @@ impl<'a, J: Naming, V: Version> Operation<J, V> for Lookup<'a> {
         &self,
         rt: &W,
         txn: &mut FileTxn<'j, 'b, D, J, V>,
-        _space: &mut Space,
-    ) -> Result<Answer<Found>, GivenUp<'b, J, V>> {
+        _space: &mut BlockReservation,
+    ) -> Result<Answer<Found>, AttemptEnd<'b, J, V>> {
         let root = match find(rt, txn, self.directory)? {
-            Place::Gone => return Ok(Err(Status::Stale)),
-            Place::Regular(_) => return Ok(Err(Status::NotDirectory)),
-            Place::Directory(mtime) => mtime,
+            Target::Gone => return Ok(Err(Status::Stale)),
+            Target::Regular(_) => return Ok(Err(Status::NotDirectory)),
+            Target::Directory(mtime) => mtime,
         };
         let Some(number) = number_of(self.name) else {
             return Ok(Err(Status::NoEntry));

@@ -12,11 +12,11 @@ ghost use Rattle.journal_inode.specs.Places.{object};
 ghost use Rattle.journal_inode.specs.Places.Object.{bit, inode, block};
 ghost use Rattle.journal_inode.specs.Nodes.{inode_bytes, Fits};
 ghost use Rattle.journal_inode.specs.Sound.{node_at};
-ghost use Rattle.journal_filestore.specs.Faults.{IsGivenUp};
+ghost use Rattle.journal_filestore.specs.Faults.{IsAttemptEnd};
 ghost use Rattle.journal_filestore.specs.Handles.{IsSmall};
 ghost use Rattle.journal_filestore.specs.Doing.{LearnsThat, WritesObject, IsNotYetRead, ReadsOnly, HasReadNoData, HasBit};
 
-use crate::operation::{AttemptFault, GivenUp};
+use crate::operation::{AttemptEnd, AttemptFault};
 use crate::store::FileTxn;
 use journal_disk::BlockDisk;
 use journal_history::Naming;
@@ -29,10 +29,10 @@ fn read<'j, 'b, D: BlockDisk, J: Naming, V: Version, W: Wait>(
     rt: &W,
     txn: &mut FileTxn<'j, 'b, D, J, V>,
     addr: Addr,
-) -> Result<Value, GivenUp<'b, J, V>>
+) -> Result<Value, AttemptEnd<'b, J, V>>
     ensures reads { IfOk result (λ value. ReadsValue (holding txn.old addr) addr value txn.new) }
     ensures object { IfOk result (λ value. IsTrue (is_object J.blocks (addr, value))) }
-    ensures refusal { IfErr result IsGivenUp }
+    ensures refusal { IfErr result IsAttemptEnd }
 {
     match txn.read(rt, addr) {
         Ok(value) => Ok(value),
@@ -46,11 +46,11 @@ fn overwrite<'j, 'b, D: BlockDisk, J: Naming, V: Version, W: Wait>(
     txn: &mut FileTxn<'j, 'b, D, J, V>,
     addr: Addr,
     bytes: &[u8],
-) -> Result<(), GivenUp<'b, J, V>>
+) -> Result<(), AttemptEnd<'b, J, V>>
     requires kind { IsTrue (is_valid J.blocks addr) → is_value_at (kind_of J.blocks addr.block) bytes.now ≡ true }
     ensures overwrites { OnOk result (Overwrites (holding txn.old addr) addr bytes.now txn.new) }
     ensures object { OnOk result (IsTrue (is_object J.blocks (addr, bytes.now))) }
-    ensures refusal { IfErr result IsGivenUp }
+    ensures refusal { IfErr result IsAttemptEnd }
 {
     match txn.overwrite(rt, addr, bytes) {
         Ok(()) => Ok(()),
@@ -63,7 +63,7 @@ pub(crate) fn read_node<'j, 'b, D: BlockDisk, J: Naming, V: Version, W: Wait>(
     rt: &W,
     txn: &mut FileTxn<'j, 'b, D, J, V>,
     number: u32,
-) -> Result<Node, GivenUp<'b, J, V>>
+) -> Result<Node, AttemptEnd<'b, J, V>>
     requires number { number < INODES }
     requires unread { IsNotYetRead txn.old (inode number) }
     requires writes { txn.old.writes ≡ [] }
@@ -72,7 +72,7 @@ pub(crate) fn read_node<'j, 'b, D: BlockDisk, J: Naming, V: Version, W: Wait>(
     ensures no_data { OnOk result (HasReadNoData txn.old → HasReadNoData txn.new) }
     ensures fits { IfOk result Fits }
     ensures small { IfOk result (IsSmall V.VERSION) }
-    ensures refusal { IfErr result IsGivenUp }
+    ensures refusal { IfErr result IsAttemptEnd }
 {
     let value = read(rt, txn, inode_addr(number))?;
     let node = Node::read(value.bytes());
@@ -97,14 +97,14 @@ pub(crate) fn read_block<'j, 'b, D: BlockDisk, J: Naming, V: Version, W: Wait>(
     rt: &W,
     txn: &mut FileTxn<'j, 'b, D, J, V>,
     number: u64,
-) -> Result<Value, GivenUp<'b, J, V>>
+) -> Result<Value, AttemptEnd<'b, J, V>>
     requires unread { FIRST_DATA ≤ number → IsNotYetRead txn.old (block number) }
     requires writes { txn.old.writes ≡ [] }
     ensures told { IfOk result (λ value. LearnsThat V.VERSION J.blocks txn.old txn.new (λ m. object m (block number) ≡ value)) }
     ensures reads { OnOk result (ReadsOnly txn.old txn.new (block number)) }
     ensures whole { IfOk result (λ value. length value ≡ 4096) }
     ensures data_block { OnOk result (FIRST_DATA ≤ number) }
-    ensures refusal { IfErr result IsGivenUp }
+    ensures refusal { IfErr result IsAttemptEnd }
 {
     if number < FIRST_DATA {
         return Err(AttemptFault::Refused(Refusal::BadAddress));
@@ -117,14 +117,14 @@ pub(crate) fn read_bit<'j, 'b, D: BlockDisk, J: Naming, V: Version, W: Wait>(
     rt: &W,
     txn: &mut FileTxn<'j, 'b, D, J, V>,
     number: u64,
-) -> Result<bool, GivenUp<'b, J, V>>
+) -> Result<bool, AttemptEnd<'b, J, V>>
     requires unread { HasBit number → IsNotYetRead txn.old (bit (number - FIRST_DATA)) }
     requires writes { txn.old.writes ≡ [] }
     ensures told { IfOk result (λ is_set. LearnsThat V.VERSION J.blocks txn.old txn.new
         (λ m. object m (bit (number - FIRST_DATA)) ≡ (if is_set then 1 else 0) ∷ [])) }
     ensures reads { OnOk result (ReadsOnly txn.old txn.new (bit (number - FIRST_DATA))) }
     ensures data_block { OnOk result (HasBit number) }
-    ensures refusal { IfErr result IsGivenUp }
+    ensures refusal { IfErr result IsAttemptEnd }
 {
     if !has_bit(number) {
         return Err(AttemptFault::Refused(Refusal::BadAddress));
@@ -139,10 +139,10 @@ pub(crate) fn write_node<'j, 'b, D: BlockDisk, J: Naming, V: Version, W: Wait>(
     txn: &mut FileTxn<'j, 'b, D, J, V>,
     number: u32,
     node: &Node,
-) -> Result<(), GivenUp<'b, J, V>>
+) -> Result<(), AttemptEnd<'b, J, V>>
     requires { number < INODES }
     ensures writes { OnOk result (WritesObject J.blocks txn.old txn.new (inode number) (inode_bytes node.now)) }
-    ensures refusal { IfErr result IsGivenUp }
+    ensures refusal { IfErr result IsAttemptEnd }
 {
     write_inode(rt, txn, number, &node.bytes())
 }
@@ -153,11 +153,11 @@ fn write_inode<'j, 'b, D: BlockDisk, J: Naming, V: Version, W: Wait>(
     txn: &mut FileTxn<'j, 'b, D, J, V>,
     number: u32,
     bytes: &[u8],
-) -> Result<(), GivenUp<'b, J, V>>
+) -> Result<(), AttemptEnd<'b, J, V>>
     requires number { number < INODES }
     requires whole { length bytes.now ≡ NODE_BYTES }
     ensures writes { OnOk result (WritesObject J.blocks txn.old txn.new (inode number) bytes.now) }
-    ensures refusal { IfErr result IsGivenUp }
+    ensures refusal { IfErr result IsAttemptEnd }
 {
     overwrite(rt, txn, inode_addr(number), bytes)
 }
@@ -168,10 +168,10 @@ pub(crate) fn write_block<'j, 'b, D: BlockDisk, J: Naming, V: Version, W: Wait>(
     txn: &mut FileTxn<'j, 'b, D, J, V>,
     number: u64,
     bytes: &[u8],
-) -> Result<(), GivenUp<'b, J, V>>
+) -> Result<(), AttemptEnd<'b, J, V>>
     requires whole { length bytes.now ≡ BLOCK_BYTES }
     ensures writes { OnOk result (WritesObject J.blocks txn.old txn.new (block number) bytes.now) }
-    ensures refusal { IfErr result IsGivenUp }
+    ensures refusal { IfErr result IsAttemptEnd }
 {
     if number < FIRST_DATA {
         return Err(AttemptFault::Refused(Refusal::BadAddress));
@@ -185,9 +185,9 @@ pub(crate) fn write_bit<'j, 'b, D: BlockDisk, J: Naming, V: Version, W: Wait>(
     txn: &mut FileTxn<'j, 'b, D, J, V>,
     number: u64,
     is_set: bool,
-) -> Result<(), GivenUp<'b, J, V>>
+) -> Result<(), AttemptEnd<'b, J, V>>
     ensures writes { OnOk result (WritesObject J.blocks txn.old txn.new (bit (number - FIRST_DATA)) ((if is_set then 1 else 0) ∷ [])) }
-    ensures refusal { IfErr result IsGivenUp }
+    ensures refusal { IfErr result IsAttemptEnd }
 {
     if !has_bit(number) {
         return Err(AttemptFault::Refused(Refusal::BadAddress));

@@ -3,9 +3,9 @@ ghost use Rattle.std.specs.Prelude.{◌≡◌, [], Bool, IfOk, IfErr, Result};
 ghost use Rattle.journal_filestore.specs.declared.status.Status.{Status};
 ghost use Rattle.journal_filestore.specs.Files.{Files};
 ghost use Rattle.journal_filestore.specs.Doing.{Does};
-ghost use Rattle.journal_filestore.specs.Faults.{IsGivenUp, fault_at};
+ghost use Rattle.journal_filestore.specs.Faults.{IsAttemptEnd, fault_at};
 
-use crate::space::Space;
+use crate::block_reservation::BlockReservation;
 use crate::store::{Answer, FileTxn};
 use journal_core::Cause;
 use journal_disk::BlockDisk;
@@ -25,7 +25,7 @@ pub enum AttemptFault<C> {
 }
 
 // Why an attempt at an operation on files is given up.
-pub(crate) type GivenUp<'b, J, V> = AttemptFault<Cause<'b, J, SoundFiles<V>>>;
+pub(crate) type AttemptEnd<'b, J, V> = AttemptFault<Cause<'b, J, SoundFiles<V>>>;
 
 impl<C> AttemptFault<C> {
     // What a call that asked for the address was refused by.
@@ -69,11 +69,11 @@ pub(crate) trait Operation<J: Naming, V: Version> {
         &self,
         rt: &W,
         txn: &mut FileTxn<'j, 'b, D, J, V>,
-        space: &mut Space,
-    ) -> Result<Answer<Self::Reply>, GivenUp<'b, J, V>>
+        space: &mut BlockReservation,
+    ) -> Result<Answer<Self::Reply>, AttemptEnd<'b, J, V>>
         requires reads { txn.old.reads ≡ [] }
         requires writes { txn.old.writes ≡ [] }
         requires space { space.old.taken.items ≡ [] }
         ensures does { IfOk result (Does V.VERSION J.blocks (case self.now) txn.new.reads txn.new.writes) }
-        ensures refusal { IfErr result IsGivenUp };
+        ensures refusal { IfErr result IsAttemptEnd };
 }

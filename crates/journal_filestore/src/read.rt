@@ -8,11 +8,11 @@ ghost use Rattle.journal_filestore.specs.Operations.{Op, file_target, portion_le
 ghost use Rattle.journal_filestore.specs.Operations.Call.{read};
 ghost use Rattle.journal_filestore.specs.Operations.Reply.{bytes_read};
 
+use crate::block_reservation::BlockReservation;
 use crate::blocks::read_blocks;
-use crate::find::{Place, find};
-use crate::operation::{GivenUp, Operation};
+use crate::find::{Target, find};
+use crate::operation::{AttemptEnd, Operation};
 use crate::reply::attributes_of;
-use crate::space::Space;
 use crate::store::{Answer, FileFault, FileTxn};
 use crate::{FileStore, Handle, Portion, Status};
 use journal_disk::BlockDisk;
@@ -49,12 +49,12 @@ impl<J: Naming, V: Version> Operation<J, V> for Read {
         &self,
         rt: &W,
         txn: &mut FileTxn<'j, 'b, D, J, V>,
-        _space: &mut Space,
-    ) -> Result<Answer<Portion>, GivenUp<'b, J, V>> {
+        _space: &mut BlockReservation,
+    ) -> Result<Answer<Portion>, AttemptEnd<'b, J, V>> {
         let file = match find(rt, txn, self.handle)? {
-            Place::Gone => return Ok(Err(Status::Stale)),
-            Place::Directory(_) => return Ok(Err(Status::Invalid)),
-            Place::Regular(file) => file,
+            Target::Gone => return Ok(Err(Status::Stale)),
+            Target::Directory(_) => return Ok(Err(Status::Invalid)),
+            Target::Regular(file) => file,
         };
         let read = attributes_of(self.handle.number, file);
         let length = length_read(V::VERSION, file.size, self.offset, self.count);

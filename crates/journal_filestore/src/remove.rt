@@ -1,21 +1,21 @@
 // REMOVE.
 ghost use Rattle.std.specs.Prelude.{◌≡◌, true, IfErr};
 ghost use Rattle.journal_inode.specs.declared.node.Time.{Time};
-ghost use Rattle.journal_filestore.specs.Done.{IsAnswered, IsAnsweredSoon};
+ghost use Rattle.journal_filestore.specs.Done.{IsAnswered, IsAnsweredNoWait};
 ghost use Rattle.journal_filestore.specs.Faults.{IsFaultOf, IsFilesRefusal};
 ghost use Rattle.journal_filestore.specs.Operations.{Op, file_target, remove_case};
 ghost use Rattle.journal_filestore.specs.Operations.Call.{remove};
 ghost use Rattle.journal_filestore.specs.Operations.Reply.{removed};
 
+use crate::block_reservation::BlockReservation;
 use crate::blocks::write_bits;
-use crate::find::{Place, find};
+use crate::find::{Target, find};
 use crate::name::number_of;
 use crate::objects::{read_node, write_node};
-use crate::operation::{GivenUp, Operation};
+use crate::operation::{AttemptEnd, Operation};
 use crate::reply::root_attributes;
-use crate::space::Space;
 use crate::store::{Answer, FileFault, FileTxn};
-use crate::{Attributes, FileStore, Handle, Soon, Status};
+use crate::{Attributes, CommitResult, FileStore, Handle, Status};
 use journal_disk::BlockDisk;
 use journal_history::{Naming, Session};
 use journal_inode::{Node, SoundFiles, Version};
@@ -43,12 +43,12 @@ impl<'a, J: Naming, V: Version> Operation<J, V> for Remove<'a> {
         &self,
         rt: &W,
         txn: &mut FileTxn<'j, 'b, D, J, V>,
-        space: &mut Space,
-    ) -> Result<Answer<Attributes>, GivenUp<'b, J, V>> {
+        space: &mut BlockReservation,
+    ) -> Result<Answer<Attributes>, AttemptEnd<'b, J, V>> {
         let root = match find(rt, txn, self.directory)? {
-            Place::Gone => return Ok(Err(Status::Stale)),
-            Place::Regular(_) => return Ok(Err(Status::NotDirectory)),
-            Place::Directory(mtime) => mtime,
+            Target::Gone => return Ok(Err(Status::Stale)),
+            Target::Regular(_) => return Ok(Err(Status::NotDirectory)),
+            Target::Directory(mtime) => mtime,
         };
         let Some(number) = number_of(self.name) else {
             return Ok(Err(Status::NoEntry));
@@ -56,7 +56,7 @@ impl<'a, J: Naming, V: Version> Operation<J, V> for Remove<'a> {
         let Node::File(file) = read_node(rt, txn, number)? else {
             return Ok(Err(Status::NoEntry));
         };
-        let count = 1 + V::VERSION.more_count(file.size);
+        let count = 1 + V::VERSION.extra_count(file.size);
         let numbers = file.numbers();
         space.give_up(&numbers[..count])?;
         write_bits(rt, txn, &numbers[..count], false)?;
@@ -84,18 +84,18 @@ impl<'b, D: BlockDisk, J: Naming, V: Version> FileStore<'b, D, J, V> {
         self.run(rt, session, &Remove { directory, name })
     }
 
-    /// REMOVE up to its commit: as `remove` does it, and answered before it is stable. Where that waits, what is owed is the
+    /// REMOVE up to its commit: as `remove` does it, and answered before it is stable. Where that waits, what is pending is the
     /// wait for its receipt, by `Journal::wait_stable`: the answer stands in the history, and a crash before may lose it.
-    pub fn remove_soon<W: Wait>(
+    pub fn remove_no_wait<W: Wait>(
         &self,
         rt: &W,
         session: &mut Session<'b, J, SoundFiles<V>>,
         directory: Handle,
         name: &[u8],
-    ) -> Soon<'b, J, Attributes, V>
-        ensures answered { IsAnsweredSoon V.VERSION true (λ F r F2. (now : Time) → Op V.VERSION (remove directory.number directory.generation name.now) now F (removed r) F2) session.old session.new result }
+    ) -> CommitResult<'b, J, Attributes, V>
+        ensures answered { IsAnsweredNoWait V.VERSION true (λ F r F2. (now : Time) → Op V.VERSION (remove directory.number directory.generation name.now) now F (removed r) F2) session.old session.new result }
         ensures refusal { IfErr result IsFilesRefusal }
     {
-        self.run_soon(rt, session, &Remove { directory, name })
+        self.run_no_wait(rt, session, &Remove { directory, name })
     }
 }

@@ -6,16 +6,16 @@ ghost use Rattle.journal_inode.specs.Nodes.{IsTime, Fits};
 ghost use Rattle.journal_inode.specs.Sound.{content};
 ghost use Rattle.journal_inode.specs.Versions.{most_bytes};
 ghost use Rattle.journal_world.specs.declared.moment.TheConstants.{MAX_NANOS};
-ghost use Rattle.journal_filestore.specs.Faults.{IsGivenUp};
+ghost use Rattle.journal_filestore.specs.Faults.{IsAttemptEnd};
 ghost use Rattle.journal_filestore.specs.Doing.{HasReadNoData};
 ghost use Rattle.journal_filestore.specs.Changes.{ChangesFile, HasChanged};
 ghost use Rattle.journal_filestore.specs.Handles.{time_of};
 ghost use Rattle.journal_filestore.specs.Operations.{is_no_time, is_too_big, time_after, resized};
 
+use crate::block_reservation::BlockReservation;
 use crate::blocks::{take_blocks, with_blocks, write_bits, write_file};
 use crate::objects::read_block;
-use crate::operation::GivenUp;
-use crate::space::Space;
+use crate::operation::AttemptEnd;
 use crate::store::FileTxn;
 use crate::{NewTime, Settings};
 use journal_disk::BlockDisk;
@@ -28,12 +28,12 @@ use std::sync::Wait;
 pub(crate) fn set_file<'j, 'b, D: BlockDisk, J: Naming, V: Version, W: Wait>(
     rt: &W,
     txn: &mut FileTxn<'j, 'b, D, J, V>,
-    space: &mut Space,
+    space: &mut BlockReservation,
     number: u32,
     file: FileNode,
     settings: Settings,
     now: Moment,
-) -> Result<Option<FileNode>, GivenUp<'b, J, V>>
+) -> Result<Option<FileNode>, AttemptEnd<'b, J, V>>
     requires number { number < INODES }
     requires fits { Fits (File file) }
     requires whole { file.size ≤ most_bytes V.VERSION }
@@ -45,7 +45,7 @@ pub(crate) fn set_file<'j, 'b, D: BlockDisk, J: Naming, V: Version, W: Wait>(
     ensures changes { IfOk result (ChangesFile V.VERSION J.blocks txn.old txn.new number file
         (unwrap_or settings.size file.size) (time_after settings.size settings.mtime (time_of now) file.mtime)
         (λ m. resized (content V.VERSION m file) settings.size)) }
-    ensures refusal { IfErr result IsGivenUp }
+    ensures refusal { IfErr result IsAttemptEnd }
 {
     let size = settings.size.unwrap_or(file.size);
     let mtime = time_after(settings, now, file.mtime);
@@ -58,12 +58,12 @@ pub(crate) fn set_file<'j, 'b, D: BlockDisk, J: Naming, V: Version, W: Wait>(
 fn shrink<'j, 'b, D: BlockDisk, J: Naming, V: Version, W: Wait>(
     rt: &W,
     txn: &mut FileTxn<'j, 'b, D, J, V>,
-    space: &mut Space,
+    space: &mut BlockReservation,
     number: u32,
     file: FileNode,
     size: u64,
     mtime: Time,
-) -> Result<FileNode, GivenUp<'b, J, V>>
+) -> Result<FileNode, AttemptEnd<'b, J, V>>
     requires number { number < INODES }
     requires fits { Fits (File file) }
     requires whole { file.size ≤ most_bytes V.VERSION }
@@ -72,10 +72,10 @@ fn shrink<'j, 'b, D: BlockDisk, J: Naming, V: Version, W: Wait>(
     requires unread { HasReadNoData txn.old }
     requires writes { txn.old.writes ≡ [] }
     ensures changes { IfOk result (HasChanged V.VERSION J.blocks txn.old txn.new number file size mtime (λ m. take size (content V.VERSION m file))) }
-    ensures refusal { IfErr result IsGivenUp }
+    ensures refusal { IfErr result IsAttemptEnd }
 {
-    let last = V::VERSION.more_count(size);
-    let had = V::VERSION.more_count(file.size);
+    let last = V::VERSION.extra_count(size);
+    let had = V::VERSION.extra_count(file.size);
     let numbers = file.numbers();
     let cut = &numbers[last + 1..had + 1];
     let mut block = read_block(rt, txn, numbers[last])?.into_bytes();
@@ -92,12 +92,12 @@ fn shrink<'j, 'b, D: BlockDisk, J: Naming, V: Version, W: Wait>(
 fn grow<'j, 'b, D: BlockDisk, J: Naming, V: Version, W: Wait>(
     rt: &W,
     txn: &mut FileTxn<'j, 'b, D, J, V>,
-    space: &mut Space,
+    space: &mut BlockReservation,
     number: u32,
     file: FileNode,
     size: u64,
     mtime: Time,
-) -> Result<Option<FileNode>, GivenUp<'b, J, V>>
+) -> Result<Option<FileNode>, AttemptEnd<'b, J, V>>
     requires number { number < INODES }
     requires fits { Fits (File file) }
     requires small { size ≤ most_bytes V.VERSION }
@@ -108,10 +108,10 @@ fn grow<'j, 'b, D: BlockDisk, J: Naming, V: Version, W: Wait>(
     requires writes { txn.old.writes ≡ [] }
     ensures changes { IfOk result (ChangesFile V.VERSION J.blocks txn.old txn.new number file size mtime
         (λ m. content V.VERSION m file ++ replicate (size - file.size) 0)) }
-    ensures refusal { IfErr result IsGivenUp }
+    ensures refusal { IfErr result IsAttemptEnd }
 {
-    let had = V::VERSION.more_count(file.size);
-    let count = V::VERSION.more_count(size) - had;
+    let had = V::VERSION.extra_count(file.size);
+    let count = V::VERSION.extra_count(size) - had;
     if !take_blocks(rt, txn, space, count)? {
         return Ok(None);
     }

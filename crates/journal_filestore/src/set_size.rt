@@ -1,19 +1,19 @@
 // SETATTR.
 ghost use Rattle.std.specs.Prelude.{◌≡◌, Bool, true, IfErr};
-ghost use Rattle.journal_filestore.specs.Done.{IsAnswered, IsAnsweredSoon};
+ghost use Rattle.journal_filestore.specs.Done.{IsAnswered, IsAnsweredNoWait};
 ghost use Rattle.journal_filestore.specs.Faults.{IsFaultOf, IsFilesRefusal};
 ghost use Rattle.journal_filestore.specs.Handles.{time_of};
 ghost use Rattle.journal_filestore.specs.Operations.{Op, file_target, setattr_case, root_set, is_other_time};
 ghost use Rattle.journal_filestore.specs.Operations.Call.{setattr};
 ghost use Rattle.journal_filestore.specs.Operations.Reply.{set};
 
-use crate::find::{Place, find};
-use crate::operation::{GivenUp, Operation};
+use crate::block_reservation::BlockReservation;
+use crate::find::{Target, find};
+use crate::operation::{AttemptEnd, Operation};
 use crate::reply::{attributes_of, root_attributes};
 use crate::set_file::{is_no_time, is_too_big, set_file};
-use crate::space::Space;
 use crate::store::{Answer, FileFault, FileTxn};
-use crate::{Changed, FileStore, Handle, Settings, Soon, Status};
+use crate::{Changed, CommitResult, FileStore, Handle, Settings, Status};
 use journal_disk::BlockDisk;
 use journal_history::{Naming, Session};
 use journal_inode::{SoundFiles, Time, Version};
@@ -44,12 +44,12 @@ impl<J: Naming, V: Version> Operation<J, V> for SetSize {
         &self,
         rt: &W,
         txn: &mut FileTxn<'j, 'b, D, J, V>,
-        space: &mut Space,
-    ) -> Result<Answer<Changed>, GivenUp<'b, J, V>> {
+        space: &mut BlockReservation,
+    ) -> Result<Answer<Changed>, AttemptEnd<'b, J, V>> {
         let file = match find(rt, txn, self.handle)? {
-            Place::Gone => return Ok(Err(Status::Stale)),
-            Place::Directory(mtime) => return Ok(self.root_set(mtime)),
-            Place::Regular(file) => file,
+            Target::Gone => return Ok(Err(Status::Stale)),
+            Target::Directory(mtime) => return Ok(self.root_set(mtime)),
+            Target::Regular(file) => file,
         };
         if is_other_time(self.guard, file.mtime) {
             return Ok(Err(Status::NotSync));
@@ -133,9 +133,9 @@ impl<'b, D: BlockDisk, J: Naming, V: Version> FileStore<'b, D, J, V> {
         self.run(rt, session, &set)
     }
 
-    /// SETATTR up to its commit: as `set_size` does it, and answered before it is stable. Where that waits, what is owed is the
+    /// SETATTR up to its commit: as `set_size` does it, and answered before it is stable. Where that waits, what is pending is the
     /// wait for its receipt, by `Journal::wait_stable`: the answer stands in the history, and a crash before may lose it.
-    pub fn set_size_soon<W: Wait>(
+    pub fn set_size_no_wait<W: Wait>(
         &self,
         rt: &W,
         session: &mut Session<'b, J, SoundFiles<V>>,
@@ -143,8 +143,8 @@ impl<'b, D: BlockDisk, J: Naming, V: Version> FileStore<'b, D, J, V> {
         settings: Settings,
         guard: Option<Time>,
         now: Moment,
-    ) -> Soon<'b, J, Changed, V>
-        ensures answered { IsAnsweredSoon V.VERSION true (λ F r F2. Op V.VERSION (setattr handle.number handle.generation settings guard) (time_of now) F (set r) F2) session.old session.new result }
+    ) -> CommitResult<'b, J, Changed, V>
+        ensures answered { IsAnsweredNoWait V.VERSION true (λ F r F2. Op V.VERSION (setattr handle.number handle.generation settings guard) (time_of now) F (set r) F2) session.old session.new result }
         ensures refusal { IfErr result IsFilesRefusal }
     {
         let set = SetSize {
@@ -153,6 +153,6 @@ impl<'b, D: BlockDisk, J: Naming, V: Version> FileStore<'b, D, J, V> {
             guard,
             moment: now,
         };
-        self.run_soon(rt, session, &set)
+        self.run_no_wait(rt, session, &set)
     }
 }

@@ -23,7 +23,7 @@ pub struct Settings {
 
 /// How a file is created.
 #[derive(Clone, Copy, Debug, PartialEq, Eq)]
-pub enum How {
+pub enum CreateMode {
     /// If the file is there, it is set.
     Unchecked(Settings),
     /// If the file is there, the call is refused.

@@ -11,14 +11,14 @@ ghost use Rattle.journal_inode.specs.Sound.{HasSoundFiles};
 ghost use Rattle.journal_twophase.specs.Journals.{BeginsWith, IsCloseRefusal};
 ghost use Rattle.journal_twophase.specs.Waits.{IsWaitRefusal};
 ghost use Rattle.journal_twophase.specs.declared.journal.TheConstants.{MAX_CACHED_BLOCKS};
-ghost use Rattle.journal_wal.specs.declared.append.TheConstants.{MAX_UPDATES};
+ghost use Rattle.journal_wal.specs.declared.limits.TheConstants.{MAX_UPDATES};
 ghost use Rattle.journal_objlog.specs.Writes.{written_blocks};
-ghost use Rattle.journal_filestore.specs.Done.{IsAnswered, IsAnsweredSoon, IsPaid, IsWait, Ends, owed_for};
+ghost use Rattle.journal_filestore.specs.Done.{IsAnswered, IsAnsweredNoWait, IsWaitOver, IsWait, Ends, pending_wait_for};
 ghost use Rattle.journal_filestore.specs.Faults.{IsFilesRefusal, IsFaultOf};
 
+use crate::block_reservation::BlockReservation;
 use crate::operation::{AttemptFault, Operation};
-use crate::space::Space;
-use crate::{Committed, Fault, Owed, Soon, Status};
+use crate::{CommitResult, Committed, Fault, PendingWait, Status};
 use journal_alloc::Alloc;
 use journal_core::Cause;
 use journal_disk::BlockDisk;
@@ -38,7 +38,7 @@ pub type Answer<A> = Result<A, Status>;
 pub type FileFault<'b, J, V = VersionOne> = Fault<Cause<'b, J, SoundFiles<V>>>;
 
 /// Why the journal below refuses.
-pub(crate) type Why<'b, J, V> = Refusal<Cause<'b, J, SoundFiles<V>>>;
+pub(crate) type FileRefusal<'b, J, V> = Refusal<Cause<'b, J, SoundFiles<V>>>;
 
 /// A transaction on files.
 pub(crate) type FileTxn<'j, 'b, D, J, V> = Txn<'j, 'b, D, SoundFiles<V>, J>;
@@ -157,7 +157,7 @@ impl<'b, D: BlockDisk, J: Naming, V: Version> FileStore<'b, D, J, V> {
         journal.close(session)
     }
 
-    // Does an operation, and waits for what is owed before it is answered.
+    // Does an operation, and makes the pending wait before it is answered.
     pub(crate) fn run<O: Operation<J, V>, W: Wait>(
         &self,
         rt: &W,
@@ -167,11 +167,11 @@ impl<'b, D: BlockDisk, J: Naming, V: Version> FileStore<'b, D, J, V> {
         ensures answered { IsAnswered V.VERSION (O.is_waiting operation.now) (O.case operation.now) session.old session.new result }
         ensures refusal { IfErr result (IsFaultOf session.new) }
     {
-        let Committed { answer, owed } = match self.run_soon(rt, session, operation) {
+        let Committed { answer, wait } = match self.run_no_wait(rt, session, operation) {
             Ok(done) => done,
             Err(why) => return Err(Fault::Refused(why)),
         };
-        let waited = self.wait_for(rt, session, owed);
+        let waited = self.wait_for(rt, session, wait);
         // It tells the proof what is known of all that the session has then seen.
         let _seen = session.seen();
         match waited {
@@ -180,22 +180,22 @@ impl<'b, D: BlockDisk, J: Naming, V: Version> FileStore<'b, D, J, V> {
         }
     }
 
-    // Waits for what is owed.
+    // Makes the pending wait.
     fn wait_for<W: Wait>(
         &self,
         rt: &W,
         session: &mut Session<'b, J, SoundFiles<V>>,
-        owed: Owed<Receipt<'b, J, SoundFiles<V>>>,
-    ) -> Result<(), Why<'b, J, V>>
-        ensures paid { OnOk result (IsPaid owed.entry session.new) }
-        ensures owes { OnErr result (IsWait owed.entry) }
+        wait: PendingWait<Receipt<'b, J, SoundFiles<V>>>,
+    ) -> Result<(), FileRefusal<'b, J, V>>
+        ensures paid { OnOk result (IsWaitOver wait.entry session.new) }
+        ensures owes { OnErr result (IsWait wait.entry) }
         ensures exact { OnOk result (IsExact session.old → IsExact session.new) }
         ensures session { OnlyExtends session.old session.new }
         ensures refusal { IfErr result (IsWaitRefusal session.new) }
     {
-        let receipt = match owed {
-            Owed::Nothing => return Ok(()),
-            Owed::Wait(receipt) => receipt,
+        let receipt = match wait {
+            PendingWait::Nothing => return Ok(()),
+            PendingWait::Wait(receipt) => receipt,
         };
         match self.journal.wait_stable(rt, session, &receipt) {
             Ok(_note) => Ok(()),
@@ -206,13 +206,13 @@ impl<'b, D: BlockDisk, J: Naming, V: Version> FileStore<'b, D, J, V> {
     // Attempts an operation until it is committed, or refused by another number than J5, or refused by J5 once more
     // after the last retry. Before each retry it waits for the slot that was held, so that it is refused by J5 only
     // where others took slots in between each time.
-    pub(crate) fn run_soon<O: Operation<J, V>, W: Wait>(
+    pub(crate) fn run_no_wait<O: Operation<J, V>, W: Wait>(
         &self,
         rt: &W,
         session: &mut Session<'b, J, SoundFiles<V>>,
         operation: &O,
-    ) -> Soon<'b, J, O::Reply, V>
-        ensures answered { IsAnsweredSoon V.VERSION (O.is_waiting operation.now) (O.case operation.now) session.old session.new result }
+    ) -> CommitResult<'b, J, O::Reply, V>
+        ensures answered { IsAnsweredNoWait V.VERSION (O.is_waiting operation.now) (O.case operation.now) session.old session.new result }
         ensures refusal { IfErr result IsFilesRefusal }
     {
         for _ in 0..RETRIES {
@@ -243,12 +243,12 @@ impl<'b, D: BlockDisk, J: Naming, V: Version> FileStore<'b, D, J, V> {
         rt: &W,
         session: &mut Session<'b, J, SoundFiles<V>>,
         operation: &O,
-    ) -> Result<Soon<'b, J, O::Reply, V>, Addr>
-        ensures answered { IfOk result (IsAnsweredSoon V.VERSION (O.is_waiting operation.now) (O.case operation.now) session.old session.new) }
+    ) -> Result<CommitResult<'b, J, O::Reply, V>, Addr>
+        ensures answered { IfOk result (IsAnsweredNoWait V.VERSION (O.is_waiting operation.now) (O.case operation.now) session.old session.new) }
         ensures refusal { IfOk result (λ outcome. IfErr outcome IsFilesRefusal) }
         ensures held { OnErr result (OnlyExtends session.old session.new) }
     {
-        let mut space = Space::new(self.alloc, &self.free);
+        let mut space = BlockReservation::new(self.alloc, &self.free);
         let mut txn = self.journal.begin(self.alloc, session);
         let answer = match operation.attempt(rt, &mut txn, &mut space) {
             Ok(answer) => answer,
@@ -263,9 +263,9 @@ impl<'b, D: BlockDisk, J: Naming, V: Version> FileStore<'b, D, J, V> {
         };
         let waits = is_awaited(operation.waits(), &answer);
         match end(rt, session, txn, waits) {
-            Ok(owed) => {
+            Ok(wait) => {
                 space.committed(rt);
-                Ok(Ok(Committed { answer, owed }))
+                Ok(Ok(Committed { answer, wait }))
             }
             Err(why) => {
                 space.undone(rt);
@@ -275,7 +275,7 @@ impl<'b, D: BlockDisk, J: Naming, V: Version> FileStore<'b, D, J, V> {
     }
 
     // Gives an attempt up, with its slots and with what it took.
-    fn undo<'j, W: Wait>(&self, rt: &W, txn: FileTxn<'j, 'b, D, J, V>, space: Space) {
+    fn undo<'j, W: Wait>(&self, rt: &W, txn: FileTxn<'j, 'b, D, J, V>, space: BlockReservation) {
         txn.abort(rt);
         space.undone(rt);
     }
@@ -289,13 +289,13 @@ fn is_awaited<A>(waits: bool, answer: &Answer<A>) -> bool
     waits && answer.is_ok()
 }
 
-// Commits a transaction: its receipt is owed where it waits.
+// Commits a transaction: its receipt is to be waited for where it waits.
 fn end<'j, 'b, D: BlockDisk, J: Naming, V: Version, W: Wait>(
     rt: &W,
     session: &mut Session<'b, J, SoundFiles<V>>,
     txn: FileTxn<'j, 'b, D, J, V>,
     waits: bool,
-) -> Result<Owed<Receipt<'b, J, SoundFiles<V>>>, Why<'b, J, V>>
+) -> Result<PendingWait<Receipt<'b, J, SoundFiles<V>>>, FileRefusal<'b, J, V>>
     requires rule { (m : Map) → m.blocks ≡ J.blocks → HasSoundFiles V.VERSION m → Agrees m txn.reads → HasSoundFiles V.VERSION (overwritten m txn.writes) }
     requires few { written_blocks txn.writes ≤ MAX_UPDATES }
     ensures ended { IfOk result (Ends V.VERSION J.blocks txn.entry waits session.old session.new) }
@@ -303,18 +303,18 @@ fn end<'j, 'b, D: BlockDisk, J: Naming, V: Version, W: Wait>(
     ensures refusal { IfErr result IsFilesRefusal }
 {
     match txn.commit(rt, session) {
-        Ok(receipt) => Ok(owed_for(waits, receipt)),
+        Ok(receipt) => Ok(pending_wait_for(waits, receipt)),
         Err(why) => Err(why),
     }
 }
 
-// What is owed for a commit.
-fn owed_for<P: Drop>(waits: bool, receipt: P) -> Owed<P>
-    ensures { result ≡ owed_for waits receipt }
+// The wait that a commit leaves pending.
+fn pending_wait_for<P: Drop>(waits: bool, receipt: P) -> PendingWait<P>
+    ensures { result ≡ pending_wait_for waits receipt }
 {
     if waits {
-        Owed::Wait(receipt)
+        PendingWait::Wait(receipt)
     } else {
-        Owed::Nothing
+        PendingWait::Nothing
     }
 }

@@ -3,23 +3,23 @@ ghost use Rattle.std.specs.Prelude.{◌≡◌, ◌<◌, ◌≤◌, ◌+◌, ◌-
 ghost use Rattle.journal_inode.specs.declared.node.Node.TheVariants.{File};
 ghost use Rattle.journal_inode.specs.Nodes.{Fits};
 ghost use Rattle.journal_inode.specs.Sound.{content};
-ghost use Rattle.journal_inode.specs.Versions.{most_bytes, more_count};
+ghost use Rattle.journal_inode.specs.Versions.{most_bytes, extra_count};
 ghost use Rattle.journal_filestore.specs.Doing.{HasReadNoBlocks, HasReadNoData, AreClear, AreFresh, Makes};
 ghost use Rattle.journal_filestore.specs.Changes.{with_blocks, FileBecomes, ChangesFile};
-ghost use Rattle.journal_filestore.specs.Faults.{IsGivenUp, IsFaultOf, IsFilesRefusal};
-ghost use Rattle.journal_filestore.specs.Done.{IsAnswered, IsAnsweredSoon};
+ghost use Rattle.journal_filestore.specs.Faults.{IsAttemptEnd, IsFaultOf, IsFilesRefusal};
+ghost use Rattle.journal_filestore.specs.Done.{IsAnswered, IsAnsweredNoWait};
 ghost use Rattle.journal_filestore.specs.Handles.{time_of};
 ghost use Rattle.journal_filestore.specs.Operations.{Op, file_target, write_case, placed, with_data, is_waiting};
 ghost use Rattle.journal_filestore.specs.Operations.Call.{write};
 ghost use Rattle.journal_filestore.specs.Operations.Reply.{wrote};
 
+use crate::block_reservation::BlockReservation;
 use crate::blocks::{read_span, take_blocks, with_blocks, write_file};
-use crate::find::{Place, find};
-use crate::operation::{GivenUp, Operation};
+use crate::find::{Target, find};
+use crate::operation::{AttemptEnd, Operation};
 use crate::reply::attributes_of;
-use crate::space::Space;
 use crate::store::{Answer, FileFault, FileTxn};
-use crate::{Changed, FileStore, Handle, Soon, Stability, Status};
+use crate::{Changed, CommitResult, FileStore, Handle, Stability, Status};
 use journal_disk::BlockDisk;
 use journal_history::{Naming, Session};
 use journal_inode::{FileNode, SoundFiles, Time, Version};
@@ -52,12 +52,12 @@ impl<'a, J: Naming, V: Version> Operation<J, V> for Write<'a> {
         &self,
         rt: &W,
         txn: &mut FileTxn<'j, 'b, D, J, V>,
-        space: &mut Space,
-    ) -> Result<Answer<Changed>, GivenUp<'b, J, V>> {
+        space: &mut BlockReservation,
+    ) -> Result<Answer<Changed>, AttemptEnd<'b, J, V>> {
         let file = match find(rt, txn, self.handle)? {
-            Place::Gone => return Ok(Err(Status::Stale)),
-            Place::Directory(_) => return Ok(Err(Status::Invalid)),
-            Place::Regular(file) => file,
+            Target::Gone => return Ok(Err(Status::Stale)),
+            Target::Directory(_) => return Ok(Err(Status::Invalid)),
+            Target::Regular(file) => file,
         };
         let number = self.handle.number;
         let before = attributes_of(number, file);
@@ -90,9 +90,9 @@ impl<'a> Write<'a> {
         &self,
         rt: &W,
         txn: &mut FileTxn<'j, 'b, D, J, V>,
-        space: &mut Space,
+        space: &mut BlockReservation,
         file: FileNode,
-    ) -> Result<Option<FileNode>, GivenUp<'b, J, V>>
+    ) -> Result<Option<FileNode>, AttemptEnd<'b, J, V>>
         requires fits { Fits (File file) }
         requires small { file.size ≤ most_bytes V.VERSION }
         requires some { 0 < length self.now.bytes.now }
@@ -103,11 +103,11 @@ impl<'a> Write<'a> {
         ensures changes { IfOk result (ChangesFile V.VERSION J.blocks txn.old txn.new self.now.handle.number file
             (max file.size (self.now.offset + length self.now.bytes.now)) (time_of self.now.moment)
             (λ m. placed (content V.VERSION m file) self.now.offset self.now.bytes.now)) }
-        ensures refusal { IfErr result IsGivenUp }
+        ensures refusal { IfErr result IsAttemptEnd }
     {
         let size = file.size.max(self.offset + self.bytes.len() as u64);
-        let had = V::VERSION.more_count(file.size);
-        let count = V::VERSION.more_count(size) - had;
+        let had = V::VERSION.extra_count(file.size);
+        let count = V::VERSION.extra_count(size) - had;
         if !take_blocks(rt, txn, space, count)? {
             return Ok(None);
         }
@@ -123,13 +123,13 @@ impl<'a> Write<'a> {
         txn: &mut FileTxn<'j, 'b, D, J, V>,
         file: FileNode,
         written: FileNode,
-        space: &Space,
-    ) -> Result<(), GivenUp<'b, J, V>>
-        requires written { written ≡ with_blocks file (more_count V.VERSION file.size) space.now.taken.items
+        space: &BlockReservation,
+    ) -> Result<(), AttemptEnd<'b, J, V>>
+        requires written { written ≡ with_blocks file (extra_count V.VERSION file.size) space.now.taken.items
             (max file.size (self.now.offset + length self.now.bytes.now)) (time_of self.now.moment) }
         requires fits { Fits (File written) }
         requires whole { Fits (File file) }
-        requires fresh { AreFresh (more_count V.VERSION written.size - more_count V.VERSION file.size) space.now.taken.items }
+        requires fresh { AreFresh (extra_count V.VERSION written.size - extra_count V.VERSION file.size) space.now.taken.items }
         requires small { file.size ≤ most_bytes V.VERSION }
         requires some { 0 < length self.now.bytes.now }
         requires end { self.now.offset + length self.now.bytes.now ≤ most_bytes V.VERSION }
@@ -137,9 +137,9 @@ impl<'a> Write<'a> {
         requires writes { txn.old.writes ≡ [] }
         ensures makes { OnOk result (Makes V.VERSION J.blocks txn.old txn.new (λ m n. AreClear m space.now.taken.items
             → FileBecomes V.VERSION m n self.now.handle.number file (placed (content V.VERSION m file) self.now.offset self.now.bytes.now) (time_of self.now.moment))) }
-        ensures refusal { IfErr result IsGivenUp }
+        ensures refusal { IfErr result IsAttemptEnd }
     {
-        let had = V::VERSION.more_count(file.size) + 1;
+        let had = V::VERSION.extra_count(file.size) + 1;
         let offset = self.offset as usize;
         let first = had.min(offset / BLOCK_BYTES);
         let after = (offset + self.bytes.len() - 1) / BLOCK_BYTES + 1;
@@ -196,9 +196,9 @@ impl<'b, D: BlockDisk, J: Naming, V: Version> FileStore<'b, D, J, V> {
         self.run(rt, session, &write)
     }
 
-    /// WRITE up to its commit: as `write` does it, and answered before it is stable. Where that waits, what is owed is the
+    /// WRITE up to its commit: as `write` does it, and answered before it is stable. Where that waits, what is pending is the
     /// wait for its receipt, by `Journal::wait_stable`: the answer stands in the history, and a crash before may lose it.
-    pub fn write_soon<W: Wait>(
+    pub fn write_no_wait<W: Wait>(
         &self,
         rt: &W,
         session: &mut Session<'b, J, SoundFiles<V>>,
@@ -208,8 +208,8 @@ impl<'b, D: BlockDisk, J: Naming, V: Version> FileStore<'b, D, J, V> {
         bytes: &[u8],
         stability: Stability,
         now: Moment,
-    ) -> Soon<'b, J, Changed, V>
-        ensures answered { IsAnsweredSoon V.VERSION (is_waiting stability) (λ F r F2. Op V.VERSION (write handle.number handle.generation offset count bytes.now) (time_of now) F (wrote r) F2) session.old session.new result }
+    ) -> CommitResult<'b, J, Changed, V>
+        ensures answered { IsAnsweredNoWait V.VERSION (is_waiting stability) (λ F r F2. Op V.VERSION (write handle.number handle.generation offset count bytes.now) (time_of now) F (wrote r) F2) session.old session.new result }
         ensures refusal { IfErr result IsFilesRefusal }
     {
         let write = Write {
@@ -220,6 +220,6 @@ impl<'b, D: BlockDisk, J: Naming, V: Version> FileStore<'b, D, J, V> {
             stability,
             moment: now,
         };
-        self.run_soon(rt, session, &write)
+        self.run_no_wait(rt, session, &write)
     }
 }

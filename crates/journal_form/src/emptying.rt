@@ -28,7 +28,7 @@ pub(crate) fn empty<D: BlockDisk>(
     if start == end {
         return Ok(());
     }
-    let state = bring_home(circ, installer, room)?;
+    let state = install_all(circ, installer, room)?;
     let state = circ.sync_homes(state)?;
     let state = circ.put_start(state, end)?;
     circ.sync_start(state)?;
@@ -36,7 +36,7 @@ pub(crate) fn empty<D: BlockDisk>(
 }
 
 // Brings all updates home.
-fn bring_home<D: BlockDisk>(
+fn install_all<D: BlockDisk>(
     circ: &mut Circ<D>,
     installer: HomesPut,
     room: &mut Block,
@@ -50,13 +50,13 @@ fn bring_home<D: BlockDisk>(
 {
     let mut state = installer;
     for position in circ.start()..circ.end() {
-        state = bring_update(circ, state, position, room)?;
+        state = install_update(circ, state, position, room)?;
     }
     Ok(state)
 }
 
 // Brings the update of one position home.
-fn bring_update<D: BlockDisk>(
+fn install_update<D: BlockDisk>(
     circ: &mut Circ<D>,
     state: HomesPut,
     position: u64,

@@ -31,8 +31,8 @@ module _ (rule : Map → Type 0) (seen mine : List Entry) (e : Entry) (old : ℕ
   abbrev AddGoes : List Cell → List Entry → Type 0
   AddGoes cells history = Goes (IsLawful rule) shown moved 0 (having_seen seen) (exchanged old (old + 1)) (ExchangesHead rule (step 0 old (old + 1) e) (having_seen seen)) cells history
 
-  module _ (history : List Entry) (told : ℕ) (sound : IsSound rule history) (marked : told ≤ floor history) (pre : IsPrefix seen history) where
-    add_goes : (b : Bool) → (length history == old) ≡ b → AddGoes ((length history, true) ∷ (told, true) ∷ []) history
+  module _ (history : List Entry) (published : ℕ) (sound : IsSound rule history) (marked : published ≤ floor history) (pre : IsPrefix seen history) where
+    add_goes : (b : Bool) → (length history == old) ≡ b → AddGoes ((length history, true) ∷ (published, true) ∷ []) history
     add_goes true is =
         let here : length history ≡ old = grind (arith, nat_tests) in
         let same : mine ≡ history = IsPrefix-whole mine history (IsPrefix-trans mine seen history begins pre) (omega arith) in
@@ -45,7 +45,7 @@ module _ (rule : Map → Type 0) (seen mine : List Entry) (e : Entry) (old : ℕ
           e ∷ [],
           None,
           tt,
-          record { told = told; words = ap (λ (k : ℕ). (k, true) ∷ (told, true) ∷ []) n; marked = omega arith; sound = sound' },
+          record { published = published; words = ap (λ (k : ℕ). (k, true) ∷ (published, true) ∷ []) n; marked = omega arith; sound = sound' },
           inl (refl, refl),
           rw is (ap (λ h. h ++ e ∷ []) (sym whole), ap length whole ∙ here, sound'),
         )
@@ -57,7 +57,7 @@ module _ (rule : Map → Type 0) (seen mine : List Entry) (e : Entry) (old : ℕ
           [],
           None,
           tt,
-          record { told = told; words = ap (λ (k : ℕ). (k, true) ∷ (told, true) ∷ []) n; marked = subst (λ (h : List Entry). told ≤ floor h) (sym all) marked; sound = sound' },
+          record { published = published; words = ap (λ (k : ℕ). (k, true) ∷ (published, true) ∷ []) n; marked = subst (λ (h : List Entry). published ≤ floor h) (sym all) marked; sound = sound' },
           inl (refl, refl),
           rw is (ap length (sym all), sound'),
         )
@@ -66,7 +66,7 @@ module _ (rule : Map → Type 0) (seen mine : List Entry) (e : Entry) (old : ℕ
   pub add_moves : Moves (IsLawful rule) shown moved 0 (having_seen seen) (exchanged old (old + 1)) (ExchangesHead rule (step 0 old (old + 1) e) (having_seen seen))
   add_moves cells history kept pre away =
       let P : List Cell → Type 0 = λ cs. (0 < length cs) × ((cell cs 0).1 ≡ true) × AddGoes cs history in
-      subst P (sym kept.words) (omega arith, refl, add_goes history kept.told kept.sound kept.marked pre (length history == old) refl)
+      subst P (sym kept.words) (omega arith, refl, add_goes history kept.published kept.sound kept.marked pre (length history == old) refl)
 
 either-le : (b : Bool) (m n k : ℕ) → m ≤ k → n ≤ k → either b m n ≤ k
 either-le true m n k first second = first
@@ -78,7 +78,7 @@ pub tell_moves : (rule : Map → Type 0) (seen : List Entry) (ask : Entry) (old 
 tell_moves rule seen ask old new covered cells history kept pre away =
     let all : history ++ [] ≡ history = append-nil history in
     let grown : floor seen ≤ floor history = subst (λ (h : List Entry). floor seen ≤ floor h) pre.1 (floor-append-le seen pre.0) in
-    let below : exchanged old new kept.told ≤ floor history = either-le (kept.told == old) new kept.told (floor history) (omega arith) kept.marked in
+    let below : exchanged old new kept.published ≤ floor history = either-le (kept.published == old) new kept.published (floor history) (omega arith) kept.marked in
     let sound' : IsSound rule (history ++ []) = subst (IsSound rule) (sym all) kept.sound in
     let P : List Cell → Type 0 =
     λ cs. (1 < length cs) × ((cell cs 1).1 ≡ true) × Goes (IsLawful rule) shown moved 1 (having_seen seen) (exchanged old new) (ExchangesFloor rule (step 1 old new ask) (having_seen seen)) cs history in
@@ -91,9 +91,9 @@ tell_moves rule seen ask old new covered cells history kept pre away =
         None,
         tt,
         record {
-          told = exchanged old new kept.told;
-          words = ap (λ (k : ℕ). (k, true) ∷ (exchanged old new kept.told, true) ∷ []) (ap length (sym all));
-          marked = subst (λ (h : List Entry). exchanged old new kept.told ≤ floor h) (sym all) below;
+          published = exchanged old new kept.published;
+          words = ap (λ (k : ℕ). (k, true) ∷ (exchanged old new kept.published, true) ∷ []) (ap length (sym all));
+          marked = subst (λ (h : List Entry). exchanged old new kept.published ≤ floor h) (sym all) below;
           sound = sound';
         },
         inl (refl, refl),

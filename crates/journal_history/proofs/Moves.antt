@@ -8,7 +8,7 @@ use lib.ListN.{get_elem?}
 use Rattle.crossbeam_utils.specs.Register.{Turns, Forks, Merges}
 use Rattle.atomic_table.proofs.Lists.{at_set, set_again}
 use Rattle.journal_history.specs.declared.count_cell.View.{View}
-use Rattle.journal_history.specs.Counts.{keeper, holder, token, nobody, first, raised, KeepsRule, Kept, Looks, Touches, Raises}
+use Rattle.journal_history.specs.Counts.{keeper, holder, token, nobody, first, raised, KeepsRule, Kept, Verifies, Touches, Raises}
 
 off : false ≡ true → ⊥
 off e = true≢false (sym e)
@@ -131,8 +131,8 @@ joins by cs other m n words views h at apart there =
       },
     )
 
-pub looks : (by : ℕ) (cs : List ℕ) (m n : ℕ) → Turns Kept by (holder cs m n) (λ x. x) Looks
-looks by cs m n words views h at =
+pub verifies : (by : ℕ) (cs : List ℕ) (m n : ℕ) → Turns Kept by (holder cs m n) (λ x. x) Verifies
+verifies by cs m n words views h at =
     let k = h.2 in
     let v = holder cs m n in
     let fits = k.each by v at in
@@ -242,8 +242,8 @@ joins_as by v other u is iu =
     subst (λ (x : View). Merges Kept by x other u (holder v.counts u.number u.count) nobody) (sym is)
     (subst (λ (x : View). Merges Kept by (keeper v.counts) other x (holder v.counts u.number u.count) nobody) (sym iu) (joins by v.counts other u.number u.count))
 
-pub looks_as : (by : ℕ) (v : View) (cs : List ℕ) (m n : ℕ) → v ≡ holder cs m n → Turns Kept by v (λ x. x) Looks
-looks_as by v cs m n is = subst (λ (x : View). Turns Kept by x (λ y. y) Looks) (sym is) (looks by cs m n)
+pub verifies_as : (by : ℕ) (v : View) (cs : List ℕ) (m n : ℕ) → v ≡ holder cs m n → Turns Kept by v (λ x. x) Verifies
+verifies_as by v cs m n is = subst (λ (x : View). Turns Kept by x (λ y. y) Verifies) (sym is) (verifies by cs m n)
 
 pub touches_as : (by : ℕ) (v : View) → v ≡ holder v.counts v.number v.count → v.number < length v.counts → Turns Kept by v (λ x. x) Touches
 touches_as by v is short = subst (λ (x : View). Turns Kept by x (λ y. y) Touches) (sym is) (touches by v.counts v.number v.count short)

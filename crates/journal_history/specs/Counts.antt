@@ -44,8 +44,8 @@ abbrev pub Kept : List ℕ → List View → Type 0
 Kept words views = (seat : ℕ) × (counts : List ℕ) × IsKept seat counts views
 
 -- a look tells that the token agrees
-abbrev pub Looks : View → List ℕ → List ℕ → View → Type 0
-Looks v before after w = (w ≡ v) × (v.keeps ≡ true → v.has ≡ true → (v.count ≡ slice_index v.counts v.number) × (v.number < length v.counts))
+abbrev pub Verifies : View → List ℕ → List ℕ → View → Type 0
+Verifies v before after w = (w ≡ v) × (v.keeps ≡ true → v.has ≡ true → (v.count ≡ slice_index v.counts v.number) × (v.number < length v.counts))
 
 -- the session commits
 abbrev pub Touches : View → List ℕ → List ℕ → View → Type 0

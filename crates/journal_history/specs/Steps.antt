@@ -7,9 +7,9 @@ use Rattle.journal_history.specs.Soundness.{IsSound}
 
 -- HEAD is the length of the history, which is sound; FLOOR is at most its greatest mark
 pub record IsLawful (rule : Map → Type 0) (cells : List Cell) (history : List Entry) : Type 0 where
-  pub told : ℕ
-  pub words : cells ≡ (length history, true) ∷ (told, true) ∷ []
-  pub marked : told ≤ floor history
+  pub published : ℕ
+  pub words : cells ≡ (length history, true) ∷ (published, true) ∷ []
+  pub marked : published ≤ floor history
   pub sound : IsSound rule history
 
 abbrev pub head_word : Book → Named

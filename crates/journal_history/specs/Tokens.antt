@@ -68,10 +68,10 @@ pub record StableCount : Type 0 where
   pub front : List Entry
   pub count : ℕ
 
--- What a writer knows of the whole history on a disk of so many blocks: how many commits it has, its greatest mark, and a mark that everyone was told of
-pub record IsWhole (blocks : ℕ) (history : List Entry) (commits mark told : ℕ) : Type 0 where
+-- What a writer knows of the whole history on a disk of so many blocks: how many commits it has, its greatest mark, and the mark that FLOOR has
+pub record IsWhole (blocks : ℕ) (history : List Entry) (commits mark published : ℕ) : Type 0 where
   pub begun : history ≢ []
   pub on_disk : (opened history).blocks ≡ blocks
   pub counted : commits ≡ count history
   pub marked : mark ≡ floor history
-  pub rising : told ≤ mark
+  pub rising : published ≤ mark

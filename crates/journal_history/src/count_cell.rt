@@ -26,13 +26,13 @@ impl Protocol<[u64; 1], View> for Counted {
     ghost first = { first_view };
 }
 
-/// A look at the cell.
-pub struct Look;
+/// A pass is verified at the cell.
+pub struct Verify;
 
-impl Outcome<[u64; 1], View> for Look {
-    ghost use Rattle.journal_history.specs.Counts.{Looks};
+impl Outcome<[u64; 1], View> for Verify {
+    ghost use Rattle.journal_history.specs.Counts.{Verifies};
 
-    ghost then = { Looks };
+    ghost then = { Verifies };
 }
 
 /// A session's commit.

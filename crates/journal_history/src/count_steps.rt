@@ -3,7 +3,7 @@ ghost use Rattle.std.specs.Prelude.{◌≡◌, ◌+◌, ◌<◌, ◌≤◌, ◌+
 ghost use Rattle.crossbeam_utils.specs.Seq.{cell_view};
 ghost use Rattle.journal_history.specs.Counts.{keeper, holder, token, nobody, raised};
 
-use crate::count_cell::{Cell, Look, Make, Off, Raise, SessionPass, Spare, Touch};
+use crate::count_cell::{Cell, Make, Off, Raise, SessionPass, Spare, Touch, Verify};
 use std::sync::Wait;
 
 // Makes the token of the next session.
@@ -37,7 +37,7 @@ pub(crate) fn join<W: Wait>(rt: &W, cell: &Cell, all: &mut SessionPass, one: Ses
     ensures agrees { ((cell_view one).count ≡ slice_index (cell_view all.old).counts (cell_view one).number) × ((cell_view one).number < length (cell_view all.old).counts) }
 {
     cell.join_pass::<Off>(all, one);
-    cell.load_as::<Look, W>(rt, all);
+    cell.load_as::<Verify, W>(rt, all);
 }
 
 // The session commits whose token was joined: both numbers rise by one.

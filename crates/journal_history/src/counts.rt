@@ -101,12 +101,16 @@ impl<J: Naming> SessionCounts<J> {
 
     /// Shows that the session made all commits that are counted under its number. Nothing changes, and it waits for
     /// nobody.
-    pub fn look<'b, R: MapRule, W: Wait>(&mut self, rt: &W, session: &mut Session<'b, J, R>)
+    pub fn verify_session<'b, R: MapRule, W: Wait>(
+        &mut self,
+        rt: &W,
+        session: &mut Session<'b, J, R>,
+    )
         ensures same { self.new ≡ self.old }
         ensures session { session.new ≡ session.old }
         ensures own { HasCount self.old session.old.number (made session.old) }
     {
-        session.token.look(rt, &self.cell, &mut self.keeper);
+        session.token.verify(rt, &self.cell, &mut self.keeper);
     }
 
     // Counts one more commit of the session that has this token.

@@ -120,8 +120,8 @@ impl<'b, J: Naming, R: MapRule> Front<'b, J, R> {
     }
 
     // A number that is at most the greatest mark of the history, which it has then seen, by one load of
-    // FLOOR. That step does not tell how long the history is, so a load of HEAD follows.
-    pub(crate) fn told(&mut self) -> u64
+    // FLOOR. That step does not load the history's length, so a load of HEAD follows.
+    pub(crate) fn load_floor(&mut self) -> u64
         ensures marked { result ≤ floor self.new }
         ensures seen { IsPrefix self.old self.new }
     {
@@ -130,11 +130,11 @@ impl<'b, J: Naming, R: MapRule> Front<'b, J, R> {
         let mut offer: Offer<LogEntry, u64, Law<R>, NoGain> = seen.plain::<NoGain, u64, AskMark>(
             &0,
         );
-        let told = book
+        let floor = book
             .floor
             .load::<LoadFloor<R>, NoGain>(&mut seen, &mut offer);
         *self = Front::at_head(book, seen);
-        told
+        floor
     }
 
     // The history with an entry added, by one exchange of HEAD, where the front is the whole history. All
@@ -175,7 +175,7 @@ impl<'b, J: Naming, R: MapRule> Front<'b, J, R> {
 
     // Exchanges FLOOR from one number to another, and says whether it did. No clause says so: other
     // threads may change the word at any time.
-    pub(crate) fn tell(&self, old: u64, new: u64) -> bool
+    pub(crate) fn exchange_floor(&self, old: u64, new: u64) -> bool
         requires { new ≤ floor self.now }
     {
         let mut seen = self.seen.again();

@@ -10,7 +10,7 @@
 //! - exchange HEAD from n to n + 1, with one entry added: `Writer::begin`, `Writer::commit`, `Writer::mark`,
 //!   `Writer::fence`. That it succeeds shows that the writer's n entries were the whole history
 //! - load FLOOR, and then HEAD: `Session::is_stable`
-//! - exchange FLOOR: `Writer::tell`
+//! - exchange FLOOR: `Writer::publish_floor`
 //!
 //! Each session's number has one token, which lies in the `Session`. A token knows how many commits its session has,
 //! and `SessionCounts` knows that of all sessions. Both are passes of one cell, whose rule says that they agree and that

@@ -63,7 +63,7 @@ impl<J: Naming> Token<J> {
 
     // Shows that it agrees with the keeper. Nothing changes. A pass that knows nothing takes its place meanwhile,
     // since one can be joined by value alone.
-    pub(crate) fn look<W: Wait>(&mut self, rt: &W, cell: &Cell, all: &mut SessionPass)
+    pub(crate) fn verify<W: Wait>(&mut self, rt: &W, cell: &Cell, all: &mut SessionPass)
         requires cell { cell.now.table.shared.table_id ≡ J.cell.sessions }
         requires pass { all.old.table_id ≡ J.cell.sessions }
         requires keeper { cell_view all.old ≡ keeper (cell_view all.old).counts }

@@ -30,7 +30,7 @@ pub struct Writer<'b, J: Naming, R: MapRule> {
     front: Front<'b, J, R>,
     commits: u64,
     mark: u64,
-    told: u64,
+    published: u64,
 }
 
 impl<'b, J: Naming, R: MapRule> Model for Writer<'b, J, R> {
@@ -42,7 +42,7 @@ impl<'b, J: Naming, R: MapRule> Model for Writer<'b, J, R> {
 
     ghost view = { λ w. w.front };
 
-    ghost invariant = { λ w. IsWhole J.blocks w.front w.commits w.mark w.told };
+    ghost invariant = { λ w. IsWhole J.blocks w.front w.commits w.mark w.published };
 }
 
 impl<'b, J: Naming, R: MapRule> Writer<'b, J, R> {
@@ -65,7 +65,7 @@ impl<'b, J: Naming, R: MapRule> Writer<'b, J, R> {
             front: start.add_after::<O, AskOpening>(&start, objects)?,
             commits: 0,
             mark: 0,
-            told: 0,
+            published: 0,
         })
     }
 
@@ -200,13 +200,13 @@ impl<'b, J: Naming, R: MapRule> Writer<'b, J, R> {
         Ok(())
     }
 
-    /// Tells everyone the greatest mark, by FLOOR, so that `Session::is_stable` finds it. The history stays.
+    /// Publishes the greatest mark in FLOOR, so that `Session::is_stable` finds it. The history stays.
     /// Nothing is promised of the word, which other threads read at any time.
-    pub fn tell(&mut self)
+    pub fn publish_floor(&mut self)
         ensures { self.new ≡ self.old }
     {
-        if self.front.tell(self.told, self.mark) {
-            self.told = self.mark;
+        if self.front.exchange_floor(self.published, self.mark) {
+            self.published = self.mark;
         }
     }
 }

@@ -13,7 +13,7 @@ use Rattle.journal_inode.specs.declared.node.FileNode.{FileNode}
 use Rattle.journal_inode.specs.declared.node.TheConstants.{MORE_BLOCKS}
 use Rattle.journal_inode.specs.Places.{object}
 use Rattle.journal_inode.specs.Places.Object.{block}
-use Rattle.journal_inode.specs.Versions.{most_bytes, more_count, room_of}
+use Rattle.journal_inode.specs.Versions.{most_bytes, extra_count, room_of}
 use Rattle.journal_inode.specs.Sound.{file_blocks, held, stored, IsAmong, IsDataBlock, IsSoundFile}
 use Rattle.journal_inode.specs.Admitting.{AllZero, IsSoundBlock, AreSoundBlocks, AreBlocksScanned}
 use Rattle.journal_inode.proofs.Tails.{zeros, zeros-AllZero, AllZero-zeros, padded-AllZero, AllZero-padded}
@@ -122,7 +122,7 @@ blocks_from m (b ∷ c ∷ bs) size range whole rest_is =
     (record { on_disk = range.0; sized = whole.0; padded = both.0 }, blocks_from m (c ∷ bs) (size - BLOCK_BYTES) range.1 whole.1 both.1)
 
 -- the further blocks have room in the inode, and all blocks have room for the bytes
-pub more_fits : (version : FormatVersion) (size : ℕ) → size ≤ most_bytes version → more_count version size ≤ MORE_BLOCKS
+pub more_fits : (version : FormatVersion) (size : ℕ) → size ≤ most_bytes version → extra_count version size ≤ MORE_BLOCKS
 more_fits One size small = omega arith
 more_fits Two size small = omega (arith, small)
 
@@ -130,20 +130,20 @@ pub room_enough : (version : FormatVersion) (size : ℕ) → size ≤ most_bytes
 room_enough One size small = small
 room_enough Two size small = omega (arith, small)
 
-pub length-blocks : (version : FormatVersion) (f : FileNode) → length f.more ≡ MORE_BLOCKS → f.size ≤ most_bytes version → length (file_blocks version f) ≡ 1 + more_count version f.size
+pub length-blocks : (version : FormatVersion) (f : FileNode) → length f.more ≡ MORE_BLOCKS → f.size ≤ most_bytes version → length (file_blocks version f) ≡ 1 + extra_count version f.size
 length-blocks version f whole small =
-    let fits : more_count version f.size ≤ length f.more = subst (λ n. more_count version f.size ≤ n) (sym whole) (more_fits version f.size small) in
-    let more : length (take (more_count version f.size) f.more) ≡ more_count version f.size = length-take-le (more_count version f.size) f.more fits in
+    let fits : extra_count version f.size ≤ length f.more = subst (λ n. extra_count version f.size ≤ n) (sym whole) (more_fits version f.size small) in
+    let more : length (take (extra_count version f.size) f.more) ≡ extra_count version f.size = length-take-le (extra_count version f.size) f.more fits in
     omega (arith, more)
 
 -- the blocks of a file are the first of the numbers that its inode has
-pub first_blocks : (version : FormatVersion) (f : FileNode) (more : ℕ) (numbers : List ℕ) → more ≡ more_count version f.size → numbers ≡ f.block ∷ f.more → take (more + 1) numbers ≡ file_blocks version f
+pub first_blocks : (version : FormatVersion) (f : FileNode) (more : ℕ) (numbers : List ℕ) → more ≡ extra_count version f.size → numbers ≡ f.block ∷ f.more → take (more + 1) numbers ≡ file_blocks version f
 first_blocks version f more numbers count are =
     ap (λ n. take n numbers) (add-one more) ∙ ap (take (suc more)) are ∙ ap (λ n. f.block ∷ take n f.more) count
 
 -- a file whose numbers are within bounds is sound where its blocks are
 pub file_decides : (version : FormatVersion) (m : Map) (f : FileNode) (t : Bool) → 1 ≤ f.generation → f.size ≤ most_bytes version → f.mtime.nanos ≤ MAX_NANOS
-    → length f.more ≡ MORE_BLOCKS → AllZero (drop (more_count version f.size) f.more)
+    → length f.more ≡ MORE_BLOCKS → AllZero (drop (extra_count version f.size) f.more)
     → (IsTrue t ↔ AreSoundBlocks m f.size (file_blocks version f)) → IsTrue t ↔ IsSoundFile version m f
 file_decides version m f t born small timed many absent decides = (
   (λ is. let told = blocks_to m (file_blocks version f) f.size (decides.0 is) in made told.0 told.1 told.2),
@@ -151,8 +151,8 @@ file_decides version m f t born small timed many absent decides = (
       (AllZero-padded (stored version m f) (room_of version f.size - f.size) f.size sound.whole sound.padded))),
 )
   where
-    left : length (drop (more_count version f.size) f.more) ≡ MORE_BLOCKS - more_count version f.size
-    left = length-drop (more_count version f.size) f.more ∙ ap (λ n. n - more_count version f.size) many
+    left : length (drop (extra_count version f.size) f.more) ≡ MORE_BLOCKS - extra_count version f.size
+    left = length-drop (extra_count version f.size) f.more ∙ ap (λ n. n - extra_count version f.size) many
 
     made : AllByRecursion (IsDataBlock m.blocks) (file_blocks version f) → AreWhole m (file_blocks version f) → AllZero (drop f.size (stored version m f)) → IsSoundFile version m f
     made range whole rest_is = record {
@@ -170,8 +170,8 @@ file_decides version m f t born small timed many absent decides = (
         room = length-held m (file_blocks version f) whole ∙ ap (λ n. BLOCK_BYTES * n) (length-blocks version f many small)
 
 -- a file of further blocks that are not all absent is not sound
-pub not_absent : (version : FormatVersion) (m : Map) (f : FileNode) → (AllZero (drop (more_count version f.size) f.more) → ⊥) → IsSoundFile version m f → ⊥
-not_absent version m f some sound = some (subst AllZero (sym sound.absent) (AllZero-zeros (MORE_BLOCKS - more_count version f.size)))
+pub not_absent : (version : FormatVersion) (m : Map) (f : FileNode) → (AllZero (drop (extra_count version f.size) f.more) → ⊥) → IsSoundFile version m f → ⊥
+not_absent version m f some sound = some (subst AllZero (sym sound.absent) (AllZero-zeros (MORE_BLOCKS - extra_count version f.size)))
 
 -- one more block is sound
 pub blocks_more : (before now after : Map) (trusted still later failed fails failing : Bool) (size left b : ℕ) (bs rest : List ℕ) (t : Bool)

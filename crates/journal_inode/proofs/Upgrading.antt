@@ -15,10 +15,10 @@ use Rattle.journal_inode.specs.Places.{object}
 use Rattle.journal_inode.specs.Places.Object.{bit, inode, block}
 use Rattle.journal_inode.specs.Sound.{superblock_of, node_at, file_blocks, held, stored, IsAmong, HasBlock, IsTaken, IsDataBlock, IsInPlace, IsSoundFile, IsBit, HasSoundFiles}
 use Rattle.journal_inode.specs.Upgrades.{IsUpgraded}
-use Rattle.journal_inode.specs.Versions.{more_count, room_of}
+use Rattle.journal_inode.specs.Versions.{extra_count, room_of}
 
 -- a file of one block has no further one in version 2 either
-count_none : (size : ℕ) → size ≤ 4096 → more_count Two size ≡ 0
+count_none : (size : ℕ) → size ≤ 4096 → extra_count Two size ≡ 0
 count_none size small = omega (arith, small)
 
 blocks_same : (f : FileNode) → f.size ≤ 4096 → file_blocks Two f ≡ file_blocks One f
@@ -38,7 +38,7 @@ file_upgraded m n f up sound = record {
       ∙ ap (λ k. take f.size (stored Two n f) ++ replicate (BLOCK_BYTES * (1 + k) - f.size) 0) (sym none);
 }
   where
-    none : more_count Two f.size ≡ 0
+    none : extra_count Two f.size ≡ 0
     none = count_none f.size sound.small
 
     blocks : file_blocks Two f ≡ f.block ∷ []

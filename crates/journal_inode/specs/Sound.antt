@@ -15,7 +15,7 @@ use Rattle.journal_inode.specs.declared.place.TheConstants.{INODES}
 use Rattle.journal_inode.specs.Places.{object}
 use Rattle.journal_inode.specs.Places.Object.{superblock, bit, inode, block}
 use Rattle.journal_inode.specs.Nodes.{inode_bytes, node_of}
-use Rattle.journal_inode.specs.Versions.{number_of, most_bytes, more_count, room_of}
+use Rattle.journal_inode.specs.Versions.{number_of, most_bytes, extra_count, room_of}
 
 -- "GJNLDSK1", the number of the version and the number of blocks
 unfoldable pub superblock_head : FormatVersion → ℕ → Value
@@ -32,7 +32,7 @@ node_at m i = node_of (object m (inode i))
 
 -- the blocks of a file, in the order of its bytes: in version 1 there is one
 abbrev pub file_blocks : FormatVersion → FileNode → List ℕ
-file_blocks version f = f.block ∷ take (more_count version f.size) f.more
+file_blocks version f = f.block ∷ take (extra_count version f.size) f.more
 
 -- what blocks hold, one behind another
 abbrev pub held : Map → List ℕ → Value
@@ -81,7 +81,7 @@ pub record IsSoundFile (version : FormatVersion) (m : Map) (f : FileNode) : Type
   pub small : f.size ≤ most_bytes version
   pub on_disk : AllByRecursion (IsDataBlock m.blocks) (file_blocks version f)
   -- where a further block is not there its number is 0
-  pub absent : drop (more_count version f.size) f.more ≡ replicate (MORE_BLOCKS - more_count version f.size) 0
+  pub absent : drop (extra_count version f.size) f.more ≡ replicate (MORE_BLOCKS - extra_count version f.size) 0
   pub timed : f.mtime.nanos ≤ MAX_NANOS
   -- its blocks are whole, and so are its bytes
   pub sized : AllByRecursion (λ b. length (object m (block b)) ≡ BLOCK_BYTES) (file_blocks version f)

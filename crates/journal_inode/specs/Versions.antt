@@ -15,10 +15,10 @@ most_bytes One = 4096
 most_bytes Two = 49152
 
 -- how many blocks a file of so many bytes has beside its first: block j > 0 is there where the size exceeds 4096 * j
-abbrev pub more_count : FormatVersion → ℕ → ℕ
-more_count One size = 0
-more_count Two size = (size - 1) / BLOCK_BYTES
+abbrev pub extra_count : FormatVersion → ℕ → ℕ
+extra_count One size = 0
+extra_count Two size = (size - 1) / BLOCK_BYTES
 
 -- how many bytes its blocks have
 abbrev pub room_of : FormatVersion → ℕ → ℕ
-room_of version size = BLOCK_BYTES * (1 + more_count version size)
+room_of version size = BLOCK_BYTES * (1 + extra_count version size)

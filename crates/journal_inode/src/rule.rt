@@ -131,7 +131,7 @@ fn is_file_sound<O: ObjectReader>(
     if file.generation == 0 || size > version.most_bytes() || file.mtime.nanos > MAX_NANOS {
         return Ok(false);
     }
-    let more = version.more_count(size);
+    let more = version.extra_count(size);
     if !are_absent(&file.more[more..]) {
         return Ok(false);
     }
@@ -260,7 +260,7 @@ fn claim(owners: &mut Vec<bool>, version: FormatVersion, node: Node) -> bool
 {
     match node {
         Node::File(file) => {
-            let more = version.more_count(file.size);
+            let more = version.extra_count(file.size);
             mark(owners, &file.numbers()[..=more])
         }
         _ => true,

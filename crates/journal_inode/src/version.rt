@@ -1,6 +1,6 @@
 // The versions of the format.
 ghost use Rattle.std.specs.Prelude.{◌≡◌};
-ghost use Rattle.journal_inode.specs.Versions.{number_of, most_bytes, more_count};
+ghost use Rattle.journal_inode.specs.Versions.{number_of, most_bytes, extra_count};
 ghost use Rattle.journal_inode.specs.declared.version.FormatVersion.{FormatVersion};
 
 use journal_world::BLOCK_BYTES;
@@ -36,8 +36,8 @@ impl FormatVersion {
     }
 
     /// How many blocks a file of so many bytes has beside its first.
-    pub fn more_count(self, size: u64) -> usize
-        ensures { result ≡ more_count self size }
+    pub fn extra_count(self, size: u64) -> usize
+        ensures { result ≡ extra_count self size }
     {
         match self {
             FormatVersion::One => 0,

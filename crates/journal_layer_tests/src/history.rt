@@ -108,7 +108,7 @@ impl<'b, J: Naming> Author<'b, J> {
         if self.writer.mark(self.writer.count()).is_err() {
             return REFUSED;
         }
-        self.writer.tell();
+        self.writer.publish_floor();
         [self.writer.len(), self.writer.count(), self.writer.floor()]
     }
 

@@ -4,7 +4,7 @@ ghost use Rattle.journal_world.specs.declared.address.TheConstants.{SLOTS};
 use crate::asserts::wants;
 use crate::runs::{BUSY, Run, told};
 use journal_history::Naming;
-use journal_lockmap::{Bells, Held, LockMap, SlotCell, SlotCounts};
+use journal_lockmap::{Held, LockMap, SlotCell, SlotCounts, SlotLocks};
 use std::alloc::{AllocError, Global};
 use std::marker::Brand;
 use std::mem::size_of;
@@ -23,9 +23,9 @@ fn a_token_takes_no_memory(rt: HostRuntime) {
 fn free_slots<J: Naming>(alloc: Global, cell: SlotCell) -> Result<LockMap<J>, AllocError>
     requires { cell ≡ J.cell }
 {
-    let bells = Bells::new(alloc)?;
+    let slot_locks = SlotLocks::new(alloc)?;
     let (_counts, slots, _sessions) = SlotCounts::begin(alloc, cell)?;
-    Ok(LockMap::new(bells, slots))
+    Ok(LockMap::new(slot_locks, slots))
 }
 
 // Takes the slot where it is free, and says which it took. It is free again afterwards.

@@ -188,7 +188,7 @@ fn count_fresh(tail: &Tail, updates: &[Update]) -> usize
 {
     updates
         .iter()
-        .filter(|update| !tail.stands(update.block))
+        .filter(|update| !tail.is_in_tail(update.block))
         .count()
 }
 
@@ -302,7 +302,7 @@ fn answer(rt: &impl Abort, alloc: Global, pair: &mut Pair, call: Call) -> Run<u6
         Install => install(pair),
         Read(block) => read(rt, alloc, pair, block),
         Latest(block) => Ok(known(&pair.tail, block).unwrap_or(0)),
-        Stands(block) => Ok(number(pair.tail.stands(block))),
+        Stands(block) => Ok(number(pair.tail.is_in_tail(block))),
         Start => Ok(pair.wal.log_range().0),
         End => Ok(pair.wal.log_range().1),
         IsLogging => Ok(number(pair.wal.is_logging())),

@@ -164,11 +164,11 @@ counted_touched writes held now later old new more i slot d e x lt apart was is 
     (counted_one writes held now old new i (omega (arith, lt, same_length held now was.same)) apart was slot here small wrote (omega (arith, small, long))))
 
 -- or only looked at
-pub counted_looked : (writes : List Pair) (held now later : List HeldState) (old new more : List ℕ) (i slot : ℕ) (d e x : HeldState)
+pub counted_checked : (writes : List Pair) (held now later : List HeldState) (old new more : List ℕ) (i slot : ℕ) (d e x : HeldState)
     → i < length now → AreApart held → AreCountedTo writes i held now old new → slot ≡ (get_or now i d).slot → slot < SLOTS → is_written writes slot ≡ false
     → later ≡ set now i x → x ≡ get_or now i e → more ≡ new → HasNumber new (get_or now i e)
     → AreCountedTo writes (i + 1) held later old more
-counted_looked writes held now later old new more i slot d e x lt apart was is small not_wrote later_is x_is more_is agrees =
+counted_checked writes held now later old new more i slot d e x lt apart was is small not_wrote later_is x_is more_is agrees =
     let here : (get_or now i none).slot ≡ slot = ap (λ (h : HeldState). h.slot) (get_or_default now i none d lt) ∙ sym is in
     let agrees_here : HasNumber new (get_or now i none) = subst (HasNumber new) (get_or_default now i e none lt) agrees in
     subst (λ (l : List HeldState). AreCountedTo writes (i + 1) held l old more) (sym (later_is ∙ ap (set now i) x_is ∙ set-get_or now i e))

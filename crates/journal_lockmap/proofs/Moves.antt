@@ -7,7 +7,7 @@ use lib.ListN.{get_elem?}
 use Rattle.crossbeam_utils.specs.Register.{Turns, Forks, Merges}
 use Rattle.atomic_table.proofs.Lists.{at_set, set_again}
 use Rattle.journal_lockmap.specs.declared.cell.View.{View}
-use Rattle.journal_lockmap.specs.Tokens.{keeper, holder, token, nobody, first, KeepsRule, Kept, Looks, Touches}
+use Rattle.journal_lockmap.specs.Tokens.{keeper, holder, token, nobody, first, KeepsRule, Kept, Verifies, Touches}
 
 off : false ≡ true → ⊥
 off e = true≢false (sym e)
@@ -120,8 +120,8 @@ joins by cs m other sl n words views h at apart there =
       },
     )
 
-pub looks : (by : ℕ) (cs : List ℕ) (m sl n : ℕ) → Turns Kept by (holder cs m sl n) (λ x. x) Looks
-looks by cs m sl n words views h at =
+pub verifies : (by : ℕ) (cs : List ℕ) (m sl n : ℕ) → Turns Kept by (holder cs m sl n) (λ x. x) Verifies
+verifies by cs m sl n words views h at =
     let k = h.3 in
     let v = holder cs m sl n in
     let fits = k.each by v at in
@@ -197,8 +197,8 @@ joins_as by v other u is iu =
     subst (λ (x : View). Merges Kept by x other u (holder v.counts v.made u.slot u.count) nobody) (sym is)
     (subst (λ (x : View). Merges Kept by (keeper v.counts v.made) other x (holder v.counts v.made u.slot u.count) nobody) (sym iu) (joins by v.counts v.made other u.slot u.count))
 
-pub looks_as : (by : ℕ) (v : View) (cs : List ℕ) (m sl n : ℕ) → v ≡ holder cs m sl n → Turns Kept by v (λ x. x) Looks
-looks_as by v cs m sl n is = subst (λ (x : View). Turns Kept by x (λ y. y) Looks) (sym is) (looks by cs m sl n)
+pub verifies_as : (by : ℕ) (v : View) (cs : List ℕ) (m sl n : ℕ) → v ≡ holder cs m sl n → Turns Kept by v (λ x. x) Verifies
+verifies_as by v cs m sl n is = subst (λ (x : View). Turns Kept by x (λ y. y) Verifies) (sym is) (verifies by cs m sl n)
 
 pub touches_as : (by : ℕ) (v : View) → v ≡ holder v.counts v.made v.slot v.count → v.slot < length v.counts → Turns Kept by v (λ x. x) Touches
 touches_as by v is short = subst (λ (x : View). Turns Kept by x (λ y. y) Touches) (sym is) (touches by v.counts v.made v.slot v.count short)

@@ -27,13 +27,13 @@ impl Protocol<[u64; 1], View> for Counted {
     ghost first = { first_view };
 }
 
-/// A look at the cell.
-pub struct Look;
+/// A pass is verified at the cell.
+pub struct Verify;
 
-impl Outcome<[u64; 1], View> for Look {
-    ghost use Rattle.journal_lockmap.specs.Tokens.{Looks};
+impl Outcome<[u64; 1], View> for Verify {
+    ghost use Rattle.journal_lockmap.specs.Tokens.{Verifies};
 
-    ghost then = { Looks };
+    ghost then = { Verifies };
 }
 
 /// A commit's change.

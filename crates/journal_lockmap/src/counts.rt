@@ -107,13 +107,13 @@ impl<J: Naming> SlotCounts<J> {
 
     /// Shows that the numbers of what is held are those that are kept here. Nothing changes, and it waits for
     /// nobody.
-    pub fn look_all<W: Wait>(&mut self, rt: &W, held: &mut [Held<J>])
+    pub fn verify_tokens<W: Wait>(&mut self, rt: &W, held: &mut [Held<J>])
         ensures same { self.new ≡ self.old }
         ensures held { held.new ≡ held.old }
         ensures agree { Agree self.old held.old }
     {
         for index in 0..held.len() {
-            self.look(rt, &mut held[index]);
+            self.verify_token(rt, &mut held[index]);
         }
     }
 
@@ -132,18 +132,18 @@ impl<J: Naming> SlotCounts<J> {
             if written.contains(held[i].slot()) {
                 self.touch(rt, &mut held[i]);
             } else {
-                self.look(rt, &mut held[i]);
+                self.verify_token(rt, &mut held[i]);
             }
         }
     }
 
     // Shows that what is held agrees with the numbers. Nothing changes.
-    fn look<W: Wait>(&mut self, rt: &W, held: &mut Held<J>)
+    fn verify_token<W: Wait>(&mut self, rt: &W, held: &mut Held<J>)
         ensures same { self.new ≡ self.old }
         ensures held { held.new ≡ held.old }
         ensures agrees { HasNumber self.old held.old }
     {
-        held.token.look(rt, &self.cell, &mut self.keeper);
+        held.token.verify(rt, &self.cell, &mut self.keeper);
     }
 
     // Counts one more commit for a slot that is held.

@@ -33,5 +33,5 @@ mod token;
 
 pub use counts::{SlotCell, SlotCounts};
 pub use held::Held;
-pub use map::{Bells, LockMap};
+pub use map::{LockMap, SlotLocks};
 pub use slots::Slots;

@@ -15,19 +15,19 @@ use std::hint::spin_loop;
 use std::sync::{Condvar, Mutex, Wait};
 
 // How often a slot is looked at before whoever waits for it sleeps.
-const LOOKS: u32 = 32;
+const SPIN_TURNS: u32 = 32;
 
 // How long it waits between two looks: so many of the processor's pauses, each of some tens of nanoseconds.
-const PAUSES: u32 = 16;
+const SPIN_PAUSES: u32 = 16;
 
 // What belongs to one slot: its place, and the condition variable on which those sleep who wait for the slot.
 #[derive(Drop)]
-struct Bell<J: Naming> {
+struct SlotLock<J: Naming> {
     place: Mutex<Place<J>>,
     freed: Condvar,
 }
 
-impl<J: Naming> Bell<J> {
+impl<J: Naming> SlotLock<J> {
     // Takes the slot if its token lies here. The lock is let go before anything else is done.
     fn take<R: Wait>(&self, rt: &R, slot: u16) -> Option<Held<J>>
         requires in_range { slot < SLOTS }
@@ -37,40 +37,40 @@ impl<J: Naming> Bell<J> {
     }
 }
 
-/// A bell for each slot, on which those sleep who wait for it, with the place in which its token is to lie: all the
+/// A lock and a condition variable for each slot, for those who wait for it, with the place in which its token is to lie: all the
 /// memory that a lock map needs beside its slots.
 ///
 /// It is made before the slots are, so that nothing can be refused between the making of a journal's slots and
 /// their lock map.
 #[derive(Drop)]
-pub struct Bells<J: Naming> {
+pub struct SlotLocks<J: Naming> {
     // Each on lines of its own, so that threads that take different slots write no line in common.
-    each: Vec<CachePadded<Bell<J>>>,
+    each: Vec<CachePadded<SlotLock<J>>>,
     ghost one_each: { vec_len each ≡ SLOTS },
 }
 
-impl<J: Naming> Bells<J> {
-    /// A bell for each slot. Where memory is refused nothing was made.
-    pub fn new(alloc: Global) -> Result<Bells<J>, AllocError> {
+impl<J: Naming> SlotLocks<J> {
+    /// A lock for each slot. Where memory is refused nothing was made.
+    pub fn new(alloc: Global) -> Result<SlotLocks<J>, AllocError> {
         let mut each = Vec::new(alloc);
         for _ in 0..SLOTS {
-            each.push(CachePadded::new(Bell {
+            each.push(CachePadded::new(SlotLock {
                 place: Mutex::new(Place::new(None)),
                 freed: Condvar::new(),
             }))?;
         }
-        Ok(Bells { each })
+        Ok(SlotLocks { each })
     }
 
-    // The bell of a slot.
-    fn of(&self, slot: u16) -> &Bell<J>
+    // The lock of a slot.
+    fn of(&self, slot: u16) -> &SlotLock<J>
         requires in_range { slot < SLOTS }
     {
         &self.each[usize::from(slot)]
     }
 }
 
-impl<J: Naming> Debug for Bells<J> {
+impl<J: Naming> Debug for SlotLocks<J> {
     fn fmt<W: fmt::Write>(&self, f: &mut fmt::Formatter<W>) -> fmt::Result {
         f.debug_struct("Bells").finish_non_exhaustive()
     }
@@ -84,18 +84,18 @@ impl<J: Naming> Debug for Bells<J> {
 /// wakes the next.
 #[derive(Drop)]
 pub struct LockMap<J: Naming> {
-    bells: Bells<J>,
+    slot_locks: SlotLocks<J>,
 }
 
 impl<J: Naming> LockMap<J> {
     /// A lock map of these slots. It takes no memory, and neither does any later call.
-    pub fn new(bells: Bells<J>, slots: Slots<J>) -> LockMap<J> {
-        let Bells { mut each } = bells;
-        for (bell, token) in each.iter_mut().zip(slots.free) {
-            *bell.place.get_mut() = Place::new(token);
+    pub fn new(slot_locks: SlotLocks<J>, slots: Slots<J>) -> LockMap<J> {
+        let SlotLocks { mut each } = slot_locks;
+        for (slot_lock, token) in each.iter_mut().zip(slots.free) {
+            *slot_lock.place.get_mut() = Place::new(token);
         }
         LockMap {
-            bells: Bells { each },
+            slot_locks: SlotLocks { each },
         }
     }
 
@@ -104,24 +104,24 @@ impl<J: Naming> LockMap<J> {
         requires in_range { slot < SLOTS }
         ensures { result.slot ≡ slot }
     {
-        if let Some(held) = self.look_for(rt, slot) {
+        if let Some(held) = self.spin_for(rt, slot) {
             return held;
         }
-        let bell = self.bells.of(slot);
-        let place = bell.place.lock(rt);
-        let mut place = bell
+        let slot_lock = self.slot_locks.of(slot);
+        let place = slot_lock.place.lock(rt);
+        let mut place = slot_lock
             .freed
             .wait_while(rt, place, |place| place.is_taken(slot));
         Held::take(&mut place, slot).unwrap()
     }
 
     // Takes the slot if it is free within some microseconds: most are held for less time than a sleep and a wake take.
-    fn look_for<R: Wait>(&self, rt: &R, slot: u16) -> Option<Held<J>>
+    fn spin_for<R: Wait>(&self, rt: &R, slot: u16) -> Option<Held<J>>
         requires in_range { slot < SLOTS }
         ensures { IfSome result (λ held. held.slot ≡ slot) }
     {
-        for _ in 0..LOOKS {
-            match self.bells.of(slot).take(rt, slot) {
+        for _ in 0..SPIN_TURNS {
+            match self.slot_locks.of(slot).take(rt, slot) {
                 Some(held) => return Some(held),
                 None => pause(),
             }
@@ -137,7 +137,7 @@ impl<J: Naming> LockMap<J> {
         ensures held { IfOk result (λ held. held.slot ≡ slot) }
         ensures refusal { IsOkUnless result Refusal.Busy }
     {
-        self.bells
+        self.slot_locks
             .of(slot)
             .take(rt, slot)
             .ok_or_else(|| Refusal::Busy)
@@ -147,13 +147,15 @@ impl<J: Naming> LockMap<J> {
     ///
     /// The caller gives a `Held` to the lock map that it came from.
     pub fn release<R: Wait>(&self, rt: &R, held: Held<J>) {
-        let bell = self.bells.of(held.slot());
-        let place = bell.place.lock(rt);
+        let slot_lock = self.slot_locks.of(held.slot());
+        let place = slot_lock.place.lock(rt);
         // Each slot has one token, so none lies there, and this waits for nothing.
-        let mut place = bell.freed.wait_while(rt, place, |place| !place.is_empty());
+        let mut place = slot_lock
+            .freed
+            .wait_while(rt, place, |place| !place.is_empty());
         held.give_back(&mut place);
         drop(place);
-        bell.freed.notify_one();
+        slot_lock.freed.notify_one();
     }
 }
 
@@ -165,7 +167,7 @@ impl<J: Naming> Debug for LockMap<J> {
 
 // Lets some time go by.
 fn pause() {
-    for _ in 0..PAUSES {
+    for _ in 0..SPIN_PAUSES {
         spin_loop();
     }
 }

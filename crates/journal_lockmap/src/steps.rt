@@ -3,7 +3,7 @@ ghost use Rattle.std.specs.Prelude.{◌≡◌, ◌+◌, ◌<◌, ◌≤◌, [], 
 ghost use Rattle.crossbeam_utils.specs.Seq.{cell_view};
 ghost use Rattle.journal_lockmap.specs.Tokens.{keeper, holder, token, nobody};
 
-use crate::cell::{Cell, Look, Make, Off, SlotPass, Spare, Touch};
+use crate::cell::{Cell, Make, Off, SlotPass, Spare, Touch, Verify};
 use std::sync::Wait;
 
 // Makes the token of the next slot.
@@ -38,7 +38,7 @@ pub(crate) fn join<W: Wait>(rt: &W, cell: &Cell, all: &mut SlotPass, one: SlotPa
     ensures agrees { ((cell_view one).count ≡ slice_index (cell_view all.old).counts (cell_view one).slot) × ((cell_view one).slot < length (cell_view all.old).counts) }
 {
     cell.join_pass::<Off>(all, one);
-    cell.load_as::<Look, W>(rt, all);
+    cell.load_as::<Verify, W>(rt, all);
 }
 
 // A commit touches the slot of the token that was joined: both numbers rise by one.

@@ -58,7 +58,7 @@ impl<J: Naming> Token<J> {
 
     // Shows that it agrees with the keeper. Nothing changes. A pass that knows nothing takes its place meanwhile,
     // since one can be joined by value alone.
-    pub(crate) fn look<W: Wait>(&mut self, rt: &W, cell: &Cell, all: &mut SlotPass)
+    pub(crate) fn verify<W: Wait>(&mut self, rt: &W, cell: &Cell, all: &mut SlotPass)
         requires cell { cell.now.table.shared.table_id ≡ J.cell.slots }
         requires pass { all.old.table_id ≡ J.cell.slots }
         requires keeper { cell_view all.old ≡ keeper (cell_view all.old).counts (cell_view all.old).made }

@@ -94,7 +94,7 @@ impl MemLog {
     }
 
     /// Whether the block stands in the tail.
-    pub fn stands(&self, block: u64) -> bool
+    pub fn is_in_tail(&self, block: u64) -> bool
         ensures { result ≡ updates_block (tail_of self.now) block }
     {
         self.newest(block, self.cut).is_some()

@@ -7,7 +7,7 @@ use Rattle.journal_disk.specs.Disks.{DiskState, Keeps, HasFailed}
 use Rattle.journal_disk.specs.Images.{EveryImage}
 use Rattle.journal_inode.specs.declared.version.FormatVersion.TheVariants.{Two}
 use Rattle.journal_inode.specs.Sound.{HasSoundFiles}
-use Rattle.journal_core.specs.Causes.{Told}
+use Rattle.journal_core.specs.Causes.{CauseState}
 use Rattle.journal_core.specs.Cores.{CoreState, Leaves, disk_of, next_of}
 use Rattle.journal_core.specs.Openings.{Begins, HasBoundsOf}
 use Rattle.journal_filestore.specs.Files.{Files}
@@ -55,7 +55,7 @@ module _ (disk : DiskState) (first after : CoreState) (last : DiskState) (begins
   since (inl more) = inl (omega (arith, more, begins.keeps.failures, ap (λ (d : DiskState). d.failures) given))
   since (inr most) = inr (ap (λ (d : DiskState). d.failures) given ∙ most)
 
-  refused : (end : ℕ) (why : Refusal Told) → IsUpgradeRefusal end (disk_of first) (disk_of after) why → IsUpgradeRefusal end disk last why
+  refused : (end : ℕ) (why : Refusal CauseState) → IsUpgradeRefusal end (disk_of first) (disk_of after) why → IsUpgradeRefusal end disk last why
   refused end NoMemory is = tt
   refused end BadAddress is = is
   refused end BadSize is = is
@@ -72,7 +72,7 @@ module _ (disk : DiskState) (first after : CoreState) (last : DiskState) (begins
   refused end Fenced is = is
 
   -- it was opened, and then refused
-  pub migrate_refused : (why : Refusal Told) → (IsTrue disk.honest → HasBoundsOf disk first) → IsUpgradeRefusal (next_of first.objects) (disk_of first) (disk_of after) why
+  pub migrate_refused : (why : Refusal CauseState) → (IsTrue disk.honest → HasBoundsOf disk first) → IsUpgradeRefusal (next_of first.objects) (disk_of first) (disk_of after) why
       → IsMigrateRefusal disk last why
   migrate_refused why bounds is = inr (
     next_of first.objects,

@@ -21,8 +21,8 @@ use Rattle.journal_inode.proofs.Upgrading.{Sound-upgraded}
 use Rattle.journal_lockmap.specs.Numbers.{HeldState, slots_of, is_held, HoldsSlots, AreApart}
 use Rattle.journal_history.specs.Tokens.{SessionState, next_transaction}
 use Rattle.journal_core.specs.declared.refusal_number.RefusalNumber.TheVariants.{J9}
-use Rattle.journal_core.specs.Causes.{Told, IsExplained}
-use Rattle.journal_core.specs.Memories.{IsUnknown, IsStale, IsBehind, IsNumberRefusal}
+use Rattle.journal_core.specs.Causes.{CauseState, IsExplained}
+use Rattle.journal_core.specs.Ledgers.{IsUnknown, IsStale, IsBehind, IsNumberRefusal}
 use Rattle.journal_core.specs.Outsets.{IsWorn, IsFull}
 use Rattle.journal_core.specs.Cores.{CoreState, IsRunning, OnlyReads, disk_of, is_faulted, next_of, outset, tail_length}
 use Rattle.journal_core.specs.SlotCounts.{AgreeWith, IsUnder, AreUnder}
@@ -211,7 +211,7 @@ module _ (first old new : CoreState) (keeps : Keeps (disk_of first) (disk_of old
   failed_since (inr most) = inr most
 
   -- a core that runs is refused nothing else
-  pub running_refused : (end : ℕ) (why : Refusal Told) → IsRunningRefusal old new why → IsUpgradeRefusal end (disk_of first) (disk_of new) why
+  pub running_refused : (end : ℕ) (why : Refusal CauseState) → IsRunningRefusal old new why → IsUpgradeRefusal end (disk_of first) (disk_of new) why
   running_refused end NoMemory is = tt
   running_refused end BadAddress is = is
   running_refused end BadSize is = is
@@ -228,7 +228,7 @@ module _ (first old new : CoreState) (keeps : Keeps (disk_of first) (disk_of old
   running_refused end Fenced is = is
 
 -- a further session is not refused
-pub no_session : (first : CoreState) (why : Refusal Told) → first.next ≡ 0 → IsNumberRefusal first.next why → ⊥
+pub no_session : (first : CoreState) (why : Refusal CauseState) → first.next ≡ 0 → IsNumberRefusal first.next why → ⊥
 no_session first NoMemory none is = is
 no_session first BadAddress none is = is
 no_session first BadSize none is = is
@@ -257,20 +257,20 @@ module _ (first old new : CoreState) (session : SessionState) (t : TransactionSt
   worn (inr (inl many)) = absurd (omega (arith, many, number))
   worn (inr (inr far)) = omega (arith, far, fresh, at.position)
 
-  known : (cause : Told) → IsUnknown old.history session cause → ⊥
+  known : (cause : CauseState) → IsUnknown old.history session cause → ⊥
   known cause strange = omega (arith, strange.1, ap (λ h. length (commits_of session.number h)) mine)
 
   full : IsFull (outset old) t.writes → ⊥
   full over = omega (arith, over, fresh, ap length at.tail)
 
-  longer : {cause : Told} → IsStale old.history cause → (front : List Entry) × IsExplained J9 front cause × (front ≢ [])
+  longer : {cause : CauseState} → IsStale old.history cause → (front : List Entry) × IsExplained J9 front cause × (front ≢ [])
   longer is = (is.0, is.1, λ empty. omega (arith, is.2.1, ap length empty))
 
   large : 128 < written_blocks t.writes → ⊥
   large many = omega (arith, many, written-one t.writes _ drafts.writes)
 
   -- a commit is refused for want of memory, by the device, by a longer history, and where the log is at its end
-  pub commit_refused : (why : Refusal Told) → IsCommitRefusal old session t new why → IsUpgradeRefusal (next_of first.objects) (disk_of first) (disk_of new) why
+  pub commit_refused : (why : Refusal CauseState) → IsCommitRefusal old session t new why → IsUpgradeRefusal (next_of first.objects) (disk_of first) (disk_of new) why
   commit_refused NoMemory is = tt
   commit_refused BadAddress is = is
   commit_refused BadSize is = is
@@ -290,11 +290,11 @@ module _ (first old new : CoreState) (session : SessionState) (t : TransactionSt
   commit_refused (Closed cause) is = absurd (false≢true (sym (sym is.closed ∙ running.0)))
   commit_refused Fenced is = absurd (false≢true (sym (ap (is_fenced session.number) (at.history ∙ begun)) ∙ is.1.fenced))
 
-behind : (history : List Entry) (t : TransactionState) (cause : Told) → IsBehind history t cause → length history < length t.seen
+behind : (history : List Entry) (t : TransactionState) (cause : CauseState) → IsBehind history t cause → length history < length t.seen
 behind history t cause is = is.1.1
 
 -- a read of a transaction that begins now is refused by the device alone
-pub read_refused : (blocks : ℕ) (old new : CoreState) (t : TransactionState) (a : Addr) (why : Refusal Told) → IsRunning old → t.seen ≡ old.history → IsTrue (is_valid blocks a)
+pub read_refused : (blocks : ℕ) (old new : CoreState) (t : TransactionState) (a : Addr) (why : Refusal CauseState) → IsRunning old → t.seen ≡ old.history → IsTrue (is_valid blocks a)
     → IsReadRefusal blocks old t a new why → IsRunningRefusal old new why
 read_refused blocks old new t a NoMemory running seen valid is = tt
 read_refused blocks old new t a BadAddress running seen valid is = absurd (false≢true (sym (sym valid ∙ is.1)))

@@ -7,8 +7,8 @@ use Rattle.journal_world.specs.Histories.Entry.{stable}
 use Rattle.journal_disk.specs.Disks.{HasFailed}
 use Rattle.journal_wal.specs.Wal.{WalState, Installing, install_none, install_homes, install_start, install_sync, install_spent, log_steps, install_steps, free_positions, distinct_blocks, logged_updates}
 use Rattle.journal_core.specs.declared.refusal_number.RefusalNumber.TheVariants.{J6}
-use Rattle.journal_core.specs.Causes.{Told, IsUnexplained}
-use Rattle.journal_core.specs.Memories.{IsStale}
+use Rattle.journal_core.specs.Causes.{CauseState, IsUnexplained}
+use Rattle.journal_core.specs.Ledgers.{IsStale}
 use Rattle.journal_core.specs.Cores.{CoreState, IsRunning, disk_of, tail_length}
 
 -- up to where is installed, or this where nothing is
@@ -56,7 +56,7 @@ pub record ComesNearer (old new : CoreState) : Type 0 where
   pub nearer : steps_to_mark new < steps_to_mark old
 
 -- Why a core that runs refuses: memory is refused, the device failed meanwhile, or the history is longer than the core's
-abbrev pub IsRunningRefusal : CoreState → CoreState → Refusal Told → Type 0
+abbrev pub IsRunningRefusal : CoreState → CoreState → Refusal CauseState → Type 0
 IsRunningRefusal old new NoMemory = Unit {0}
 IsRunningRefusal old new (DeviceFailed cause) = HasFailed (disk_of old) (disk_of new) × IsUnexplained J6 cause
 IsRunningRefusal old new (Stale cause) = IsStale old.history cause

@@ -8,7 +8,7 @@ use Rattle.journal_disk.specs.Images.{reading}
 use Rattle.journal_circ.specs.Log.{end_in}
 use Rattle.journal_inode.specs.declared.version.FormatVersion.TheVariants.{Two}
 use Rattle.journal_core.specs.declared.refusal_number.RefusalNumber.TheVariants.{J6, J9, J11}
-use Rattle.journal_core.specs.Causes.{Told, IsUnexplained, IsExplained}
+use Rattle.journal_core.specs.Causes.{CauseState, IsUnexplained, IsExplained}
 use Rattle.journal_core.specs.Openings.{IsInRange, IsOpenRefusal, OnlyReadsDisk}
 use Rattle.journal_filestore.specs.Files.{Files}
 use Rattle.journal_migrate.specs.Either.{HasEitherFiles}
@@ -35,7 +35,7 @@ pub record WasOpened (disk : DiskState) (end : ℕ) : Type 0 where
 
 -- why a disk is not migrated that was opened, and whose log ends at this position: memory is refused, the device failed
 -- meanwhile, the book has a longer history, or the positions of the log are used up
-abbrev pub IsUpgradeRefusal : ℕ → DiskState → DiskState → Refusal Told → Type 0
+abbrev pub IsUpgradeRefusal : ℕ → DiskState → DiskState → Refusal CauseState → Type 0
 IsUpgradeRefusal end old new NoMemory = Unit {0}
 IsUpgradeRefusal end old new (DeviceFailed cause) = HasFailed old new × IsUnexplained J6 cause
 IsUpgradeRefusal end old new (Stale cause) = (front : List Entry) × IsExplained J9 front cause × (front ≢ [])
@@ -43,7 +43,7 @@ IsUpgradeRefusal end old new (Worn cause) = (2 ^ 62 ≤ end + 1) × IsUnexplaine
 IsUpgradeRefusal end old new other = ⊥
 
 -- why a disk is not migrated: it is not opened, and nothing was written, or it was opened
-abbrev pub IsMigrateRefusal : DiskState → DiskState → Refusal Told → Type 0
+abbrev pub IsMigrateRefusal : DiskState → DiskState → Refusal CauseState → Type 0
 IsMigrateRefusal old new why =
     (IsOpenRefusal HasEitherFiles old new why × OnlyReadsDisk old new)
     ⊎ ((end : ℕ) × WasOpened old end × IsUpgradeRefusal end old new why)

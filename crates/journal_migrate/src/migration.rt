@@ -23,10 +23,10 @@ ghost use Rattle.journal_migrate.specs.Migrations.{IsMigrated, KeepsFiles, Keeps
 use crate::either::EitherVersion;
 use crate::marking::make_stable;
 use crate::superblock::{SUPERBLOCK_ADDR, is_of_version_one, upgraded};
-use journal_core::{Cause, Core, Found, Transaction};
+use journal_core::{Cause, Core, ReadResult, Transaction};
 use journal_disk::BlockDisk;
 use journal_history::{Book, Naming};
-use journal_lockmap::{Bells, Held, LockMap, SlotCell};
+use journal_lockmap::{Held, LockMap, SlotCell, SlotLocks};
 use journal_world::{BLOCK_BYTES, Layout, Refusal, Refused, Value, slot_of};
 use std::alloc::{AllocError, Global};
 use std::array;
@@ -36,7 +36,7 @@ use std::sync::Wait;
 const COPIES: usize = 1;
 
 // Why it is refused.
-type Why<'b, J> = Refusal<Cause<'b, J, EitherVersion>>;
+type MigrationRefusal<'b, J> = Refusal<Cause<'b, J, EitherVersion>>;
 
 /// Makes a disk of version 2 of one on which nothing is pending: opens it under the rule "sound in version 1 or in version 2",
 /// overwrites its superblock in one transaction, makes that stable, and gives the disk up. To a disk of version 2 nothing is
@@ -73,14 +73,14 @@ pub fn migrate<'b, D: BlockDisk, J: Naming, W: Wait>(
             disk,
         });
     }
-    let Ok(bells) = Bells::new(alloc) else {
+    let Ok(slot_locks) = SlotLocks::new(alloc) else {
         return Err(Refused {
             refusal: Refusal::NoMemory,
             disk,
         });
     };
     let (mut core, slots) = Core::open_step(alloc, book, cell, disk, &rule, COPIES)?;
-    let slots = LockMap::new(bells, slots);
+    let slots = LockMap::new(slot_locks, slots);
     // Nobody else takes one of these slots, so this waits for nobody.
     let mut held = slots.acquire(rt, slot_of(SUPERBLOCK_ADDR));
     let answer = upgrade(rt, alloc, &mut core, array::from_mut(&mut held));
@@ -100,7 +100,7 @@ fn upgrade<'b, D: BlockDisk, J: Naming, W: Wait>(
     alloc: Global,
     core: &mut Core<'b, D, EitherVersion, J>,
     held: &mut [Held<J>],
-) -> Result<(), Why<'b, J>>
+) -> Result<(), MigrationRefusal<'b, J>>
     requires begins { (disk : DiskState) × Begins HasEitherFiles disk core.old }
     requires held { slots_of held.old ≡ slot_number (addr_of superblock) ∷ [] }
     ensures upgraded { IsTrue (is_trusted core.old.history) → OnOk result ((files : Files)
@@ -129,7 +129,7 @@ fn draft<'b, D: BlockDisk, J: Naming, W: Wait>(
     core: &mut Core<'b, D, EitherVersion, J>,
     transaction: &mut Transaction<'b, J, EitherVersion>,
     held: &mut [Held<J>],
-) -> Result<bool, Why<'b, J>>
+) -> Result<bool, MigrationRefusal<'b, J>>
     requires begun { transaction.old ≡ begun core.old.history }
     requires running { IsRunning core.old }
     ensures drafted { IfOk result (λ of_one. IsTrue of_one → DraftsUpgrade core.old.history transaction.new) }
@@ -155,7 +155,7 @@ fn draft<'b, D: BlockDisk, J: Naming, W: Wait>(
 fn overwrite<'b, J: Naming>(
     alloc: Global,
     transaction: &mut Transaction<'b, J, EitherVersion>,
-    found: Found<'b, J, EitherVersion>,
+    found: ReadResult<'b, J, EitherVersion>,
     bytes: Vec<u8>,
 ) -> Result<(), AllocError>
     requires begun { transaction.old ≡ begun found.seen }

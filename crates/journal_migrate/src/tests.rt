@@ -5,7 +5,7 @@ ghost use Rattle.journal_disk.specs.Disks.{IsSettled};
 
 use crate::{EitherVersion, migrate};
 use journal_disk::{BlockDisk, MemDisk};
-use journal_filestore::{FileStore, Handle, How, NewTime, Settings, Stability};
+use journal_filestore::{CreateMode, FileStore, Handle, NewTime, Settings, Stability};
 use journal_history::{Book, Naming, Session};
 use journal_inode::{FormatVersion, SoundFiles, Version, VersionOne, VersionTwo, format};
 use journal_lockmap::SlotCell;
@@ -63,7 +63,14 @@ fn make<'b, J: Naming, W: Wait>(
         mtime: NewTime::Leave,
     };
     let root = Handle::new(1, 1)?;
-    let made = files.create_soon(rt, session, root, b"f002", How::Guarded(settings), AT);
+    let made = files.create_no_wait(
+        rt,
+        session,
+        root,
+        b"f002",
+        CreateMode::Guarded(settings),
+        AT,
+    );
     made.ok()?.answer.ok()?;
     Some(())
 }
@@ -76,7 +83,7 @@ fn write<'b, J: Naming, W: Wait>(
 ) -> Option<()> {
     let handle = Handle::new(2, 1)?;
     let count = BYTES.len() as u32;
-    let written = files.write_soon(
+    let written = files.write_no_wait(
         rt,
         session,
         handle,

@@ -7,5 +7,5 @@ pub mod Fitting
 pub mod ResultFacts
 pub mod Marked
 pub mod Standings
-pub mod Owed
+pub mod Pendings
 pub mod Using

@@ -3,7 +3,7 @@ use Rattle.std.proofs.Common.{◌≡◌, ℕ, ◌+◌, ◌≤◌, take, Bool, tr
 use Rattle.std.specs.Result.{is_ok}
 use Rattle.journal_world.specs.Histories.{Entry, count, floor}
 use Rattle.journal_history.specs.Tokens.{SessionState}
-use Rattle.journal_core.specs.Causes.{Told}
+use Rattle.journal_core.specs.Causes.{CauseState}
 use Rattle.journal_inode.specs.declared.version.FormatVersion.{FormatVersion}
 use Rattle.journal_inode.specs.declared.node.Time.{Time}
 use Rattle.journal_filestore.specs.declared.fault.Fault.{Fault}
@@ -15,7 +15,7 @@ use Rattle.journal_nfs3.specs.Arguments.{Operation, Null, GetAttributes, SetAttr
 use Rattle.journal_nfs3.specs.Handles.{FileHandle}
 use Rattle.journal_nfs3.specs.Results.{Results}
 use Rattle.journal_nfs3.specs.Profile.{outcome_of, change_of, unchanged_of, no_change, write_of, create_of, commit_of}
-use Rattle.journal_nfs3.specs.Served.{told, waits, marked, IsDoneAs, IsAnsweredAs, TellsOutcome, Performs, ServesAs, Serves, has_to_wait, is_accepted, CommitsOnceAt, IsMarked}
+use Rattle.journal_nfs3.specs.Served.{to_nfs, waits, marked, IsDoneAs, IsAnsweredAs, TellsOutcome, Performs, ServesAs, Serves, has_to_wait, is_accepted, CommitsOnceAt, IsMarked}
 
 -- the session has one more commit, and the history has a mark of it
 abbrev pub HasMarked : List Entry → SessionState → SessionState → Type 0
@@ -27,7 +27,7 @@ module _ (version : FormatVersion) (history : List Entry) where
       let m = d.made in
       (d.place, record { made = m.made; stands = m.stands; later = m.later; one_more = m.one_more }, d.so_far wt)
 
-  answer_marked : {A : Type 0} (w : Bool) (case : Files → Result A Status → Files → Type 0) (old new : SessionState) (answer : Result (Result A Status) (Fault Told)) → IsTrue w → IsAnsweredAs version (marked history) w case old new answer → IsTrue (is_ok (told answer)) → HasMarked history old new
+  answer_marked : {A : Type 0} (w : Bool) (case : Files → Result A Status → Files → Type 0) (old new : SessionState) (answer : Result (Result A Status) (Fault CauseState)) → IsTrue w → IsAnsweredAs version (marked history) w case old new answer → IsTrue (is_ok (to_nfs answer)) → HasMarked history old new
   answer_marked w case old new (Ok (Ok v)) wt d ok = done_marked w case old new v wt d
   answer_marked w case old new (Ok (Err why)) wt d ok = absurd (cc ok)
   answer_marked w case old new (Err (Refused why)) wt d ok = absurd (cc ok)

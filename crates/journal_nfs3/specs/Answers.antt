@@ -6,17 +6,17 @@ use Rattle.journal_inode.specs.declared.node.Time.{Time}
 use Rattle.journal_inode.specs.declared.version.FormatVersion.{FormatVersion}
 use Rattle.journal_rpc.specs.declared.replies.CallRefused.{CallRefused}
 use Rattle.journal_rpc.specs.Replies.{one_fragment, reply}
-use Rattle.journal_filestore.specs.declared.owed.Owed.{Owed}
-use Rattle.journal_filestore.specs.declared.owed.Owed.TheVariants.{Nothing, Wait}
+use Rattle.journal_filestore.specs.declared.pending_wait.PendingWait.{PendingWait}
+use Rattle.journal_filestore.specs.declared.pending_wait.PendingWait.TheVariants.{Nothing, Wait}
 use Rattle.journal_nfs3.specs.declared.procedure.Procedure.{Procedure}
 use Rattle.journal_nfs3.specs.declared.procedure.Procedure.TheVariants as procedure
-use Rattle.journal_nfs3.specs.declared.soon.Awaited.{Awaited}
-use Rattle.journal_nfs3.specs.declared.soon.SoonReply.{SoonReply}
+use Rattle.journal_nfs3.specs.declared.pending.ReplyWait.{ReplyWait}
+use Rattle.journal_nfs3.specs.declared.pending.PendingReply.{PendingReply}
 use Rattle.journal_nfs3.specs.Arguments.{Operation, Null, GetAttributes, SetAttributes, Lookup, Read, Write, Create, Remove, Commit}
 use Rattle.journal_nfs3.specs.declared.results.FormatResults.{FormatResults}
 use Rattle.journal_nfs3.specs.Results.{Results, results, results_text, procedure_of_results}
 use Rattle.journal_nfs3.specs.Profile.{results_of}
-use Rattle.journal_nfs3.specs.Served.{Standing, marked, owing, OwesNothing, ServesAs}
+use Rattle.journal_nfs3.specs.Served.{Standing, marked, awaiting, HasNoWait, ServesAs}
 
 abbrev pub procedure_for : Operation → Procedure
 procedure_for Null = procedure.Null
@@ -36,7 +36,7 @@ pub record IsResult (r : Results) : Type 0 where
 
 -- What a call comes to, and how far it is: why it is refused, and then it does nothing; or the results of its operation, which is done
 abbrev pub ServesCall : FormatVersion → Standing → List ℕ → Time → Result Operation CallRefused → SessionState → Result Results CallRefused → SessionState → Type 0
-ServesCall version standing verifier now (Err why) old outcome new = (outcome ≡ Err why) × (new ≡ old) × OwesNothing standing
+ServesCall version standing verifier now (Err why) old outcome new = (outcome ≡ Err why) × (new ≡ old) × HasNoWait standing
 ServesCall version standing verifier now (Ok operation) old outcome new =
     (r : Results) × (outcome ≡ Ok r) × ServesAs version standing verifier now operation old r new × (procedure_of_results r ≡ procedure_for operation) × IsResult r
 
@@ -57,9 +57,9 @@ Answers version verifier now xid asked old new text = AnswersAs version (marked 
 -- ---- replies that are not waited for
 
 -- what is owed before the reply may be told
-abbrev pub owed_for : Option (Awaited CommitPlace) → Owed CommitPlace
-owed_for None = Nothing
-owed_for (Some awaited) = Wait awaited.receipt
+abbrev pub pending_wait_for : Option (ReplyWait CommitPlace) → PendingWait CommitPlace
+pending_wait_for None = Nothing
+pending_wait_for (Some awaited) = Wait awaited.receipt
 
 -- the call is of this procedure
 abbrev pub IsCallOf : Procedure → Result Operation CallRefused → Type 0
@@ -67,15 +67,15 @@ IsCallOf p (Ok operation) = p ≡ procedure_for operation
 IsCallOf p (Err why) = ⊥
 
 -- The reply to a call that is committed, and what is owed before it may be told
-pub record AnswersSoon (version : FormatVersion) (verifier : List ℕ) (now : Time) (xid : ℕ) (asked : Result Operation CallRefused) (old new : SessionState) (soon : SoonReply CommitPlace) : Type 0 where
-  pub answers : AnswersAs version (owing (owed_for soon.owed)) verifier now xid asked old new soon.reply.items
-  pub procedure : IfSome soon.owed (λ awaited. IsCallOf awaited.procedure asked)
+pub record AnswersNoWait (version : FormatVersion) (verifier : List ℕ) (now : Time) (xid : ℕ) (asked : Result Operation CallRefused) (old new : SessionState) (soon : PendingReply CommitPlace) : Type 0 where
+  pub answers : AnswersAs version (awaiting (pending_wait_for soon.wait)) verifier now xid asked old new soon.reply.items
+  pub procedure : IfSome soon.wait (λ awaited. IsCallOf awaited.procedure asked)
 
 -- The text may stand in place of a reply to a call with this number and of this procedure for which a wait is owed: it says that it is not known to be stable
 abbrev pub TakesPlace : ℕ → Procedure → List ℕ → Type 0
 TakesPlace xid procedure text =
     (version : FormatVersion) (verifier : List ℕ) (now : Time) (asked : Result Operation CallRefused) (old new : SessionState) (receipt : CommitPlace) (soon : List ℕ) (history : List Entry)
-    → IsCallOf procedure asked → AnswersAs version (owing (Wait receipt)) verifier now xid asked old new soon → AnswersAs version (marked history) verifier now xid asked old new text
+    → IsCallOf procedure asked → AnswersAs version (awaiting (Wait receipt)) verifier now xid asked old new soon → AnswersAs version (marked history) verifier now xid asked old new text
 
 -- what the code's outcome stands for
 abbrev pub outcome_seen : Result FormatResults CallRefused → Result Results CallRefused
@@ -83,6 +83,6 @@ outcome_seen (Ok r) = Ok (results_of r.version r.results)
 outcome_seen (Err why) = Err why
 
 -- what is owed for a reply, with its procedure
-abbrev pub awaited_of : {P : Type 0} → Result Results CallRefused → Owed P → Option (Awaited P)
+abbrev pub awaited_of : {P : Type 0} → Result Results CallRefused → PendingWait P → Option (ReplyWait P)
 awaited_of (Ok r) (Wait receipt) = Some (record { procedure = procedure_of_results r; receipt = receipt })
-awaited_of outcome owed = None
+awaited_of outcome wait = None

@@ -7,22 +7,22 @@ use Rattle.journal_world.specs.Maps.{Transaction}
 use Rattle.journal_world.specs.Histories.{Entry, commits_of, count, floor}
 use Rattle.journal_world.specs.Histories.Entry.{commit}
 use Rattle.journal_history.specs.Tokens.{SessionState, OnlyExtends, IsExact, CommitPlace}
-use Rattle.journal_core.specs.Causes.{Told}
+use Rattle.journal_core.specs.Causes.{CauseState}
 use Rattle.journal_inode.specs.declared.node.Time.{Time}
 use Rattle.journal_inode.specs.declared.version.FormatVersion.{FormatVersion}
 use Rattle.journal_filestore.specs.declared.fault.Fault.{Fault}
 use Rattle.journal_filestore.specs.declared.fault.Fault.TheVariants.{Refused, Unsure}
-use Rattle.journal_filestore.specs.declared.owed.Committed.{Committed}
-use Rattle.journal_filestore.specs.declared.owed.Owed.{Owed}
-use Rattle.journal_filestore.specs.declared.owed.Owed.TheVariants.{Nothing}
+use Rattle.journal_filestore.specs.declared.pending_wait.Committed.{Committed}
+use Rattle.journal_filestore.specs.declared.pending_wait.PendingWait.{PendingWait}
+use Rattle.journal_filestore.specs.declared.pending_wait.PendingWait.TheVariants.{Nothing}
 use Rattle.journal_filestore.specs.declared.settings.Settings.{Settings}
-use Rattle.journal_filestore.specs.declared.settings.How as file_how
-use Rattle.journal_filestore.specs.declared.settings.How.TheVariants as file_ways
+use Rattle.journal_filestore.specs.declared.settings.CreateMode as file_mode
+use Rattle.journal_filestore.specs.declared.settings.CreateMode.TheVariants as file_modes
 use Rattle.journal_filestore.specs.declared.status.Status.{Status}
 use Rattle.journal_filestore.specs.declared.status.Status.TheVariants as status
 use Rattle.journal_filestore.specs.Files.{Files}
 use Rattle.journal_filestore.specs.Operations.{Op, Call as call, Reply as reply}
-use Rattle.journal_filestore.specs.Done.{IsMadeAt, IsOwed}
+use Rattle.journal_filestore.specs.Done.{IsMadeAt, IsWaitOf}
 use Rattle.journal_nfs3.specs.declared.arguments.NewAttributes.{NewAttributes}
 use Rattle.journal_nfs3.specs.declared.arguments.StableHow.{StableHow}
 use Rattle.journal_nfs3.specs.declared.arguments.StableHow.TheVariants.{Unstable, DataSync, FileSync}
@@ -39,10 +39,10 @@ use Rattle.journal_nfs3.specs.Profile.{fattr_of, change_of, unchanged_of, no_cha
 abbrev pub settings_of : NewAttributes → Settings
 settings_of a = record { size = a.size; mtime = a.mtime }
 
-abbrev pub ways_of : How → file_how.How
-ways_of (Unchecked a) = file_ways.Unchecked (settings_of a)
-ways_of (Guarded a) = file_ways.Guarded (settings_of a)
-ways_of (Exclusive v) = file_ways.Exclusive
+abbrev pub create_mode_of : How → file_mode.CreateMode
+create_mode_of (Unchecked a) = file_modes.Unchecked (settings_of a)
+create_mode_of (Guarded a) = file_modes.Guarded (settings_of a)
+create_mode_of (Exclusive v) = file_modes.Exclusive
 
 -- what is written waits until it is stable, unless it is asked not to
 abbrev pub waits : StableHow → Bool
@@ -70,40 +70,40 @@ refusal_error (DeviceFailed cause) = Io
 refusal_error other = ServerFault
 
 -- an answer of the file store as it is told
-abbrev pub answer_told : {A : Type 0} → Result A Status → Result A NfsError
-answer_told (Ok value) = Ok value
-answer_told (Err why) = Err (error_of why)
+abbrev pub answer_to_nfs : {A : Type 0} → Result A Status → Result A NfsError
+answer_to_nfs (Ok value) = Ok value
+answer_to_nfs (Err why) = Err (error_of why)
 
 -- the same, or that it has none
-abbrev pub told : {A C : Type 0} → Result (Result A Status) (Fault C) → Result A NfsError
-told (Ok answer) = answer_told answer
-told (Err (Refused why)) = Err (refusal_error why)
-told (Err (Unsure why)) = Err (refusal_error why)
+abbrev pub to_nfs : {A C : Type 0} → Result (Result A Status) (Fault C) → Result A NfsError
+to_nfs (Ok answer) = answer_to_nfs answer
+to_nfs (Err (Refused why)) = Err (refusal_error why)
+to_nfs (Err (Unsure why)) = Err (refusal_error why)
 
 -- an answer that is not waited for: as one that was, and what is owed for it
-abbrev pub soon_answer : {A P C : Type 0} → Result (Committed A P) (Refusal C) → Result (Result A Status) (Fault C)
-soon_answer (Ok done) = Ok done.answer
-soon_answer (Err why) = Err (Refused why)
+abbrev pub committed_answer : {A P C : Type 0} → Result (Committed A P) (Refusal C) → Result (Result A Status) (Fault C)
+committed_answer (Ok done) = Ok done.answer
+committed_answer (Err why) = Err (Refused why)
 
-abbrev pub soon_owed : {A P C : Type 0} → Result (Committed A P) (Refusal C) → Owed P
-soon_owed (Ok done) = done.owed
-soon_owed (Err why) = Nothing
+abbrev pub committed_wait : {A P C : Type 0} → Result (Committed A P) (Refusal C) → PendingWait P
+committed_wait (Ok done) = done.wait
+committed_wait (Err why) = Nothing
 
 -- ---- what is stable of an answer
 
 -- How far an answer is: what waits is marked in this history, or this is owed for it
 pub data Standing : Type 0 where
   marked : List Entry → Standing
-  owing : Owed CommitPlace → Standing
+  awaiting : PendingWait CommitPlace → Standing
 
-abbrev pub OwesNothing : Standing → Type 0
-OwesNothing (marked history) = Unit {0}
-OwesNothing (owing owed) = owed ≡ Nothing
+abbrev pub HasNoWait : Standing → Type 0
+HasNoWait (marked history) = Unit {0}
+HasNoWait (awaiting wait) = wait ≡ Nothing
 
 -- So far is an answer whose commit stands at this place of the history that is seen then
 abbrev pub IsSoFar : {A : Type 0} → Standing → Bool → Result A Status → List Entry → ℕ → Type 0
 IsSoFar (marked history) waits answer seen place = IsTrue waits → OnOk answer (count (take (place + 1) seen) ≤ floor history)
-IsSoFar (owing owed) waits answer seen place = IsOwed waits answer seen place owed
+IsSoFar (awaiting wait) waits answer seen place = IsWaitOf waits answer seen place wait
 
 -- The operation was done, and answered
 pub record IsDoneAs {A : Type 0} (version : FormatVersion) (standing : Standing) (waits : Bool) (case : Files → Result A Status → Files → Type 0) (old new : SessionState) (answer : Result A Status) : Type 0 where
@@ -114,12 +114,12 @@ pub record IsDoneAs {A : Type 0} (version : FormatVersion) (standing : Standing)
   pub so_far : IsSoFar standing waits answer new.seen place
 
 -- Refused, it was not done. In doubt, it was done with some answer that the case gives, and is not known to be stable
-abbrev pub IsFaultAs : {A : Type 0} → FormatVersion → Standing → Bool → (Files → Result A Status → Files → Type 0) → SessionState → SessionState → Fault Told → Type 0
-IsFaultAs version standing waits case old new (Refused why) = OnlyExtends old new × OwesNothing standing
+abbrev pub IsFaultAs : {A : Type 0} → FormatVersion → Standing → Bool → (Files → Result A Status → Files → Type 0) → SessionState → SessionState → Fault CauseState → Type 0
+IsFaultAs version standing waits case old new (Refused why) = OnlyExtends old new × HasNoWait standing
 IsFaultAs {A} version (marked history) waits case old new (Unsure why) = IsTrue waits × ((answer : Result A Status) × (place : ℕ) × IsMadeAt version case old new answer place)
-IsFaultAs version (owing owed) waits case old new (Unsure why) = ⊥
+IsFaultAs version (awaiting wait) waits case old new (Unsure why) = ⊥
 
-abbrev pub IsAnsweredAs : {A : Type 0} → FormatVersion → Standing → Bool → (Files → Result A Status → Files → Type 0) → SessionState → SessionState → Result (Result A Status) (Fault Told) → Type 0
+abbrev pub IsAnsweredAs : {A : Type 0} → FormatVersion → Standing → Bool → (Files → Result A Status → Files → Type 0) → SessionState → SessionState → Result (Result A Status) (Fault CauseState) → Type 0
 IsAnsweredAs version standing waits case old new (Ok answer) = IsDoneAs version standing waits case old new answer
 IsAnsweredAs version standing waits case old new (Err fault) = IsFaultAs version standing waits case old new fault
 
@@ -127,9 +127,9 @@ IsAnsweredAs version standing waits case old new (Err fault) = IsFaultAs version
 
 -- What is told of an operation on what the handle names: that it is none, or what the file store answers by this case
 abbrev pub TellsOutcome : {A : Type 0} → FormatVersion → Standing → Option FileHandle → Bool → (FileHandle → Files → Result A Status → Files → Type 0) → SessionState → SessionState → Result A NfsError → Type 0
-TellsOutcome version standing None waits case old new outcome = (outcome ≡ Err BadHandle) × (new ≡ old) × OwesNothing standing
+TellsOutcome version standing None waits case old new outcome = (outcome ≡ Err BadHandle) × (new ≡ old) × HasNoWait standing
 TellsOutcome {A} version standing (Some handle) waits case old new outcome =
-    (answer : Result (Result A Status) (Fault Told)) × IsAnsweredAs version standing waits (case handle) old new answer × (outcome ≡ told answer)
+    (answer : Result (Result A Status) (Fault CauseState)) × IsAnsweredAs version standing waits (case handle) old new answer × (outcome ≡ to_nfs answer)
 
 -- the same, with the results that are made of it
 abbrev pub Performs : {A : Type 0} → FormatVersion → Standing → Option FileHandle → Bool → (FileHandle → Files → Result A Status → Files → Type 0) → (Result A NfsError → Results) → SessionState → Results → SessionState → Type 0
@@ -137,7 +137,7 @@ Performs {A} version standing handle waits case as_results old results new = (ou
 
 -- What an operation does at a moment, from what its session had seen to what it then has seen, its results, and how far they are
 abbrev pub ServesAs : FormatVersion → Standing → List ℕ → Time → Operation → SessionState → Results → SessionState → Type 0
-ServesAs version standing verifier now operation.Null old results new = (results ≡ Null) × (new ≡ old) × OwesNothing standing
+ServesAs version standing verifier now operation.Null old results new = (results ≡ Null) × (new ≡ old) × HasNoWait standing
 ServesAs version standing verifier now (operation.GetAttributes h) old results new =
     Performs version standing (handle_in h) false (λ k F r F2. (t : Time) → Op version (call.getattr k.number k.generation) t F (reply.got r) F2)
     (λ r. GetAttributes (outcome_of (fattr_of version) tt r)) old results new
@@ -154,7 +154,7 @@ ServesAs version standing verifier now (operation.Write h offset count how bytes
     Performs version standing (handle_in h) (waits how) (λ k F r F2. Op version (call.write k.number k.generation offset count bytes) now F (reply.wrote r) F2)
     (λ r. Write (outcome_of (write_of version count how verifier) no_change r)) old results new
 ServesAs version standing verifier now (operation.Create e how) old results new =
-    Performs version standing (handle_in e.directory) true (λ k F r F2. Op version (call.create k.number k.generation e.called (ways_of how)) now F (reply.made r) F2)
+    Performs version standing (handle_in e.directory) true (λ k F r F2. Op version (call.create k.number k.generation e.called (create_mode_of how)) now F (reply.made r) F2)
     (λ r. Create (outcome_of (create_of version) no_change r)) old results new
 ServesAs version standing verifier now (operation.Remove e) old results new =
     Performs version standing (handle_in e.directory) true (λ k F r F2. (t : Time) → Op version (call.remove k.number k.generation e.called) t F (reply.removed r) F2)

@@ -12,79 +12,79 @@ use journal_inode::FormatVersion;
 impl FormatResults {
     // The results are in the grammar of their procedure's, and short.
     #[tactic(auto, using(crate::proofs::ResultFacts::null_result))]
-    pub(crate) fn are_in_grammar(&self)
+    pub(crate) fn prove_grammar(&self)
         ensures { IsResult (results_of self.now.version self.now.results) }
     {
         let version = self.version;
         match &self.results {
             Results::Null => {}
-            Results::GetAttributes(outcome) => get_attributes_fits(version, outcome),
-            Results::SetAttributes(outcome) => set_attributes_fits(version, outcome),
-            Results::Lookup(outcome) => lookup_fits(version, outcome),
-            Results::Read(outcome) => read_fits(version, outcome),
+            Results::GetAttributes(outcome) => prove_get_attributes(version, outcome),
+            Results::SetAttributes(outcome) => prove_set_attributes(version, outcome),
+            Results::Lookup(outcome) => prove_lookup(version, outcome),
+            Results::Read(outcome) => prove_read(version, outcome),
             Results::Write {
                 outcome,
                 count,
                 how,
                 verifier,
-            } => write_fits(version, outcome, *count, *how, verifier),
-            Results::Create(outcome) => create_fits(version, outcome),
-            Results::Remove(outcome) => remove_fits(version, outcome),
-            Results::Commit { outcome, verifier } => commit_fits(version, outcome, verifier),
+            } => prove_write(version, outcome, *count, *how, verifier),
+            Results::Create(outcome) => prove_create(version, outcome),
+            Results::Remove(outcome) => prove_remove(version, outcome),
+            Results::Commit { outcome, verifier } => prove_commit(version, outcome, verifier),
         }
     }
 }
 
 #[tactic(auto, using(crate::proofs::ResultFacts::get_attributes_ok))]
-fn get_attributes_fits(version: FormatVersion, outcome: &Result<Attributes, NfsError>)
+fn prove_get_attributes(version: FormatVersion, outcome: &Result<Attributes, NfsError>)
     ensures { IsResult (GetAttributes (outcome_of (fattr_of version) tt outcome.now)) }
 {
     match outcome {
         Ok(attributes) => {
-            attributes_fit(version, attributes);
+            prove_attributes(version, attributes);
         }
         Err(_) => {}
     }
 }
 
 #[tactic(auto, using(crate::proofs::ResultFacts::set_attributes_ok))]
-fn set_attributes_fits(version: FormatVersion, outcome: &Result<Changed, NfsError>)
+fn prove_set_attributes(version: FormatVersion, outcome: &Result<Changed, NfsError>)
     ensures { IsResult (SetAttributes (outcome_of (change_of version) no_change outcome.now)) }
 {
     match outcome {
         Ok(changed) => {
-            change_fits(version, changed);
+            prove_change(version, changed);
         }
         Err(_) => {}
     }
 }
 
 #[tactic(auto, using(crate::proofs::ResultFacts::lookup_ok))]
-fn lookup_fits(version: FormatVersion, outcome: &Result<Found, NfsError>)
+fn prove_lookup(version: FormatVersion, outcome: &Result<Found, NfsError>)
     ensures { IsResult (Lookup (outcome_of (lookup_of version) None outcome.now)) }
 {
     match outcome {
         Ok(found) => {
-            found_fits(version, found);
+            prove_found(version, found);
         }
         Err(_) => {}
     }
 }
 
 #[tactic(auto, using(crate::proofs::ResultFacts::read_ok))]
-fn read_fits(version: FormatVersion, outcome: &Result<Portion, NfsError>)
+fn prove_read(version: FormatVersion, outcome: &Result<Portion, NfsError>)
     ensures { IsResult (Read (outcome_of (read_results_of version) None outcome.now)) }
 {
     match outcome {
         Ok(portion) => {
-            attributes_fit(version, &portion.file());
+            prove_attributes(version, &portion.file());
             let _ = portion.bytes();
         }
         Err(_) => {}
     }
 }
 
-fn write_fits(
+fn prove_write(
     version: FormatVersion,
     outcome: &Result<Changed, NfsError>,
     count: u32,
@@ -95,58 +95,58 @@ fn write_fits(
 {
     match outcome {
         Ok(changed) => {
-            change_fits(version, changed);
-            verifier_fits(verifier);
+            prove_change(version, changed);
+            prove_verifier(verifier);
         }
         Err(_) => {}
     }
 }
 
 #[tactic(auto, using(crate::proofs::ResultFacts::create_ok))]
-fn create_fits(version: FormatVersion, outcome: &Result<Found, NfsError>)
+fn prove_create(version: FormatVersion, outcome: &Result<Found, NfsError>)
     ensures { IsResult (Create (outcome_of (create_of version) no_change outcome.now)) }
 {
     match outcome {
         Ok(found) => {
-            found_fits(version, found);
+            prove_found(version, found);
         }
         Err(_) => {}
     }
 }
 
 #[tactic(auto, using(crate::proofs::ResultFacts::remove_ok))]
-fn remove_fits(version: FormatVersion, outcome: &Result<Attributes, NfsError>)
+fn prove_remove(version: FormatVersion, outcome: &Result<Attributes, NfsError>)
     ensures { IsResult (Remove (outcome_of (unchanged_of version) no_change outcome.now)) }
 {
     match outcome {
         Ok(root) => {
-            unchanged_fits(version, root);
+            prove_unchanged(version, root);
         }
         Err(_) => {}
     }
 }
 
-fn commit_fits(version: FormatVersion, outcome: &Result<Attributes, NfsError>, verifier: &Verifier)
+fn prove_commit(version: FormatVersion, outcome: &Result<Attributes, NfsError>, verifier: &Verifier)
     ensures { IsResult (Commit (outcome_of (commit_of version verifier.now.0) no_change outcome.now)) }
 {
     match outcome {
         Ok(attributes) => {
-            unchanged_fits(version, attributes);
-            verifier_fits(verifier);
+            prove_unchanged(version, attributes);
+            prove_verifier(verifier);
         }
         Err(_) => {}
     }
 }
 
-fn word_fits(number: u32)
+fn prove_word(number: u32)
     ensures { number < 2 ^ 32 }
 {}
 
-fn hyper_fits(number: u64)
+fn prove_hyper(number: u64)
     ensures { number < 2 ^ 64 }
 {}
 
-fn verifier_fits(verifier: &Verifier)
+fn prove_verifier(verifier: &Verifier)
     ensures { length verifier.now.0 ≡ 8 }
 {
     let bytes: &[u8] = &verifier.0;
@@ -154,40 +154,40 @@ fn verifier_fits(verifier: &Verifier)
 }
 
 #[tactic(auto, using(crate::proofs::Fitting::fattr_has, crate::proofs::Fitting::before_has))]
-fn attributes_fit(version: FormatVersion, attributes: &Attributes)
+fn prove_attributes(version: FormatVersion, attributes: &Attributes)
     ensures fattr { fattr.Has (fattr_of version attributes.now) }
     ensures before { before.Has (before_of attributes.now) }
 {
-    word_fits(attributes.number);
-    hyper_fits(attributes.size);
-    word_fits(attributes.mtime.secs);
-    word_fits(attributes.mtime.nanos);
+    prove_word(attributes.number);
+    prove_hyper(attributes.size);
+    prove_word(attributes.mtime.secs);
+    prove_word(attributes.mtime.nanos);
 }
 
 #[tactic(auto, using(crate::proofs::Fitting::change_has))]
-fn change_fits(version: FormatVersion, changed: &Changed)
+fn prove_change(version: FormatVersion, changed: &Changed)
     ensures { change.Has (change_of version changed.now) }
 {
-    attributes_fit(version, &changed.before);
-    attributes_fit(version, &changed.after);
+    prove_attributes(version, &changed.before);
+    prove_attributes(version, &changed.after);
 }
 
 #[tactic(auto, using(crate::proofs::Fitting::handle_has, crate::proofs::Fitting::change_has))]
-fn found_fits(version: FormatVersion, found: &Found)
+fn prove_found(version: FormatVersion, found: &Found)
     ensures handle { given_handle.Has (found_handle found.now) }
     ensures file { fattr.Has (fattr_of version found.now.file) }
     ensures root { fattr.Has (fattr_of version found.now.root) }
     ensures unchanged { change.Has (unchanged_of version found.now.root) }
 {
-    word_fits(found.file.number);
-    word_fits(found.generation);
-    attributes_fit(version, &found.file);
-    attributes_fit(version, &found.root);
+    prove_word(found.file.number);
+    prove_word(found.generation);
+    prove_attributes(version, &found.file);
+    prove_attributes(version, &found.root);
 }
 
 #[tactic(auto, using(crate::proofs::Fitting::change_has))]
-fn unchanged_fits(version: FormatVersion, attributes: &Attributes)
+fn prove_unchanged(version: FormatVersion, attributes: &Attributes)
     ensures { change.Has (unchanged_of version attributes.now) }
 {
-    attributes_fit(version, attributes);
+    prove_attributes(version, attributes);
 }

@@ -11,8 +11,8 @@ ghost use Rattle.journal_inode.specs.declared.node.Node.TheVariants.{File};
 ghost use Rattle.journal_inode.specs.declared.place.TheConstants.{INODES};
 ghost use Rattle.journal_inode.specs.Sound.{node_at, file_blocks, HasSoundFiles};
 ghost use Rattle.journal_xdr.specs.Items.{IsGrammar};
-ghost use Rattle.journal_filestore.specs.declared.owed.Owed.{Owed};
-ghost use Rattle.journal_filestore.specs.Done.{IsPaid};
+ghost use Rattle.journal_filestore.specs.declared.pending_wait.PendingWait.{PendingWait};
+ghost use Rattle.journal_filestore.specs.Done.{IsWaitOver};
 ghost use Rattle.journal_filestore.specs.Operations.{attributes_of_node};
 ghost use Rattle.journal_history.specs.Tokens.{CommitPlace};
 ghost use Rattle.journal_rpc.specs.declared.replies.CallRefused.{CallRefused};
@@ -24,7 +24,7 @@ ghost use Rattle.journal_nfs3.specs.Handles.{FileHandle, used_handle, handle_in}
 ghost use Rattle.journal_nfs3.specs.Calls.{called};
 ghost use Rattle.journal_nfs3.specs.Results.{Results, results};
 ghost use Rattle.journal_nfs3.specs.Profile.{fattr_of};
-ghost use Rattle.journal_nfs3.specs.Served.{marked, owing, Serves, has_to_wait, is_accepted, CommitsOnceAt, IsMarked};
+ghost use Rattle.journal_nfs3.specs.Served.{marked, awaiting, Serves, has_to_wait, is_accepted, CommitsOnceAt, IsMarked};
 ghost use Rattle.journal_nfs3.specs.Answers.{AnswersAs};
 
 /// A procedure's arguments are an item: what is read is spelled so, and what is spelled so is read
@@ -60,12 +60,12 @@ pub fn answers_that_wait_are_stable()
         → (place : ℕ) × CommitsOnceAt old new place × IsMarked new.seen place }
 {}
 
-/// A reply that is owed a wait is what the call's reply is to be once a mark covers its receipt: that mark stands for what
+/// A reply that has a wait is what the call's reply is to be once a mark covers its receipt: that mark stands for what
 /// is stable of it. It stays so in each history that has greater marks.
-pub fn owed_replies_are_told_once_paid()
+pub fn pending_replies_hold_once_stable()
     ensures paid { (version : FormatVersion) (verifier : List ℕ) (now : Time) (xid : ℕ) (asked : Result Operation CallRefused) (old new then : SessionState)
-        (owed : Owed CommitPlace) (text : List ℕ)
-        → AnswersAs version (owing owed) verifier now xid asked old new text → IsPaid owed then → AnswersAs version (marked then.seen) verifier now xid asked old new text }
+        (wait : PendingWait CommitPlace) (text : List ℕ)
+        → AnswersAs version (awaiting wait) verifier now xid asked old new text → IsWaitOver wait then → AnswersAs version (marked then.seen) verifier now xid asked old new text }
     ensures stays { (version : FormatVersion) (verifier : List ℕ) (now : Time) (xid : ℕ) (asked : Result Operation CallRefused) (old new : SessionState)
         (history longer : List Entry) (text : List ℕ)
         → AnswersAs version (marked history) verifier now xid asked old new text → floor history ≤ floor longer → AnswersAs version (marked longer) verifier now xid asked old new text }

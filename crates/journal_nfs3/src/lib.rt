@@ -1,8 +1,8 @@
 //! Nine procedures of NFS version 3 (RFC 1813), over memory: a call comes in, and the bytes of its reply go out.
 //!
 //! `answer` reads the arguments, which lend from the call's record, runs the operation on a file store at the moment
-//! that it is given, and writes the reply into one buffer. It is `answer_soon`, which does a call up to its commit, then
-//! the wait that is owed for it, and where that is refused the reply of `refused_reply`: so who has many calls does them
+//! that it is given, and writes the reply into one buffer. It is `answer_no_wait`, which does a call up to its commit, then
+//! the wait before it, and where that is refused the reply of `refused_reply`: so who has many calls does them
 //! all, and waits once. `specs/Arguments.antt` and `specs/Results.antt` have the
 //! grammar: an item for the arguments and one for the results of each procedure, put together from those of
 //! `journal_xdr`, and the laws say that each value has one spelling. `specs/Calls.antt` says which operation a call
@@ -13,25 +13,25 @@
 #![tactic(auto)]
 
 mod arguments;
+mod convert;
 mod decision;
 mod grammar;
 mod handle;
 mod laws;
+mod pending;
 mod procedure;
 mod reading;
 mod replying;
 mod results;
 mod serving;
-mod soon;
-mod telling;
 mod writing;
 
 pub use decision::{PROGRAM, VERSION};
 pub use laws::{
     answers_that_wait_are_stable, arguments_are_spellings, files_use_their_blocks,
-    handles_are_spellings, owed_replies_are_told_once_paid, results_are_spellings,
+    handles_are_spellings, pending_replies_hold_once_stable, results_are_spellings,
 };
+pub use pending::{PendingReply, ReplyWait};
 pub use procedure::Procedure;
-pub use replying::{answer, answer_soon, refused_reply};
+pub use replying::{answer, answer_no_wait, refused_reply};
 pub use results::Verifier;
-pub use soon::{Awaited, SoonReply};

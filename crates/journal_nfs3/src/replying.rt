@@ -7,17 +7,17 @@ ghost use Rattle.journal_filestore.specs.Handles.{time_of};
 ghost use Rattle.journal_nfs3.specs.Calls.{asks};
 ghost use Rattle.journal_nfs3.specs.Results.{results_text};
 ghost use Rattle.journal_nfs3.specs.Profile.{results_of, refused_results};
-ghost use Rattle.journal_nfs3.specs.Served.{marked, owing, refusal_error};
-ghost use Rattle.journal_nfs3.specs.Answers.{sent, ServesCall, Answers, AnswersAs, AnswersSoon, awaited_of, TakesPlace, outcome_seen};
+ghost use Rattle.journal_nfs3.specs.Served.{marked, awaiting, refusal_error};
+ghost use Rattle.journal_nfs3.specs.Answers.{sent, ServesCall, Answers, AnswersAs, AnswersNoWait, awaited_of, TakesPlace, outcome_seen};
 
+use crate::convert::refusal_error;
 use crate::decision::decide;
+use crate::pending::{Pending, PendingReply, ReplyWait};
 use crate::procedure::Procedure;
 use crate::results::{FormatResults, Results, Verifier};
-use crate::serving::serve_soon;
-use crate::soon::{Awaited, Due, SoonReply};
-use crate::telling::refusal_error;
+use crate::serving::serve_no_wait;
 use journal_disk::BlockDisk;
-use journal_filestore::{FileStore, Owed};
+use journal_filestore::{FileStore, PendingWait};
 use journal_history::{Naming, Receipt, Session};
 use journal_inode::{FormatVersion, SoundFiles, Version};
 use journal_rpc::{Call, CallRefused, write_reply};
@@ -59,8 +59,10 @@ pub fn answer<'b, D: BlockDisk, J: Naming, V: Version, W: Wait, C>(
         (asks (asked_of call.now.asked)) session.old session.new reply) }
     ensures refusal { IsOkUnless result Refusal.NoMemory }
 {
-    let SoonReply { reply, owed } = answer_soon(rt, alloc, session, call, files, moment, verifier)?;
-    let awaited = match owed {
+    let PendingReply { reply, wait } = answer_no_wait(
+        rt, alloc, session, call, files, moment, verifier,
+    )?;
+    let awaited = match wait {
         None => return Ok(reply),
         Some(awaited) => awaited,
     };
@@ -73,14 +75,14 @@ pub fn answer<'b, D: BlockDisk, J: Naming, V: Version, W: Wait, C>(
     }
 }
 
-/// The reply to a call up to its commit: as `answer` does the call, and before it waits. Where that waits, what is owed
+/// The reply to a call up to its commit: as `answer` does the call, and before it waits. Where that waits, what is pending
 /// is the wait for its receipt, by `Journal::wait_stable`: the operation stands in the history, and a crash before may
 /// lose it. A mark that covers the receipt makes the reply what `answer` would give; where the wait is refused, the
-/// reply of `refused_reply` is to be told in place of it.
+/// reply of `refused_reply` is to be sent in place of it.
 ///
 /// Answers J1 `NoMemory`, and nothing else, where memory for the reply is refused. The operation is done all the
 /// same, and its reply is lost.
-pub fn answer_soon<'b, D: BlockDisk, J: Naming, V: Version, W: Wait, C>(
+pub fn answer_no_wait<'b, D: BlockDisk, J: Naming, V: Version, W: Wait, C>(
     rt: &W,
     alloc: Global,
     session: &mut Session<'b, J, SoundFiles<V>>,
@@ -88,20 +90,20 @@ pub fn answer_soon<'b, D: BlockDisk, J: Naming, V: Version, W: Wait, C>(
     files: &FileStore<'b, D, J, V>,
     moment: Moment,
     verifier: Verifier,
-) -> Result<SoonReply<Receipt<'b, J, SoundFiles<V>>>, Refusal<C>>
-    ensures answered { IfOk result (AnswersSoon V.VERSION verifier.0 (time_of moment) call.now.xid
+) -> Result<PendingReply<Receipt<'b, J, SoundFiles<V>>>, Refusal<C>>
+    ensures answered { IfOk result (AnswersNoWait V.VERSION verifier.0 (time_of moment) call.now.xid
         (asks (asked_of call.now.asked)) session.old session.new) }
     ensures lost { OnErr result ((history : List Entry) → (reply : List ℕ) × AnswersAs V.VERSION (marked history) verifier.0
         (time_of moment) call.now.xid (asks (asked_of call.now.asked)) session.old session.new reply) }
     ensures refusal { IsOkUnless result Refusal.NoMemory }
 {
-    let Due { told, owed } = run_soon(rt, session, call, files, moment, verifier);
-    let reply = write_reply(alloc, call.xid, &told, room_for(&told))?;
-    let owed = awaited(&told, owed);
-    Ok(SoonReply { reply, owed })
+    let Pending { value, wait } = run_no_wait(rt, session, call, files, moment, verifier);
+    let reply = write_reply(alloc, call.xid, &value, room_for(&value))?;
+    let wait = awaited(&value, wait);
+    Ok(PendingReply { reply, wait })
 }
 
-/// The reply that is told in place of one for which a wait is owed, to a call of this number and procedure, where the wait
+/// The reply that is sent in place of one that has a wait, to a call of this number and procedure, where the wait
 /// is refused: JUKEBOX for J5, IO for J6 and SERVERFAULT for any other refusal. The operation stands, and is not known to
 /// be stable.
 ///
@@ -122,51 +124,51 @@ pub fn refused_reply<C, E>(
         version: FormatVersion::One,
         results,
     };
-    results.are_in_grammar();
+    results.prove_grammar();
     let outcome = Ok(results);
     Ok(write_reply(alloc, xid, &outcome, REPLY_BYTES)?)
 }
 
 // What a call comes to that is not waited for: why it is refused, or the results of its operation, which is done.
-fn run_soon<'b, D: BlockDisk, J: Naming, V: Version, W: Wait>(
+fn run_no_wait<'b, D: BlockDisk, J: Naming, V: Version, W: Wait>(
     rt: &W,
     session: &mut Session<'b, J, SoundFiles<V>>,
     call: &Call<'_>,
     files: &FileStore<'b, D, J, V>,
     moment: Moment,
     verifier: Verifier,
-) -> Due<Result<FormatResults, CallRefused>, Receipt<'b, J, SoundFiles<V>>>
-    ensures comes { ServesCall V.VERSION (owing result.owed) verifier.0 (time_of moment) (asks (asked_of call.now.asked)) session.old (outcome_seen result.told) session.new }
-    ensures short { ForOk result.told (λ r. length (results_text (results_of r.version r.results)) < 2 ^ 30) }
+) -> Pending<Result<FormatResults, CallRefused>, Receipt<'b, J, SoundFiles<V>>>
+    ensures comes { ServesCall V.VERSION (awaiting result.wait) verifier.0 (time_of moment) (asks (asked_of call.now.asked)) session.old (outcome_seen result.value) session.new }
+    ensures short { ForOk result.value (λ r. length (results_text (results_of r.version r.results)) < 2 ^ 30) }
 {
     let operation = match decide(call) {
         Ok(operation) => operation,
-        Err(why) => return Due::settled(Err(why)),
+        Err(why) => return Pending::ready(Err(why)),
     };
-    let Due {
-        told: results,
-        owed,
-    } = serve_soon(rt, session, files, &operation, moment, verifier);
+    let Pending {
+        value: results,
+        wait,
+    } = serve_no_wait(rt, session, files, &operation, moment, verifier);
     let results = FormatResults {
         version: files.version(),
         results,
     };
-    results.are_in_grammar();
-    Due {
-        told: Ok(results),
-        owed,
+    results.prove_grammar();
+    Pending {
+        value: Ok(results),
+        wait,
     }
 }
 
-// What is owed, with the procedure of the results that it is owed for.
+// The wait, with the procedure of the results that wait.
 fn awaited<P: Drop>(
     outcome: &Result<FormatResults, CallRefused>,
-    owed: Owed<P>,
-) -> Option<Awaited<P>>
-    ensures { result ≡ awaited_of (outcome_seen outcome.now) owed }
+    wait: PendingWait<P>,
+) -> Option<ReplyWait<P>>
+    ensures { result ≡ awaited_of (outcome_seen outcome.now) wait }
 {
-    match (outcome, owed) {
-        (Ok(results), Owed::Wait(receipt)) => Some(Awaited {
+    match (outcome, wait) {
+        (Ok(results), PendingWait::Wait(receipt)) => Some(ReplyWait {
             procedure: results.procedure(),
             receipt,
         }),

@@ -1,6 +1,6 @@
 // Running the operations on the file store, each up to its commit.
 ghost use Rattle.std.specs.Prelude.{◌≡◌, true, false, Result};
-ghost use Rattle.journal_filestore.specs.declared.owed.Owed.TheVariants.{Nothing};
+ghost use Rattle.journal_filestore.specs.declared.pending_wait.PendingWait.TheVariants.{Nothing};
 ghost use Rattle.journal_inode.specs.declared.node.Time.{Time};
 ghost use Rattle.journal_filestore.specs.Handles.{time_of};
 ghost use Rattle.journal_filestore.specs.Operations.{Op};
@@ -11,16 +11,16 @@ ghost use Rattle.journal_nfs3.specs.Arguments.{operation_of, how_of};
 ghost use Rattle.journal_nfs3.specs.Handles.{handle_in};
 ghost use Rattle.journal_nfs3.specs.Results.{procedure_of_results};
 ghost use Rattle.journal_nfs3.specs.Profile.{results_of};
-ghost use Rattle.journal_nfs3.specs.Served.{settings_of, ways_of, waits, owing, TellsOutcome, ServesAs};
+ghost use Rattle.journal_nfs3.specs.Served.{settings_of, create_mode_of, waits, awaiting, TellsOutcome, ServesAs};
 ghost use Rattle.journal_nfs3.specs.Answers.{procedure_for};
 
 use crate::arguments::{
     CreateArguments, DirectoryEntry, FileRange, Operation, SetArguments, WriteArguments,
 };
+use crate::convert::{create_mode_of, settings_of, stability_of, to_nfs, to_nfs_no_wait};
 use crate::handle::read_handle;
+use crate::pending::Pending;
 use crate::results::{NfsError, Results, Verifier};
-use crate::soon::Due;
-use crate::telling::{settings_of, stability_of, told, told_soon, ways_of};
 use journal_disk::BlockDisk;
 use journal_filestore::{Attributes, Changed, FileStore, Found, Portion};
 use journal_history::{Naming, Receipt, Session};
@@ -29,37 +29,37 @@ use journal_world::Moment;
 use std::sync::Wait;
 
 // What a procedure answers whose operation is committed, and the receipt that is owed for it.
-type Soon<'b, J, V, T> = Due<T, Receipt<'b, J, SoundFiles<V>>>;
+type PendingReceipt<'b, J, V, T> = Pending<T, Receipt<'b, J, SoundFiles<V>>>;
 
 // Runs an operation at a moment, up to its commit.
-pub(crate) fn serve_soon<'b, D: BlockDisk, J: Naming, V: Version, W: Wait>(
+pub(crate) fn serve_no_wait<'b, D: BlockDisk, J: Naming, V: Version, W: Wait>(
     rt: &W,
     session: &mut Session<'b, J, SoundFiles<V>>,
     files: &FileStore<'b, D, J, V>,
     operation: &Operation<'_>,
     moment: Moment,
     verifier: Verifier,
-) -> Soon<'b, J, V, Results>
-    ensures serves { ServesAs V.VERSION (owing result.owed) verifier.0 (time_of moment) (operation_of operation.now) session.old (results_of V.VERSION result.told) session.new }
-    ensures procedure { procedure_of_results (results_of V.VERSION result.told) ≡ procedure_for (operation_of operation.now) }
+) -> PendingReceipt<'b, J, V, Results>
+    ensures serves { ServesAs V.VERSION (awaiting result.wait) verifier.0 (time_of moment) (operation_of operation.now) session.old (results_of V.VERSION result.value) session.new }
+    ensures procedure { procedure_of_results (results_of V.VERSION result.value) ≡ procedure_for (operation_of operation.now) }
 {
     // Each arm returns by itself, since some of them hold a receipt and the others do not.
     match operation {
-        Operation::Null => return Due::settled(Results::Null),
+        Operation::Null => return Pending::ready(Results::Null),
         Operation::GetAttributes(handle) => {
-            let told = get_attributes(rt, session, files, handle);
-            return Due::settled(Results::GetAttributes(told));
+            let value = get_attributes(rt, session, files, handle);
+            return Pending::ready(Results::GetAttributes(value));
         }
         Operation::SetAttributes(arguments) => {
             return set_results(set_attributes(rt, session, files, arguments, moment));
         }
         Operation::Lookup(entry) => {
-            let told = look_up(rt, session, files, entry);
-            return Due::settled(Results::Lookup(told));
+            let value = look_up(rt, session, files, entry);
+            return Pending::ready(Results::Lookup(value));
         }
         Operation::Read(range) => {
-            let told = read_bytes(rt, session, files, range);
-            return Due::settled(Results::Read(told));
+            let value = read_bytes(rt, session, files, range);
+            return Pending::ready(Results::Read(value));
         }
         Operation::Write(arguments) => {
             let due = write_bytes(rt, session, files, arguments, moment);
@@ -78,68 +78,68 @@ pub(crate) fn serve_soon<'b, D: BlockDisk, J: Naming, V: Version, W: Wait>(
 }
 
 // The results of SETATTR, with what is owed for them.
-fn set_results<P>(due: Due<Result<Changed, NfsError>, P>) -> Due<Results, P>
-    ensures told { result.told ≡ results.SetAttributes due.told }
-    ensures owed { result.owed ≡ due.owed }
+fn set_results<P>(due: Pending<Result<Changed, NfsError>, P>) -> Pending<Results, P>
+    ensures value { result.value ≡ results.SetAttributes due.value }
+    ensures wait { result.wait ≡ due.wait }
 {
-    let Due { told, owed } = due;
-    let told = Results::SetAttributes(told);
-    Due { told, owed }
+    let Pending { value, wait } = due;
+    let value = Results::SetAttributes(value);
+    Pending { value, wait }
 }
 
 // The results of WRITE.
 fn write_results<P>(
-    due: Due<Result<Changed, NfsError>, P>,
+    due: Pending<Result<Changed, NfsError>, P>,
     arguments: &WriteArguments<'_>,
     verifier: Verifier,
-) -> Due<Results, P>
-    ensures told { result.told ≡ results.Write due.told arguments.now.count arguments.now.how verifier }
-    ensures owed { result.owed ≡ due.owed }
+) -> Pending<Results, P>
+    ensures value { result.value ≡ results.Write due.value arguments.now.count arguments.now.how verifier }
+    ensures wait { result.wait ≡ due.wait }
 {
-    let Due { told, owed } = due;
-    let told = Results::Write {
-        outcome: told,
+    let Pending { value, wait } = due;
+    let value = Results::Write {
+        outcome: value,
         count: arguments.count,
         how: arguments.how,
         verifier,
     };
-    Due { told, owed }
+    Pending { value, wait }
 }
 
 // The results of CREATE.
-fn create_results<P>(due: Due<Result<Found, NfsError>, P>) -> Due<Results, P>
-    ensures told { result.told ≡ results.Create due.told }
-    ensures owed { result.owed ≡ due.owed }
+fn create_results<P>(due: Pending<Result<Found, NfsError>, P>) -> Pending<Results, P>
+    ensures value { result.value ≡ results.Create due.value }
+    ensures wait { result.wait ≡ due.wait }
 {
-    let Due { told, owed } = due;
-    let told = Results::Create(told);
-    Due { told, owed }
+    let Pending { value, wait } = due;
+    let value = Results::Create(value);
+    Pending { value, wait }
 }
 
 // The results of REMOVE.
-fn remove_results<P>(due: Due<Result<Attributes, NfsError>, P>) -> Due<Results, P>
-    ensures told { result.told ≡ results.Remove due.told }
-    ensures owed { result.owed ≡ due.owed }
+fn remove_results<P>(due: Pending<Result<Attributes, NfsError>, P>) -> Pending<Results, P>
+    ensures value { result.value ≡ results.Remove due.value }
+    ensures wait { result.wait ≡ due.wait }
 {
-    let Due { told, owed } = due;
-    let told = Results::Remove(told);
-    Due { told, owed }
+    let Pending { value, wait } = due;
+    let value = Results::Remove(value);
+    Pending { value, wait }
 }
 
 // The results of COMMIT.
 fn commit_results<P>(
-    due: Due<Result<Attributes, NfsError>, P>,
+    due: Pending<Result<Attributes, NfsError>, P>,
     verifier: Verifier,
-) -> Due<Results, P>
-    ensures told { result.told ≡ results.Commit due.told verifier }
-    ensures owed { result.owed ≡ due.owed }
+) -> Pending<Results, P>
+    ensures value { result.value ≡ results.Commit due.value verifier }
+    ensures wait { result.wait ≡ due.wait }
 {
-    let Due { told, owed } = due;
-    let told = Results::Commit {
-        outcome: told,
+    let Pending { value, wait } = due;
+    let value = Results::Commit {
+        outcome: value,
         verifier,
     };
-    Due { told, owed }
+    Pending { value, wait }
 }
 
 // GETATTR (RFC 1813, section 3.3.1).
@@ -150,14 +150,14 @@ fn get_attributes<'b, D: BlockDisk, J: Naming, V: Version, W: Wait>(
     files: &FileStore<'b, D, J, V>,
     handle: &[u8],
 ) -> Result<Attributes, NfsError>
-    ensures { TellsOutcome V.VERSION (owing Nothing) (handle_in handle.now) false
+    ensures { TellsOutcome V.VERSION (awaiting Nothing) (handle_in handle.now) false
         (λ k F r F2. (t : Time) → Op V.VERSION (getattr k.number k.generation) t F (got r) F2)
         session.old session.new result }
 {
     let Some(handle) = read_handle(handle) else {
         return Err(NfsError::BadHandle);
     };
-    told(files.getattr(rt, session, handle))
+    to_nfs(files.getattr(rt, session, handle))
 }
 
 // SETATTR (RFC 1813, section 3.3.2).
@@ -168,16 +168,16 @@ fn set_attributes<'b, D: BlockDisk, J: Naming, V: Version, W: Wait>(
     files: &FileStore<'b, D, J, V>,
     arguments: &SetArguments<'_>,
     moment: Moment,
-) -> Soon<'b, J, V, Result<Changed, NfsError>>
-    ensures { TellsOutcome V.VERSION (owing result.owed) (handle_in arguments.now.handle.now) true
+) -> PendingReceipt<'b, J, V, Result<Changed, NfsError>>
+    ensures { TellsOutcome V.VERSION (awaiting result.wait) (handle_in arguments.now.handle.now) true
         (λ k F r F2. Op V.VERSION (setattr k.number k.generation (settings_of arguments.now.attributes) arguments.now.guard) (time_of moment) F (set r) F2)
-        session.old session.new result.told }
+        session.old session.new result.value }
 {
     let Some(handle) = read_handle(arguments.handle) else {
-        return Due::settled(Err(NfsError::BadHandle));
+        return Pending::ready(Err(NfsError::BadHandle));
     };
     let settings = settings_of(&arguments.attributes);
-    told_soon(files.set_size_soon(rt, session, handle, settings, arguments.guard, moment))
+    to_nfs_no_wait(files.set_size_no_wait(rt, session, handle, settings, arguments.guard, moment))
 }
 
 // LOOKUP (RFC 1813, section 3.3.3).
@@ -188,14 +188,14 @@ fn look_up<'b, D: BlockDisk, J: Naming, V: Version, W: Wait>(
     files: &FileStore<'b, D, J, V>,
     entry: &DirectoryEntry<'_>,
 ) -> Result<Found, NfsError>
-    ensures { TellsOutcome V.VERSION (owing Nothing) (handle_in entry.now.directory.now) false
+    ensures { TellsOutcome V.VERSION (awaiting Nothing) (handle_in entry.now.directory.now) false
         (λ k F r F2. (t : Time) → Op V.VERSION (lookup k.number k.generation entry.now.name.now) t F (found r) F2)
         session.old session.new result }
 {
     let Some(handle) = read_handle(entry.directory) else {
         return Err(NfsError::BadHandle);
     };
-    told(files.lookup(rt, session, handle, entry.name))
+    to_nfs(files.lookup(rt, session, handle, entry.name))
 }
 
 // READ (RFC 1813, section 3.3.6).
@@ -206,14 +206,14 @@ fn read_bytes<'b, D: BlockDisk, J: Naming, V: Version, W: Wait>(
     files: &FileStore<'b, D, J, V>,
     range: &FileRange<'_>,
 ) -> Result<Portion, NfsError>
-    ensures { TellsOutcome V.VERSION (owing Nothing) (handle_in range.now.handle.now) false
+    ensures { TellsOutcome V.VERSION (awaiting Nothing) (handle_in range.now.handle.now) false
         (λ k F r F2. (t : Time) → Op V.VERSION (read k.number k.generation range.now.offset range.now.count) t F (bytes_read r) F2)
         session.old session.new result }
 {
     let Some(handle) = read_handle(range.handle) else {
         return Err(NfsError::BadHandle);
     };
-    told(files.read(rt, session, handle, range.offset, range.count))
+    to_nfs(files.read(rt, session, handle, range.offset, range.count))
 }
 
 // WRITE (RFC 1813, section 3.3.7).
@@ -224,13 +224,13 @@ fn write_bytes<'b, D: BlockDisk, J: Naming, V: Version, W: Wait>(
     files: &FileStore<'b, D, J, V>,
     arguments: &WriteArguments<'_>,
     moment: Moment,
-) -> Soon<'b, J, V, Result<Changed, NfsError>>
-    ensures { TellsOutcome V.VERSION (owing result.owed) (handle_in arguments.now.handle.now) (waits arguments.now.how)
+) -> PendingReceipt<'b, J, V, Result<Changed, NfsError>>
+    ensures { TellsOutcome V.VERSION (awaiting result.wait) (handle_in arguments.now.handle.now) (waits arguments.now.how)
         (λ k F r F2. Op V.VERSION (write k.number k.generation arguments.now.offset arguments.now.count arguments.now.bytes.now) (time_of moment) F (wrote r) F2)
-        session.old session.new result.told }
+        session.old session.new result.value }
 {
     let Some(handle) = read_handle(arguments.handle) else {
-        return Due::settled(Err(NfsError::BadHandle));
+        return Pending::ready(Err(NfsError::BadHandle));
     };
     let WriteArguments {
         offset,
@@ -239,7 +239,7 @@ fn write_bytes<'b, D: BlockDisk, J: Naming, V: Version, W: Wait>(
         bytes,
         ..
     } = *arguments;
-    told_soon(files.write_soon(
+    to_nfs_no_wait(files.write_no_wait(
         rt,
         session,
         handle,
@@ -259,16 +259,16 @@ fn create_file<'b, D: BlockDisk, J: Naming, V: Version, W: Wait>(
     files: &FileStore<'b, D, J, V>,
     arguments: &CreateArguments<'_>,
     moment: Moment,
-) -> Soon<'b, J, V, Result<Found, NfsError>>
-    ensures { TellsOutcome V.VERSION (owing result.owed) (handle_in arguments.now.entry.directory.now) true
-        (λ k F r F2. Op V.VERSION (create k.number k.generation arguments.now.entry.name.now (ways_of (how_of arguments.now.how))) (time_of moment) F (made r) F2)
-        session.old session.new result.told }
+) -> PendingReceipt<'b, J, V, Result<Found, NfsError>>
+    ensures { TellsOutcome V.VERSION (awaiting result.wait) (handle_in arguments.now.entry.directory.now) true
+        (λ k F r F2. Op V.VERSION (create k.number k.generation arguments.now.entry.name.now (create_mode_of (how_of arguments.now.how))) (time_of moment) F (made r) F2)
+        session.old session.new result.value }
 {
     let Some(handle) = read_handle(arguments.entry.directory) else {
-        return Due::settled(Err(NfsError::BadHandle));
+        return Pending::ready(Err(NfsError::BadHandle));
     };
-    let how = ways_of(&arguments.how);
-    told_soon(files.create_soon(rt, session, handle, arguments.entry.name, how, moment))
+    let how = create_mode_of(&arguments.how);
+    to_nfs_no_wait(files.create_no_wait(rt, session, handle, arguments.entry.name, how, moment))
 }
 
 // REMOVE (RFC 1813, section 3.3.12).
@@ -278,15 +278,15 @@ fn remove_file<'b, D: BlockDisk, J: Naming, V: Version, W: Wait>(
     session: &mut Session<'b, J, SoundFiles<V>>,
     files: &FileStore<'b, D, J, V>,
     entry: &DirectoryEntry<'_>,
-) -> Soon<'b, J, V, Result<Attributes, NfsError>>
-    ensures { TellsOutcome V.VERSION (owing result.owed) (handle_in entry.now.directory.now) true
+) -> PendingReceipt<'b, J, V, Result<Attributes, NfsError>>
+    ensures { TellsOutcome V.VERSION (awaiting result.wait) (handle_in entry.now.directory.now) true
         (λ k F r F2. (t : Time) → Op V.VERSION (remove k.number k.generation entry.now.name.now) t F (removed r) F2)
-        session.old session.new result.told }
+        session.old session.new result.value }
 {
     let Some(handle) = read_handle(entry.directory) else {
-        return Due::settled(Err(NfsError::BadHandle));
+        return Pending::ready(Err(NfsError::BadHandle));
     };
-    told_soon(files.remove_soon(rt, session, handle, entry.name))
+    to_nfs_no_wait(files.remove_no_wait(rt, session, handle, entry.name))
 }
 
 // COMMIT (RFC 1813, section 3.3.21), whatever its offset and count.
@@ -296,13 +296,13 @@ fn commit_files<'b, D: BlockDisk, J: Naming, V: Version, W: Wait>(
     session: &mut Session<'b, J, SoundFiles<V>>,
     files: &FileStore<'b, D, J, V>,
     range: &FileRange<'_>,
-) -> Soon<'b, J, V, Result<Attributes, NfsError>>
-    ensures { TellsOutcome V.VERSION (owing result.owed) (handle_in range.now.handle.now) true
+) -> PendingReceipt<'b, J, V, Result<Attributes, NfsError>>
+    ensures { TellsOutcome V.VERSION (awaiting result.wait) (handle_in range.now.handle.now) true
         (λ k F r F2. (t : Time) → Op V.VERSION (commit k.number k.generation) t F (committed r) F2)
-        session.old session.new result.told }
+        session.old session.new result.value }
 {
     let Some(handle) = read_handle(range.handle) else {
-        return Due::settled(Err(NfsError::BadHandle));
+        return Pending::ready(Err(NfsError::BadHandle));
     };
-    told_soon(files.commit_soon(rt, session, handle))
+    to_nfs_no_wait(files.commit_no_wait(rt, session, handle))
 }

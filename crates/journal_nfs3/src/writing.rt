@@ -67,7 +67,7 @@ fn write_time(writer: &mut Writer, value: Time) -> Result<(), AllocError>
 fn used_bytes(version: FormatVersion, size: u64) -> u64
     ensures { result ≡ used_bytes version size }
 {
-    let more = version.more_count(size.min(version.most_bytes()));
+    let more = version.extra_count(size.min(version.most_bytes()));
     BLOCK_BYTES as u64 * (1 + more as u64)
 }
 

@@ -8,7 +8,7 @@ ghost use Rattle.journal_object.specs.Objects.{IsMapOf, map_of_blocks};
 use journal_world::{Kind, MIN_BLOCKS};
 
 /// Does nothing: its contract is the law of the map that a disk's blocks make.
-pub fn objects_law()
+pub fn prove_objects_law()
     ensures map { (blocks : ℕ) (content : ℕ → Bytes)
         → MIN_BLOCKS ≤ blocks → IsMapOf content (map_of_blocks blocks content) }
 

@@ -5,7 +5,7 @@ pub mod Stored
 pub mod Updates
 pub mod Ascending
 pub mod Covering
-pub mod Backwards
+pub mod StagedUpdates
 pub mod Staged
 pub mod Refusing
 pub mod Readings

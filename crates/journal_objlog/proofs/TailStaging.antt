@@ -213,10 +213,10 @@ module _ (t : TailState) (fetched : List Update) (writes : List Pair) (in_tail :
       nothing false = refl
 
       known : updates_block (known_updates fetched t) b ≡ true
-      known = updates_block-append fetched (t.home ++ t.log.updates) b
-          ∙ or_right (updates_block fetched b) (updates_block (t.home ++ t.log.updates) b)
-          (updates_block-append t.home t.log.updates b
-          ∙ or_right (updates_block t.home b) (updates_block t.log.updates b)
+      known = updates_block-append fetched (t.cache ++ t.log.updates) b
+          ∙ or_right (updates_block fetched b) (updates_block (t.cache ++ t.log.updates) b)
+          (updates_block-append t.cache t.log.updates b
+          ∙ or_right (updates_block t.cache b) (updates_block t.log.updates b)
           (ap (λ (us : List Update). updates_block us b) (sym (take-append-drop (t.log.cut - t.log.start) t.log.updates))
           ∙ updates_block-append (head_of t.log) (tail_of t.log) b
           ∙ or_right (updates_block (head_of t.log) b) (updates_block (tail_of t.log) b) (in_tail.stand b named)))

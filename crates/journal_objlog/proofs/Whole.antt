@@ -217,8 +217,8 @@ module _ (b : Base) (ws : List Pair) (fresh : List Update) (law : Law b.size) (l
 -- what memory knows of a block that stands in the tail is what the tail has
 pub tail_shows : (fetched : List Update) (t : TailState) → ShowsTail (tail_base fetched t)
 tail_shows fetched t k stands =
-    updated-append fetched (t.home ++ t.log.updates) k []
-    ∙ updated-append t.home t.log.updates k (updated fetched k [])
-    ∙ ap (λ (us : List Update). updated us k (updated t.home k (updated fetched k []))) (sym (take-append-drop (t.log.cut - t.log.start) t.log.updates))
-    ∙ updated-append (head_of t.log) (tail_of t.log) k (updated t.home k (updated fetched k []))
+    updated-append fetched (t.cache ++ t.log.updates) k []
+    ∙ updated-append t.cache t.log.updates k (updated fetched k [])
+    ∙ ap (λ (us : List Update). updated us k (updated t.cache k (updated fetched k []))) (sym (take-append-drop (t.log.cut - t.log.start) t.log.updates))
+    ∙ updated-append (head_of t.log) (tail_of t.log) k (updated t.cache k (updated fetched k []))
     ∙ updated-named (tail_of t.log) k _ [] stands

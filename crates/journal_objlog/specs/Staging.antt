@@ -10,7 +10,7 @@ use Rattle.journal_block.specs.Block.{Bytes}
 use Rattle.journal_block.specs.Updates.{Content, updated, updates_block, with_updates}
 use Rattle.journal_memlog.specs.Logs.{HasDistinctBlocks, fresh_count}
 use Rattle.journal_wal.specs.Wal.{AreHomes}
-use Rattle.journal_wal.specs.declared.append.TheConstants.{MAX_UPDATES}
+use Rattle.journal_wal.specs.declared.limits.TheConstants.{MAX_UPDATES}
 use Rattle.journal_objlog.specs.Maps.{HasObjects}
 use Rattle.journal_objlog.specs.ObjectLogs.{Base, map_in}
 use Rattle.journal_objlog.specs.Writes.{writes_block, written_blocks, fresh_among}

@@ -9,7 +9,7 @@ use Rattle.journal_block.specs.declared.update.Update.{Update}
 use Rattle.journal_block.specs.Updates.{updates_block, with_updates}
 use Rattle.journal_objlog.specs.Maps.{map_of}
 use Rattle.journal_objlog.specs.ObjectLogs.{Base, map_in}
-use Rattle.journal_wal.specs.declared.append.TheConstants.{MAX_TAIL, MAX_UPDATES}
+use Rattle.journal_wal.specs.declared.limits.TheConstants.{MAX_TAIL, MAX_UPDATES}
 
 -- whether one of the writes is in block b
 abbrev pub writes_block : List Pair → ℕ → Bool

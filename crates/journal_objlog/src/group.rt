@@ -4,7 +4,7 @@ ghost use Rattle.journal_memlog.specs.Logs.{HasDistinctBlocks};
 ghost use Rattle.journal_circ.specs.Ring.{IsFault};
 ghost use Rattle.journal_wal.specs.Wal.{AreHomes, blocks_logged, size_of, tail_length, with_room};
 ghost use Rattle.journal_wal.specs.Groups.{FitsGroup, HasGroupRoom, TakesGroup, IsGroupRefusal};
-ghost use Rattle.journal_wal.specs.declared.append.TheConstants.{MAX_TAIL};
+ghost use Rattle.journal_wal.specs.declared.limits.TheConstants.{MAX_TAIL};
 ghost use Rattle.journal_objlog.specs.Groups.{TakesMap};
 ghost use Rattle.journal_objlog.specs.ObjectLogs.{Crashes, OnlyReads, disk_of, is_faulted};
 

@@ -15,7 +15,7 @@ mod object_log;
 mod read;
 mod rules;
 mod spares;
-mod stage;
+mod staged_updates;
 mod steps;
 mod tail;
 mod tail_cut;

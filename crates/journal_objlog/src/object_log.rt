@@ -9,7 +9,7 @@ ghost use Rattle.journal_objlog.specs.Maps.{OpensAs};
 ghost use Rattle.journal_objlog.specs.ObjectLogs.{map_now, IsCutLogged, disk_of, is_faulted};
 
 use journal_disk::{BlockDisk, MemDisk};
-use journal_object::objects_law;
+use journal_object::prove_objects_law;
 use journal_wal::Wal;
 use journal_world::{Layout, Refused};
 use std::alloc::Global;
@@ -62,7 +62,7 @@ impl<D: BlockDisk> ObjectLog<D> {
         ensures images { IsTrue (D.state disk).honest → IfOk result (λ log.
             EveryImage (disk_of log).past (OpensAs (map_now log))) }
     {
-        objects_law();
+        prove_objects_law();
         let wal = Wal::open(alloc, disk)?;
         Ok(ObjectLog { alloc, layout, wal })
     }

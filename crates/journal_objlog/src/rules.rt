@@ -155,7 +155,7 @@ impl<D: BlockDisk> ObjectLog<D> {
     }
 
     // A log that was not read since.
-    fn untouched(&self)
+    fn prove_unread(&self)
         ensures { OnlyReadSince self.now self.now }
     {
         let _ = &self.wal;
@@ -173,7 +173,7 @@ fn read_by<O: Opening, D: BlockDisk, R: MapRule>(
     ensures refusal { IfErr result.1 (IsReadingRefusal (is_faulted result.0)) }
     ensures read { OnlyReadSince O.log result.0 }
 {
-    log.untouched();
+    log.prove_unread();
     let (block, whole) = match two_blocks(log.alloc) {
         Ok(blocks) => blocks,
         Err(refusal) => return (log, Err(refusal)),

@@ -10,7 +10,7 @@ ghost use Rattle.journal_objlog.specs.ObjectTails.{blocks_of, known_updates, kno
 
 use crate::read::load_object;
 use journal_block::{Block, Update};
-use journal_object::objects_law;
+use journal_object::prove_objects_law;
 use journal_wal::Tail;
 use journal_world::{Addr, Layout, Refusal};
 use std::alloc::Global;
@@ -56,7 +56,7 @@ impl ObjectTail {
         ensures tail { IfOk result (λ tail. tail ≡ empty_tail layout.blocks end tail.log.room) }
         ensures refusal { IsOkUnless result Refusal.NoMemory }
     {
-        objects_law();
+        prove_objects_law();
         let tail = Tail::new(alloc, layout.blocks, end, copies)?;
         Ok(ObjectTail {
             alloc,
@@ -89,7 +89,7 @@ impl ObjectTail {
         if !self.layout.is_valid(addr) {
             return Err(Refusal::BadAddress);
         }
-        let Some(block) = self.known(fetched, addr.block) else {
+        let Some(block) = self.get(fetched, addr.block) else {
             return Ok(false);
         };
         load_object(&self.layout, block, addr, into);
@@ -97,11 +97,11 @@ impl ObjectTail {
     }
 
     // The block as memory has it, or where memory does not know it, as the fetched blocks have it.
-    pub(crate) fn known<'a>(&'a self, fetched: &'a [Update], block: u64) -> Option<&'a Block>
+    pub(crate) fn get<'a>(&'a self, fetched: &'a [Update], block: u64) -> Option<&'a Block>
         ensures found { is_some result ≡ updates_block (known_updates fetched.now self.now) block }
         ensures content { IfSome result (λ found. updated (known_updates fetched.now self.now) block [] ≡ found.now) }
     {
-        match self.tail.known(block) {
+        match self.tail.get(block) {
             Some(found) => Some(found),
             None => newest(fetched, block),
         }

@@ -5,7 +5,7 @@ ghost use Rattle.journal_block.specs.Updates.{updates_block};
 ghost use Rattle.journal_memlog.specs.Logs.{HasDistinctBlocks, bounds_of, tail_of};
 ghost use Rattle.journal_wal.specs.Wal.{AreHomes};
 ghost use Rattle.journal_wal.specs.Tails.{MakeTheSame, MakesNoOther, DropsCuts, known_blocks, cut_after, updates_from};
-ghost use Rattle.journal_wal.specs.declared.append.TheConstants.{MAX_TAIL};
+ghost use Rattle.journal_wal.specs.declared.limits.TheConstants.{MAX_TAIL};
 ghost use Rattle.journal_objlog.specs.ObjectTails.{blocks_of};
 
 use crate::tail::ObjectTail;
@@ -37,10 +37,10 @@ impl ObjectTail {
     }
 
     /// Whether the block stands in the tail, so that a write in it takes no new place.
-    pub fn stands(&self, block: u64) -> bool
+    pub fn is_in_tail(&self, block: u64) -> bool
         ensures { result ≡ updates_block (tail_of self.now.log) block }
     {
-        self.tail.stands(block)
+        self.tail.is_in_tail(block)
     }
 
     /// Cuts after so many commits: hands out a copy of the whole tail, which begins anew.
@@ -61,8 +61,8 @@ impl ObjectTail {
 
     /// Makes the copy of the block the one that was used last, where there is one.
     pub fn touch(&mut self, block: u64)
-        ensures same { MakeTheSame self.new.home self.old.home }
-        ensures others { self.new ≡ record self.old { home = self.new.home } }
+        ensures same { MakeTheSame self.new.cache self.old.cache }
+        ensures others { self.new ≡ record self.old { cache = self.new.cache } }
     {
         self.tail.touch(block);
     }
@@ -70,8 +70,8 @@ impl ObjectTail {
     /// Keeps copies of these blocks, which are at home as these have them but for the updates in memory. Where there are
     /// too many, those go that were used least recently. One for which memory is refused is not kept.
     pub fn keep(&mut self, copies: Vec<Update>)
-        ensures known { MakesNoOther (self.old.home ++ copies.items) self.new.home }
-        ensures others { self.new ≡ record self.old { home = self.new.home } }
+        ensures known { MakesNoOther (self.old.cache ++ copies.items) self.new.cache }
+        ensures others { self.new ≡ record self.old { cache = self.new.cache } }
     {
         self.tail.keep(copies);
     }

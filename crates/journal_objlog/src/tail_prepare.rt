@@ -12,7 +12,7 @@ ghost use Rattle.journal_objlog.specs.Writes.{written_blocks, fresh_blocks, CanP
 
 use crate::spares::Spares;
 use crate::tail::ObjectTail;
-use crate::writes::{Places, is_block, judge};
+use crate::writes::{Places, check_writes, is_block};
 use journal_block::Update;
 use journal_object::store;
 use journal_world::{Addr, Objects, Refusal, Value};
@@ -159,7 +159,7 @@ impl ObjectTail {
         ensures places { IfOk result (λ places. (fetched : List Update) → places ≡ places_of (tail_base fetched self.now) writes.now) }
         ensures refusal { IfErr result (λ refusal. (fetched : List Update) → IsWriteRefusal false (tail_base fetched self.now) writes.now refusal) }
     {
-        let (valid, objects) = judge(&self.layout, writes);
+        let (valid, objects) = check_writes(&self.layout, writes);
         if !valid {
             return Err(Refusal::BadAddress);
         }
@@ -187,7 +187,7 @@ impl ObjectTail {
             }
             last = Some(addr.block);
             blocks += 1;
-            fresh += usize::from(!self.tail.stands(addr.block));
+            fresh += usize::from(!self.tail.is_in_tail(addr.block));
         }
         Places { blocks, fresh }
     }

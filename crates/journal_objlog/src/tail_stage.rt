@@ -6,13 +6,13 @@ ghost use Rattle.journal_world.specs.Maps.{Pair, is_object, are_objects};
 ghost use Rattle.journal_world.specs.Orders.{HasAscendingBlocks};
 ghost use Rattle.journal_block.specs.Updates.{updated, updates_block};
 ghost use Rattle.journal_memlog.specs.Logs.{IsMemLog, tail_of};
-ghost use Rattle.journal_wal.specs.declared.append.TheConstants.{MAX_TAIL};
+ghost use Rattle.journal_wal.specs.declared.limits.TheConstants.{MAX_TAIL};
 ghost use Rattle.journal_objlog.specs.ObjectTails.{blocks_of, known_updates, tail_base, is_missing, missing_blocks, HasBlocks};
 ghost use Rattle.journal_objlog.specs.Staging.{IsAboveNone, IsStaged, IsOpen, StandsWhole, AreInTail};
 ghost use Rattle.journal_objlog.specs.Applying.{fresh_writes};
 
 use crate::spares::Spares;
-use crate::stage::Backwards;
+use crate::staged_updates::StagedUpdates;
 use crate::tail::ObjectTail;
 use crate::writes::{is_admitted, is_block};
 use journal_block::{Block, Update};
@@ -52,7 +52,7 @@ impl ObjectTail {
         if self.layout.kind(block) == Some(Kind::Block) {
             return false;
         }
-        self.known(fetched, block).is_none()
+        self.get(fetched, block).is_none()
     }
 
     /// Whether these are objects whose blocks all stand in the tail, so that nothing has to be made ready for them. Of
@@ -81,7 +81,7 @@ impl ObjectTail {
         ensures stands { IsTrue result → updates_block (tail_of self.now.log) addr.block ≡ true }
         ensures value { IsTrue result → IsTrue (is_value_of Kind.Block (updated (tail_of self.now.log) addr.block [])) }
     {
-        self.is_in_tail(addr.block)
+        self.has_tail_block(addr.block)
             && self.layout.is_valid(addr)
             && is_admitted(&self.layout, addr, value)
     }
@@ -102,10 +102,10 @@ impl ObjectTail {
         ensures standing { OnOk result (StandsWhole (tail_of self.now.log) writes.now) }
         ensures refusal { IsOkUnless result Refusal.NoMemory }
     {
-        let mut updates = Backwards::new(self.alloc, spares);
+        let mut updates = StagedUpdates::new(self.alloc, spares);
         // From the last on: of two values of one address the first would stand.
         for (addr, value) in writes.iter().rev() {
-            if self.is_in_tail(addr.block) {
+            if self.has_tail_block(addr.block) {
                 continue;
             }
             self.open_block(&mut updates, spares, fetched, *addr)?;
@@ -117,7 +117,7 @@ impl ObjectTail {
     // Makes the first of the updates that of the address's block.
     fn open_block(
         &self,
-        updates: &mut Backwards,
+        updates: &mut StagedUpdates,
         spares: &mut Spares,
         fetched: &[Update],
         addr: Addr,
@@ -156,11 +156,11 @@ impl ObjectTail {
         if self.layout.kind(block) == Some(Kind::Block) {
             return spares.take(self.alloc);
         }
-        Block::copied_from(self.alloc, self.known(fetched, block).unwrap())
+        Block::copied_from(self.alloc, self.get(fetched, block).unwrap())
     }
 
     // Whether the block stands in the tail, where `apply` then overwrites it.
-    fn is_in_tail(&self, block: u64) -> bool
+    fn has_tail_block(&self, block: u64) -> bool
         ensures stands { result ≡ updates_block (tail_of self.now.log) block }
         ensures value { IsTrue result → IsTrue (is_value_of Kind.Block (updated (tail_of self.now.log) block [])) }
     {

@@ -14,7 +14,7 @@ pub(crate) struct Places {
 }
 
 /// Whether each write's address is valid, and where so, whether each value is of its address's kind.
-pub(crate) fn judge(layout: &Layout, writes: &Objects) -> (bool, bool)
+pub(crate) fn check_writes(layout: &Layout, writes: &Objects) -> (bool, bool)
     ensures valid { result.0 ≡ are_valid layout.now.blocks writes.now }
     ensures objects { IsTrue result.0 → result.1 ≡ are_objects layout.now.blocks writes.now }
 {

@@ -13,7 +13,7 @@ use Rattle.journal_world.specs.Maps.{Pair, SamePairs}
 use Rattle.journal_world.specs.Histories.{Entry, is_trusted, latest, commits_of}
 use Rattle.journal_history.specs.Tokens.{SessionState, CommitPlace, OnlyExtends}
 use Rattle.journal_core.specs.declared.refusal_number.RefusalNumber.TheVariants.{J10}
-use Rattle.journal_core.specs.Causes.{Told, IsExplained}
+use Rattle.journal_core.specs.Causes.{CauseState, IsExplained}
 use Rattle.journal_core.specs.Transactions.{TransactionState}
 use Rattle.journal_twophase.specs.Transactions.{TxnState, core_of, begun}
 use Rattle.journal_twophase.specs.Commits.{IsCommitted, IsCommitRefusal, ShowsStrange, ShowsFence}
@@ -45,7 +45,7 @@ EndsAt-made blocks began t old new receipt place count committed place_is count_
 
 -- ---- why it is refused
 
-pub refused_part : (blocks : ℕ) (parts : List Part) (old new : SessionState) (p : Part) (why : Refusal Told) → Contains parts p → IsPartRefusal blocks p why → IsRefusal blocks parts old new why
+pub refused_part : (blocks : ℕ) (parts : List Part) (old new : SessionState) (p : Part) (why : Refusal CauseState) → Contains parts p → IsPartRefusal blocks p why → IsRefusal blocks parts old new why
 refused_part blocks parts old new p NoMemory has is = tt
 refused_part blocks parts old new p BadAddress has is = (p, has, is)
 refused_part blocks parts old new p BadSize has is = (p, has, is)
@@ -62,12 +62,12 @@ refused_part blocks parts old new p (Closed cause) has is = is
 refused_part blocks parts old new p Fenced has is = absurd is
 
 -- what a session did not make it did not make before it had seen more
-strange_before : (old begun : SessionState) (cause : Told) → OnlyExtends old begun → ShowsStrange begun cause → ShowsStrange old cause
+strange_before : (old begun : SessionState) (cause : CauseState) → OnlyExtends old begun → ShowsStrange begun cause → ShowsStrange old cause
 strange_before old begun cause extends strange =
     subst (λ n. (history : List Entry) × IsExplained J10 history cause × (length (commits_of n old.mine) < length (commits_of n history))) extends.number
     (subst (λ m. (history : List Entry) × IsExplained J10 history cause × (length (commits_of begun.number m) < length (commits_of begun.number history))) extends.mine strange)
 
-pub refused_end : (blocks : ℕ) (parts : List Part) (old begun new : SessionState) (t : TransactionState) (why : Refusal Told) → OnlyExtends old begun → SamePairs t.writes (written parts)
+pub refused_end : (blocks : ℕ) (parts : List Part) (old begun new : SessionState) (t : TransactionState) (why : Refusal CauseState) → OnlyExtends old begun → SamePairs t.writes (written parts)
     → IsCommitRefusal t begun why → ShowsFence new why → IsRefusal blocks parts old new why
 refused_end blocks parts old begun new t NoMemory extends writes is fence = tt
 refused_end blocks parts old begun new t BadAddress extends writes is fence = absurd is
@@ -124,7 +124,7 @@ IsCommitAnswer-ended blocks parts waits marks old from new t (Stat commits stabl
 IsCommitAnswer-ended blocks parts waits marks old from new t Stopping extends has_begun did ends = absurd ends
 
 -- a part was given up
-pub IsCommitAnswer-fault : (blocks : ℕ) (parts : List Part) (waits : Bool) (marks : List Entry) (old new : SessionState) (fault : PartFault Told) → OnlyExtends old new → IsPartsFault blocks parts new.seen fault
+pub IsCommitAnswer-fault : (blocks : ℕ) (parts : List Part) (waits : Bool) (marks : List Entry) (old new : SessionState) (fault : PartFault CauseState) → OnlyExtends old new → IsPartsFault blocks parts new.seen fault
     → IsCommitAnswer blocks parts waits marks old new (answer_of fault)
 IsCommitAnswer-fault blocks parts waits marks old new fault.Differs extends is = (extends, inl (refl, λ trusted. (is.0, is.1, is.2 trusted)))
 IsCommitAnswer-fault blocks parts waits marks old new (fault.Refused why) extends is = (extends, inr (why, refl, refused_part blocks parts old new is.0 why is.1 is.2))
@@ -134,7 +134,7 @@ IsCommitAnswer-fault blocks parts waits marks old new (fault.Refused why) extend
 moved_back : (xs ys : List Part) (p : Part) → IsPermutation xs ys → Contains ys p → Contains xs p
 moved_back xs ys p moved has = Contains-permutation ys xs p (IsPermutation-sym xs ys moved) has
 
-refused_sorted : (blocks : ℕ) (xs ys : List Part) (old new : SessionState) (why : Refusal Told) → IsPermutation xs ys → SamePairs (written ys) (written xs) → IsRefusal blocks ys old new why → IsRefusal blocks xs old new why
+refused_sorted : (blocks : ℕ) (xs ys : List Part) (old new : SessionState) (why : Refusal CauseState) → IsPermutation xs ys → SamePairs (written ys) (written xs) → IsRefusal blocks ys old new why → IsRefusal blocks xs old new why
 refused_sorted blocks xs ys old new NoMemory moved writes is = is
 refused_sorted blocks xs ys old new BadAddress moved writes is = (is.0, moved_back xs ys is.0 moved is.1, is.2)
 refused_sorted blocks xs ys old new BadSize moved writes is = (is.0, moved_back xs ys is.0 moved is.1, is.2)

@@ -12,7 +12,7 @@ use Rattle.journal_world.specs.declared.refusal.Refusal.TheVariants.{NoMemory, B
 use Rattle.journal_world.specs.Addresses.{Value, slot_of}
 use Rattle.journal_world.specs.Maps.{Agrees, value_among}
 use Rattle.journal_world.specs.Histories.{is_trusted, latest}
-use Rattle.journal_core.specs.Causes.{Told}
+use Rattle.journal_core.specs.Causes.{CauseState}
 use Rattle.journal_twophase.specs.Transactions.{TxnState, holding, holds, holds_above, with_slot, Learns, ReadsValue, IsBelowHeld}
 use Rattle.journal_twophase.specs.Transactions as twophase
 use Rattle.journal_port.specs.Answers.{IsAddrRefusal, IsReadRefusal}
@@ -33,7 +33,7 @@ pub read_keeps : {E : Type 0} (r : Result Value E) (old new : TxnState) (a : Add
 read_keeps (Ok v) old new a none reads before after = kept_reads old new a v (Learns-clear old new a v none reads) before after
 read_keeps (Err why) old new a none reads before after = tt
 
-pub addr_refused : (blocks : ℕ) (t : TxnState) (a : Addr) (why : Refusal Told) → (IsBelowHeld (slot_of a) t.held → ⊥) → twophase.IsReadRefusal blocks t a why → IsAddrRefusal blocks a why
+pub addr_refused : (blocks : ℕ) (t : TxnState) (a : Addr) (why : Refusal CauseState) → (IsBelowHeld (slot_of a) t.held → ⊥) → twophase.IsReadRefusal blocks t a why → IsAddrRefusal blocks a why
 addr_refused blocks t a NoMemory ascends is = tt
 addr_refused blocks t a BadAddress ascends is = is
 addr_refused blocks t a BadSize ascends is = is.1
@@ -49,7 +49,7 @@ addr_refused blocks t a (Full cause) ascends is = is.1
 addr_refused blocks t a (Closed cause) ascends is = is
 addr_refused blocks t a Fenced ascends is = is.1
 
-pub read_refused : (blocks : ℕ) (addrs : List Addr) (a : Addr) (why : Refusal Told) → Contains addrs a → IsAddrRefusal blocks a why → IsReadRefusal blocks addrs why
+pub read_refused : (blocks : ℕ) (addrs : List Addr) (a : Addr) (why : Refusal CauseState) → Contains addrs a → IsAddrRefusal blocks a why → IsReadRefusal blocks addrs why
 read_refused blocks addrs a NoMemory has is = is
 read_refused blocks addrs a BadAddress has is = (a, has, is)
 read_refused blocks addrs a BadSize has is = is

@@ -7,11 +7,11 @@ use Rattle.journal_world.specs.declared.address.Addr.{Addr}
 use Rattle.journal_world.specs.Addresses.{Value, is_valid}
 use Rattle.journal_world.specs.Maps.{Map, Pair, SamePairs, Agrees}
 use Rattle.journal_world.specs.Histories.{Entry, is_trusted, is_fenced, latest, count, floor}
-use Rattle.journal_wal.specs.declared.append.TheConstants.{MAX_UPDATES}
+use Rattle.journal_wal.specs.declared.limits.TheConstants.{MAX_UPDATES}
 use Rattle.journal_objlog.specs.Writes.{written_blocks}
 use Rattle.journal_history.specs.Tokens.{SessionState, CommitPlace, OnlyExtends}
 use Rattle.journal_core.specs.declared.refusal_number.RefusalNumber.TheVariants.{J6, J9, J11, J13}
-use Rattle.journal_core.specs.Causes.{Told, IsUnexplained}
+use Rattle.journal_core.specs.Causes.{CauseState, IsUnexplained}
 use Rattle.journal_core.specs.Transactions.{TransactionState}
 use Rattle.journal_twophase.specs.Journals.{IsShown}
 use Rattle.journal_twophase.specs.Transactions.{TxnState, core_of}
@@ -37,8 +37,8 @@ abbrev pub AnyMap : Map → Type 0
 AnyMap m = Unit {0}
 
 -- the journal refuses it, for such a reason
-abbrev pub IsRefusedFor : (Refusal Told → Type 0) → refused.Refused → Type 0
-IsRefusedFor for n = (why : Refusal Told) × (n ≡ refused_as why) × for why
+abbrev pub IsRefusedFor : (Refusal CauseState → Type 0) → refused.Refused → Type 0
+IsRefusedFor for n = (why : Refusal CauseState) × (n ≡ refused_as why) × for why
 
 -- ---- how a transaction ends
 
@@ -51,7 +51,7 @@ pub record EndsAt (blocks : ℕ) (began : List Entry) (t : TransactionState) (ol
 
 -- it was not committed
 abbrev pub IsEndRefused : TransactionState → SessionState → SessionState → refused.Refused → Type 0
-IsEndRefused t old new n = OnlyExtends old new × ((why : Refusal Told) × (n ≡ refused_as why) × IsCommitRefusal t old why × ShowsFence new why)
+IsEndRefused t old new n = OnlyExtends old new × ((why : Refusal CauseState) × (n ≡ refused_as why) × IsCommitRefusal t old why × ShowsFence new why)
 
 -- what the end of a transaction is answered: one that is to wait is not known to be stable yet
 abbrev pub IsEnd : ℕ → TxnState → Bool → SessionState → SessionState → Answer → Type 0
@@ -85,7 +85,7 @@ abbrev pub IsTooLarge : List Part → Type 0
 IsTooLarge parts = (writes : List Pair) × SamePairs writes (written parts) × (MAX_UPDATES < written_blocks writes)
 
 -- Why a request to commit is refused. Never because another has a slot, and never for room
-abbrev pub IsRefusal : ℕ → List Part → SessionState → SessionState → Refusal Told → Type 0
+abbrev pub IsRefusal : ℕ → List Part → SessionState → SessionState → Refusal CauseState → Type 0
 IsRefusal blocks parts old new BadAddress = (p : Part) × Contains parts p × IsPartRefusal blocks p BadAddress
 IsRefusal blocks parts old new BadSize = (p : Part) × Contains parts p × IsPartRefusal blocks p BadSize
 IsRefusal blocks parts old new TooLarge = IsTooLarge parts
@@ -112,7 +112,7 @@ IsCommitAnswer blocks parts waits marks old new other = ⊥
 -- ---- a request to read
 
 -- why an address is not read. Never because another has its slot
-abbrev pub IsAddrRefusal : ℕ → Addr → Refusal Told → Type 0
+abbrev pub IsAddrRefusal : ℕ → Addr → Refusal CauseState → Type 0
 IsAddrRefusal blocks a (Closed cause) = IsUnexplained J13 cause
 IsAddrRefusal blocks a (DeviceFailed cause) = IsUnexplained J6 cause
 IsAddrRefusal blocks a (Stale cause) = IsShown J9 cause
@@ -121,7 +121,7 @@ IsAddrRefusal blocks a NoMemory = Unit {0}
 IsAddrRefusal blocks a other = ⊥
 
 -- why a request to read is refused
-abbrev pub IsReadRefusal : ℕ → List Addr → Refusal Told → Type 0
+abbrev pub IsReadRefusal : ℕ → List Addr → Refusal CauseState → Type 0
 IsReadRefusal blocks addrs (Closed cause) = IsUnexplained J13 cause
 IsReadRefusal blocks addrs (DeviceFailed cause) = IsUnexplained J6 cause
 IsReadRefusal blocks addrs (Stale cause) = IsShown J9 cause

@@ -7,7 +7,7 @@ use Rattle.journal_world.specs.Addresses.{kind_of, is_valid, slot_of}
 use Rattle.journal_world.specs.Maps.{Map, Pair, SamePairs, value_among, value_at, is_value_at}
 use Rattle.journal_world.specs.Histories.{Entry, is_trusted, latest}
 use Rattle.journal_core.specs.declared.refusal_number.RefusalNumber.TheVariants.{J6, J9, J13}
-use Rattle.journal_core.specs.Causes.{Told, IsUnexplained}
+use Rattle.journal_core.specs.Causes.{CauseState, IsUnexplained}
 use Rattle.journal_twophase.specs.Journals.{IsShown}
 use Rattle.journal_twophase.specs.Transactions.{TxnState, holds_above}
 use Rattle.journal_records.specs.declared.request.Action.TheVariants.{Compare, Write}
@@ -45,7 +45,7 @@ abbrev pub DiffersAt : Map → Part → Type 0
 DiffersAt m p = (p.action ≡ Compare) × (value_at m p.addr ≢ p.value)
 
 -- why a part is refused. Never because another has its slot
-abbrev pub IsPartRefusal : ℕ → Part → Refusal Told → Type 0
+abbrev pub IsPartRefusal : ℕ → Part → Refusal CauseState → Type 0
 IsPartRefusal blocks p (Closed cause) = IsUnexplained J13 cause
 IsPartRefusal blocks p (DeviceFailed cause) = IsUnexplained J6 cause
 IsPartRefusal blocks p (Stale cause) = IsShown J9 cause
@@ -55,10 +55,10 @@ IsPartRefusal blocks p NoMemory = Unit {0}
 IsPartRefusal blocks p other = ⊥
 
 -- why a part is given up, where the transaction has then seen this
-abbrev pub IsPartFault : ℕ → Part → List Entry → PartFault Told → Type 0
+abbrev pub IsPartFault : ℕ → Part → List Entry → PartFault CauseState → Type 0
 IsPartFault blocks p seen Differs = IsTrue (is_trusted seen) → DiffersAt (latest seen) p
 IsPartFault blocks p seen (Refused why) = IsPartRefusal blocks p why
 
 -- why some are
-abbrev pub IsPartsFault : ℕ → List Part → List Entry → PartFault Told → Type 0
+abbrev pub IsPartsFault : ℕ → List Part → List Entry → PartFault CauseState → Type 0
 IsPartsFault blocks ps seen fault = (p : Part) × Contains ps p × IsPartFault blocks p seen fault

@@ -26,14 +26,14 @@ pub enum PartFault<C> {
 }
 
 // Why a part of a transaction of the journal is given up.
-pub(crate) type GivenUp<'b, J> = PartFault<Cause<'b, J, AnyMap>>;
+pub(crate) type PartEnd<'b, J> = PartFault<Cause<'b, J, AnyMap>>;
 
 // Does the parts, one after another.
 pub(crate) fn do_parts<'j, 'b, D: BlockDisk, J: Naming, W: Wait>(
     rt: &W,
     txn: &mut Txn<'j, 'b, D, AnyMap, J>,
     parts: &[Part],
-) -> Result<(), GivenUp<'b, J>>
+) -> Result<(), PartEnd<'b, J>>
     requires ascending { IsNonDecreasingBy order_of parts.now }
     requires held { txn.old.held ≡ [] }
     requires writes { txn.old.writes ≡ [] }
@@ -52,7 +52,7 @@ fn do_part<'j, 'b, D: BlockDisk, J: Naming, W: Wait>(
     rt: &W,
     txn: &mut Txn<'j, 'b, D, AnyMap, J>,
     part: &Part,
-) -> Result<(), GivenUp<'b, J>>
+) -> Result<(), PartEnd<'b, J>>
     requires ready { IsReady txn.old part.now }
     ensures does { OnOk result (Does (part.now ∷ []) txn.old txn.new) }
     ensures held { OnOk result (txn.new.held ≡ with_slot txn.old.held (slot_number part.now.addr)) }
@@ -70,7 +70,7 @@ fn compare<'j, 'b, D: BlockDisk, J: Naming, W: Wait>(
     rt: &W,
     txn: &mut Txn<'j, 'b, D, AnyMap, J>,
     part: &Part,
-) -> Result<(), GivenUp<'b, J>>
+) -> Result<(), PartEnd<'b, J>>
     requires ready { IsReady txn.old part.now }
     requires action { part.now.action ≡ Compare }
     ensures does { OnOk result (Does (part.now ∷ []) txn.old txn.new) }
@@ -95,7 +95,7 @@ fn write<'j, 'b, D: BlockDisk, J: Naming, W: Wait>(
     rt: &W,
     txn: &mut Txn<'j, 'b, D, AnyMap, J>,
     part: &Part,
-) -> Result<(), GivenUp<'b, J>>
+) -> Result<(), PartEnd<'b, J>>
     requires ready { IsReady txn.old part.now }
     requires action { part.now.action ≡ Write }
     ensures does { OnOk result (Does (part.now ∷ []) txn.old txn.new) }

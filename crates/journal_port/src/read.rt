@@ -13,7 +13,7 @@ ghost use Rattle.journal_port.specs.Answers.{IsAddrRefusal, IsReadRefusal, IsRea
 use journal_disk::BlockDisk;
 use journal_history::{Naming, Session};
 use journal_records::{Answer, Refused};
-use journal_twophase::{Journal, Txn, Why};
+use journal_twophase::{Journal, JournalRefusal, Txn};
 use journal_world::{Addr, AnyMap, Value, slot_of};
 use std::alloc::{AllocError, Global};
 use std::sync::Wait;
@@ -60,7 +60,7 @@ fn read_values<'j, 'b, D: BlockDisk, J: Naming, W: Wait>(
     txn: &mut Txn<'j, 'b, D, AnyMap, J>,
     sorted: &[Addr],
     addrs: &[Addr],
-) -> Result<Vec<Value>, Why<'b, J, AnyMap>>
+) -> Result<Vec<Value>, JournalRefusal<'b, J, AnyMap>>
     requires ascending { IsNonDecreasingBy slot_number sorted.now }
     requires permutation { IsPermutation addrs.now sorted.now }
     requires held { txn.old.held ≡ [] }
@@ -80,7 +80,7 @@ fn take_slots<'j, 'b, D: BlockDisk, J: Naming, W: Wait>(
     rt: &W,
     txn: &mut Txn<'j, 'b, D, AnyMap, J>,
     addrs: &[Addr],
-) -> Result<(), Why<'b, J, AnyMap>>
+) -> Result<(), JournalRefusal<'b, J, AnyMap>>
     requires ascending { IsNonDecreasingBy slot_number addrs.now }
     requires held { txn.old.held ≡ [] }
     requires writes { txn.old.writes ≡ [] }
@@ -101,7 +101,7 @@ fn read_each<'j, 'b, D: BlockDisk, J: Naming, W: Wait>(
     alloc: Global,
     txn: &mut Txn<'j, 'b, D, AnyMap, J>,
     addrs: &[Addr],
-) -> Result<Vec<Value>, Why<'b, J, AnyMap>>
+) -> Result<Vec<Value>, JournalRefusal<'b, J, AnyMap>>
     requires held { All (λ a. IsTrue (holds txn.old.held (slot_number a))) addrs.now }
     requires writes { txn.old.writes ≡ [] }
     ensures reads { IfOk result (λ values. IsTrue (is_trusted txn.old.seen) → AreRead txn.new.reads (zip addrs.now values.items)) }
@@ -124,7 +124,7 @@ fn read_one<'j, 'b, D: BlockDisk, J: Naming, W: Wait>(
     rt: &W,
     txn: &mut Txn<'j, 'b, D, AnyMap, J>,
     addr: Addr,
-) -> Result<Value, Why<'b, J, AnyMap>>
+) -> Result<Value, JournalRefusal<'b, J, AnyMap>>
     requires ascends { IsBelowHeld (slot_number addr) txn.old.held → ⊥ }
     requires writes { txn.old.writes ≡ [] }
     ensures reads { IfOk result (λ value. SamePairs txn.new.reads ((addr, value) ∷ txn.old.reads)) }

@@ -11,7 +11,7 @@ use crate::read::read;
 use journal_disk::BlockDisk;
 use journal_history::{Naming, Session};
 use journal_records::{Answer, Refused, Request, VERSION};
-use journal_twophase::{Journal, Why};
+use journal_twophase::{Journal, JournalRefusal};
 use journal_world::AnyMap;
 use std::alloc::Global;
 use std::sync::Wait;
@@ -70,7 +70,7 @@ pub fn answer<'b, D: BlockDisk, J: Naming, W: Wait>(
         journal,
         terms,
     };
-    match answer_soon(rt, &port, session, request) {
+    match answer_no_wait(rt, &port, session, request) {
         Answer::Unsure { place, commits } => {
             let stable = await_stable(rt, journal, session);
             settled(place, commits, stable)
@@ -80,7 +80,7 @@ pub fn answer<'b, D: BlockDisk, J: Naming, W: Wait>(
 }
 
 // Answers a request, but does not wait until a commit is stable: one that is to wait is answered `Unsure`.
-pub(crate) fn answer_soon<'b, D: BlockDisk, J: Naming, W: Wait>(
+pub(crate) fn answer_no_wait<'b, D: BlockDisk, J: Naming, W: Wait>(
     rt: &W,
     port: &Port<'_, 'b, D, J>,
     session: &mut Session<'b, J, AnyMap>,
@@ -157,7 +157,7 @@ fn make_stable<'b, D: BlockDisk, J: Naming, W: Wait>(
     rt: &W,
     journal: &Journal<'b, D, AnyMap, J>,
     session: &mut Session<'b, J, AnyMap>,
-) -> Result<u64, Why<'b, J, AnyMap>>
+) -> Result<u64, JournalRefusal<'b, J, AnyMap>>
     ensures stable { IfOk result (IsFlushed session.old session.new) }
     ensures session { OnlyExtends session.old session.new }
     ensures refusal { IfErr result (IsWaitRefusal session.new) }

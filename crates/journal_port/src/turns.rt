@@ -8,7 +8,7 @@ ghost use Rattle.journal_records.specs.Frames.{IsRecordOf};
 ghost use Rattle.journal_port.specs.Answers.{settled};
 ghost use Rattle.journal_port.specs.Served.{AppendsFront, AreSpelled, Writes, texts, IsFoundAnswer, Turns, EndsTurn, Replies, RepliesInPart, refused_for};
 
-use crate::respond::{Port, answer_soon, await_stable, settled};
+use crate::respond::{Port, answer_no_wait, await_stable, settled};
 use crate::serving::ConnFault;
 use crate::streams::write_whole;
 use journal_disk::BlockDisk;
@@ -106,7 +106,7 @@ fn reply<'b, D: BlockDisk, J: Naming, H: Wait>(
     ensures { IsFoundAnswer J.blocks port.now.terms.may_stop session.new.seen found session.old session.new result }
 {
     match found {
-        Ok(request) => answer_soon(rt, port, session, request),
+        Ok(request) => answer_no_wait(rt, port, session, request),
         Err(fault) => Answer::Refused(refused_for(fault)),
     }
 }

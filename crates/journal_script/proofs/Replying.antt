@@ -16,20 +16,20 @@ use Rattle.journal_core.specs.Openings.{IsOpenRefusal}
 use Rattle.journal_disk.specs.MemDisks.{MemState, state_of, disk_from}
 use Rattle.journal_script.specs.declared.script.Next.{Next}
 use Rattle.journal_script.specs.declared.script.Next.TheVariants as nexts
-use Rattle.journal_script.specs.declared.up.Opening.{Opening}
-use Rattle.journal_script.specs.declared.up.Opening.TheVariants as openings
+use Rattle.journal_script.specs.declared.mounted.Opening.{Opening}
+use Rattle.journal_script.specs.declared.mounted.Opening.TheVariants as openings
 use Rattle.journal_script.proofs.Talking.{talks_none, talks_more, leaves_join, leaves_opened}
 use Rattle.journal_script.specs.Downs.{ObeysDown, AnswersDown}
 use Rattle.journal_script.specs.Answers.{Refuses}
 use Rattle.journal_command.specs.Commands.{LineSays}
 use Rattle.journal_script.specs.Transcripts.{Streams, IsAnswerTo, IsOpening, IsOpened, Talks, TakesOneLine, AsksOpening, Prints, ComesTo, ComesToBy, ComesToCrash, Opens, OpensToCrash, RefusesOpening}
-use Rattle.journal_core.specs.Causes.{Told}
+use Rattle.journal_core.specs.Causes.{CauseState}
 use Rattle.journal_script.specs.Clients.{ClientState, IsRefusal, IsRefused, GivesAnswer, Replies, AnswersLine, FlowGoesOn}
 
 -- ---- replies of a journal
 
 -- what a call gave or was refused goes on
-pub replies_plain : (blocks : ℕ) (old : ClientState) (command : Command) (r : Result Answer (Refusal Told)) (flow : ControlFlow Crash Answer)
+pub replies_plain : (blocks : ℕ) (old : ClientState) (command : Command) (r : Result Answer (Refusal CauseState)) (flow : ControlFlow Crash Answer)
     → ((answer : Answer) → GivesAnswer blocks command answer ⊎ IsRefused (IsRefusal command) answer → Replies blocks old command (Continue answer) old)
     → IfOk r (GivesAnswer blocks command) → IfErr r (IsRefusal command) → FlowGoesOn r flow → Replies blocks old command flow old
 replies_plain blocks old command (Ok answer) flow replies gives refused goes =
@@ -58,7 +58,7 @@ pub opens_up_ok : {E : Type 0} (r : Result Next E) (opening : Opening) (crash : 
 opens_up_ok (Ok next) opening crash a c told leaves = opens_up opening crash a c next told leaves
 opens_up_ok (Err stop) opening crash a c told leaves = tt
 
-told_refused : (line : List ℕ) (before after : DiskState) (why : Refusal Told) (answer : Answer) → IsOpenRefusal (λ _. Unit {0}) before after why → Refuses why answer → IsOpened answer
+told_refused : (line : List ℕ) (before after : DiskState) (why : Refusal CauseState) (answer : Answer) → IsOpenRefusal (λ _. Unit {0}) before after why → Refuses why answer → IsOpened answer
 told_refused line before after why (answers.Refused told) refusal refuses = (before, after, (why, refusal, refuses))
 told_refused line before after why answer refusal refuses = absurd refuses
 
@@ -77,7 +77,7 @@ opens_refused openings.Asked a b next disk why (is, (answer, refuses, prints)) t
   subst (λ (n : Next). ComesTo n b b) (sym is) (settled, talks_none b),
 )
 
-pub opens_refused_ok : {E : Type 0} (r : Result Next E) (opening : Opening) (a b : Streams) (disk : MemState) (before after : DiskState) (why : Refusal Told) → IfOk r (RefusesOpening opening why disk a b)
+pub opens_refused_ok : {E : Type 0} (r : Result Next E) (opening : Opening) (a b : Streams) (disk : MemState) (before after : DiskState) (why : Refusal CauseState) → IfOk r (RefusesOpening opening why disk a b)
     → IsOpenRefusal (λ _. Unit {0}) before after why → IsSettled disk.past → IfOk r (Opens opening a b)
 opens_refused_ok (Ok next) opening a b disk before after why refused refusal settled =
     opens_refused opening a b next disk why refused (λ answer refuses. told_refused a.line before after why answer refusal refuses) settled

@@ -8,7 +8,7 @@ use Rattle.journal_world.specs.declared.refusal.Refusal.TheVariants.{NoMemory}
 use Rattle.journal_world.specs.Addresses.{Value}
 use Rattle.journal_world.specs.Histories.{is_fenced}
 use Rattle.journal_history.specs.Tokens.{SessionState, CommitPlace, OnlyExtends}
-use Rattle.journal_core.specs.Causes.{Told}
+use Rattle.journal_core.specs.Causes.{CauseState}
 use Rattle.journal_twophase.specs.Journals.{IsFenceRefusal, IsLogRefusal, IsInstallRefusal}
 use Rattle.journal_twophase.specs.Transactions.{TxnState, core_of, begun, holding, ReadsValue, Overwrites, IsReadRefusal, IsOverwriteRefusal}
 use Rattle.journal_twophase.specs.Commits.{IsCommitted, ShowsFence, IsTryRefusal}
@@ -67,14 +67,14 @@ pub record CommitsAndEnds (t : TxnState) (old : ClientState) (n : ℕ) (new : Cl
   pub ended : new.txn ≡ None
 
 -- It was refused, and is ended
-pub record RefusesAndEnds (t : TxnState) (old : ClientState) (why : Refusal Told) (new : ClientState) : Type 0 where
+pub record RefusesAndEnds (t : TxnState) (old : ClientState) (why : Refusal CauseState) (new : ClientState) : Type 0 where
   pub refused : IsTryRefusal (core_of t) old.session why
   pub fenced : ShowsFence new.session why
   pub session : OnlyExtends old.session new.session
   pub ended : new.txn ≡ None
 
 -- what a commit answers, and does to the open transaction
-abbrev pub CommitsOpen : ClientState → Result Answer (Refusal Told) → ClientState → Type 0
+abbrev pub CommitsOpen : ClientState → Result Answer (Refusal CauseState) → ClientState → Type 0
 CommitsOpen old (Ok (answers.Committed n)) new = MatchOption old.txn ⊥ (λ t. CommitsAndEnds t old n new)
 CommitsOpen old (Ok answers.NoTransaction) new = (old.txn ≡ None) × (new ≡ old)
 CommitsOpen old (Ok answer) new = ⊥
@@ -87,13 +87,13 @@ pub record FencesSession (old new : ClientState) : Type 0 where
   pub txn : new.txn ≡ old.txn
 
 -- The fence was refused
-pub record RefusesFence (old : ClientState) (why : Refusal Told) (new : ClientState) : Type 0 where
+pub record RefusesFence (old : ClientState) (why : Refusal CauseState) (new : ClientState) : Type 0 where
   pub refused : IsFenceRefusal why
   pub session : OnlyExtends old.session new.session
   pub txn : new.txn ≡ old.txn
 
 -- what a fence answers
-abbrev pub FencesOwn : ClientState → Result Answer (Refusal Told) → ClientState → Type 0
+abbrev pub FencesOwn : ClientState → Result Answer (Refusal CauseState) → ClientState → Type 0
 FencesOwn old (Ok answers.Done) new = FencesSession old new
 FencesOwn old (Ok answer) new = ⊥
 FencesOwn old (Err why) new = RefusesFence old why new
@@ -103,13 +103,13 @@ abbrev pub most_of : Option ℕ → ℕ
 most_of most = unwrap_or most 18446744073709551615
 
 -- why a step is refused
-abbrev pub IsStepRefusal : Actor → Refusal Told → Type 0
+abbrev pub IsStepRefusal : Actor → Refusal CauseState → Type 0
 IsStepRefusal actors.Logger why = IsLogRefusal why
 IsStepRefusal actors.Installer why = IsInstallRefusal why
 IsStepRefusal actors.Waiter why = IsLogRefusal why ⊎ IsInstallRefusal why
 
 -- why a command is refused that looks at no transaction
-abbrev pub IsRefusal : Command → Refusal Told → Type 0
+abbrev pub IsRefusal : Command → Refusal CauseState → Type 0
 IsRefusal commands.Wait why = IsStepRefusal actors.Waiter why
 IsRefusal (commands.Log most) why = IsStepRefusal actors.Logger why
 IsRefusal (commands.Install most) why = IsStepRefusal actors.Installer why
@@ -120,8 +120,8 @@ IsRefusal (commands.Crash choice) why = why ≡ NoMemory
 IsRefusal command why = ⊥
 
 -- the answer is a refusal, which may come
-abbrev pub IsRefused : (Refusal Told → Type 0) → Answer → Type 0
-IsRefused may_come answer = (why : Refusal Told) × may_come why × Refuses why answer
+abbrev pub IsRefused : (Refusal CauseState → Type 0) → Answer → Type 0
+IsRefused may_come answer = (why : Refusal CauseState) × may_come why × Refuses why answer
 
 -- what a command gives that is done and looks at no transaction, of a journal over so many blocks
 abbrev pub GivesAnswer : ℕ → Command → Answer → Type 0

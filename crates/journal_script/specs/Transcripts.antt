@@ -16,9 +16,9 @@ use Rattle.journal_core.specs.Openings.{IsOpenRefusal}
 use Rattle.journal_script.specs.declared.client.Crash.{Crash}
 use Rattle.journal_script.specs.declared.script.Next.{Next}
 use Rattle.journal_script.specs.declared.script.Next.TheVariants as nexts
-use Rattle.journal_script.specs.declared.stop.Stop.{Stop}
-use Rattle.journal_script.specs.declared.up.Opening.{Opening}
-use Rattle.journal_script.specs.declared.up.Opening.TheVariants as openings
+use Rattle.journal_script.specs.declared.script_fault.ScriptFault.{ScriptFault}
+use Rattle.journal_script.specs.declared.mounted.Opening.{Opening}
+use Rattle.journal_script.specs.declared.mounted.Opening.TheVariants as openings
 use Rattle.journal_script.specs.Answers.{answer_line, Refuses}
 use Rattle.journal_script.specs.Clients.{ClientState, IsRefused, AnswersLine as AnswersUp}
 use Rattle.journal_script.specs.Downs.{AnswersDown}
@@ -130,7 +130,7 @@ pub record IsTranscript (left held new : Option (List ℕ)) (bad : Bool) : Type 
   pub bad_lines : bad ≡ some_bad turns
 
 -- A script came to its end, with bad lines or with none, or it was given up
-abbrev pub Runs : Option (List ℕ) → Option (List ℕ) → Option (List ℕ) → Result Bool Stop → Type 0
+abbrev pub Runs : Option (List ℕ) → Option (List ℕ) → Option (List ℕ) → Result Bool ScriptFault → Type 0
 Runs left held new (Ok bad) = IsTranscript left held new bad
 Runs left held new (Err stop) = Unit {0}
 

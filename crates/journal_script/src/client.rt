@@ -13,7 +13,7 @@ use journal_block::Block;
 use journal_command::{Choice, Command, Room};
 use journal_disk::MemDisk;
 use journal_history::{Naming, Session};
-use journal_twophase::{Journal, Txn, Why};
+use journal_twophase::{Journal, JournalRefusal, Txn};
 use journal_world::{Addr, AnyMap, Refusal};
 use std::alloc::Global;
 use std::marker::Model;
@@ -24,7 +24,7 @@ use std::sync::Wait;
 pub type Mount<'b, J> = Journal<'b, MemDisk, AnyMap, J>;
 
 // What a journal answers, or why it refuses.
-type Answered<'b, J> = Result<Answer, Why<'b, J, AnyMap>>;
+type Answered<'b, J> = Result<Answer, JournalRefusal<'b, J, AnyMap>>;
 
 /// How the journal is to end.
 #[derive(Drop)]
@@ -62,7 +62,7 @@ impl<'j, 'b, J: Naming> Client<'j, 'b, J> {
         alloc: Global,
         blocks: u64,
         journal: &'j Mount<'b, J>,
-    ) -> Result<Client<'j, 'b, J>, Why<'b, J, AnyMap>>
+    ) -> Result<Client<'j, 'b, J>, JournalRefusal<'b, J, AnyMap>>
         requires blocks { blocks ≡ J.blocks }
         ensures nothing { IfOk result (λ client. client.txn ≡ None) }
         ensures refusal { IfErr result IsSessionRefusal }
@@ -257,7 +257,7 @@ impl<'j, 'b, J: Naming> Client<'j, 'b, J> {
         rt: &W,
         choice: Choice<'_>,
         opens: bool,
-    ) -> Result<Crash, Why<'b, J, AnyMap>>
+    ) -> Result<Crash, JournalRefusal<'b, J, AnyMap>>
         ensures chosen { IfOk result (λ crash. IsChosen choice.entry crash.numbers.items) }
         ensures opens { IfOk result (λ crash. crash.opens ≡ opens) }
         ensures refusal { IsOkUnless result Refusal.NoMemory }

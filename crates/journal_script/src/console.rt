@@ -3,7 +3,7 @@ ghost use Rattle.std.specs.Prelude.{◌≡◌, false, OnOk, IfOk};
 ghost use Rattle.journal_script.specs.Transcripts.{streams, TakesLineOrEnd, Prints};
 
 use crate::answer::Answer;
-use crate::stop::Stop;
+use crate::script_fault::ScriptFault;
 use journal_command::{Lines, Room};
 use std::alloc::Global;
 use std::io::{Read, Write};
@@ -36,7 +36,7 @@ impl<I: Read> Model for Console<I> {
 
 impl<I: Read + Drop> Console<I> {
     /// Takes the memory.
-    pub fn new(alloc: Global, input: I) -> Result<Console<I>, Stop>
+    pub fn new(alloc: Global, input: I) -> Result<Console<I>, ScriptFault>
         ensures left { IfOk result (λ console. console.left ≡ I.remaining input) }
         ensures bad { IfOk result (λ console. console.bad ≡ false) }
     {
@@ -49,23 +49,23 @@ impl<I: Read + Drop> Console<I> {
 
     /// Reads the next line. `false` at the end of the input. Where the line is not at hand, what was printed is
     /// written out first, since the writer of the input may wait for that answer.
-    pub fn advance<O: Write>(&mut self, output: &mut O) -> Result<bool, Stop>
+    pub fn advance<O: Write>(&mut self, output: &mut O) -> Result<bool, ScriptFault>
         ensures { IfOk result (TakesLineOrEnd (streams self.old (O.contents output.old)) (streams self.new (O.contents output.new))) }
     {
         if !self.lines.is_at_hand() {
-            output.flush().map_err(|_| Stop::CannotWrite)?;
+            output.flush().map_err(|_| ScriptFault::CannotWrite)?;
         }
-        self.lines.advance().map_err(|_| Stop::CannotRead)
+        self.lines.advance().map_err(|_| ScriptFault::CannotRead)
     }
 
     /// Prints an answer.
-    pub fn print<O: Write>(&mut self, answer: &Answer, output: &mut O) -> Result<(), Stop>
+    pub fn print<O: Write>(&mut self, answer: &Answer, output: &mut O) -> Result<(), ScriptFault>
         ensures { OnOk result (Prints answer.now (streams self.old (O.contents output.old)) (streams self.new (O.contents output.new))) }
     {
         if matches!(answer, Answer::BadLine) {
             self.some_bad = true;
         }
-        answer.print(output).map_err(|_| Stop::CannotWrite)
+        answer.print(output).map_err(|_| ScriptFault::CannotWrite)
     }
 
     /// Whether some line was bad.

@@ -13,11 +13,11 @@ mod answer;
 mod blocks;
 mod client;
 mod console;
-mod down;
+mod mounted;
 mod script;
+mod script_fault;
 mod steps;
-mod stop;
-mod up;
+mod unmounted;
 
 pub use script::run;
-pub use stop::Stop;
+pub use script_fault::ScriptFault;

@@ -7,9 +7,9 @@ ghost use Rattle.journal_script.specs.Transcripts.{streams, ComesTo, Runs};
 ghost use Rattle.journal_command.specs.Asks.{IsSize};
 
 use crate::console::Console;
-use crate::stop::Stop;
-use crate::up::Opening;
-use crate::{down, up};
+use crate::mounted::Opening;
+use crate::script_fault::ScriptFault;
+use crate::{mounted, unmounted};
 use journal_disk::MemDisk;
 use journal_inode::{FormatVersion, format};
 use journal_world::{Moment, Refused};
@@ -37,7 +37,7 @@ pub fn run<W: Wait, I: Read, O: Write>(
     blocks: u64,
     input: &mut I,
     output: &mut O,
-) -> Result<bool, Stop>
+) -> Result<bool, ScriptFault>
     requires { IsSize blocks }
 
     // The output gained the answers of all lines of the input, in order, of which some is a bad line exactly where it says
@@ -50,14 +50,14 @@ pub fn run<W: Wait, I: Read, O: Write>(
 }
 
 // A disk without files, of so many blocks. A script has no clock: the root directory's time is 0.
-fn new_disk(alloc: Global, blocks: u64) -> Result<MemDisk, Stop>
+fn new_disk(alloc: Global, blocks: u64) -> Result<MemDisk, ScriptFault>
     requires { IsSize blocks }
     ensures settled { IfOk result (λ disk. IsSettled disk.past) }
     ensures formatted { IfOk result (λ disk. IsFormatted FormatVersion.One blocks no_time (read_of disk.past)) }
 {
     let disk = match MemDisk::new::<()>(alloc, blocks) {
         Ok(disk) => disk,
-        Err(why) => return Err(Stop::refused(why)),
+        Err(why) => return Err(ScriptFault::refused(why)),
     };
     match format(
         alloc,
@@ -66,7 +66,7 @@ fn new_disk(alloc: Global, blocks: u64) -> Result<MemDisk, Stop>
         FormatVersion::One,
     ) {
         Ok(disk) => Ok(disk),
-        Err(Refused { refusal, .. }) => Err(Stop::refused(refusal)),
+        Err(Refused { refusal, .. }) => Err(ScriptFault::refused(refusal)),
     }
 }
 
@@ -77,18 +77,18 @@ fn answer_all<W: Wait, I: Read + Drop, O: Write>(
     blocks: u64,
     console: &mut Console<I>,
     output: &mut O,
-) -> Result<(), Stop>
+) -> Result<(), ScriptFault>
     requires { IsSize blocks }
     ensures { OnOk result (ComesTo Next.End (streams console.old (O.contents output.old)) (streams console.new (O.contents output.new))) }
 {
     let disk = new_disk(alloc, blocks)?;
-    let mut next = up::run(rt, alloc, disk, Opening::First, console, output)?;
+    let mut next = mounted::run(rt, alloc, disk, Opening::First, console, output)?;
     for _ in 0..u64::MAX {
         next = match next {
-            Next::Open(disk) => up::run(rt, alloc, disk, Opening::Asked, console, output)?,
-            Next::Down(disk) => down::run(alloc, disk, console, output)?,
+            Next::Open(disk) => mounted::run(rt, alloc, disk, Opening::Asked, console, output)?,
+            Next::Down(disk) => unmounted::run(alloc, disk, console, output)?,
             Next::End => return Ok(()),
         };
     }
-    Err(Stop::CannotRead)
+    Err(ScriptFault::CannotRead)
 }

@@ -4,7 +4,7 @@ ghost use Rattle.journal_script.specs.Clients.{IsStepRefusal};
 
 use journal_disk::MemDisk;
 use journal_history::Naming;
-use journal_twophase::{Journal, Why};
+use journal_twophase::{Journal, JournalRefusal};
 use journal_world::{AnyMap, Step};
 use std::sync::Wait;
 
@@ -23,7 +23,7 @@ pub fn drive<'b, J: Naming, W: Wait>(
     journal: &Journal<'b, MemDisk, AnyMap, J>,
     actor: Actor,
     most: u64,
-) -> Result<u64, Why<'b, J, AnyMap>>
+) -> Result<u64, JournalRefusal<'b, J, AnyMap>>
     ensures moved { IfOk result (λ moved. moved ≤ most) }
     ensures refusal { IfErr result (IsStepRefusal actor) }
 {
@@ -40,7 +40,7 @@ fn step<'b, J: Naming, W: Wait>(
     rt: &W,
     journal: &Journal<'b, MemDisk, AnyMap, J>,
     actor: Actor,
-) -> Result<Step, Why<'b, J, AnyMap>>
+) -> Result<Step, JournalRefusal<'b, J, AnyMap>>
     ensures { IfErr result (IsStepRefusal actor) }
 {
     match actor {
@@ -55,7 +55,7 @@ fn step<'b, J: Naming, W: Wait>(
 fn wait_step<'b, J: Naming, W: Wait>(
     rt: &W,
     journal: &Journal<'b, MemDisk, AnyMap, J>,
-) -> Result<Step, Why<'b, J, AnyMap>>
+) -> Result<Step, JournalRefusal<'b, J, AnyMap>>
     ensures { IfErr result (IsStepRefusal Actor.Waiter) }
 {
     let stat = journal.stat(rt);

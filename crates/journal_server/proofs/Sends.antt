@@ -12,14 +12,14 @@ use Rattle.journal_inode.specs.declared.version.FormatVersion.{FormatVersion}
 use Rattle.journal_inode.specs.declared.node.Time.{Time}
 use Rattle.journal_rpc.specs.Stream.{Stream}
 use Rattle.journal_rpc.specs.Calls.{Message, message}
-use Rattle.journal_nfs3.specs.declared.soon.SoonReply.{SoonReply}
-use Rattle.journal_server.specs.declared.holding.HeldReply.{HeldReply}
-use Rattle.journal_server.specs.declared.holding.Holding.{Holding}
+use Rattle.journal_nfs3.specs.declared.pending.PendingReply.{PendingReply}
+use Rattle.journal_server.specs.declared.reply_batch.BatchEntry.{BatchEntry}
+use Rattle.journal_server.specs.declared.reply_batch.ReplyBatch.{ReplyBatch}
 use Rattle.journal_server.specs.declared.replying.Turn.{Turn}
 use Rattle.journal_server.specs.declared.replying.Turn.TheVariants as turns
 use Rattle.journal_server.specs.Output.{IsReply, AllReplies}
 use Rattle.journal_server.specs.Serving.{SoFar}
-use Rattle.journal_server.specs.Holding.{IsSoon, Doing, doing, IsHeld, IsInOrder, total, AreFree, IsCovered, AreCovered, AreWaitedFor, held_of, Settles, SendsSettled, SendsInPart, SendsBehind, SendsBehindInPart}
+use Rattle.journal_server.specs.ReplyBatches.{IsNoWaitReply, Doing, doing, IsHeld, IsInOrder, total, AreFree, IsCovered, AreCovered, AreWaitedFor, held_of, Settles, SendsSettled, SendsInPart, SendsBehind, SendsBehindInPart}
 use Rattle.journal_server.specs.Sending.{AppendsFront, Filled, EndsTurn, Lost, SentSome, Sent, SentUpToBad, SentInPart}
 use Rattle.journal_server.proofs.Answering.{one_more}
 use Rattle.journal_server.proofs.Staying.{replies_grow, all_are_replies}
@@ -28,7 +28,7 @@ use Rattle.journal_server.proofs.Settling.{one_behind, replies_told, replies_lat
 
 -- ---- a turn, once its replies are told
 
-module _ (version : FormatVersion) (tells : Time → Type 0) (verifier : List ℕ) (history : List Entry) (old new : Stream) (before middle now : SessionState) (hs : List HeldReply) (bytes text : List ℕ) (count counted : ℕ)
+module _ (version : FormatVersion) (tells : Time → Type 0) (verifier : List ℕ) (history : List Entry) (old new : Stream) (before middle now : SessionState) (hs : List BatchEntry) (bytes text : List ℕ) (count counted : ℕ)
     (settles : Settles history hs bytes text) (more : OnlyExtends middle now) (quiet : hs ≡ [] → now ≡ middle) where
   told : (rs : List (List ℕ)) (held : List ℕ) → bytes ≡ held → AllReplies (IsHeld version tells verifier) rs (doing before hs) (doing middle []) held → AllReplies (IsReply version tells verifier history) rs before now text
   told rs held same h =
@@ -59,13 +59,13 @@ sent_stays version tells verifier history longer old new before now held holds c
 
 -- ---- what is held, in order
 
-pub order_fits : (h : Holding CommitPlace) → IsInOrder h → h.free ≤ length h.bytes.items
+pub order_fits : (h : ReplyBatch CommitPlace) → IsInOrder h → h.free ≤ length h.bytes.items
 order_fits h o =
     let all : total h.replies.items ≡ total o.front + total o.others = ap total o.is ∙ total-append o.front o.others in
     omega (arith, all, o.fits, o.free)
 
 -- the same replies, in other room
-pub order_same : (a b : Holding CommitPlace) → b.replies.items ≡ a.replies.items → b.bytes.items ≡ a.bytes.items → b.free ≡ a.free → b.latest ≡ a.latest → IsInOrder a → IsInOrder b
+pub order_same : (a b : ReplyBatch CommitPlace) → b.replies.items ≡ a.replies.items → b.bytes.items ≡ a.bytes.items → b.free ≡ a.free → b.latest ≡ a.latest → IsInOrder a → IsInOrder b
 order_same a b replies bytes free latest o = record {
   front = o.front;
   others = o.others;
@@ -77,7 +77,7 @@ order_same a b replies bytes free latest o = record {
 }
 
 -- nothing is held
-pub order_none : (h : Holding CommitPlace) → h.replies.items ≡ [] → h.bytes.items ≡ [] → h.free ≡ 0 → h.latest ≡ None → IsInOrder h
+pub order_none : (h : ReplyBatch CommitPlace) → h.replies.items ≡ [] → h.bytes.items ≡ [] → h.free ≡ 0 → h.latest ≡ None → IsInOrder h
 order_none h replies bytes free latest = record {
   front = [];
   others = [];
@@ -88,38 +88,38 @@ order_none h replies bytes free latest = record {
   waited = subst (λ (l : Option CommitPlace). AreWaitedFor l []) (sym latest) refl;
 }
 
-snoc_some : (a : List HeldReply) (e : HeldReply) → a ++ e ∷ [] ≢ []
+snoc_some : (a : List BatchEntry) (e : BatchEntry) → a ++ e ∷ [] ≢ []
 snoc_some [] e = λ is. absurd cc
 snoc_some (h ∷ a) e = λ is. absurd cc
 
 -- One more is held
-module _ (old new : Holding CommitPlace) (e : HeldReply) (reply : List ℕ) (o : IsInOrder old) (replies : new.replies.items ≡ old.replies.items ++ e ∷ []) (bytes : new.bytes.items ≡ old.bytes.items ++ reply) (long : e.length ≡ length reply) where
+module _ (old new : ReplyBatch CommitPlace) (e : BatchEntry) (reply : List ℕ) (o : IsInOrder old) (replies : new.replies.items ≡ old.replies.items ++ e ∷ []) (bytes : new.bytes.items ≡ old.bytes.items ++ reply) (long : e.length ≡ length reply) where
   fits_more : total new.replies.items ≡ length new.bytes.items
   fits_more =
       let one : total (e ∷ []) ≡ length reply = omega (arith, long) in
       omega (arith, ap total replies, total-append old.replies.items (e ∷ []), one, o.fits, ap length bytes, length-append old.bytes.items reply)
 
   -- it is owed nothing, and neither is any before it
-  pub order_free : old.latest ≡ None → new.latest ≡ None → e.owed ≡ None → new.free ≡ length new.bytes.items → IsInOrder new
-  order_free none still owed free =
+  pub order_free : old.latest ≡ None → new.latest ≡ None → e.wait ≡ None → new.free ≡ length new.bytes.items → IsInOrder new
+  order_free none still wait free =
       let empty : o.others ≡ [] = subst (λ (l : Option CommitPlace). AreWaitedFor l o.others) none o.waited in
-      let all : AreFree old.replies.items = subst AreFree (sym (o.is ∙ ap (λ (b : List HeldReply). o.front ++ b) empty ∙ append-nil o.front)) o.is_free in
+      let all : AreFree old.replies.items = subst AreFree (sym (o.is ∙ ap (λ (b : List BatchEntry). o.front ++ b) empty ∙ append-nil o.front)) o.is_free in
       record {
         front = old.replies.items ++ e ∷ [];
         others = [];
         is = replies ∙ sym (append-nil (old.replies.items ++ e ∷ []));
         fits = fits_more;
-        is_free = free-append old.replies.items (e ∷ []) all (owed, tt);
+        is_free = free-append old.replies.items (e ∷ []) all (wait, tt);
         free = free ∙ sym fits_more ∙ ap total replies;
         waited = subst (λ (l : Option CommitPlace). AreWaitedFor l []) (sym still) refl;
       }
 
   -- the receipt that is waited for covers it, and those before it
-  pub order_waits : (receipt : CommitPlace) → new.latest ≡ Some receipt → new.free ≡ old.free → IsCovered receipt.count e.owed → ((l : CommitPlace) → old.latest ≡ Some l → l.count ≤ receipt.count) → IsInOrder new
+  pub order_waits : (receipt : CommitPlace) → new.latest ≡ Some receipt → new.free ≡ old.free → IsCovered receipt.count e.wait → ((l : CommitPlace) → old.latest ≡ Some l → l.count ≤ receipt.count) → IsInOrder new
   order_waits receipt waits free covered later = record {
     front = o.front;
     others = o.others ++ e ∷ [];
-    is = replies ∙ ap (λ (b : List HeldReply). b ++ e ∷ []) o.is ∙ append_assoc o.front o.others (e ∷ []);
+    is = replies ∙ ap (λ (b : List BatchEntry). b ++ e ∷ []) o.is ∙ append_assoc o.front o.others (e ∷ []);
     fits = fits_more;
     is_free = o.is_free;
     free = free ∙ o.free;
@@ -151,7 +151,7 @@ latest_below taken l n is below r some = subst (λ (o : Option CommitPlace). IfS
 
 -- ---- what is sent of it
 
-module _ (history : List Entry) (h : Holding CommitPlace) (o : IsInOrder h) where
+module _ (history : List Entry) (h : ReplyBatch CommitPlace) (o : IsInOrder h) where
   -- each reply is covered by a mark
   pub covered_so : (receipt : CommitPlace) → h.latest ≡ Some receipt → receipt.count ≤ floor history → Settles history h.replies.items h.bytes.items h.bytes.items
   covered_so receipt waits low =
@@ -163,7 +163,7 @@ module _ (history : List Entry) (h : Holding CommitPlace) (o : IsInOrder h) wher
   pub none_waits : {A : Type 0} (receipt : CommitPlace) → h.latest ≡ Some receipt → h.replies.items ≡ [] → A
   none_waits receipt waits none = absurd ((subst (λ (l : Option CommitPlace). AreWaitedFor l o.others) waits o.waited).0 (behind_none o.front o.others (sym o.is ∙ none)))
     where
-      behind_none : (a b : List HeldReply) → a ++ b ≡ [] → b ≡ []
+      behind_none : (a b : List BatchEntry) → a ++ b ≡ [] → b ≡ []
       behind_none [] b is = is
       behind_none (x ∷ a) b is = absurd cc
 
@@ -171,7 +171,7 @@ module _ (history : List Entry) (h : Holding CommitPlace) (o : IsInOrder h) wher
   pub free_so : h.latest ≡ None → Settles history h.replies.items h.bytes.items h.bytes.items × (take h.free h.bytes.items ≡ h.bytes.items)
   free_so none =
       let empty : o.others ≡ [] = subst (λ (l : Option CommitPlace). AreWaitedFor l o.others) none o.waited in
-      let front : h.replies.items ≡ o.front = o.is ∙ ap (λ (b : List HeldReply). o.front ++ b) empty ∙ append-nil o.front in
+      let front : h.replies.items ≡ o.front = o.is ∙ ap (λ (b : List BatchEntry). o.front ++ b) empty ∙ append-nil o.front in
       let whole : h.free ≡ length h.bytes.items = o.free ∙ sym (ap total front) ∙ o.fits in
       (settles_same history h.replies.items h.bytes.items (subst (AreCovered (floor history)) (sym front) (free_covered (floor history) o.front o.is_free)) o.fits, ap (λ (n : ℕ). take n h.bytes.items) whole ∙ take_length h.bytes.items)
     where
@@ -181,7 +181,7 @@ module _ (history : List Entry) (h : Holding CommitPlace) (o : IsInOrder h) wher
   -- the bytes of the first are the first of what is told
   module _ (text : List ℕ) (settles : Settles history h.replies.items h.bytes.items text) where
     kept : (front : List ℕ) × (more : List ℕ) × (rest : List ℕ) × (h.bytes.items ≡ front ++ more) × (text ≡ front ++ rest) × (length front ≡ total o.front)
-    kept = front_kept history o.front o.others h.bytes.items text o.is_free (subst (λ (hs : List HeldReply). Settles history hs h.bytes.items text) o.is settles)
+    kept = front_kept history o.front o.others h.bytes.items text o.is_free (subst (λ (hs : List BatchEntry). Settles history hs h.bytes.items text) o.is settles)
 
     long : length kept.0 ≡ h.free
     long = kept.5 ∙ sym o.free
@@ -239,7 +239,7 @@ module _ (history : List Entry) (h : Holding CommitPlace) (o : IsInOrder h) wher
 
 -- ---- in two pieces, the first of which goes out before the wait
 
-module _ (h : Holding CommitPlace) (o : IsInOrder h) (front : List ℕ) (is : front ≡ take h.free h.bytes.items) where
+module _ (h : ReplyBatch CommitPlace) (o : IsInOrder h) (front : List ℕ) (is : front ≡ take h.free h.bytes.items) where
   -- the first were not all written
   pub breaks_before : (history : List Entry) (a b : Option (List ℕ)) → AppendsFront a b front → SendsInPart history h a b
   breaks_before history a b part = breaks_first history h o a b (record { front = part.front; rest = part.rest; is = sym is ∙ part.is; appends = part.appends })
@@ -270,29 +270,29 @@ module _ (h : Holding CommitPlace) (o : IsInOrder h) (front : List ℕ) (is : fr
     refused_part two = sends_front history h o two.text two.settles a b c first_sent two.sent
 
 -- memory was refused for what is told
-pub sends_none_behind : (history : List Entry) (h : Holding CommitPlace) (b : Option (List ℕ)) → IsInOrder h → SendsBehindInPart history h b b
+pub sends_none_behind : (history : List Entry) (h : ReplyBatch CommitPlace) (b : Option (List ℕ)) → IsInOrder h → SendsBehindInPart history h b b
 sends_none_behind history h b o =
     let s = settles_somehow history h.replies.items h.bytes.items o.fits in
     record { text = s.0; settles = s.1; sent = record { front = []; rest = drop h.free s.0; is = refl; appends = Appends-nil b } }
 
-pub sends_behind : (history : List Entry) (h : Holding CommitPlace) (text back : List ℕ) (b c : Option (List ℕ)) → Settles history h.replies.items h.bytes.items text → back ≡ drop h.free text → Appends b c back → SendsBehind history h b c
+pub sends_behind : (history : List Entry) (h : ReplyBatch CommitPlace) (text back : List ℕ) (b c : Option (List ℕ)) → Settles history h.replies.items h.bytes.items text → back ≡ drop h.free text → Appends b c back → SendsBehind history h b c
 sends_behind history h text back b c settles is two = record { text = text; settles = settles; sent = subst (Appends b c) is two }
 
-pub sends_part_behind : (history : List Entry) (h : Holding CommitPlace) (text back : List ℕ) (b c : Option (List ℕ)) → Settles history h.replies.items h.bytes.items text → back ≡ drop h.free text → AppendsFront b c back
+pub sends_part_behind : (history : List Entry) (h : ReplyBatch CommitPlace) (text back : List ℕ) (b c : Option (List ℕ)) → Settles history h.replies.items h.bytes.items text → back ≡ drop h.free text → AppendsFront b c back
     → SendsBehindInPart history h b c
 sends_part_behind history h text back b c settles is two =
     record { text = text; settles = settles; sent = record { front = two.front; rest = two.rest; is = sym is ∙ two.is; appends = two.appends } }
 
 -- ---- calls that are done, and held
 
-module _ (version : FormatVersion) (tells : Time → Type 0) (verifier : List ℕ) (rs : List (List ℕ)) (start middle : SessionState) (hs : List HeldReply) (text : List ℕ) (h : AllReplies (IsHeld version tells verifier) rs (doing start hs) (doing middle []) text) where
+module _ (version : FormatVersion) (tells : Time → Type 0) (verifier : List ℕ) (rs : List (List ℕ)) (start middle : SessionState) (hs : List BatchEntry) (text : List ℕ) (h : AllReplies (IsHeld version tells verifier) rs (doing start hs) (doing middle []) text) where
   -- one more
-  pub holds_one : (r : List ℕ) (call : Message) (now : SessionState) (soon : SoonReply CommitPlace) (all : List HeldReply) → message r ≡ Some call → IsSoon version tells verifier call middle now soon → all ≡ hs ++ held_of call.xid soon ∷ []
+  pub holds_one : (r : List ℕ) (call : Message) (now : SessionState) (soon : PendingReply CommitPlace) (all : List BatchEntry) → message r ≡ Some call → IsNoWaitReply version tells verifier call middle now soon → all ≡ hs ++ held_of call.xid soon ∷ []
       → AllReplies (IsHeld version tells verifier) (rs ++ r ∷ []) (doing start all) (doing now []) (text ++ soon.reply.items)
   holds_one r call now soon all is done e =
       let known = held_of call.xid soon in
       let held : IsHeld version tells verifier call (doing middle (known ∷ [])) (doing now []) soon.reply.items = record { soon = soon; done = done; known = refl; is = refl } in
-      subst (λ (b : List HeldReply). AllReplies (IsHeld version tells verifier) (rs ++ r ∷ []) (doing start b) (doing now []) (text ++ soon.reply.items)) (sym e)
+      subst (λ (b : List BatchEntry). AllReplies (IsHeld version tells verifier) (rs ++ r ∷ []) (doing start b) (doing now []) (text ++ soon.reply.items)) (sym e)
       (one_more (IsHeld version tells verifier) rs r call (doing start (hs ++ known ∷ [])) (doing middle (known ∷ [])) (doing now []) text soon.reply.items
       (one_behind version tells verifier known rs (doing start hs) (doing middle []) text h) is held)
 
@@ -303,7 +303,7 @@ module _ (version : FormatVersion) (tells : Time → Type 0) (verifier : List �
       (s.0, replies_told version tells verifier history rs (doing start hs) (doing middle []) text s.0 h refl s.1)
 
 -- so many bytes more
-pub fits_one : (hs others : List HeldReply) (text : List ℕ) (xid : ℕ) (soon : SoonReply CommitPlace) → total hs ≡ length text → others ≡ hs ++ held_of xid soon ∷ [] → total others ≡ length (text ++ soon.reply.items)
+pub fits_one : (hs others : List BatchEntry) (text : List ℕ) (xid : ℕ) (soon : PendingReply CommitPlace) → total hs ≡ length text → others ≡ hs ++ held_of xid soon ∷ [] → total others ≡ length (text ++ soon.reply.items)
 fits_one hs others text xid soon fits e =
     let one : total (held_of xid soon ∷ []) ≡ length soon.reply.items = omega arith in
     omega (arith, fits, ap total e, total-append hs (held_of xid soon ∷ []), one, length-append text soon.reply.items)
@@ -350,7 +350,7 @@ loses_turn version tells verifier old mid before between now held half count sof
     (sent_stays version tells verifier between.seen now.seen old mid before between held half count sofar (all_grow version tells verifier now.seen e.answered between now e.text e.replied) h) e
 
 -- A turn behind others, whose replies are held and then sent
-module _ (version : FormatVersion) (tells : Time → Type 0) (verifier : List ℕ) (turn : Turn) (old mid new : Stream) (before between done now : SessionState) (held half : Option (List ℕ)) (h : Holding CommitPlace) (count sofar counted : ℕ)
+module _ (version : FormatVersion) (tells : Time → Type 0) (verifier : List ℕ) (turn : Turn) (old mid new : Stream) (before between done now : SessionState) (held half : Option (List ℕ)) (h : ReplyBatch CommitPlace) (count sofar counted : ℕ)
     (so_far : SentSome (IsReply version tells verifier between.seen) old mid before between held half count sofar)
     (come : EndsTurn (IsHeld version tells verifier) turn mid new (doing between h.replies.items) (doing done []) [] h.bytes.items sofar counted)
     (more : OnlyExtends done now) (quiet : h.replies.items ≡ [] → now ≡ done) where

@@ -8,7 +8,7 @@ use Rattle.journal_world.specs.Histories.{Entry, commits_of, count, floor}
 use Rattle.journal_world.specs.Histories.Entry.{commit}
 use Rattle.journal_world.proofs.Marks.{floor-append-le}
 use Rattle.journal_history.specs.Tokens.{SessionState, OnlyExtends}
-use Rattle.journal_core.specs.Causes.{Told}
+use Rattle.journal_core.specs.Causes.{CauseState}
 use Rattle.journal_inode.specs.declared.version.FormatVersion.{FormatVersion}
 use Rattle.journal_inode.specs.declared.node.Time.{Time}
 use Rattle.journal_filestore.specs.declared.fault.Fault.{Fault}
@@ -21,7 +21,7 @@ use Rattle.journal_nfs3.specs.Arguments.{Operation, Null, GetAttributes, SetAttr
 use Rattle.journal_nfs3.specs.Handles.{FileHandle}
 use Rattle.journal_nfs3.specs.Results.{Results}
 use Rattle.journal_nfs3.specs.Calls.{asks}
-use Rattle.journal_nfs3.specs.Served.{Standing, marked, owing, IsAnsweredAs, TellsOutcome, Performs, ServesAs, has_to_wait, is_accepted, CommitsOnceAt, IsMarked}
+use Rattle.journal_nfs3.specs.Served.{Standing, marked, awaiting, IsAnsweredAs, TellsOutcome, Performs, ServesAs, has_to_wait, is_accepted, CommitsOnceAt, IsMarked}
 use Rattle.journal_nfs3.specs.Answers.{ServesCall}
 use Rattle.journal_nfs3.proofs.Marked.{HasMarked, serves_marked_in}
 use Rattle.journal_server.specs.Output.{IsReply, IsRepliedUnlessBad, RepliesUpToBad, AllReplies}
@@ -36,11 +36,11 @@ grows-same old new e = ([], append-nil old.seen ∙ ap (λ (s : SessionState). s
 grows-trans : (old mid new : SessionState) → Grows old mid → Grows mid new → Grows old new
 grows-trans old mid new p q = (p.0 ++ q.0, sym (append_assoc old.seen p.0 q.0) ∙ ap (λ (h : List Entry). h ++ q.0) p.1 ∙ q.1)
 
-answer_grows : {A : Type 0} (version : FormatVersion) (standing : Standing) (w : Bool) (case : Files → Result A Status → Files → Type 0) (old new : SessionState) (answer : Result (Result A Status) (Fault Told)) → IsAnsweredAs version standing w case old new answer → Grows old new
+answer_grows : {A : Type 0} (version : FormatVersion) (standing : Standing) (w : Bool) (case : Files → Result A Status → Files → Type 0) (old new : SessionState) (answer : Result (Result A Status) (Fault CauseState)) → IsAnsweredAs version standing w case old new answer → Grows old new
 answer_grows version standing w case old new (Ok v) d = d.made.extends
 answer_grows version standing w case old new (Err (Refused why)) d = d.0.seen
 answer_grows version (marked history) w case old new (Err (Unsure why)) d = d.1.2.extends
-answer_grows version (owing owed) w case old new (Err (Unsure why)) d = absurd d
+answer_grows version (awaiting wait) w case old new (Err (Unsure why)) d = absurd d
 
 tells_grows : {A : Type 0} (version : FormatVersion) (standing : Standing) (handle : Option FileHandle) (w : Bool) (case : FileHandle → Files → Result A Status → Files → Type 0) (old new : SessionState) (outcome : _) → TellsOutcome version standing handle w case old new outcome → Grows old new
 tells_grows version standing None w case old new outcome h = grows-same old new h.1

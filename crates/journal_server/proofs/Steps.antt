@@ -9,19 +9,19 @@ use Rattle.std.proofs.lemmas.List.Elements.{All-head, All-rest}
 use Rattle.crossbeam_channel.specs.Claims.{Pass}
 use Rattle.crossbeam_channel.specs.Fifo.{Pushes, Pops, Forks, Merges, Learns}
 use Rattle.atomic_table.proofs.Lists.{at_set, at_snoc}
-use Rattle.journal_server.specs.declared.line.Hand.{Hand}
-use Rattle.journal_server.specs.declared.line.Job.{Job}
-use Rattle.journal_server.specs.declared.line.Job.TheVariants.{Serve, Stop}
+use Rattle.journal_server.specs.declared.queue.PassState.{PassState}
+use Rattle.journal_server.specs.declared.queue.Job.{Job}
+use Rattle.journal_server.specs.declared.queue.Job.TheVariants.{Serve, Stop}
 use Rattle.journal_server.specs.declared.workers.Work.{Work}
-use Rattle.journal_server.specs.Lines.{IsWork, hand, both, below, numbers_by, HasEachOnce, numbers, times, total, IdleIsEmpty, IsBalanced}
+use Rattle.journal_server.specs.Queues.{IsWork, pass_state, both, below, numbers_by, HasEachOnce, numbers, times, total, IdleIsEmpty, IsBalanced}
 
 -- the total after a change of one pass
-total_set : (f : Hand → ℕ) (views : List Hand) (port : ℕ) (v w : Hand) → get_elem? views port ≡ some v → total f (set views port w) + f v ≡ total f views + f w
+total_set : (f : PassState → ℕ) (views : List PassState) (port : ℕ) (v w : PassState) → get_elem? views port ≡ some v → total f (set views port w) + f v ≡ total f views + f w
 total_set f [] port v w e = absurd (some-ne-none v (sym e))
 total_set f (u ∷ us) zero v w e = let s : f u ≡ f v = ap f (some-injective u v e) in omega arith
 total_set f (u ∷ us) (suc port) v w e = let s = total_set f us port v w e in omega arith
 
-total_snoc : (f : Hand → ℕ) (views : List Hand) (w : Hand) → total f (views ++ w ∷ []) ≡ total f views + f w
+total_snoc : (f : PassState → ℕ) (views : List PassState) (w : PassState) → total f (views ++ w ∷ []) ≡ total f views + f w
 total_snoc f [] w = omega arith
 total_snoc f (u ∷ us) w = let s = total_snoc f us w in omega arith
 
@@ -37,18 +37,18 @@ numbers_append (Stop ∷ js) ks = numbers_append js ks
 times_numbers : {T : Type 0} → (x : ℕ) (js ks : List (Job T)) → times x (numbers (js ++ ks)) ≡ times x (numbers js) + times x (numbers ks)
 times_numbers x js ks = ap (times x) (numbers_append js ks) ∙ times_append x (numbers js) (numbers ks)
 
-abbrev Idle : Hand → Type 0
+abbrev Idle : PassState → Type 0
 Idle w = w.parts ≡ 0 → (w.put ≡ []) × (w.taken ≡ [])
 
-idle_set : (views : List Hand) (port : ℕ) (w : Hand) → Idle w → IdleIsEmpty views → IdleIsEmpty (set views port w)
+idle_set : (views : List PassState) (port : ℕ) (w : PassState) → Idle w → IdleIsEmpty views → IdleIsEmpty (set views port w)
 idle_set views port w mine others j u e = ⊎_elim (λ (s : (j ≡ port) × (w ≡ u)). subst Idle s.1 mine) (λ (s : (j ≢ port) × (get_elem? views j ≡ some u)). others j u s.1) (at_set views port j w u e)
 
-idle_snoc : (views : List Hand) (w : Hand) → Idle w → IdleIsEmpty views → IdleIsEmpty (views ++ w ∷ [])
+idle_snoc : (views : List PassState) (w : PassState) → Idle w → IdleIsEmpty views → IdleIsEmpty (views ++ w ∷ [])
 idle_snoc views w mine others j u e = ⊎_elim (λ (s : get_elem? views j ≡ some u). others j u s) (λ (s : w ≡ u). subst Idle s mine) (at_snoc views w u j e)
 
-pub puts : {T : Type 0} → (n port : ℕ) (v : Hand) (x : Job T) → 0 < v.parts → Pushes IsBalanced n port v x (λ w. w ≡ hand v.parts (v.put ++ numbers (x ∷ [])) v.taken)
+pub puts : {T : Type 0} → (n port : ℕ) (v : PassState) (x : Job T) → 0 < v.parts → Pushes IsBalanced n port v x (λ w. w ≡ pass_state v.parts (v.put ++ numbers (x ∷ [])) v.taken)
 puts n port v x part items views room b at =
-    let w : Hand = hand v.parts (v.put ++ numbers (x ∷ [])) v.taken in (
+    let w : PassState = pass_state v.parts (v.put ++ numbers (x ∷ [])) v.taken in (
       w,
       (
         (let s = total_set (λ u. u.parts) views port v w at in let p = b.0 in omega arith),
@@ -62,9 +62,9 @@ puts n port v x part items views room b at =
       refl,
     )
 
-pub takes : {T : Type 0} → (port : ℕ) (v : Hand) → 0 < v.parts → Pops (IsBalanced {T = T}) port v (λ x w. w ≡ hand v.parts v.put (v.taken ++ numbers (x ∷ [])))
+pub takes : {T : Type 0} → (port : ℕ) (v : PassState) → 0 < v.parts → Pops (IsBalanced {T = T}) port v (λ x w. w ≡ pass_state v.parts v.put (v.taken ++ numbers (x ∷ [])))
 takes port v part x items views b at =
-    let w : Hand = hand v.parts v.put (v.taken ++ numbers (x ∷ [])) in (
+    let w : PassState = pass_state v.parts v.put (v.taken ++ numbers (x ∷ [])) in (
       w,
       (
         (let s = total_set (λ u. u.parts) views port v w at in let p = b.0 in omega arith),
@@ -78,10 +78,10 @@ takes port v part x items views b at =
       refl,
     )
 
-pub forks : {T : Type 0} → (port : ℕ) (v : Hand) → 1 < v.parts → Forks (IsBalanced {T = T}) port v (hand (v.parts - 1) v.put v.taken) (hand 1 [] [])
+pub forks : {T : Type 0} → (port : ℕ) (v : PassState) → 1 < v.parts → Forks (IsBalanced {T = T}) port v (pass_state (v.parts - 1) v.put v.taken) (pass_state 1 [] [])
 forks port v parts items views b at =
-    let l : Hand = hand (v.parts - 1) v.put v.taken in
-    let r : Hand = hand 1 [] [] in (
+    let l : PassState = pass_state (v.parts - 1) v.put v.taken in
+    let r : PassState = pass_state 1 [] [] in (
       (let s = total_set (λ u. u.parts) views port v l at in let p = b.0 in omega (arith, total_snoc (λ u. u.parts) (set views port l) r)),
       (λ k.
           let s = total_set (λ u. times k u.put) views port v l at in
@@ -91,11 +91,11 @@ forks port v parts items views b at =
       idle_snoc (set views port l) r (λ none. absurd (omega arith)) (idle_set views port l (λ none. absurd (omega arith)) b.2),
     )
 
-pub merges : {T : Type 0} → (port : ℕ) (v : Hand) (other : ℕ) (w : Hand) → 0 < v.parts → Merges (IsBalanced {T = T}) port v other w (both v w) (hand 0 [] [])
+pub merges : {T : Type 0} → (port : ℕ) (v : PassState) (other : ℕ) (w : PassState) → 0 < v.parts → Merges (IsBalanced {T = T}) port v other w (both v w) (pass_state 0 [] [])
 merges port v other w part items views b at apart there =
-    let all : Hand = both v w in
-    let none : Hand = hand 0 [] [] in
-    let vs : List Hand = set views port all in (
+    let all : PassState = both v w in
+    let none : PassState = pass_state 0 [] [] in
+    let vs : List PassState = set views port all in (
       (let s = total_set (λ u. u.parts) views port v all at in let t = total_set (λ u. u.parts) vs other w none there in let p = b.0 in omega arith),
       (λ k.
           let s = total_set (λ u. times k u.put) views port v all at in
@@ -108,25 +108,25 @@ merges port v other w part items views b at apart there =
     )
 
 -- what is 0 at each pass with no part
-abbrev Quiet : (Hand → ℕ) → List Hand → Type 0
-Quiet f views = (j : ℕ) (u : Hand) → get_elem? views j ≡ some u → u.parts ≡ 0 → f u ≡ 0
+abbrev Quiet : (PassState → ℕ) → List PassState → Type 0
+Quiet f views = (j : ℕ) (u : PassState) → get_elem? views j ≡ some u → u.parts ≡ 0 → f u ≡ 0
 
-part_le : (views : List Hand) (port : ℕ) (v : Hand) → get_elem? views port ≡ some v → v.parts ≤ total (λ u. u.parts) views
+part_le : (views : List PassState) (port : ℕ) (v : PassState) → get_elem? views port ≡ some v → v.parts ≤ total (λ u. u.parts) views
 part_le [] port v e = absurd (some-ne-none v (sym e))
-part_le (u ∷ us) zero v e = let s : u.parts ≡ v.parts = ap (λ (y : Hand). y.parts) (some-injective u v e) in omega arith
+part_le (u ∷ us) zero v e = let s : u.parts ≡ v.parts = ap (λ (y : PassState). y.parts) (some-injective u v e) in omega arith
 part_le (u ∷ us) (suc port) v e = let s = part_le us port v e in omega arith
 
-all_quiet : (f : Hand → ℕ) (views : List Hand) → Quiet f views → total (λ u. u.parts) views ≡ 0 → total f views ≡ 0
+all_quiet : (f : PassState → ℕ) (views : List PassState) → Quiet f views → total (λ u. u.parts) views ≡ 0 → total f views ≡ 0
 all_quiet f [] q none = refl
 all_quiet f (u ∷ us) q none =
     let a : f u ≡ 0 = q 0 u refl (omega arith) in
     let b = all_quiet f us (λ j y e. q (suc j) y e) (omega arith) in
     omega arith
 
-alone : (f : Hand → ℕ) (views : List Hand) (port : ℕ) (v : Hand) → Quiet f views → get_elem? views port ≡ some v → total (λ u. u.parts) views ≡ v.parts → total f views ≡ f v
+alone : (f : PassState → ℕ) (views : List PassState) (port : ℕ) (v : PassState) → Quiet f views → get_elem? views port ≡ some v → total (λ u. u.parts) views ≡ v.parts → total f views ≡ f v
 alone f [] port v q e all = absurd (some-ne-none v (sym e))
 alone f (u ∷ us) zero v q e all =
-    let p : u.parts ≡ v.parts = ap (λ (y : Hand). y.parts) (some-injective u v e) in
+    let p : u.parts ≡ v.parts = ap (λ (y : PassState). y.parts) (some-injective u v e) in
     let s : f u ≡ f v = ap f (some-injective u v e) in
     let b = all_quiet f us (λ j y h. q (suc j) y h) (omega arith) in
     omega arith
@@ -136,17 +136,17 @@ alone f (u ∷ us) (suc port) v q e all =
     let b = alone f us port v (λ j y h. q (suc j) y h) e (omega arith) in
     omega arith
 
-pub learns : {T : Type 0} → (port : ℕ) (v : Hand) → v.parts ≡ 5 → Learns (IsBalanced {T = T}) port v (λ items. (x : ℕ) → times x v.put ≡ times x v.taken + times x (numbers items))
+pub learns : {T : Type 0} → (port : ℕ) (v : PassState) → v.parts ≡ 5 → Learns (IsBalanced {T = T}) port v (λ items. (x : ℕ) → times x v.put ≡ times x v.taken + times x (numbers items))
 learns port v all items views b at k =
     let p = alone (λ u. times k u.put) views port v (λ j u e none. ap (times k) (b.2 j u e none).0) at (b.0 ∙ sym all) in
     let t = alone (λ u. times k u.taken) views port v (λ j u e none. ap (times k) (b.2 j u e none).1) at (b.0 ∙ sym all) in
     let q = b.1 k in
     omega arith
 
-pub begins : (T : Type 0) → IsBalanced {T = T} [] (hand 5 [] [] ∷ [])
-begins T = (refl, (λ k. refl), idle_set (hand 5 [] [] ∷ []) 0 (hand 5 [] []) (λ none. absurd (omega arith)) (λ j u e none. only j u e none)) where
-  only : (j : ℕ) (u : Hand) → get_elem? (hand 5 [] [] ∷ []) j ≡ some u → u.parts ≡ 0 → (u.put ≡ []) × (u.taken ≡ [])
-  only zero u e none = let s : 5 ≡ u.parts = ap (λ (y : Hand). y.parts) (some-injective (hand 5 [] []) u e) in absurd (omega arith)
+pub begins : (T : Type 0) → IsBalanced {T = T} [] (pass_state 5 [] [] ∷ [])
+begins T = (refl, (λ k. refl), idle_set (pass_state 5 [] [] ∷ []) 0 (pass_state 5 [] []) (λ none. absurd (omega arith)) (λ j u e none. only j u e none)) where
+  only : (j : ℕ) (u : PassState) → get_elem? (pass_state 5 [] [] ∷ []) j ≡ some u → u.parts ≡ 0 → (u.put ≡ []) × (u.taken ≡ [])
+  only zero u e none = let s : 5 ≡ u.parts = ap (λ (y : PassState). y.parts) (some-injective (pass_state 5 [] []) u e) in absurd (omega arith)
   only (suc j) u e none = absurd (some-ne-none u (sym e))
 
 pub numbers_of_append : {N : Type 0} (about : N → ℕ) (ns ms : List N) → numbers_by about (ns ++ ms) ≡ numbers_by about ns ++ numbers_by about ms
@@ -218,9 +218,9 @@ all_below_given items about E (Ok ns) given old new counted each = below_given (
 all_below_given items about E (Err e) given old new counted each = tt
 
 -- a worker's work was taken in
-pub took_in : {N : Type 0} (about : N → ℕ) (mine other new : Hand) (ns ms all : List N) → new ≡ both mine other → other.taken ≡ numbers_by about ms → all ≡ ns ++ ms → mine.taken ≡ numbers_by about ns → new.taken ≡ numbers_by about all
+pub took_in : {N : Type 0} (about : N → ℕ) (mine other new : PassState) (ns ms all : List N) → new ≡ both mine other → other.taken ≡ numbers_by about ms → all ≡ ns ++ ms → mine.taken ≡ numbers_by about ns → new.taken ≡ numbers_by about all
 took_in about mine other new ns ms all is whole moved same =
-    ap (λ (h : Hand). h.taken) is ∙ ap (λ l. l ++ other.taken) same ∙ ap (λ l. numbers_by about ns ++ l) whole ∙ sym (numbers_of_append about ns ms) ∙ ap (numbers_by about) (sym moved)
+    ap (λ (h : PassState). h.taken) is ∙ ap (λ l. l ++ other.taken) same ∙ ap (λ l. numbers_by about ns ++ l) whole ∙ sym (numbers_of_append about ns ms) ∙ ap (numbers_by about) (sym moved)
 
 -- all work was taken in, and nothing is left
 pub settled : (put done taken numbers : List ℕ) → done ≡ put → taken ≡ numbers → ((x : ℕ) → times x done ≡ times x taken) → (x : ℕ) → times x numbers ≡ times x put
@@ -301,5 +301,5 @@ next_promised {W} w all rest f line is h =
     (All-head P w rest (subst (All P) is h), All-rest P w rest all is h)
 
 -- a worker's work at one end of the queue is that at the other
-pub moved_work : {T N E : Type 0} (a b : E) (is_seat : E → Pass (Job T) Hand → Type 0) (about : N → ℕ) (w : Work T N) → a ≡ b → IsWork (is_seat a) about w → IsWork (is_seat b) about w
+pub moved_work : {T N E : Type 0} (a b : E) (is_seat : E → Pass (Job T) PassState → Type 0) (about : N → ℕ) (w : Work T N) → a ≡ b → IsWork (is_seat a) about w → IsWork (is_seat b) about w
 moved_work a b is_seat about w same h = subst (λ x. IsWork (is_seat x) about w) same h

@@ -1,6 +1,6 @@
 pub mod Connections
-pub mod Holding
-pub mod Lines
+pub mod ReplyBatches
+pub mod Queues
 pub mod Output
 pub mod Refusals
 pub mod Sending

@@ -5,8 +5,8 @@ ghost use Rattle.journal_server.specs.Output.{IsReply, RepliesUpToBad, records_o
 ghost use Rattle.journal_server.specs.Connections.{Exchanges, IsEnd, Closes, IsBeginning, IsBefore};
 ghost use Rattle.journal_server.specs.Serving.{Finished, Failed};
 
-use crate::holding::Holding;
 use crate::pieces::answer_piece;
+use crate::reply_batch::ReplyBatch;
 use crate::service::{Clock, Service};
 use crate::streams::read_piece;
 use journal_daemon::Gate;
@@ -197,7 +197,7 @@ fn answer_all<
         (R.remaining reader.old) (R.remaining reader.new) (W.contents writer.old) (W.contents writer.new) session.old session.new) }
 {
     let mut records = Records::new(service.alloc);
-    let Ok(mut holding) = Holding::new(service.alloc) else {
+    let Ok(mut batch) = ReplyBatch::new(service.alloc) else {
         return Err(ConnFault::NoMemory);
     };
     let mut answered = 0;
@@ -214,7 +214,7 @@ fn answer_all<
             service,
             session,
             &mut records,
-            &mut holding,
+            &mut batch,
             &mut answered,
             &buffer[..count],
             writer,

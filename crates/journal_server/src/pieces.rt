@@ -6,7 +6,7 @@ ghost use Rattle.journal_server.specs.Output.{IsReply};
 ghost use Rattle.journal_server.specs.Sending.{Takes, StreamGoesOn, EndsBad, SentInPart};
 
 use crate::connection::ConnFault;
-use crate::holding::Holding;
+use crate::reply_batch::ReplyBatch;
 use crate::replying::answer_and_send;
 use crate::service::{Clock, Service};
 use journal_daemon::Gate;
@@ -46,7 +46,7 @@ pub(crate) fn answer_piece<
     service: &Service<'_, 'b, D, J, V, C, G>,
     session: &mut Session<'b, J, SoundFiles<V>>,
     records: &mut Records,
-    holding: &mut Holding<Receipt<'b, J, SoundFiles<V>>>,
+    batch: &mut ReplyBatch<Receipt<'b, J, SoundFiles<V>>>,
     answered: &mut u64,
     piece: &[u8],
     writer: &mut W,
@@ -66,7 +66,7 @@ pub(crate) fn answer_piece<
         let Ok(taken) = take_piece(records, rest) else {
             return Err(ConnFault::NoMemory);
         };
-        let good = answer_and_send(rt, service, session, records, holding, answered, writer)?;
+        let good = answer_and_send(rt, service, session, records, batch, answered, writer)?;
         if !good {
             return Ok(false);
         }

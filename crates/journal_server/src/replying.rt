@@ -2,11 +2,11 @@
 ghost use Rattle.std.specs.Prelude.{◌≡◌, [], List, MatchBool, IfOk, OnOk, OnErr};
 ghost use Rattle.journal_world.specs.Histories.{Entry};
 ghost use Rattle.journal_server.specs.Output.{IsReply};
-ghost use Rattle.journal_server.specs.Holding.{IsHeld, IsInOrder, doing};
+ghost use Rattle.journal_server.specs.ReplyBatches.{IsHeld, IsInOrder, doing};
 ghost use Rattle.journal_server.specs.Sending.{EndsTurn, Lost, Sent, SentUpToBad, SentInPart};
 
 use crate::connection::ConnFault;
-use crate::holding::{Holding, send_held};
+use crate::reply_batch::{ReplyBatch, send_batch};
 use crate::service::{Clock, Service};
 use journal_daemon::Gate;
 use journal_disk::BlockDisk;
@@ -35,26 +35,26 @@ pub(crate) fn answer_waiting<'b, D: BlockDisk, J: Naming, V: Version, C: Clock, 
     service: &Service<'_, 'b, D, J, V, C, G>,
     session: &mut Session<'b, J, SoundFiles<V>>,
     records: &mut Records,
-    holding: &mut Holding<Receipt<'b, J, SoundFiles<V>>>,
+    batch: &mut ReplyBatch<Receipt<'b, J, SoundFiles<V>>>,
     answered: &mut u64,
 ) -> Result<Turn, AllocError>
     ensures answered { IfOk result (λ turn. EndsTurn (IsHeld V.VERSION (C.tells service.now.clock.now) service.now.verifier.0) turn
-        records.old records.new (doing session.old holding.new.replies.items) (doing session.new []) [] holding.new.bytes.items answered.old answered.new) }
-    ensures in_order { OnOk result (IsInOrder holding.new) }
+        records.old records.new (doing session.old batch.new.replies.items) (doing session.new []) [] batch.new.bytes.items answered.old answered.new) }
+    ensures in_order { OnOk result (IsInOrder batch.new) }
     ensures lost { OnErr result ((history : List Entry) → Lost (IsReply V.VERSION (C.tells service.now.clock.now) service.now.verifier.0 history)
         records.old session.old session.new) }
 {
-    holding.clear();
+    batch.clear();
     while let Some(record) = records.next() {
         let Some(call) = read_call(record.as_bytes()) else {
             return Ok(Turn::Stopped);
         };
         // The room is made before the call is done.
-        holding.make_room()?;
-        let soon = service.answer_soon(rt, session, &call, *answered)?;
-        holding.hold(call.xid, soon)?;
+        batch.make_room()?;
+        let soon = service.answer_no_wait(rt, session, &call, *answered)?;
+        batch.add_reply(call.xid, soon)?;
         *answered = answered.saturating_add(1);
-        if holding.is_full() {
+        if batch.is_full() {
             return Ok(Turn::Filled);
         }
     }
@@ -77,7 +77,7 @@ pub(crate) fn answer_and_send<
     service: &Service<'_, 'b, D, J, V, C, G>,
     session: &mut Session<'b, J, SoundFiles<V>>,
     records: &mut Records,
-    holding: &mut Holding<Receipt<'b, J, SoundFiles<V>>>,
+    batch: &mut ReplyBatch<Receipt<'b, J, SoundFiles<V>>>,
     answered: &mut u64,
     writer: &mut W,
 ) -> Result<bool, ConnFault>
@@ -90,10 +90,10 @@ pub(crate) fn answer_and_send<
         session.old session.new (W.contents writer.old) (W.contents writer.new)) }
 {
     loop {
-        let Ok(turn) = answer_waiting(rt, service, session, records, holding, answered) else {
+        let Ok(turn) = answer_waiting(rt, service, session, records, batch, answered) else {
             return Err(ConnFault::NoMemory);
         };
-        send_held(rt, service, session, holding, writer)?;
+        send_batch(rt, service, session, batch, writer)?;
         match turn {
             Turn::Emptied => return Ok(true),
             Turn::Filled => {}

@@ -4,14 +4,14 @@ ghost use Rattle.journal_rpc.specs.CallViews.{message_of};
 ghost use Rattle.journal_filestore.specs.Handles.{time_of};
 ghost use Rattle.journal_world.specs.Histories.{Entry};
 ghost use Rattle.journal_server.specs.Output.{IsReply};
-ghost use Rattle.journal_server.specs.Holding.{IsSoon};
+ghost use Rattle.journal_server.specs.ReplyBatches.{IsNoWaitReply};
 
 use journal_daemon::Gate;
 use journal_disk::BlockDisk;
 use journal_filestore::FileStore;
 use journal_history::{Naming, Receipt, Session};
 use journal_inode::{SoundFiles, Version};
-use journal_nfs3::{SoonReply, Verifier, answer_soon};
+use journal_nfs3::{PendingReply, Verifier, answer_no_wait};
 use journal_rpc::Call;
 use journal_world::Moment;
 use std::alloc::{AllocError, Global};
@@ -66,21 +66,21 @@ impl<'s, 'b, D: BlockDisk, J: Naming, V: Version, C: Clock, G: Gate> Service<
 > {
     // Answers the call number `n` of the connection up to its commit, at the moment at which it has passed the gate. Where
     // memory for the reply is refused the call is done all the same, and its reply is lost.
-    pub fn answer_soon<H: Wait>(
+    pub fn answer_no_wait<H: Wait>(
         &self,
         rt: &H,
         session: &mut Session<'b, J, SoundFiles<V>>,
         call: &Call<'_>,
         n: u64,
-    ) -> Result<SoonReply<Receipt<'b, J, SoundFiles<V>>>, AllocError>
-        ensures reply { IfOk result (IsSoon V.VERSION (C.tells self.now.clock.now) self.now.verifier.0 (message_of call.now) session.old session.new) }
+    ) -> Result<PendingReply<Receipt<'b, J, SoundFiles<V>>>, AllocError>
+        ensures reply { IfOk result (IsNoWaitReply V.VERSION (C.tells self.now.clock.now) self.now.verifier.0 (message_of call.now) session.old session.new) }
         ensures lost { OnErr result ((history : List Entry) → (reply : List ℕ) × IsReply V.VERSION (C.tells self.now.clock.now)
             self.now.verifier.0 history (message_of call.now) session.old session.new reply) }
     {
         let (files, clock) = (self.files, self.clock);
         self.gate.pass(rt, self.number, n);
         let moment = clock.now();
-        match answer_soon::<D, J, V, H, ()>(
+        match answer_no_wait::<D, J, V, H, ()>(
             rt,
             self.alloc,
             session,

@@ -20,7 +20,7 @@ const MILLIS: u64 = 1000;
 // connection waits, and while one does. A turn that times out counts as one of them.
 const SECS_ALONE: u64 = 300;
 
-const SECS_IN_CROWD: u64 = 5;
+const SECS_WHILE_OTHERS_WAIT: u64 = 5;
 
 // How many milliseconds a peer that still sends is waited for once its connection is closed, for each piece, and how many
 // pieces of what it sends are taken.
@@ -43,14 +43,14 @@ const PASSING: [i32; 8] = [4, 12, 23, 24, 71, 100, 103, 105];
 /// The connections that wait for a worker. A port and its connections share it, so that who holds a worker without need
 /// makes room.
 #[derive(Drop)]
-pub struct Crowd {
+pub struct WaitingConnections {
     waiting: AtomicU64,
 }
 
-impl Crowd {
+impl WaitingConnections {
     /// Nobody waits.
-    pub fn new() -> Crowd {
-        Crowd {
+    pub fn new() -> WaitingConnections {
+        WaitingConnections {
             waiting: AtomicU64::new(0),
         }
     }
@@ -73,7 +73,7 @@ impl Crowd {
 /// connection waits for a worker.
 pub struct Peer<'l, R: Clock> {
     stream: TcpStream,
-    crowd: &'l Crowd,
+    waiting: &'l WaitingConnections,
     rt: &'l R,
     // When a worker took it, or the peer last took a byte of a reply, in milliseconds of the clock.
     // Each record has a reply, so that this is also the time of the last record.
@@ -84,7 +84,7 @@ impl<'l, R: Clock> Drop for Peer<'l, R> {
     fn drop(self) {
         let Peer {
             stream: _,
-            crowd: _,
+            waiting: _,
             rt: _,
             since: _,
         } = self;
@@ -93,16 +93,16 @@ impl<'l, R: Clock> Drop for Peer<'l, R> {
 
 impl<'l, R: Clock> Peer<'l, R> {
     // A connection that was just taken, and waits for a worker.
-    fn new(rt: &'l R, stream: TcpStream, crowd: &'l Crowd) -> Peer<'l, R> {
+    fn new(rt: &'l R, stream: TcpStream, waiting: &'l WaitingConnections) -> Peer<'l, R> {
         // It is slower with Nagle's delay, and else the same. The system takes each limit of time but 0.
         let _ = stream.set_nodelay(true);
         let turn = Duration::from_secs(TURN_SECS);
         let _ = stream.set_read_timeout(Some(turn));
         let _ = stream.set_write_timeout(Some(turn));
-        crowd.join();
+        waiting.join();
         Peer {
             stream,
-            crowd,
+            waiting,
             rt,
             since: AtomicU64::new(millis(rt)),
         }
@@ -121,7 +121,7 @@ impl<'l, R: Clock> Peer<'l, R> {
 
     // Whether the peer is waited for no longer after so many seconds.
     fn is_over(&self, secs: u64) -> bool {
-        secs >= SECS_ALONE || (secs >= SECS_IN_CROWD && !self.crowd.is_empty())
+        secs >= SECS_ALONE || (secs >= SECS_WHILE_OTHERS_WAIT && !self.waiting.is_empty())
     }
 }
 
@@ -146,7 +146,7 @@ fn has_timed_out(call: &io::Result<usize>) -> bool {
 
 impl<R: Clock> Connection for Peer<'_, R> {
     fn begin(&self) {
-        self.crowd.leave();
+        self.waiting.leave();
         self.begin_anew();
     }
 
@@ -224,7 +224,7 @@ impl Port for TcpListener {
 /// Contracts see how many were taken, and whether taking one failed.
 pub struct Listening<'l, R: Clock, P: Port + Drop = TcpListener> {
     port: Option<P>,
-    crowd: &'l Crowd,
+    waiting: &'l WaitingConnections,
     rt: &'l R,
     wanted: u64,
     taken: u64,
@@ -235,7 +235,7 @@ impl<'l, R: Clock, P: Port + Drop> Drop for Listening<'l, R, P> {
     fn drop(self) {
         let Listening {
             port: _,
-            crowd: _,
+            waiting: _,
             rt: _,
             wanted: _,
             taken: _,
@@ -253,13 +253,18 @@ impl<'l, R: Clock, P: Port + Drop> Model for Listening<'l, R, P> {
 }
 
 impl<'l, R: Clock, P: Port + Drop> Listening<'l, R, P> {
-    /// Takes as many connections as are wanted. They wait in the crowd until a worker begins to serve them.
-    pub fn new(rt: &'l R, port: P, wanted: u64, crowd: &'l Crowd) -> Listening<'l, R, P>
+    /// Takes as many connections as are wanted. They wait until a worker begins to serve them.
+    pub fn new(
+        rt: &'l R,
+        port: P,
+        wanted: u64,
+        waiting: &'l WaitingConnections,
+    ) -> Listening<'l, R, P>
         ensures { result ≡ record { taken = 0; has_failed = false } }
     {
         Listening {
             port: (wanted > 0).then_some(port),
-            crowd,
+            waiting,
             rt,
             wanted,
             taken: 0,
@@ -317,6 +322,6 @@ impl<'l, R: Clock, P: Port + Drop> Source for Listening<'l, R, P> {
         if self.taken < self.wanted {
             self.port = Some(port);
         }
-        Some(Peer::new(self.rt, stream, self.crowd))
+        Some(Peer::new(self.rt, stream, self.waiting))
     }
 }

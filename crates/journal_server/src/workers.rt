@@ -3,15 +3,15 @@ ghost use Rattle.std.specs.Prelude.{◌≡◌, ◌-◌, ◌<◌, ◌+◌, ◌++�
 ghost use Rattle.std.specs.List.{All};
 ghost use Rattle.crossbeam_channel.specs.Claims.{view, IsSeatAt};
 ghost use Rattle.crossbeam_channel.specs.Ends.{sends_on, receives_on};
-ghost use Rattle.journal_server.specs.Lines.{hand, both, below, numbers_by, outcome_numbers, times, HasEachOnce, IsFresh, IsWork, IsUncut};
+ghost use Rattle.journal_server.specs.Queues.{pass_state, both, below, numbers_by, outcome_numbers, times, HasEachOnce, IsFresh, IsWork, IsUncut};
 ghost use Rattle.std.specs.Option.{ForSome};
 ghost use Rattle.journal_core.specs.declared.refusal_number.RefusalNumber.TheVariants.{J11};
 ghost use Rattle.journal_core.specs.Causes.{IsUnexplained};
 ghost use Rattle.journal_server.specs.Refusals.{IsWorkersRefusal};
 
+use crate::adapters::{Incoming, Outgoing};
 use crate::connection::{ConnFault, Served, serve};
-use crate::ends::{Incoming, Outgoing};
-use crate::line::{Balance, Cut, Drains, Hand, Job, LineReceiver, LineSender, Puts, Takes};
+use crate::queue::{Balance, Cut, Drains, Job, PassState, Puts, QueueReceiver, QueueSender, Takes};
 use crate::service::Clock;
 use crate::source::{Connection, Source};
 use crossbeam_channel::{Pass, bounded_with};
@@ -88,7 +88,7 @@ struct Refused<'b, J: Naming, V: Version> {
 }
 
 // What the workers share.
-struct Workshop<'s, 'b, D: BlockDisk, J: Naming, V: Version, C: Clock, G: Gate> {
+struct WorkerContext<'s, 'b, D: BlockDisk, J: Naming, V: Version, C: Clock, G: Gate> {
     alloc: Global,
     files: &'s FileStore<'b, D, J, V>,
     clock: &'s C,
@@ -98,9 +98,9 @@ struct Workshop<'s, 'b, D: BlockDisk, J: Naming, V: Version, C: Clock, G: Gate> 
 }
 
 impl<'s, 'b, D: BlockDisk, J: Naming, V: Version, C: Clock, G: Gate> Drop
-    for Workshop<'s, 'b, D, J, V, C, G> {
+    for WorkerContext<'s, 'b, D, J, V, C, G> {
     fn drop(self) {
-        let Workshop {
+        let WorkerContext {
             alloc: _,
             files: _,
             clock: _,
@@ -111,7 +111,7 @@ impl<'s, 'b, D: BlockDisk, J: Naming, V: Version, C: Clock, G: Gate> Drop
     }
 }
 
-impl<'s, 'b, D: BlockDisk, J: Naming, V: Version, C: Clock, G: Gate> Workshop<
+impl<'s, 'b, D: BlockDisk, J: Naming, V: Version, C: Clock, G: Gate> WorkerContext<
     's,
     'b,
     D,
@@ -127,7 +127,7 @@ impl<'s, 'b, D: BlockDisk, J: Naming, V: Version, C: Clock, G: Gate> Workshop<
         verifier: Verifier,
         gate: &'s G,
     ) -> Self {
-        Workshop {
+        WorkerContext {
             alloc,
             files,
             clock,
@@ -157,7 +157,7 @@ impl<'s, 'b, D: BlockDisk, J: Naming, V: Version, C: Clock, G: Gate> Workshop<
 }
 
 impl<'s, 'b, D: BlockDisk, J: Naming, V: Version, C: Clock, G: Gate, S: Connection + Drop> Serve<S>
-    for Workshop<'s, 'b, D, J, V, C, G> {
+    for WorkerContext<'s, 'b, D, J, V, C, G> {
     fn serve<H: Wait>(&self, rt: &H, number: u64, connection: S) -> Option<Outcome> {
         connection.begin();
         let (files, clock, gate) = (self.files, self.clock, self.gate);
@@ -190,7 +190,7 @@ impl<'s, 'b, D: BlockDisk, J: Naming, V: Version, C: Clock, G: Gate, S: Connecti
 // What a worker gives back: its pass, its notes, and whether there is one of each connection that it took.
 #[derive(Drop)]
 struct Work<S: Drop, N: Drop> {
-    pass: Pass<Job<S>, Hand>,
+    pass: Pass<Job<S>, PassState>,
     notes: Vec<N>,
     is_whole: bool,
 }
@@ -201,19 +201,19 @@ struct Work<S: Drop, N: Drop> {
 fn work_on<S: Drop, K: Serve<S>, N: Note + Drop, H: Wait>(
     rt: &H,
     alloc: Global,
-    shop: &K,
-    line: &LineReceiver<S>,
-    mut pass: Pass<Job<S>, Hand>,
+    context: &K,
+    queue: &QueueReceiver<S>,
+    mut pass: Pass<Job<S>, PassState>,
 ) -> Work<S, N>
-    requires { IsFresh (IsSeatAt (receives_on line.now)) pass }
-    ensures work { IsWork (IsSeatAt (receives_on line.now)) N.about result }
+    requires { IsFresh (IsSeatAt (receives_on queue.now)) pass }
+    ensures work { IsWork (IsSeatAt (receives_on queue.now)) N.about result }
 {
     let mut notes = Vec::new(alloc);
     let mut is_whole = true;
     for _ in rt.forever() {
         let has_room = notes.reserve(1).is_ok();
-        match line.recv_as::<Takes, H>(rt, &mut pass) {
-            Ok(Job::Serve(number, connection)) => match shop.serve(rt, number, connection) {
+        match queue.recv_as::<Takes, H>(rt, &mut pass) {
+            Ok(Job::Serve(number, connection)) => match context.serve(rt, number, connection) {
                 Some(outcome) if has_room => notes.push_reserved(N::of(number, outcome)),
                 _ => is_whole = false,
             },
@@ -228,7 +228,7 @@ fn work_on<S: Drop, K: Serve<S>, N: Note + Drop, H: Wait>(
 }
 
 // That a thread of a scope gives back a worker's work.
-struct Works<'l, S: Drop>(&'l LineReceiver<S>);
+struct Works<'l, S: Drop>(&'l QueueReceiver<S>);
 
 impl<'l, S: Drop> Drop for Works<'l, S> {
     fn drop(self) {
@@ -239,7 +239,7 @@ impl<'l, S: Drop> Drop for Works<'l, S> {
 impl<'l, S: Drop, N: Note + Drop> Promise<Work<S, N>> for Works<'l, S> {
     ghost use Rattle.crossbeam_channel.specs.Claims.{IsSeatAt};
     ghost use Rattle.crossbeam_channel.specs.Ends.{receives_on};
-    ghost use Rattle.journal_server.specs.Lines.{IsWork};
+    ghost use Rattle.journal_server.specs.Queues.{IsWork};
 
     ghost kept_by = { λ p work. IsWork (IsSeatAt (receives_on p.0.now)) N.about work };
 }
@@ -249,13 +249,13 @@ impl<'l, S: Drop, N: Note + Drop> Promise<Work<S, N>> for Works<'l, S> {
 fn hand_out<I: Source, H: Wait>(
     rt: &H,
     source: &mut I,
-    line: &LineSender<I::Connection>,
-    pass: &mut Pass<Job<I::Connection>, Hand>,
+    queue: &QueueSender<I::Connection>,
+    pass: &mut Pass<Job<I::Connection>, PassState>,
 ) -> Option<u64>
 where
     I::Connection: Drop,
-    requires { IsSeatAt (sends_on line.now) pass.old × (view pass.old ≡ hand 1 [] []) }
-    ensures seat { IsSeatAt (sends_on line.now) pass.new }
+    requires { IsSeatAt (sends_on queue.now) pass.old × (view pass.old ≡ pass_state 1 [] []) }
+    ensures seat { IsSeatAt (sends_on queue.now) pass.new }
     ensures part { ((view pass.new).parts ≡ 1) × ((view pass.new).taken ≡ []) }
     ensures put { IfSome result (λ n. (view pass.new).put ≡ below n) }
     ensures given { IfSome result (λ n. I.given source.new ≡ I.given source.old + n) }
@@ -266,7 +266,7 @@ where
             None => return Some(number),
         };
         // It is not refused, since the receiver is kept until the workers have ended.
-        if line
+        if queue
             .send_as::<Puts, H>(rt, pass, Job::Serve(number, connection))
             .is_err()
         {
@@ -277,54 +277,61 @@ where
 }
 
 // Tells one worker to end.
-fn stop<S: Drop, H: Wait>(rt: &H, line: &LineSender<S>, pass: &mut Pass<Job<S>, Hand>)
-    requires { IsSeatAt (sends_on line.now) pass.old × (0 < (view pass.old).parts) }
-    ensures seat { IsSeatAt (sends_on line.now) pass.new }
+fn stop<S: Drop, H: Wait>(rt: &H, queue: &QueueSender<S>, pass: &mut Pass<Job<S>, PassState>)
+    requires { IsSeatAt (sends_on queue.now) pass.old × (0 < (view pass.old).parts) }
+    ensures seat { IsSeatAt (sends_on queue.now) pass.new }
     ensures same { view pass.new ≡ view pass.old }
 {
-    let _ = line.send_as::<Puts, H>(rt, pass, Job::Stop);
+    let _ = queue.send_as::<Puts, H>(rt, pass, Job::Stop);
 }
 
 // Tells all workers to end.
-fn stop_all<S: Drop, H: Wait>(rt: &H, line: &LineSender<S>, pass: &mut Pass<Job<S>, Hand>)
-    requires { IsSeatAt (sends_on line.now) pass.old × (0 < (view pass.old).parts) }
-    ensures seat { IsSeatAt (sends_on line.now) pass.new }
+fn stop_all<S: Drop, H: Wait>(rt: &H, queue: &QueueSender<S>, pass: &mut Pass<Job<S>, PassState>)
+    requires { IsSeatAt (sends_on queue.now) pass.old × (0 < (view pass.old).parts) }
+    ensures seat { IsSeatAt (sends_on queue.now) pass.new }
     ensures same { view pass.new ≡ view pass.old }
 {
     for _ in 0..WORKERS {
-        stop(rt, line, pass);
+        stop(rt, queue, pass);
     }
 }
 
 // Cuts a part off.
-fn cut<S: Drop>(line: &LineSender<S>, pass: &mut Pass<Job<S>, Hand>) -> Pass<Job<S>, Hand>
-    requires { IsSeatAt (sends_on line.now) pass.old × (1 < (view pass.old).parts) }
-    ensures seat { IsSeatAt (sends_on line.now) pass.new }
-    ensures left { view pass.new ≡ hand ((view pass.old).parts - 1) (view pass.old).put (view pass.old).taken }
-    ensures part { IsFresh (IsSeatAt (sends_on line.now)) result }
+fn cut<S: Drop>(
+    queue: &QueueSender<S>,
+    pass: &mut Pass<Job<S>, PassState>,
+) -> Pass<Job<S>, PassState>
+    requires { IsSeatAt (sends_on queue.now) pass.old × (1 < (view pass.old).parts) }
+    ensures seat { IsSeatAt (sends_on queue.now) pass.new }
+    ensures left { view pass.new ≡ pass_state ((view pass.old).parts - 1) (view pass.old).put (view pass.old).taken }
+    ensures part { IsFresh (IsSeatAt (sends_on queue.now)) result }
 {
-    line.another::<Cut>(pass)
+    queue.another::<Cut>(pass)
 }
 
 // Takes in what another pass has done.
-fn absorb<S: Drop>(line: &LineSender<S>, pass: &mut Pass<Job<S>, Hand>, other: Pass<Job<S>, Hand>)
-    requires { IsSeatAt (sends_on line.now) pass.old × IsSeatAt (sends_on line.now) other × (0 < (view pass.old).parts) }
-    ensures seat { IsSeatAt (sends_on line.now) pass.new }
+fn absorb<S: Drop>(
+    queue: &QueueSender<S>,
+    pass: &mut Pass<Job<S>, PassState>,
+    other: Pass<Job<S>, PassState>,
+)
+    requires { IsSeatAt (sends_on queue.now) pass.old × IsSeatAt (sends_on queue.now) other × (0 < (view pass.old).parts) }
+    ensures seat { IsSeatAt (sends_on queue.now) pass.new }
     ensures both { view pass.new ≡ both (view pass.old) (view other) }
 {
-    line.absorb::<Cut>(pass, other);
+    queue.absorb::<Cut>(pass, other);
 }
 
 // Takes in a worker's work: what its pass has done, and its notes. It is refused where memory was refused to the
 // worker, or is now.
 fn take_in<S: Drop, N: Note + Drop>(
-    line: &LineSender<S>,
-    pass: &mut Pass<Job<S>, Hand>,
+    queue: &QueueSender<S>,
+    pass: &mut Pass<Job<S>, PassState>,
     notes: &mut Vec<N>,
     work: Work<S, N>,
 ) -> Result<(), AllocError>
-    requires { IsSeatAt (sends_on line.now) pass.old × (0 < (view pass.old).parts) × IsWork (IsSeatAt (sends_on line.now)) N.about work }
-    ensures seat { IsSeatAt (sends_on line.now) pass.new }
+    requires { IsSeatAt (sends_on queue.now) pass.old × (0 < (view pass.old).parts) × IsWork (IsSeatAt (sends_on queue.now)) N.about work }
+    ensures seat { IsSeatAt (sends_on queue.now) pass.new }
     ensures part { ((view pass.new).parts ≡ (view pass.old).parts + 1) × ((view pass.new).put ≡ (view pass.old).put) }
     ensures taken { (view pass.old).taken ≡ numbers_by N.about notes.old.items
         → OnOk result ((view pass.new).taken ≡ numbers_by N.about notes.new.items) }
@@ -334,7 +341,7 @@ fn take_in<S: Drop, N: Note + Drop>(
         notes: mut others,
         is_whole,
     } = work;
-    absorb(line, pass, other);
+    absorb(queue, pass, other);
     if !is_whole {
         return Err(AllocError);
     }
@@ -345,13 +352,13 @@ fn take_in<S: Drop, N: Note + Drop>(
 // Whether nothing is left in the queue, of which who has every part takes it.
 fn is_drained<S: Drop, H: Wait>(
     rt: &H,
-    line: &LineReceiver<S>,
-    pass: &mut Pass<Job<S>, Hand>,
+    queue: &QueueReceiver<S>,
+    pass: &mut Pass<Job<S>, PassState>,
 ) -> bool
-    requires { IsSeatAt (receives_on line.now) pass.old × ((view pass.old).parts ≡ 5) }
+    requires { IsSeatAt (receives_on queue.now) pass.old × ((view pass.old).parts ≡ 5) }
     ensures { result ≡ true → (x : ℕ) → times x (view pass.old).put ≡ times x (view pass.old).taken }
 {
-    line.try_recv_as::<Drains, H>(rt, pass).is_err()
+    queue.try_recv_as::<Drains, H>(rt, pass).is_err()
 }
 
 /// Serves all connections of the source, by four workers in threads of their own, and returns when each has ended, with
@@ -389,13 +396,15 @@ where
     ensures numbered { IfOk result.0 (λ outcomes. HasEachOnce (outcome_numbers outcomes.items) (I.given result.1 - I.given source)) }
     ensures refusal { IfErr result.0 IsWorkersRefusal }
 {
-    let shop = Workshop::new(alloc, files, clock, verifier, gate);
+    let context = WorkerContext::new(alloc, files, clock, verifier, gate);
     let Ended {
         notes,
         source,
-        shop,
-    } = run_crew::<I, Workshop<'s, 'b, D, J, V, C, G>, (u64, Outcome), H>(rt, alloc, source, shop);
-    (shop.end(rt, notes), source)
+        context,
+    } = run_pool::<I, WorkerContext<'s, 'b, D, J, V, C, G>, (u64, Outcome), H>(
+        rt, alloc, source, context,
+    );
+    (context.end(rt, notes), source)
 }
 
 /// Serves all connections of the source as `run_workers` does, and forgets how each ended: what it keeps of a connection
@@ -427,13 +436,13 @@ where
     ensures served { IfOk result.0 (λ served. served ≡ I.given result.1 - I.given source) }
     ensures refusal { IfErr result.0 IsWorkersRefusal }
 {
-    let shop = Workshop::new(alloc, files, clock, verifier, gate);
+    let context = WorkerContext::new(alloc, files, clock, verifier, gate);
     let Ended {
         notes,
         source,
-        shop,
-    } = run_crew::<I, Workshop<'s, 'b, D, J, V, C, G>, Tick, H>(rt, alloc, source, shop);
-    match shop.end(rt, notes) {
+        context,
+    } = run_pool::<I, WorkerContext<'s, 'b, D, J, V, C, G>, Tick, H>(rt, alloc, source, context);
+    match context.end(rt, notes) {
         Ok(ticks) => (Ok(ticks.len() as u64), source),
         Err(why) => (Err(why), source),
     }
@@ -443,38 +452,38 @@ where
 struct Ended<I, K, N> {
     notes: Result<Vec<N>, AllocError>,
     source: I,
-    shop: K,
+    context: K,
 }
 
 // Serves the connections of the source by four workers. It is refused where a thread or memory was, or where a connection
 // could not be begun.
-fn run_crew<
+fn run_pool<
     I: Source + Drop,
     K: Serve<I::Connection> + Sync,
     N: Note + Drop + Send,
     H: Threads + Wait + Sync,
->(rt: &H, alloc: Global, source: I, shop: K) -> Ended<I, K, N>
+>(rt: &H, alloc: Global, source: I, context: K) -> Ended<I, K, N>
 where
     I::Connection: Drop + Send,
     ensures { IfOk result.notes (λ notes. HasEachOnce (numbers_by N.about notes.items) (I.given result.source - I.given source)) }
 {
     let Ok((sender, receiver, mut pass)) = bounded_with::<
         Job<I::Connection>,
-        Hand,
+        PassState,
         Balance,
         Global,
     >(alloc, WAITING) else {
         return Ended {
             notes: Err(AllocError),
             source,
-            shop,
+            context,
         };
     };
-    let (notes, source) = in_threads(rt, alloc, source, &shop, &sender, &receiver, pass);
+    let (notes, source) = in_threads(rt, alloc, source, &context, &sender, &receiver, pass);
     Ended {
         notes,
         source,
-        shop,
+        context,
     }
 }
 
@@ -489,28 +498,28 @@ fn in_threads<
     rt: &'s H,
     alloc: Global,
     source: I,
-    shop: &'s K,
-    sender: &'s LineSender<I::Connection>,
-    line: &'s LineReceiver<I::Connection>,
-    pass: Pass<Job<I::Connection>, Hand>,
+    context: &'s K,
+    sender: &'s QueueSender<I::Connection>,
+    queue: &'s QueueReceiver<I::Connection>,
+    pass: Pass<Job<I::Connection>, PassState>,
 ) -> (Result<Vec<N>, AllocError>, I)
 where
     I::Connection: Drop + Send,
     requires pass { IsUncut (IsSeatAt (sends_on sender.now)) pass }
-    requires same { receives_on line.now ≡ sends_on sender.now }
+    requires same { receives_on queue.now ≡ sends_on sender.now }
     ensures { IfOk result.0 (λ notes. HasEachOnce (numbers_by N.about notes.items) (I.given result.1 - I.given source)) }
 {
     thread::scope(
         thread::scope_env(),
         rt,
         |scope| -> (Result<Vec<N>, AllocError>, I)
-            requires { IsUncut (IsSeatAt (sends_on sender.now)) pass × (receives_on line.now ≡ sends_on sender.now) }
+            requires { IsUncut (IsSeatAt (sends_on sender.now)) pass × (receives_on queue.now ≡ sends_on sender.now) }
             ensures { IfOk result.0 (λ notes. HasEachOnce (numbers_by N.about notes.items) (I.given result.1 - I.given source)) }
         {
             let mut source = source;
             let mut pass = pass;
-            let crew = match hire(rt, alloc, scope, shop, sender, line, &mut pass) {
-                Ok(crew) => crew,
+            let workers = match spawn_workers(rt, alloc, scope, context, sender, queue, &mut pass) {
+                Ok(workers) => workers,
                 Err(refused) => {
                     stop_all(rt, sender, &mut pass);
                     return (Err(refused), source);
@@ -518,7 +527,7 @@ where
             };
             let given = hand_out(rt, &mut source, sender, &mut pass);
             stop_all(rt, sender, &mut pass);
-            let notes = gather(rt, alloc, sender, line, pass, crew, given);
+            let notes = join_workers(rt, alloc, sender, queue, pass, workers, given);
             (notes, source)
         },
     )
@@ -528,7 +537,7 @@ where
 type Worker<'l, S, N> = PromisedHandle<Work<S, N>, Works<'l, S>>;
 
 // Begins the workers, each with a part of the pass. It is refused where a thread or memory is.
-fn hire<
+fn spawn_workers<
     's,
     E,
     S: Drop + Send + 's,
@@ -539,41 +548,41 @@ fn hire<
     rt: &'s H,
     alloc: Global,
     scope: &Scope<'s, E>,
-    shop: &'s K,
-    sender: &LineSender<S>,
-    line: &'s LineReceiver<S>,
-    pass: &mut Pass<Job<S>, Hand>,
+    context: &'s K,
+    sender: &QueueSender<S>,
+    queue: &'s QueueReceiver<S>,
+    pass: &mut Pass<Job<S>, PassState>,
 ) -> Result<Vec<Worker<'s, S, N>>, AllocError>
     requires pass { IsUncut (IsSeatAt (sends_on sender.now)) pass.old }
-    requires same { receives_on line.now ≡ sends_on sender.now }
+    requires same { receives_on queue.now ≡ sends_on sender.now }
     ensures seat { IsSeatAt (sends_on sender.now) pass.new × (0 < (view pass.new).parts) }
-    ensures left { OnOk result (view pass.new ≡ hand 1 [] []) }
-    ensures crew { IfOk result (λ crew. (length crew.items ≡ WORKERS) × All (λ w. w.promise.0.now ≡ line.now) crew.items) }
+    ensures left { OnOk result (view pass.new ≡ pass_state 1 [] []) }
+    ensures workers { IfOk result (λ workers. (length workers.items ≡ WORKERS) × All (λ w. w.promise.0.now ≡ queue.now) workers.items) }
 {
-    let mut crew = Vec::new(alloc);
+    let mut workers = Vec::new(alloc);
     for _begun in 0..WORKERS {
-        crew.reserve(1)?;
+        workers.reserve(1)?;
         let part = cut(sender, pass);
-        let work = move || work_on(rt, alloc, shop, line, part);
-        crew.push_reserved(scope.spawn_with(Works(line), work)?);
+        let work = move || work_on(rt, alloc, context, queue, part);
+        workers.push_reserved(scope.spawn_with(Works(queue), work)?);
     }
-    Ok(crew)
+    Ok(workers)
 }
 
 // The notes of all workers, where so many connections were put. It is refused where one could not be, where a worker was
 // refused, or where memory is now.
-fn gather<'l, S: Drop, N: Note + Drop, H: Threads + Wait>(
+fn join_workers<'l, S: Drop, N: Note + Drop, H: Threads + Wait>(
     rt: &H,
     alloc: Global,
-    sender: &LineSender<S>,
-    line: &'l LineReceiver<S>,
-    mut pass: Pass<Job<S>, Hand>,
-    crew: Vec<Worker<'l, S, N>>,
+    sender: &QueueSender<S>,
+    queue: &'l QueueReceiver<S>,
+    mut pass: Pass<Job<S>, PassState>,
+    workers: Vec<Worker<'l, S, N>>,
     given: Option<u64>,
 ) -> Result<Vec<N>, AllocError>
-    requires same { receives_on line.now ≡ sends_on sender.now }
+    requires same { receives_on queue.now ≡ sends_on sender.now }
     requires pass { IsSeatAt (sends_on sender.now) pass × ((view pass).parts ≡ 1) × ((view pass).taken ≡ []) }
-    requires crew { (length crew.items ≡ WORKERS) × All (λ w. w.promise.0.now ≡ line.now) crew.items }
+    requires workers { (length workers.items ≡ WORKERS) × All (λ w. w.promise.0.now ≡ queue.now) workers.items }
     requires put { IfSome given (λ n. (view pass).put ≡ below n) }
     ensures { IfOk result (λ notes. (n : ℕ) × (given ≡ Some n) × HasEachOnce (numbers_by N.about notes.items) n) }
 {
@@ -581,10 +590,10 @@ fn gather<'l, S: Drop, N: Note + Drop, H: Threads + Wait>(
         return Err(AllocError);
     };
     let mut notes = Vec::new(alloc);
-    for worker in crew {
+    for worker in workers {
         take_in(sender, &mut pass, &mut notes, worker.join(rt))?;
     }
-    if !is_drained(rt, line, &mut pass) {
+    if !is_drained(rt, queue, &mut pass) {
         return Err(AllocError);
     }
     Ok(notes)

@@ -14,7 +14,7 @@ use journal_inode::{SoundFiles, Version, VersionOne, VersionTwo};
 use journal_lockmap::SlotCell;
 use journal_nfs3::Verifier;
 use journal_program::{Daemon, Settled};
-use journal_server::{Crowd, Listening, serve_all};
+use journal_server::{Listening, WaitingConnections, serve_all};
 use journal_world::{Refusal, Refused};
 use std::alloc::Global;
 use std::fs::{File, Files};
@@ -185,8 +185,8 @@ fn listen<
         return Err(ServiceFault::CannotListen);
     };
     print_line(output, "listening", u64::from(there.port()))?;
-    let crowd = Crowd::new();
-    let source = Listening::new(rt, listener, service.connections, &crowd);
+    let waiting = WaitingConnections::new();
+    let source = Listening::new(rt, listener, service.connections, &waiting);
     let clock = WallClock(rt);
     let (served, source) = serve_all(rt, alloc, source, files, &clock, verifier, &OpenGate);
     if source.has_failed() {

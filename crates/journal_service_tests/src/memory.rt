@@ -5,7 +5,7 @@ use crate::server::{Narrow, calls_of, serve_one};
 use crate::stores::{Client, Files, Told, Wrong, commits, on_new_disk, session_of};
 use crate::stories::Story;
 use journal_disk::{BlockDisk, MemDisk};
-use journal_filestore::{Handle, How, NewTime, Settings};
+use journal_filestore::{CreateMode, Handle, NewTime, Settings};
 use journal_history::Naming;
 use journal_server::{Outcome, Served};
 use journal_world::{Moment, Refusal};
@@ -50,9 +50,9 @@ fn commits_once<'b, J: Naming, W: Wait>(
             size: None,
             mtime: NewTime::Leave,
         };
-        let how = How::Guarded(settings);
+        let how = CreateMode::Guarded(settings);
         let at = Moment { secs: 5, nanos: 0 };
-        let _made = files.create_soon(rt, session, root, name, how, at);
+        let _made = files.create_no_wait(rt, session, root, name, how, at);
     }
     commits(rt, files) != before
 }

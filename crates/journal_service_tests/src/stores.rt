@@ -235,7 +235,7 @@ pub(crate) fn keeps<'b, D: BlockDisk, J: Naming, V: Version, W: Wait>(
         if done.load(Ordering::SeqCst) {
             return;
         }
-        let installed = has_moved(files.journal().install_where_crowded(rt));
+        let installed = has_moved(files.journal().install_past_threshold(rt));
         if !has_moved(files.journal().log_step(rt)) && !installed {
             yield_now();
         }

@@ -8,7 +8,7 @@ use Rattle.journal_world.specs.Histories.Entry.{commit}
 use Rattle.journal_world.proofs.Prefixes.{IsPrefix-trans}
 use Rattle.journal_history.specs.Soundness.{IsSound}
 use Rattle.journal_history.specs.Tokens.{SessionState, CommitPlace, OnlyExtends, next_transaction, Commits, IsReceiptFor}
-use Rattle.journal_core.specs.Causes.{Told}
+use Rattle.journal_core.specs.Causes.{CauseState}
 use Rattle.journal_core.specs.Transactions.{TransactionState}
 use Rattle.journal_core.specs.declared.volatile_commit.CommitStep.{CommitStep}
 use Rattle.journal_core.specs.declared.volatile_commit.CommitStep.TheVariants.{Done, Missing}
@@ -52,21 +52,21 @@ module _ (rule : Map → Type 0) (blocks : ℕ) where
         receipt = subst (λ (h : List Entry). IsReceiptFor u h (length found) place) (sym whole) receipt;
       }
 
-  pub committed : (t : TransactionState) (s new : SessionState) (old memory : VolatileState) (answer : Result (CommitStep CommitPlace) (Refusal Told))
-      → IfOk answer (IfDone (λ _. IsCommittedInMemory t.reads t.writes s new old memory))
-      → IfOk answer (IfDone (IsReceiptFor (next_transaction s t.reads t.writes) memory.memory.history (length old.memory.history)))
+  pub committed : (t : TransactionState) (s new : SessionState) (old volatile : VolatileState) (answer : Result (CommitStep CommitPlace) (Refusal CauseState))
+      → IfOk answer (IfDone (λ _. IsCommittedInMemory t.reads t.writes s new old volatile))
+      → IfOk answer (IfDone (IsReceiptFor (next_transaction s t.reads t.writes) volatile.ledger.history (length old.ledger.history)))
       → OnOk answer (CanCommit (outset_of old) s t)
-      → OnOk answer (IsTrue (is_trusted old.memory.history) → Agrees (latest old.memory.history) t.reads)
+      → OnOk answer (IsTrue (is_trusted old.ledger.history) → Agrees (latest old.ledger.history) t.reads)
       → IsKnown rule blocks new.seen
       → IfOk answer (IfDone (IsCommitted rule blocks t.seen t s new))
-  committed t s new old memory (Err why) commits receipt can agrees known = tt
-  committed t s new old memory (Ok (Missing blocks_of)) commits receipt can agrees known = tt
-  committed t s new old memory (Ok (Done place)) commits receipt can agrees known =
-      from_histories t s new old.memory.history memory.memory.history place commits.committed receipt can.may.seen.later agrees known
+  committed t s new old volatile (Err why) commits receipt can agrees known = tt
+  committed t s new old volatile (Ok (Missing blocks_of)) commits receipt can agrees known = tt
+  committed t s new old volatile (Ok (Done place)) commits receipt can agrees known =
+      from_histories t s new old.ledger.history volatile.ledger.history place commits.committed receipt can.may.seen.later agrees known
 
   -- a transaction whose reads came after its beginning is committed after that
   -- a session that has only seen more commits the same
-  pub committed_later : (began : List Entry) (t : TransactionState) (s mid new : SessionState) (answer : Result CommitPlace (Refusal Told)) → OnlyExtends s mid
+  pub committed_later : (began : List Entry) (t : TransactionState) (s mid new : SessionState) (answer : Result CommitPlace (Refusal CauseState)) → OnlyExtends s mid
       → IfOk answer (IsCommitted rule blocks began t mid new) → IfOk answer (IsCommitted rule blocks began t s new)
   committed_later began t s mid new (Err why) extends is = tt
   committed_later began t s mid new (Ok place) extends is =
@@ -91,7 +91,7 @@ module _ (rule : Map → Type 0) (blocks : ℕ) where
         receipt = subst (λ (u : Transaction). IsReceiptFor u new.seen (length is.found) place) same is.receipt;
       }
 
-  pub since_begin : (began : List Entry) (t : TransactionState) (s new : SessionState) (answer : Result CommitPlace (Refusal Told)) → IsPrefix began t.seen
+  pub since_begin : (began : List Entry) (t : TransactionState) (s new : SessionState) (answer : Result CommitPlace (Refusal CauseState)) → IsPrefix began t.seen
       → IfOk answer (IsCommitted rule blocks t.seen t s new) → IfOk answer (IsCommitted rule blocks began t s new)
   since_begin began t s new (Err why) begins is = tt
   since_begin began t s new (Ok place) begins is = record {
@@ -123,7 +123,7 @@ module _ (rule : Map → Type 0) (blocks : ℕ) where
   waits_since began t s new (Ok done) begins is = waits_from began t s new done.0 begins is
   waits_since began t s new (Err fault) begins is = tt
 
-  pub fault_since : {T : Type 0} (began : List Entry) (t : TransactionState) (s new : SessionState) (answer : Result T (WaitFault CommitPlace Told)) → IsPrefix began t.seen
+  pub fault_since : {T : Type 0} (began : List Entry) (t : TransactionState) (s new : SessionState) (answer : Result T (WaitFault CommitPlace CauseState)) → IsPrefix began t.seen
       → IfErr answer (IsWaitFault rule blocks t.seen t s new) → IfErr answer (IsWaitFault rule blocks began t s new)
   fault_since began t s new (Ok done) begins is = tt
   fault_since began t s new (Err (Refused why)) begins is = is

@@ -4,11 +4,11 @@ use Rattle.journal_world.specs.declared.refusal.Refusal.{Refusal}
 use Rattle.journal_world.specs.declared.refusal.Refusal.TheVariants.{NoMemory, BadAddress, BadSize, TooLarge, Busy, DeviceFailed, BadLog, BadSuper, Stale, Stranger, Worn, Full, Closed, Fenced}
 use Rattle.journal_world.specs.Histories.{Entry}
 use Rattle.journal_history.specs.Tokens.{SessionState}
-use Rattle.journal_core.specs.Causes.{Told}
-use Rattle.journal_core.specs.Memories.{ShowsLonger}
+use Rattle.journal_core.specs.Causes.{CauseState}
+use Rattle.journal_core.specs.Ledgers.{ShowsLonger}
 use Rattle.journal_twophase.specs.Commits.{ShowsFence}
 
-shows : (history : List Entry) (s : SessionState) (why : Refusal Told) → ShowsLonger history s why → ShowsFence s why
+shows : (history : List Entry) (s : SessionState) (why : Refusal CauseState) → ShowsLonger history s why → ShowsFence s why
 shows history s Fenced longer = longer
 shows history s NoMemory longer = tt
 shows history s BadAddress longer = tt
@@ -24,6 +24,6 @@ shows history s (Worn cause) longer = tt
 shows history s (Full cause) longer = tt
 shows history s (Closed cause) longer = tt
 
-pub shows_fence : {T : Type 0} (history : List Entry) (s : SessionState) (r : Result T (Refusal Told)) → IfErr r (ShowsLonger history s) → IfErr r (ShowsFence s)
+pub shows_fence : {T : Type 0} (history : List Entry) (s : SessionState) (r : Result T (Refusal CauseState)) → IfErr r (ShowsLonger history s) → IfErr r (ShowsFence s)
 shows_fence history s (Ok value) longer = tt
 shows_fence history s (Err why) longer = shows history s why longer

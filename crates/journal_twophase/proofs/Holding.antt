@@ -17,7 +17,7 @@ use Rattle.journal_world.specs.Addresses.{Value, slot_of}
 use Rattle.journal_world.specs.Histories.{Entry, touched}
 use Rattle.journal_lockmap.specs.Numbers.{HeldState, slots_of, is_held, HoldsSlots, AreApart}
 use Rattle.journal_core.specs.SlotCounts.{AgreeWith, IsUnder, AreUnder}
-use Rattle.journal_core.specs.Transactions.{TransactionState, FoundState, Remembers, Overwrites}
+use Rattle.journal_core.specs.Transactions.{TransactionState, ReadResultState, Remembers, Overwrites}
 use Rattle.journal_core.proofs.Remembering.{of_both}
 use Rattle.journal_twophase.specs.Transactions.{TxnState, holds, holds_above, with_slot, IsClearOf, KeepsHeld, Finds}
 
@@ -177,7 +177,7 @@ agrees_at history (x ∷ xs) zero h all at = subst (λ (y : HeldState). y.count 
 agrees_at history (x ∷ xs) (suc k) h all at = agrees_at history xs k h (All-tail (λ (y : HeldState). y.count ≡ touched history y.slot) x xs all) at
 
 -- one more address was read under a slot that is held, and what is held agrees with the history that the read found
-pub keeps_read : (held : List HeldState) (t after : TransactionState) (a : Addr) (v : Value) (found : FoundState) → KeepsHeld held t → AgreeWith found.seen held → Finds t a found
+pub keeps_read : (held : List HeldState) (t after : TransactionState) (a : Addr) (v : Value) (found : ReadResultState) → KeepsHeld held t → AgreeWith found.seen held → Finds t a found
     → IsTrue (holds (slots_of held) (slot_of a)) → Remembers t found.addr v found.seen after → KeepsHeld held after
 keeps_read held t after a v found kept agree finds slot remembers = record {
   reads = subst (λ (h : List Entry). AreUnder held h after.reads) (sym seen) (of_both (λ b. IsUnder held found.seen (b, v)) found.addr v t.reads after.reads remembers.reads own before);

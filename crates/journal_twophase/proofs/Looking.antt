@@ -13,12 +13,12 @@ use Rattle.journal_world.specs.Histories.{Entry, is_trusted, latest}
 use Rattle.journal_world.proofs.Prefixes.{IsPrefix-trans}
 use Rattle.journal_world.proofs.Lookups.{same_addr}
 use Rattle.journal_lockmap.specs.Numbers.{HeldState}
-use Rattle.journal_core.specs.Causes.{Told}
+use Rattle.journal_core.specs.Causes.{CauseState}
 use Rattle.journal_core.specs.SlotCounts.{AgreeWith}
 use Rattle.journal_core.specs.Outsets.{Outset, MayRead}
-use Rattle.journal_core.specs.Transactions.{TransactionState, FoundState, Remembers}
+use Rattle.journal_core.specs.Transactions.{TransactionState, ReadResultState, Remembers}
 use Rattle.journal_core.proofs.Remembering.{agrees_later}
-use Rattle.journal_twophase.specs.Transactions.{TxnState, core_of, holding, Finds, Learns, IsLookRefusal, IsReadRefusal}
+use Rattle.journal_twophase.specs.Transactions.{TxnState, core_of, holding, Finds, Learns, IsCheckRefusal, IsReadRefusal}
 
 -- what objects give an address is an object
 value_among-object : (blocks : ℕ) (ps : List Pair) (a : Addr) (v : Value) → IsTrue (are_objects blocks ps) → value_among ps a ≡ Some v → IsTrue (is_object blocks (a, v))
@@ -42,7 +42,7 @@ own_object blocks ps a None is objects = tt
 own_object blocks ps a (Some v) is objects = value_among-object blocks ps a v objects (sym is)
 
 -- why a transaction reads nothing, whose slot is held
-pub read_refusal : (blocks : ℕ) (t : TxnState) (a : Addr) (why : Refusal Told) → IsTrue (is_valid blocks a) → IsLookRefusal (core_of t) why → IsReadRefusal blocks t a why
+pub read_refusal : (blocks : ℕ) (t : TxnState) (a : Addr) (why : Refusal CauseState) → IsTrue (is_valid blocks a) → IsCheckRefusal (core_of t) why → IsReadRefusal blocks t a why
 read_refusal blocks t a NoMemory valid look = (valid, look)
 read_refusal blocks t a BadAddress valid look = absurd look
 read_refusal blocks t a BadSize valid look = absurd look
@@ -58,13 +58,13 @@ read_refusal blocks t a (Full cause) valid look = absurd look
 read_refusal blocks t a (Closed cause) valid look = look
 read_refusal blocks t a Fenced valid look = absurd look
 
-pub read_refused : (blocks : ℕ) (t held : TxnState) (a : Addr) (answer : Result Value (Refusal Told))
-    → held ≡ holding t a → IsTrue (is_valid blocks a) → IfErr answer (IsLookRefusal (core_of held)) → IfErr answer (IsReadRefusal blocks t a)
+pub read_refused : (blocks : ℕ) (t held : TxnState) (a : Addr) (answer : Result Value (Refusal CauseState))
+    → held ≡ holding t a → IsTrue (is_valid blocks a) → IfErr answer (IsCheckRefusal (core_of held)) → IfErr answer (IsReadRefusal blocks t a)
 read_refused blocks t held a (Ok v) same valid look = tt
-read_refused blocks t held a (Err why) same valid look = read_refusal blocks t a why valid (subst (λ (h : TxnState). IsLookRefusal (core_of h) why) same look)
+read_refused blocks t held a (Err why) same valid look = read_refusal blocks t a why valid (subst (λ (h : TxnState). IsCheckRefusal (core_of h) why) same look)
 
 -- what is found for the open transaction, and remembered, is what it learns
-pub learns : (began : List Entry) (held : List ℕ) (t after : TransactionState) (a : Addr) (v w : Value) (found : FoundState) → Finds t a found
+pub learns : (began : List Entry) (held : List ℕ) (t after : TransactionState) (a : Addr) (v w : Value) (found : ReadResultState) → Finds t a found
     → (IsTrue (is_trusted found.seen) → w ≡ value_at (latest found.seen) a) → v ≡ w → Remembers t found.addr v found.seen after
     → Learns (record { began = began; reads = t.reads; writes = t.writes; seen = t.seen; held = held }) a v
     (record { began = began; reads = after.reads; writes = after.writes; seen = after.seen; held = held })
@@ -79,20 +79,20 @@ learns began held t after a v w found finds value same remembers = record {
     seen = ap (λ (u : TransactionState). u.seen) remembers.others
 
 -- what it has seen goes on from its beginning
-pub later_on : (began : List Entry) (t after : TransactionState) (a : Addr) (v : Value) (found : FoundState) → IsPrefix began t.seen → Finds t a found
+pub later_on : (began : List Entry) (t after : TransactionState) (a : Addr) (v : Value) (found : ReadResultState) → IsPrefix began t.seen → Finds t a found
     → Remembers t found.addr v found.seen after → IsPrefix began after.seen
 later_on began t after a v found begins finds remembers =
     subst (IsPrefix began) (sym (ap (λ (u : TransactionState). u.seen) remembers.others)) (IsPrefix-trans began t.seen found.seen begins finds.later)
 
 -- and what was read before is what the map gives still
-pub reads_stay : (t after : TransactionState) (a : Addr) (v : Value) (found : FoundState) → t.seen ≢ [] → (IsTrue (is_trusted t.seen) → Agrees (latest t.seen) t.reads)
+pub reads_stay : (t after : TransactionState) (a : Addr) (v : Value) (found : ReadResultState) → t.seen ≢ [] → (IsTrue (is_trusted t.seen) → Agrees (latest t.seen) t.reads)
     → Finds t a found → Remembers t found.addr v found.seen after → IsTrue (is_trusted after.seen) → Agrees (latest after.seen) t.reads
 reads_stay t after a v found some agrees finds remembers =
     subst (λ (h : List Entry). IsTrue (is_trusted h) → Agrees (latest h) t.reads) (sym (ap (λ (u : TransactionState). u.seen) remembers.others))
     (agrees_later t.seen found.seen t.reads some finds.later finds.unmoved agrees)
 
 -- what is found in memory is found for the transaction
-pub finds : (o : Outset) (a : Addr) (blocks : ℕ) (t : TransactionState) (answer : Result (Option FoundState) (Refusal Told))
+pub finds : (o : Outset) (a : Addr) (blocks : ℕ) (t : TransactionState) (answer : Result (Option ReadResultState) (Refusal CauseState))
     → IfOk answer (λ found. IfSome found (λ f. f ≡ record { addr = a; seen = o.history }))
     → OnOk answer (MayRead blocks o t a) → IfOk answer (λ found. IfSome found (Finds t a))
 finds o a blocks t (Err why) is may = tt
@@ -100,13 +100,13 @@ finds o a blocks t (Ok None) is may = tt
 finds o a blocks t (Ok (Some found)) is may = subst (Finds t a) (sym is) (record { addr = refl; later = may.later; unmoved = may.unmoved })
 
 -- what is held agrees with the history that was found
-pub agrees_found : (answer : Result (Option FoundState) (Refusal Told)) (a : Addr) (old new : List Entry) (held : List HeldState)
+pub agrees_found : (answer : Result (Option ReadResultState) (Refusal CauseState)) (a : Addr) (old new : List Entry) (held : List HeldState)
     → IfOk answer (λ found. IfSome found (λ f. f ≡ record { addr = a; seen = old })) → new ≡ old → AgreeWith new held
     → IfOk answer (λ found. IfSome found (λ f. AgreeWith f.seen held))
 agrees_found (Err why) a old new held is same agree = tt
 agrees_found (Ok None) a old new held is same agree = tt
 agrees_found (Ok (Some found)) a old new held is same agree =
-    subst (λ (h : List Entry). AgreeWith h held) (same ∙ sym (ap (λ (f : FoundState). f.seen) is)) agree
+    subst (λ (h : List Entry). AgreeWith h held) (same ∙ sym (ap (λ (f : ReadResultState). f.seen) is)) agree
 
 -- memory for blocks of the disk is of blocks of the disk
 pub rooms_below : (n : ℕ) (rooms : List Update) → All (λ b. b < n) (map (λ u. u.block) rooms) → All (λ u. u.block < n) rooms

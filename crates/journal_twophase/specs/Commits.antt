@@ -8,10 +8,10 @@ use Rattle.journal_world.specs.Histories.{Entry, is_trusted, is_fenced, latest, 
 use Rattle.journal_objlog.specs.Writes.{written_blocks}
 use Rattle.journal_history.specs.Tokens.{SessionState, CommitPlace, made, next_transaction, IsExact, Commits, IsReceiptFor}
 use Rattle.journal_core.specs.declared.refusal_number.RefusalNumber.TheVariants.{J6, J9, J10, J11, J12, J13}
-use Rattle.journal_core.specs.Causes.{Told, IsUnexplained, IsExplained}
+use Rattle.journal_core.specs.Causes.{CauseState, IsUnexplained, IsExplained}
 use Rattle.journal_core.specs.Transactions.{TransactionState}
 use Rattle.journal_twophase.specs.Journals.{IsKnown, IsShown}
-use Rattle.journal_wal.specs.declared.append.TheConstants.{MAX_UPDATES}
+use Rattle.journal_wal.specs.declared.limits.TheConstants.{MAX_UPDATES}
 
 -- The transaction was committed as the session's next one, with exactly what it read and overwrote
 pub record IsCommitted (rule : Map → Type 0) (blocks : ℕ) (began : List Entry) (t : TransactionState) (old new : SessionState) (place : CommitPlace) : Type 0 where
@@ -31,16 +31,16 @@ pub record IsCommitted (rule : Map → Type 0) (blocks : ℕ) (began : List Entr
   pub receipt : IsReceiptFor (next_transaction old t.reads t.writes) new.seen (length found) place
 
 -- The cause shows a history that has a commit under the session's number which the session did not make
-abbrev pub ShowsStrange : SessionState → Told → Type 0
+abbrev pub ShowsStrange : SessionState → CauseState → Type 0
 ShowsStrange s cause = (history : List Entry) × IsExplained J10 history cause × (made s < length (commits_of s.number history))
 
 -- J14: the session has then seen its fence, by which each later commit of it is refused
-abbrev pub ShowsFence : SessionState → Refusal Told → Type 0
+abbrev pub ShowsFence : SessionState → Refusal CauseState → Type 0
 ShowsFence s Fenced = is_fenced s.number s.seen ≡ true
 ShowsFence s other = Unit {0}
 
 -- Why a transaction is not committed at once. What J14 says is `ShowsFence`
-abbrev pub IsTryRefusal : TransactionState → SessionState → Refusal Told → Type 0
+abbrev pub IsTryRefusal : TransactionState → SessionState → Refusal CauseState → Type 0
 IsTryRefusal t s (Closed cause) = IsUnexplained J13 cause
 IsTryRefusal t s (DeviceFailed cause) = IsUnexplained J6 cause
 IsTryRefusal t s (Stale cause) = IsShown J9 cause
@@ -53,6 +53,6 @@ IsTryRefusal t s Fenced = Unit {0}
 IsTryRefusal t s other = ⊥
 
 -- why it is not committed, with time to wait for room
-abbrev pub IsCommitRefusal : TransactionState → SessionState → Refusal Told → Type 0
+abbrev pub IsCommitRefusal : TransactionState → SessionState → Refusal CauseState → Type 0
 IsCommitRefusal t s (Full cause) = ⊥
 IsCommitRefusal t s other = IsTryRefusal t s other

@@ -9,7 +9,7 @@ use Rattle.journal_disk.specs.Disks.{DiskState}
 use Rattle.journal_history.specs.Soundness.{IsSound}
 use Rattle.journal_core.specs.declared.refusal_number.RefusalNumber.{RefusalNumber}
 use Rattle.journal_core.specs.declared.refusal_number.RefusalNumber.TheVariants.{J6, J9, J11, J13}
-use Rattle.journal_core.specs.Causes.{Told, IsUnexplained, IsExplained}
+use Rattle.journal_core.specs.Causes.{CauseState, IsUnexplained, IsExplained}
 use Rattle.journal_core.specs.Openings.{HoldsMap}
 
 -- A journal, by what is known of it outside its lock
@@ -36,16 +36,16 @@ pub record IsKnown (rule : Map → Type 0) (blocks : ℕ) (history : List Entry)
   pub sound : IsSound rule history
 
 -- A cause of the refusal of this number that shows a history
-abbrev pub IsShown : RefusalNumber → Told → Type 0
+abbrev pub IsShown : RefusalNumber → CauseState → Type 0
 IsShown number cause = (history : List Entry) × IsExplained number history cause
 
 -- why there is no further session
-abbrev pub IsSessionRefusal : Refusal Told → Type 0
+abbrev pub IsSessionRefusal : Refusal CauseState → Type 0
 IsSessionRefusal (Worn cause) = IsUnexplained J11 cause
 IsSessionRefusal other = ⊥
 
 -- why a session is not fenced
-abbrev pub IsFenceRefusal : Refusal Told → Type 0
+abbrev pub IsFenceRefusal : Refusal CauseState → Type 0
 IsFenceRefusal (Closed cause) = IsUnexplained J13 cause
 IsFenceRefusal NoMemory = Unit {0}
 IsFenceRefusal (DeviceFailed cause) = IsUnexplained J6 cause
@@ -54,7 +54,7 @@ IsFenceRefusal (Worn cause) = IsUnexplained J11 cause
 IsFenceRefusal other = ⊥
 
 -- why a step of the logger is refused
-abbrev pub IsLogRefusal : Refusal Told → Type 0
+abbrev pub IsLogRefusal : Refusal CauseState → Type 0
 IsLogRefusal (Closed cause) = IsUnexplained J13 cause
 IsLogRefusal NoMemory = Unit {0}
 IsLogRefusal (DeviceFailed cause) = IsUnexplained J6 cause
@@ -63,24 +63,24 @@ IsLogRefusal (Worn cause) = IsUnexplained J11 cause
 IsLogRefusal other = ⊥
 
 -- why one of the installer is
-abbrev pub IsInstallRefusal : Refusal Told → Type 0
+abbrev pub IsInstallRefusal : Refusal CauseState → Type 0
 IsInstallRefusal (Closed cause) = IsUnexplained J13 cause
 IsInstallRefusal NoMemory = Unit {0}
 IsInstallRefusal (DeviceFailed cause) = IsUnexplained J6 cause
 IsInstallRefusal other = ⊥
 
 -- why blocks are not fetched
-abbrev pub IsFetchRefusal : Refusal Told → Type 0
+abbrev pub IsFetchRefusal : Refusal CauseState → Type 0
 IsFetchRefusal NoMemory = Unit {0}
 IsFetchRefusal (DeviceFailed cause) = IsUnexplained J6 cause
 IsFetchRefusal other = ⊥
 
 -- why a journal is not closed
-abbrev pub IsCloseRefusal : Refusal Told → Type 0
+abbrev pub IsCloseRefusal : Refusal CauseState → Type 0
 IsCloseRefusal (Stale cause) = IsShown J9 cause
 IsCloseRefusal other = ⊥
 
 -- why no image of the disk is made
-abbrev pub IsImageRefusal : Refusal Told → Type 0
+abbrev pub IsImageRefusal : Refusal CauseState → Type 0
 IsImageRefusal NoMemory = Unit {0}
 IsImageRefusal other = IsCloseRefusal other

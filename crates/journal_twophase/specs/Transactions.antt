@@ -9,10 +9,10 @@ use Rattle.journal_world.specs.Addresses.{Value, kind_of, is_valid, slot_of}
 use Rattle.journal_world.specs.Maps.{Pair, SamePairs, value_among, value_at, is_value_at, is_object}
 use Rattle.journal_world.specs.Histories.{Entry, is_trusted, latest}
 use Rattle.journal_core.specs.declared.refusal_number.RefusalNumber.TheVariants.{J6, J9, J13}
-use Rattle.journal_core.specs.Causes.{Told, IsUnexplained, IsExplained}
+use Rattle.journal_core.specs.Causes.{CauseState, IsUnexplained, IsExplained}
 use Rattle.journal_lockmap.specs.Numbers.{HeldState, HoldsSlots, AreApart}
 use Rattle.journal_core.specs.SlotCounts.{AreUnder}
-use Rattle.journal_core.specs.Transactions.{TransactionState, FoundState, AreUnmoved}
+use Rattle.journal_core.specs.Transactions.{TransactionState, ReadResultState, AreUnmoved}
 
 pub record TxnState : Type 0 where
   -- what its session had seen of the history when it began
@@ -81,41 +81,41 @@ IsClearOf slot ps = All (λ p. slot_of p.0 ≢ slot) ps
 
 -- What a read found for the transaction: the address's value at the end of a history that goes on from what it has seen,
 -- in which no commit touched a slot under which it read
-pub record Finds (t : TransactionState) (a : Addr) (found : FoundState) : Type 0 where
+pub record Finds (t : TransactionState) (a : Addr) (found : ReadResultState) : Type 0 where
   pub addr : found.addr ≡ a
   pub later : IsPrefix t.seen found.seen
   pub unmoved : AreUnmoved found.seen t
 
 -- why the journal goes on no more: it was stopped, or the device failed before
-abbrev pub IsEndRefusal : Refusal Told → Type 0
+abbrev pub IsEndRefusal : Refusal CauseState → Type 0
 IsEndRefusal (Closed cause) = IsUnexplained J13 cause
 IsEndRefusal (DeviceFailed cause) = IsUnexplained J6 cause
 IsEndRefusal other = ⊥
 
 -- Why a slot is not taken
-abbrev pub IsSlotRefusal : List ℕ → ℕ → Refusal Told → Type 0
+abbrev pub IsSlotRefusal : List ℕ → ℕ → Refusal CauseState → Type 0
 IsSlotRefusal held slot Busy = IsBelowHeld slot held
 IsSlotRefusal held slot NoMemory = Unit {0}
 IsSlotRefusal held slot other = ⊥
 
 -- Why an object whose slot is held is not read
-abbrev pub IsLookRefusal : TransactionState → Refusal Told → Type 0
-IsLookRefusal t (Closed cause) = IsUnexplained J13 cause
-IsLookRefusal t (DeviceFailed cause) = IsUnexplained J6 cause
-IsLookRefusal t (Stale cause) = IsExplained J9 t.seen cause
-IsLookRefusal t NoMemory = Unit {0}
-IsLookRefusal t other = ⊥
+abbrev pub IsCheckRefusal : TransactionState → Refusal CauseState → Type 0
+IsCheckRefusal t (Closed cause) = IsUnexplained J13 cause
+IsCheckRefusal t (DeviceFailed cause) = IsUnexplained J6 cause
+IsCheckRefusal t (Stale cause) = IsExplained J9 t.seen cause
+IsCheckRefusal t NoMemory = Unit {0}
+IsCheckRefusal t other = ⊥
 
 -- Why an address is not read
-abbrev pub IsReadRefusal : ℕ → TxnState → Addr → Refusal Told → Type 0
+abbrev pub IsReadRefusal : ℕ → TxnState → Addr → Refusal CauseState → Type 0
 IsReadRefusal blocks t a (Closed cause) = IsUnexplained J13 cause
 IsReadRefusal blocks t a (DeviceFailed cause) = IsUnexplained J6 cause
 IsReadRefusal blocks t a BadAddress = is_valid blocks a ≡ false
 IsReadRefusal blocks t a Busy = IsTrue (is_valid blocks a) × IsBelowHeld (slot_of a) t.held
-IsReadRefusal blocks t a other = IsTrue (is_valid blocks a) × IsLookRefusal (core_of t) other
+IsReadRefusal blocks t a other = IsTrue (is_valid blocks a) × IsCheckRefusal (core_of t) other
 
 -- Why it is not overwritten
-abbrev pub IsOverwriteRefusal : ℕ → TxnState → Addr → Value → Refusal Told → Type 0
+abbrev pub IsOverwriteRefusal : ℕ → TxnState → Addr → Value → Refusal CauseState → Type 0
 IsOverwriteRefusal blocks t a v BadAddress = is_valid blocks a ≡ false
 IsOverwriteRefusal blocks t a v BadSize = IsTrue (is_valid blocks a) × (is_value_at (kind_of blocks a.block) v ≡ false)
 IsOverwriteRefusal blocks t a v other = IsTrue (is_object blocks (a, v)) × IsSlotRefusal t.held (slot_of a) other

@@ -6,7 +6,7 @@ use Rattle.journal_world.specs.Maps.{Map}
 use Rattle.journal_world.specs.Histories.{Entry, count, floor}
 use Rattle.journal_history.specs.Tokens.{SessionState, CommitPlace, StableCount, OnlyExtends, IsExact}
 use Rattle.journal_core.specs.declared.refusal_number.RefusalNumber.TheVariants.{J6, J9, J13}
-use Rattle.journal_core.specs.Causes.{Told, IsUnexplained}
+use Rattle.journal_core.specs.Causes.{CauseState, IsUnexplained}
 use Rattle.journal_core.specs.Transactions.{TransactionState}
 use Rattle.journal_twophase.specs.declared.waiting.WaitFault.{WaitFault}
 use Rattle.journal_twophase.specs.declared.waiting.WaitFault.TheVariants.{Refused, Unsure}
@@ -28,7 +28,7 @@ pub record CommitsAndWaits (rule : Map → Type 0) (blocks : ℕ) (began : List 
   pub known : IsKnown rule blocks new.seen
 
 -- why a session that waits is not told that a mark stands
-abbrev pub IsWaitRefusal : SessionState → Refusal Told → Type 0
+abbrev pub IsWaitRefusal : SessionState → Refusal CauseState → Type 0
 IsWaitRefusal s (Closed cause) = IsUnexplained J13 cause
 IsWaitRefusal s (DeviceFailed cause) = IsUnexplained J6 cause
 IsWaitRefusal s (Stale cause) = IsShown J9 cause
@@ -37,12 +37,12 @@ IsWaitRefusal s other = ⊥
 
 -- a stop or a fault ends a flush only where not all commits are marked that the session had seen: it has then seen a history
 -- that has no such mark
-abbrev pub IsEndedUnmarked : SessionState → SessionState → Refusal Told → Type 0
+abbrev pub IsEndedUnmarked : SessionState → SessionState → Refusal CauseState → Type 0
 IsEndedUnmarked old new (Closed cause) = floor new.seen < count old.seen
 IsEndedUnmarked old new (DeviceFailed cause) = floor new.seen < count old.seen
 IsEndedUnmarked old new other = Unit {0}
 
 -- Why a commit that waits for its mark has none: the history lacks it, or it stands there and is not known to be stable
-abbrev pub IsWaitFault : (Map → Type 0) → ℕ → List Entry → TransactionState → SessionState → SessionState → WaitFault CommitPlace Told → Type 0
+abbrev pub IsWaitFault : (Map → Type 0) → ℕ → List Entry → TransactionState → SessionState → SessionState → WaitFault CommitPlace CauseState → Type 0
 IsWaitFault rule blocks began t old new (Refused why) = IsCommitRefusal t old why × OnlyExtends old new × ShowsFence new why
 IsWaitFault rule blocks began t old new (Unsure place why) = CommitsAndWaits rule blocks began t old new place × IsWaitRefusal new why

@@ -6,7 +6,7 @@ ghost use Rattle.journal_twophase.specs.Transactions.{core_of};
 ghost use Rattle.journal_twophase.specs.Commits.{IsCommitted, ShowsFence, IsTryRefusal, IsCommitRefusal};
 ghost use Rattle.journal_twophase.specs.Waits.{IsStable, CommitsAndWaits, IsWaitFault};
 
-use crate::shared::Why;
+use crate::locked_parts::JournalRefusal;
 use crate::txn::{Txn, release_all};
 use crate::waiting::Waited;
 use journal_disk::BlockDisk;
@@ -31,7 +31,7 @@ impl<'j, 'b, D: BlockDisk, R: MapRule, J: Naming> Txn<'j, 'b, D, R, J> {
         self,
         rt: &W,
         session: &mut Session<'b, J, R>,
-    ) -> Result<Receipt<'b, J, R>, Why<'b, J, R>>
+    ) -> Result<Receipt<'b, J, R>, JournalRefusal<'b, J, R>>
         requires rule { (m : Map) → m.blocks ≡ J.blocks → R.statement m → Agrees m self.reads
             → R.statement (overwritten m self.writes) }
         ensures committed { IfOk result (IsCommitted R.statement J.blocks self.entry.began (core_of self.entry) session.old session.new) }
@@ -62,7 +62,7 @@ impl<'j, 'b, D: BlockDisk, R: MapRule, J: Naming> Txn<'j, 'b, D, R, J> {
         self,
         rt: &W,
         session: &mut Session<'b, J, R>,
-    ) -> Result<Receipt<'b, J, R>, Why<'b, J, R>>
+    ) -> Result<Receipt<'b, J, R>, JournalRefusal<'b, J, R>>
         requires rule { (m : Map) → m.blocks ≡ J.blocks → R.statement m → Agrees m self.reads
             → R.statement (overwritten m self.writes) }
         ensures committed { IfOk result (IsCommitted R.statement J.blocks self.entry.began (core_of self.entry) session.old session.new) }

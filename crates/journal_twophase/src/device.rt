@@ -14,14 +14,16 @@ ghost use Rattle.journal_core.specs.Cores.{Leaves};
 ghost use Rattle.journal_core.specs.Durables.{disk_of, is_faulted};
 ghost use Rattle.journal_core.specs.SlotCounts.{AgreeWith, AreUnder};
 ghost use Rattle.journal_twophase.specs.Journals.{IsLogRefusal, IsInstallRefusal, IsFetchRefusal, IsCloseRefusal, IsImageRefusal};
-ghost use Rattle.journal_twophase.specs.Transactions.{Finds, KeepsHeld, IsLookRefusal};
+ghost use Rattle.journal_twophase.specs.Transactions.{Finds, KeepsHeld, IsCheckRefusal};
 ghost use Rattle.journal_twophase.specs.Commits.{IsCommitted, ShowsFence, IsTryRefusal};
 
-use crate::shared::{Shared, SharedCore, Why, commit_in, is_crowded};
+use crate::locked_parts::{
+    JournalRefusal, LockedParts, UnderMemoryLock, commit_in, is_past_threshold,
+};
 use journal_block::Block;
 use journal_core::{
-    Cause, CommitStep, Durable, Fetched, Found, InstallCall, InstallFault, InstallStep, LogCall,
-    LogStep, RestingLog, Spares, Stat, Transaction, UnnotedFault, Volatile, rooms_of,
+    Cause, CommitStep, Durable, Fetched, InstallCall, InstallFault, InstallStep, LogCall, LogStep,
+    ReadResult, RestingLog, Spares, Stat, Transaction, UnnotedFault, Volatile, fetch_buffers,
 };
 use journal_disk::{BlockDisk, MemDisk};
 use journal_history::{Naming, Receipt, Session};
@@ -30,20 +32,23 @@ use journal_world::{Addr, MapRule, Refusal, Refused};
 use std::rt::Clock;
 use std::sync::{MutexGuard, Wait};
 
-impl<'b, D: BlockDisk, R: MapRule, J: Naming> SharedCore<'b, D, R, J> {
+impl<'b, D: BlockDisk, R: MapRule, J: Naming> LockedParts<'b, D, R, J> {
     // Does the next thing of the logger.
-    pub(crate) fn log_step<W: Wait>(&self, rt: &W) -> Result<LogStep, Why<'b, J, R>>
+    pub(crate) fn log_step<W: Wait>(&self, rt: &W) -> Result<LogStep, JournalRefusal<'b, J, R>>
         ensures { IfErr result IsLogRefusal }
     {
         let answer = self.log_call(rt);
-        self.tell_of_log(rt, &answer);
+        self.wake_after_step(rt, &answer);
         answer
     }
 
     // Does the next thing of the logger once as many have committed as the last mark woke, or have
     // had their time to. Else the first of them that commits again would have a group for itself,
     // and the others would wait for the next.
-    pub(crate) fn log_gathered<W: Wait + Clock>(&self, rt: &W) -> Result<LogStep, Why<'b, J, R>>
+    pub(crate) fn log_step_grouped<W: Wait + Clock>(
+        &self,
+        rt: &W,
+    ) -> Result<LogStep, JournalRefusal<'b, J, R>>
         ensures { IfErr result IsLogRefusal }
     {
         self.wait_for_group(rt);
@@ -51,7 +56,7 @@ impl<'b, D: BlockDisk, R: MapRule, J: Naming> SharedCore<'b, D, R, J> {
     }
 
     // The device call of the group in flight that is due, or where none is in flight what is due of both parts.
-    fn log_call<W: Wait>(&self, rt: &W) -> Result<LogStep, Why<'b, J, R>>
+    fn log_call<W: Wait>(&self, rt: &W) -> Result<LogStep, JournalRefusal<'b, J, R>>
         ensures { IfErr result IsLogRefusal }
     {
         let mut durable = self.durable.lock(rt);
@@ -59,31 +64,31 @@ impl<'b, D: BlockDisk, R: MapRule, J: Naming> SharedCore<'b, D, R, J> {
         match durable.log_call() {
             Ok(LogCall::Put) => Ok(LogStep::Put),
             Ok(LogCall::Logged) => Ok(LogStep::Logged),
-            Ok(LogCall::AtRest(rest)) => self.settle(rt, &mut durable, rest),
+            Ok(LogCall::AtRest(rest)) => self.mark_or_cut(rt, &mut durable, rest),
             Err(fault) => Err(self.note_fault(rt, &durable, fault)),
         }
     }
 
     // Marks, cuts, or is idle, in a hold of both locks. Those that a mark is to wake are counted in
     // the same hold, and after a cut the logger waits for no thread.
-    fn settle<W: Wait>(
+    fn mark_or_cut<W: Wait>(
         &self,
         rt: &W,
         durable: &mut Durable<'b, D, R, J>,
         rest: RestingLog,
-    ) -> Result<LogStep, Why<'b, J, R>>
+    ) -> Result<LogStep, JournalRefusal<'b, J, R>>
         ensures { IfErr result IsLogRefusal }
     {
-        let mut shared = self.lock_memory(rt);
-        let answer = durable.settle(&mut shared.volatile, rest);
-        let commits = shared.volatile.commits();
+        let mut memory = self.lock_memory(rt);
+        let answer = durable.mark_or_cut(&mut memory.volatile, rest);
+        let commits = memory.volatile.commits();
         match answer {
             Ok(LogStep::Marked(_)) => {
-                shared.waiters.wake(commits);
+                memory.waiters.wake(commits);
                 self.group_in_flight.set(false);
             }
             Ok(LogStep::Cut) => {
-                shared.waiters.cut();
+                memory.waiters.cut();
                 self.group_in_flight.set(true);
             }
             _ => {}
@@ -92,32 +97,35 @@ impl<'b, D: BlockDisk, R: MapRule, J: Naming> SharedCore<'b, D, R, J> {
     }
 
     // Wakes those for whom a step of the logger made something, and all where it can be followed by no other.
-    fn tell_of_log<W: Wait>(&self, rt: &W, answer: &Result<LogStep, Why<'b, J, R>>) {
+    fn wake_after_step<W: Wait>(&self, rt: &W, answer: &Result<LogStep, JournalRefusal<'b, J, R>>) {
         match answer {
             Ok(LogStep::Cut) => self.room.notify_all(),
             Ok(LogStep::Marked(_)) => self.marked.notify_all(),
-            Ok(LogStep::Logged) if is_crowded(&self.shared.lock(rt)) => self
+            Ok(LogStep::Logged) if is_past_threshold(&self.memory.lock(rt)) => self
                 .installing
                 .notify_all(),
             Err(Refusal::Stale(_)) => self.wake_all(),
-            _ => self.tell_of_fault(answer),
+            _ => self.wake_after_fault(answer),
         }
     }
 
     // Does the next thing of the installer.
-    pub(crate) fn install_step<W: Wait>(&self, rt: &W) -> Result<InstallStep, Why<'b, J, R>>
+    pub(crate) fn install_step<W: Wait>(
+        &self,
+        rt: &W,
+    ) -> Result<InstallStep, JournalRefusal<'b, J, R>>
         ensures { IfErr result IsInstallRefusal }
     {
         let answer = self.install_call(rt);
         if matches!(answer, Ok(InstallStep::Freed(_))) {
             self.logging.notify_all();
         }
-        self.tell_of_fault(&answer);
+        self.wake_after_fault(&answer);
         answer
     }
 
     // The installer's next device call. What is at home then is dropped from memory.
-    fn install_call<W: Wait>(&self, rt: &W) -> Result<InstallStep, Why<'b, J, R>>
+    fn install_call<W: Wait>(&self, rt: &W) -> Result<InstallStep, JournalRefusal<'b, J, R>>
         ensures { IfErr result IsInstallRefusal }
     {
         let mut durable = self.durable.lock(rt);
@@ -126,20 +134,20 @@ impl<'b, D: BlockDisk, R: MapRule, J: Naming> SharedCore<'b, D, R, J> {
             Ok(InstallCall::Idle) => Ok(InstallStep::Idle),
             Ok(InstallCall::Put) => Ok(InstallStep::Put),
             Ok(InstallCall::Freed(freed)) => {
-                let mut shared = self.shared.lock(rt);
-                shared.log_start = freed.upto();
-                Ok(durable.trim(&mut shared.volatile, freed))
+                let mut memory = self.memory.lock(rt);
+                memory.log_start = freed.upto();
+                Ok(durable.trim(&mut memory.volatile, freed))
             }
             Err(InstallFault::NoMemory) => Err(Refusal::NoMemory),
             Err(InstallFault::Failed(fault)) => Err(self.note_fault(rt, &durable, fault)),
         }
     }
 
-    // Does the next thing of the installer where the log is crowded, and is idle otherwise.
-    pub(crate) fn install_where_crowded<W: Wait>(
+    // Does the next thing of the installer where the log is past its threshold, and is idle otherwise.
+    pub(crate) fn install_past_threshold<W: Wait>(
         &self,
         rt: &W,
-    ) -> Result<InstallStep, Why<'b, J, R>>
+    ) -> Result<InstallStep, JournalRefusal<'b, J, R>>
         ensures { IfErr result IsInstallRefusal }
     {
         if self.has_install_work(rt) {
@@ -159,7 +167,7 @@ impl<'b, D: BlockDisk, R: MapRule, J: Naming> SharedCore<'b, D, R, J> {
         addr: Addr,
         nothing: Fetched<'b, J, R>,
         into: &mut Vec<u8>,
-    ) -> Result<Found<'b, J, R>, Why<'b, J, R>>
+    ) -> Result<ReadResult<'b, J, R>, JournalRefusal<'b, J, R>>
         requires valid { IsTrue (is_valid J.blocks addr) }
         requires below { addr.block < J.blocks }
         requires under { AreUnder held.old transaction.now.seen transaction.now.reads }
@@ -169,7 +177,7 @@ impl<'b, D: BlockDisk, R: MapRule, J: Naming> SharedCore<'b, D, R, J> {
         ensures value { IfOk result (λ found. IsTrue (is_trusted found.seen) → into.new.items ≡ value_at (latest found.seen) addr) }
         ensures object { OnOk result (IsTrue (is_object J.blocks (addr, into.new.items))) }
         ensures found { IfOk result (Finds transaction.now addr) }
-        ensures refusal { IfErr result (IsLookRefusal transaction.now) }
+        ensures refusal { IfErr result (IsCheckRefusal transaction.now) }
     {
         let mut fetched = nothing;
         let mut durable = self.durable.lock(rt);
@@ -193,8 +201,8 @@ impl<'b, D: BlockDisk, R: MapRule, J: Naming> SharedCore<'b, D, R, J> {
         spares: &mut Spares,
         nothing: Fetched<'b, J, R>,
     ) -> (
-        MutexGuard<'s, Shared<'b, R, J>>,
-        Result<Receipt<'b, J, R>, Why<'b, J, R>>,
+        MutexGuard<'s, UnderMemoryLock<'b, R, J>>,
+        Result<Receipt<'b, J, R>, JournalRefusal<'b, J, R>>,
     )
         requires rule { (m : Map) → m.blocks ≡ J.blocks → R.statement m → Agrees m transaction.now.reads
             → R.statement (overwritten m transaction.now.writes) }
@@ -208,10 +216,10 @@ impl<'b, D: BlockDisk, R: MapRule, J: Naming> SharedCore<'b, D, R, J> {
         let mut fetched = nothing;
         let mut durable = self.durable.lock(rt);
         for _ in rt.forever() {
-            let mut shared = self.shared.lock(rt);
+            let mut memory = self.memory.lock(rt);
             let missing = match commit_in(
                 rt,
-                &mut shared.volatile,
+                &mut memory.volatile,
                 session,
                 transaction,
                 held,
@@ -220,15 +228,15 @@ impl<'b, D: BlockDisk, R: MapRule, J: Naming> SharedCore<'b, D, R, J> {
             ) {
                 Ok(CommitStep::Missing(blocks)) => blocks,
                 Ok(CommitStep::Done(receipt)) => {
-                    shared.volatile.keep(fetched);
-                    return (shared, Ok(receipt));
+                    memory.volatile.keep(fetched);
+                    return (memory, Ok(receipt));
                 }
-                Err(why) => return (shared, Err(why)),
+                Err(why) => return (memory, Err(why)),
             };
-            drop(shared);
+            drop(memory);
             match self.fetch(rt, &mut durable, &missing) {
                 Ok(blocks) => fetched = blocks,
-                Err(why) => return (self.shared.lock(rt), Err(why)),
+                Err(why) => return (self.memory.lock(rt), Err(why)),
             }
         }
         unreachable!()
@@ -240,11 +248,11 @@ impl<'b, D: BlockDisk, R: MapRule, J: Naming> SharedCore<'b, D, R, J> {
         rt: &W,
         durable: &mut Durable<'b, D, R, J>,
         blocks: &[u64],
-    ) -> Result<Fetched<'b, J, R>, Why<'b, J, R>>
+    ) -> Result<Fetched<'b, J, R>, JournalRefusal<'b, J, R>>
         requires below { All (λ b. b < J.blocks) blocks.now }
         ensures refusal { IfErr result IsFetchRefusal }
     {
-        match durable.fetch(rooms_of(self.alloc, blocks)?) {
+        match durable.fetch(fetch_buffers(self.alloc, blocks)?) {
             Ok(fetched) => Ok(fetched),
             Err(fault) => Err(self.note_fault(rt, durable, fault)),
         }
@@ -256,23 +264,23 @@ impl<'b, D: BlockDisk, R: MapRule, J: Naming> SharedCore<'b, D, R, J> {
         rt: &W,
         durable: &Durable<'b, D, R, J>,
         fault: UnnotedFault<'b, J, R>,
-    ) -> Why<'b, J, R>
+    ) -> JournalRefusal<'b, J, R>
         requires fault { IsTrue (is_faulted durable.now) }
         ensures { result ≡ fault.entry }
     {
-        let mut shared = self.shared.lock(rt);
+        let mut memory = self.memory.lock(rt);
         self.ended.set(true);
-        durable.note_fault(&mut shared.volatile, fault)
+        durable.note_fault(&mut memory.volatile, fault)
     }
 
     // The numbers of commits and of marks, and where the log on the disk lies.
     pub(crate) fn stat<W: Wait>(&self, rt: &W) -> Stat {
         let durable = self.durable.lock(rt);
-        let shared = self.shared.lock(rt);
+        let memory = self.memory.lock(rt);
         let (start, end) = durable.log_range();
         Stat {
-            commits: shared.volatile.commits(),
-            floor: shared.volatile.floor(),
+            commits: memory.volatile.commits(),
+            floor: memory.volatile.floor(),
             start,
             end,
         }
@@ -306,10 +314,10 @@ impl<'b, D: BlockDisk, R: MapRule, J: Naming> SharedCore<'b, D, R, J> {
     }
 
     fn into_parts(self) -> (Durable<'b, D, R, J>, Volatile<'b, R, J>) {
-        let SharedCore {
+        let LockedParts {
             alloc: _,
             durable,
-            shared,
+            memory,
             room: _,
             marked: _,
             logging: _,
@@ -318,19 +326,19 @@ impl<'b, D: BlockDisk, R: MapRule, J: Naming> SharedCore<'b, D, R, J> {
             ended: _,
             group_in_flight: _,
         } = self;
-        let Shared {
+        let UnderMemoryLock {
             padding: _,
             volatile,
             log_start: _,
             logger_sleeps: _,
             logger_delays: _,
             waiters: _,
-        } = shared.into_inner();
+        } = memory.into_inner();
         (durable.into_inner(), volatile)
     }
 }
 
-impl<'b, R: MapRule, J: Naming> SharedCore<'b, MemDisk, R, J> {
+impl<'b, R: MapRule, J: Naming> LockedParts<'b, MemDisk, R, J> {
     // Copies a block of the disk as a read of it would.
     pub(crate) fn inspect<W: Wait>(&self, rt: &W, block: u64, into: &mut Block)
         requires { block < J.blocks }
@@ -339,7 +347,10 @@ impl<'b, R: MapRule, J: Naming> SharedCore<'b, MemDisk, R, J> {
     }
 
     // Each block that has pending writes and their number. Answers J1.
-    pub(crate) fn pending<W: Wait>(&self, rt: &W) -> Result<Vec<(u64, u64)>, Why<'b, J, R>>
+    pub(crate) fn pending<W: Wait>(
+        &self,
+        rt: &W,
+    ) -> Result<Vec<(u64, u64)>, JournalRefusal<'b, J, R>>
         ensures { IsOkUnless result Refusal.NoMemory }
     {
         self.durable.lock(rt).disk().pending()
@@ -351,7 +362,7 @@ impl<'b, R: MapRule, J: Naming> SharedCore<'b, MemDisk, R, J> {
         rt: &W,
         session: &mut Session<'b, J, R>,
         choice: &[u32],
-    ) -> Result<MemDisk, Why<'b, J, R>>
+    ) -> Result<MemDisk, JournalRefusal<'b, J, R>>
         ensures session { OnlyExtends session.old session.new }
         ensures size { IfOk result (λ image. image.past.size ≡ J.blocks) }
         ensures settled { IfOk result (λ image. IsSettled image.past) }
@@ -360,8 +371,8 @@ impl<'b, R: MapRule, J: Naming> SharedCore<'b, MemDisk, R, J> {
         ensures refusal { IfErr result IsImageRefusal }
     {
         let durable = self.durable.lock(rt);
-        let shared = self.shared.lock(rt);
-        show_images(&durable, &shared.volatile, session)?;
+        let memory = self.memory.lock(rt);
+        show_images(&durable, &memory.volatile, session)?;
         durable.disk().image(choice)
     }
 
@@ -377,7 +388,7 @@ fn show_images<'b, D: BlockDisk, R: MapRule, J: Naming>(
     durable: &Durable<'b, D, R, J>,
     volatile: &Volatile<'b, R, J>,
     session: &mut Session<'b, J, R>,
-) -> Result<(), Why<'b, J, R>>
+) -> Result<(), JournalRefusal<'b, J, R>>
     ensures session { OnlyExtends session.old session.new }
     ensures trusted { OnOk result (is_trusted session.new.seen ≡ (disk_of durable.now).honest) }
     ensures images { OnOk result (IsTrue (disk_of durable.now).honest → EveryImage (disk_of durable.now).past (Leaves session.new.seen)) }

@@ -12,13 +12,13 @@ ghost use Rattle.journal_twophase.specs.Waits.{IsStable, IsWaitRefusal, IsEndedU
 ghost use Rattle.journal_twophase.specs.Transactions.{begun};
 ghost use Rattle.journal_twophase.specs.declared.journal.TheConstants.{MAX_CACHED_BLOCKS};
 
-use crate::shared::{OpenedCore, SharedCore, Why};
+use crate::locked_parts::{JournalRefusal, LockedParts, OpenedCore};
 use crate::txn::Txn;
 use journal_block::Block;
 use journal_core::{Cause, InstallStep, LogStep, Stat};
 use journal_disk::{BlockDisk, MemDisk};
 use journal_history::{Book, Front, Naming, Receipt, Session, StableNote};
-use journal_lockmap::{Bells, LockMap, SlotCell};
+use journal_lockmap::{LockMap, SlotCell, SlotLocks};
 use journal_world::{Layout, MapRule, Refusal, Refused, Step};
 use std::alloc::Global;
 use std::marker::Model;
@@ -37,7 +37,7 @@ pub const MAX_CACHED_BLOCKS: usize = 4096;
 pub struct Journal<'b, D: BlockDisk, R: MapRule, J: Naming> {
     pub(crate) layout: Layout,
     pub(crate) slots: LockMap<J>,
-    pub(crate) core: SharedCore<'b, D, R, J>,
+    pub(crate) core: LockedParts<'b, D, R, J>,
     start: Front<'b, J, R>,
 }
 
@@ -110,19 +110,19 @@ impl<'b, D: BlockDisk, R: MapRule, J: Naming> Journal<'b, D, R, J> {
                 disk,
             });
         };
-        let Ok(bells) = Bells::new(alloc) else {
+        let Ok(slot_locks) = SlotLocks::new(alloc) else {
             return Err(Refused {
                 refusal: Refusal::NoMemory,
                 disk,
             });
         };
         // Nothing but the core's opening can be refused from here on, so a refusal leaves the book as it was.
-        let OpenedCore { core, start, slots } = SharedCore::open(
+        let OpenedCore { core, start, slots } = LockedParts::open(
             alloc, book, cell, disk, rule, cached,
         )?;
         Ok(Journal {
             layout,
-            slots: LockMap::new(bells, slots),
+            slots: LockMap::new(slot_locks, slots),
             core,
             start,
         })
@@ -132,7 +132,7 @@ impl<'b, D: BlockDisk, R: MapRule, J: Naming> Journal<'b, D, R, J> {
     /// seen the whole history, which goes on from the journal's opening. It takes no memory.
     ///
     /// Answers J11 `Worn` where the number would reach 2^62.
-    pub fn session<W: Wait>(&self, rt: &W) -> Result<Session<'b, J, R>, Why<'b, J, R>>
+    pub fn session<W: Wait>(&self, rt: &W) -> Result<Session<'b, J, R>, JournalRefusal<'b, J, R>>
         ensures made { IfOk result (λ session. made session ≡ 0) }
         ensures exact { IfOk result IsExact }
         ensures unfenced { IfOk result (λ session. is_fenced session.number session.seen ≡ false) }
@@ -141,7 +141,7 @@ impl<'b, D: BlockDisk, R: MapRule, J: Naming> Journal<'b, D, R, J> {
         ensures refusal { IfErr result IsSessionRefusal }
     {
         let session = self.core.session(rt)?;
-        self.begins(&session);
+        self.prove_begins(&session);
         Ok(session)
     }
 
@@ -164,7 +164,7 @@ impl<'b, D: BlockDisk, R: MapRule, J: Naming> Journal<'b, D, R, J> {
         rt: &W,
         session: &mut Session<'b, J, R>,
         target: u64,
-    ) -> Result<(), Why<'b, J, R>>
+    ) -> Result<(), JournalRefusal<'b, J, R>>
         ensures fenced { OnOk result (is_fenced target session.new.seen ≡ true) }
         ensures refusal { IfErr result IsFenceRefusal }
         ensures session { OnlyExtends session.old session.new }
@@ -174,7 +174,7 @@ impl<'b, D: BlockDisk, R: MapRule, J: Naming> Journal<'b, D, R, J> {
 
     // Called for its contract: what a session has seen begins with the journal's opening, since both are of one
     // history, and what is known of it.
-    fn begins(&self, session: &Session<'b, J, R>)
+    fn prove_begins(&self, session: &Session<'b, J, R>)
         ensures start { IsPrefix self.now.start session.now.seen }
         ensures known { IsKnown R.statement J.blocks session.now.seen }
     {
@@ -204,7 +204,7 @@ impl<'b, D: BlockDisk, R: MapRule, J: Naming> Journal<'b, D, R, J> {
     /// Answers J13 `Closed` where the journal was stopped, J6 `DeviceFailed` where the device
     /// failed in this call or before, J9 `Stale` where the history is longer than the core's, J11
     /// `Worn` where its length would reach 2^62, and J1 `NoMemory` where memory is refused.
-    pub fn log_step<W: Wait>(&self, rt: &W) -> Result<Step, Why<'b, J, R>>
+    pub fn log_step<W: Wait>(&self, rt: &W) -> Result<Step, JournalRefusal<'b, J, R>>
         ensures { IfErr result IsLogRefusal }
     {
         Ok(log_moved(self.core.log_step(rt)?))
@@ -218,17 +218,20 @@ impl<'b, D: BlockDisk, R: MapRule, J: Naming> Journal<'b, D, R, J> {
     /// mark ends that, and a stop or a device that failed ends either wait.
     ///
     /// It is refused as `log_step` is.
-    pub fn log_gathered<W: Wait + Clock>(&self, rt: &W) -> Result<Step, Why<'b, J, R>>
+    pub fn log_step_grouped<W: Wait + Clock>(
+        &self,
+        rt: &W,
+    ) -> Result<Step, JournalRefusal<'b, J, R>>
         ensures { IfErr result IsLogRefusal }
     {
-        Ok(log_moved(self.core.log_gathered(rt)?))
+        Ok(log_moved(self.core.log_step_grouped(rt)?))
     }
 
     /// Does the next thing of the installer, with at most one device call that changes the disk. It is idle where nothing is logged that is not at home.
     ///
     /// Answers J13 `Closed` where the journal was stopped, J6 `DeviceFailed` where the device failed in this call or
     /// before, and J1 `NoMemory` where memory is refused.
-    pub fn install_step<W: Wait>(&self, rt: &W) -> Result<Step, Why<'b, J, R>>
+    pub fn install_step<W: Wait>(&self, rt: &W) -> Result<Step, JournalRefusal<'b, J, R>>
         ensures { IfErr result IsInstallRefusal }
     {
         Ok(install_moved(self.core.install_step(rt)?))
@@ -250,7 +253,7 @@ impl<'b, D: BlockDisk, R: MapRule, J: Naming> Journal<'b, D, R, J> {
         rt: &W,
         session: &mut Session<'b, J, R>,
         receipt: &Receipt<'b, J, R>,
-    ) -> Result<StableNote<'b, J, R>, Why<'b, J, R>>
+    ) -> Result<StableNote<'b, J, R>, JournalRefusal<'b, J, R>>
         ensures stable { IfOk result (λ note. IsStable receipt.now.count note session.new) }
         ensures exact { OnOk result (IsExact session.new) }
         ensures session { OnlyExtends session.old session.new }
@@ -271,7 +274,7 @@ impl<'b, D: BlockDisk, R: MapRule, J: Naming> Journal<'b, D, R, J> {
         &self,
         rt: &W,
         session: &mut Session<'b, J, R>,
-    ) -> Result<StableNote<'b, J, R>, Why<'b, J, R>>
+    ) -> Result<StableNote<'b, J, R>, JournalRefusal<'b, J, R>>
         ensures stable { IfOk result (λ note. IsStable (count session.old.seen) note session.new) }
         ensures exact { OnOk result (IsExact session.new) }
         ensures session { OnlyExtends session.old session.new }
@@ -291,10 +294,10 @@ impl<'b, D: BlockDisk, R: MapRule, J: Naming> Journal<'b, D, R, J> {
     /// are used. It is idle otherwise, so that the device's time is the logger's until the log needs room.
     ///
     /// It is refused as `install_step` is.
-    pub fn install_where_crowded<W: Wait>(&self, rt: &W) -> Result<Step, Why<'b, J, R>>
+    pub fn install_past_threshold<W: Wait>(&self, rt: &W) -> Result<Step, JournalRefusal<'b, J, R>>
         ensures { IfErr result IsInstallRefusal }
     {
-        Ok(install_moved(self.core.install_where_crowded(rt)?))
+        Ok(install_moved(self.core.install_past_threshold(rt)?))
     }
 
     /// Waits until `log_step` has something to do or is refused for good: a commit was made, positions of a full log
@@ -303,7 +306,7 @@ impl<'b, D: BlockDisk, R: MapRule, J: Naming> Journal<'b, D, R, J> {
         self.core.await_log_work(rt);
     }
 
-    /// Waits until `install_where_crowded` has something to do or is refused for good.
+    /// Waits until `install_past_threshold` has something to do or is refused for good.
     pub fn await_install_work<W: Wait>(&self, rt: &W) {
         self.core.await_install_work(rt);
     }
@@ -353,7 +356,7 @@ impl<'b, R: MapRule, J: Naming> Journal<'b, MemDisk, R, J> {
     /// Each block that has pending writes and their number, blocks ascending. It takes the disk's lock alone.
     ///
     /// Answers J1 `NoMemory`, and nothing else, where memory for the list is refused.
-    pub fn pending<W: Wait>(&self, rt: &W) -> Result<Vec<(u64, u64)>, Why<'b, J, R>>
+    pub fn pending<W: Wait>(&self, rt: &W) -> Result<Vec<(u64, u64)>, JournalRefusal<'b, J, R>>
         ensures { IsOkUnless result Refusal.NoMemory }
     {
         self.core.pending(rt)
@@ -369,7 +372,7 @@ impl<'b, R: MapRule, J: Naming> Journal<'b, MemDisk, R, J> {
         rt: &W,
         session: &mut Session<'b, J, R>,
         choice: &[u32],
-    ) -> Result<MemDisk, Why<'b, J, R>>
+    ) -> Result<MemDisk, JournalRefusal<'b, J, R>>
         ensures session { OnlyExtends session.old session.new }
         ensures size { IfOk result (λ image. image.past.size ≡ J.blocks) }
         ensures settled { IfOk result (λ image. IsSettled image.past) }

@@ -25,12 +25,12 @@ mod commit;
 mod device;
 mod hint;
 mod journal;
-mod shared;
+mod locked_parts;
 mod txn;
 mod waiters;
 mod waiting;
 
 pub use journal::{CACHED_BLOCKS, Journal, MAX_CACHED_BLOCKS};
-pub use shared::Why;
+pub use locked_parts::JournalRefusal;
 pub use txn::Txn;
 pub use waiting::{WaitFault, Waited};

@@ -6,10 +6,10 @@ ghost use Rattle.journal_world.specs.Addresses.{is_valid, slot_of as slot_number
 ghost use Rattle.journal_world.specs.Maps.{is_object, value_among, Agrees};
 ghost use Rattle.journal_object.specs.Objects.{size_at};
 ghost use Rattle.journal_world.specs.Histories.{is_trusted, latest};
-ghost use Rattle.journal_twophase.specs.Transactions.{TxnState, core_of, begun, holding, holds, holds_above, with_slot, IsClearOf, Learns, ReadsValue, Overwrites, IsSlotRefusal, IsLookRefusal, IsEndRefusal, IsReadRefusal, IsOverwriteRefusal};
+ghost use Rattle.journal_twophase.specs.Transactions.{TxnState, core_of, begun, holding, holds, holds_above, with_slot, IsClearOf, Learns, ReadsValue, Overwrites, IsSlotRefusal, IsCheckRefusal, IsEndRefusal, IsReadRefusal, IsOverwriteRefusal};
 
 use crate::journal::Journal;
-use crate::shared::Why;
+use crate::locked_parts::JournalRefusal;
 use journal_core::Transaction;
 use journal_disk::BlockDisk;
 use journal_history::{Front, Naming, Session};
@@ -88,7 +88,7 @@ impl<'j, 'b, D: BlockDisk, R: MapRule, J: Naming> Txn<'j, 'b, D, R, J> {
     /// slot and this transaction a greater one, J9 `Stale` where the transaction has seen more of the history than
     /// the core, then J1 `NoMemory` where memory is refused, or J6 where the device fails in this call. The
     /// transaction is then as it was, with the slots that it held.
-    pub fn read<W: Wait>(&mut self, rt: &W, addr: Addr) -> Result<Value, Why<'b, J, R>>
+    pub fn read<W: Wait>(&mut self, rt: &W, addr: Addr) -> Result<Value, JournalRefusal<'b, J, R>>
         ensures reads { IfOk result (λ value. ReadsValue (holding self.old addr) addr value self.new) }
         ensures object { IfOk result (λ value. IsTrue (is_object J.blocks (addr, value))) }
         ensures agrees { OnOk result (IsTrue (is_trusted self.new.seen) → Agrees (latest self.new.seen) self.new.reads) }
@@ -105,7 +105,7 @@ impl<'j, 'b, D: BlockDisk, R: MapRule, J: Naming> Txn<'j, 'b, D, R, J> {
             Err(Refusal::NoMemory) => return Err(self.no_memory(rt, addr)),
             Err(refusal) => return Err(self.unless_ended(rt, refusal)),
         };
-        let answer = self.look_up(rt, addr);
+        let answer = self.find_value(rt, addr);
         if answer.is_err() {
             self.give_back(rt, took);
         }
@@ -115,7 +115,11 @@ impl<'j, 'b, D: BlockDisk, R: MapRule, J: Naming> Txn<'j, 'b, D, R, J> {
     }
 
     // The refusal of a read that the core was not asked for. That the journal goes on no more comes before it.
-    fn unless_ended<W: Wait>(&self, rt: &W, refusal: Why<'b, J, R>) -> Why<'b, J, R>
+    fn unless_ended<W: Wait>(
+        &self,
+        rt: &W,
+        refusal: JournalRefusal<'b, J, R>,
+    ) -> JournalRefusal<'b, J, R>
         ensures { (result ≡ refusal.entry) ⊎ IsEndRefusal result }
     {
         let journal = self.journal;
@@ -126,9 +130,9 @@ impl<'j, 'b, D: BlockDisk, R: MapRule, J: Naming> Txn<'j, 'b, D, R, J> {
     }
 
     // The refusal of a read for which there is no memory. All that would refuse it otherwise comes before.
-    fn no_memory<W: Wait>(&mut self, rt: &W, addr: Addr) -> Why<'b, J, R>
+    fn no_memory<W: Wait>(&mut self, rt: &W, addr: Addr) -> JournalRefusal<'b, J, R>
         requires valid { IsTrue (is_valid J.blocks addr) }
-        ensures refusal { IsLookRefusal (core_of self.old) result }
+        ensures refusal { IsCheckRefusal (core_of self.old) result }
         ensures same { self.new ≡ self.old }
     {
         let journal = self.journal;
@@ -144,13 +148,13 @@ impl<'j, 'b, D: BlockDisk, R: MapRule, J: Naming> Txn<'j, 'b, D, R, J> {
     }
 
     // Its own overwrite, else what the map gives, which it remembers.
-    fn look_up<W: Wait>(&mut self, rt: &W, addr: Addr) -> Result<Value, Why<'b, J, R>>
+    fn find_value<W: Wait>(&mut self, rt: &W, addr: Addr) -> Result<Value, JournalRefusal<'b, J, R>>
         requires valid { IsTrue (is_valid J.blocks addr) }
         requires slot { IsTrue (holds self.old.held (slot_number addr)) }
         ensures reads { IfOk result (λ value. ReadsValue self.old addr value self.new) }
         ensures object { IfOk result (λ value. IsTrue (is_object J.blocks (addr, value))) }
         ensures kept { OnOk result (IsTrue (is_trusted self.new.seen) → Agrees (latest self.new.seen) self.old.reads) }
-        ensures refusal { IfErr result (IsLookRefusal (core_of self.old)) }
+        ensures refusal { IfErr result (IsCheckRefusal (core_of self.old)) }
         ensures same { OnErr result (self.new ≡ self.old) }
     {
         let journal = self.journal;
@@ -161,7 +165,7 @@ impl<'j, 'b, D: BlockDisk, R: MapRule, J: Naming> Txn<'j, 'b, D, R, J> {
             return Ok(own.clone()?);
         }
         match self.room_for(addr) {
-            Ok(room) => self.look_in_map(rt, addr, room),
+            Ok(room) => self.read_map(rt, addr, room),
             Err(_) => Err(self.no_memory(rt, addr)),
         }
     }
@@ -180,19 +184,19 @@ impl<'j, 'b, D: BlockDisk, R: MapRule, J: Naming> Txn<'j, 'b, D, R, J> {
 
     // What the map gives, which it remembers. Only the look-up has the core's lock: the value's memory is made outside
     // of it.
-    fn look_in_map<W: Wait>(
+    fn read_map<W: Wait>(
         &mut self,
         rt: &W,
         addr: Addr,
         room: Vec<u8>,
-    ) -> Result<Value, Why<'b, J, R>>
+    ) -> Result<Value, JournalRefusal<'b, J, R>>
         requires valid { IsTrue (is_valid J.blocks addr) }
         requires size { length room.items ≡ size_at J.blocks addr }
         requires slot { IsTrue (holds self.old.held (slot_number addr)) }
         ensures learns { IfOk result (λ value. Learns self.old addr value self.new) }
         ensures object { IfOk result (λ value. IsTrue (is_object J.blocks (addr, value))) }
         ensures kept { OnOk result (IsTrue (is_trusted self.new.seen) → Agrees (latest self.new.seen) self.old.reads) }
-        ensures refusal { IfErr result (IsLookRefusal (core_of self.old)) }
+        ensures refusal { IfErr result (IsCheckRefusal (core_of self.old)) }
         ensures same { OnErr result (self.new ≡ self.old) }
     {
         let journal = self.journal;
@@ -232,7 +236,7 @@ impl<'j, 'b, D: BlockDisk, R: MapRule, J: Naming> Txn<'j, 'b, D, R, J> {
         rt: &W,
         addr: Addr,
         bytes: &[u8],
-    ) -> Result<(), Why<'b, J, R>>
+    ) -> Result<(), JournalRefusal<'b, J, R>>
         ensures overwrites { OnOk result (Overwrites (holding self.old addr) addr bytes.now self.new) }
         ensures object { OnOk result (IsTrue (is_object J.blocks (addr, bytes.now))) }
         ensures refusal { IfErr result (IsOverwriteRefusal J.blocks self.old addr bytes.now) }
@@ -258,7 +262,7 @@ impl<'j, 'b, D: BlockDisk, R: MapRule, J: Naming> Txn<'j, 'b, D, R, J> {
     }
 
     // Remembers what is to be written.
-    fn remember(&mut self, addr: Addr, bytes: &[u8]) -> Result<(), Why<'b, J, R>>
+    fn remember(&mut self, addr: Addr, bytes: &[u8]) -> Result<(), JournalRefusal<'b, J, R>>
         requires object { IsTrue (is_object J.blocks (addr, bytes.now)) }
         requires slot { IsTrue (holds self.old.held (slot_number addr)) }
         ensures overwrites { OnOk result (Overwrites self.old addr bytes.now self.new) }
@@ -271,7 +275,7 @@ impl<'j, 'b, D: BlockDisk, R: MapRule, J: Naming> Txn<'j, 'b, D, R, J> {
     }
 
     // Takes the slot, and says whether the transaction did not hold it already.
-    fn take<W: Wait>(&mut self, rt: &W, slot: u16) -> Result<bool, Why<'b, J, R>>
+    fn take<W: Wait>(&mut self, rt: &W, slot: u16) -> Result<bool, JournalRefusal<'b, J, R>>
         requires in_range { slot < SLOT_COUNT }
         ensures taken { OnOk result (self.new ≡ record self.old { held = with_slot self.old.held slot }) }
         ensures took { IfOk result (λ took. self.new.held ≡ (if took then self.old.held ++ slot ∷ [] else self.old.held)) }

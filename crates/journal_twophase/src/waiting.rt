@@ -7,7 +7,7 @@ ghost use Rattle.journal_twophase.specs.Journals.{IsKnown};
 ghost use Rattle.journal_twophase.specs.Transactions.{KeepsHeld};
 ghost use Rattle.journal_twophase.specs.Waits.{IsStable, CommitsAndWaits, IsWaitRefusal, IsEndedUnmarked, IsWaitFault};
 
-use crate::shared::{Shared, SharedCore, Why};
+use crate::locked_parts::{JournalRefusal, LockedParts, UnderMemoryLock};
 use crate::txn::release_all;
 use journal_core::{Cause, Spares, Transaction, Volatile};
 use journal_disk::BlockDisk;
@@ -32,21 +32,21 @@ pub type Waited<'b, J, R> = Result<
     WaitFault<Receipt<'b, J, R>, Cause<'b, J, R>>,
 >;
 
-impl<'b, D: BlockDisk, R: MapRule, J: Naming> SharedCore<'b, D, R, J> {
+impl<'b, D: BlockDisk, R: MapRule, J: Naming> LockedParts<'b, D, R, J> {
     // Waits until so many commits are marked as stable. Answers J13, J6, J9 and J10.
     pub(crate) fn wait_stable<W: Wait>(
         &self,
         rt: &W,
         session: &mut Session<'b, J, R>,
         commits: u64,
-    ) -> Result<StableNote<'b, J, R>, Why<'b, J, R>>
+    ) -> Result<StableNote<'b, J, R>, JournalRefusal<'b, J, R>>
         ensures stable { IfOk result (λ note. IsStable commits note session.new) }
         ensures exact { OnOk result (IsExact session.new) }
         ensures session { OnlyExtends session.old session.new }
         ensures refusal { IfErr result (IsWaitRefusal session.new) }
     {
-        let shared = self.lock_memory(rt);
-        self.wait_in(rt, shared, session, commits)
+        let memory = self.lock_memory(rt);
+        self.wait_in(rt, memory, session, commits)
     }
 
     // Waits until all commits are marked that the session has seen, and for no others. Answers J9, J10, J13 and J6.
@@ -54,19 +54,19 @@ impl<'b, D: BlockDisk, R: MapRule, J: Naming> SharedCore<'b, D, R, J> {
         &self,
         rt: &W,
         session: &mut Session<'b, J, R>,
-    ) -> Result<StableNote<'b, J, R>, Why<'b, J, R>>
+    ) -> Result<StableNote<'b, J, R>, JournalRefusal<'b, J, R>>
         ensures stable { IfOk result (λ note. IsStable (count session.old.seen) note session.new) }
         ensures exact { OnOk result (IsExact session.new) }
         ensures session { OnlyExtends session.old session.new }
         ensures refusal { IfErr result (IsWaitRefusal session.new) }
         ensures unmarked { IfErr result (IsEndedUnmarked session.old session.new) }
     {
-        let mut shared = self.lock_memory(rt);
+        let mut memory = self.lock_memory(rt);
         for _ in rt.forever() {
-            if let Some(note) = flush_step(rt, &mut shared.volatile, session)? {
+            if let Some(note) = flush_step(rt, &mut memory.volatile, session)? {
                 return Ok(note);
             }
-            shared = self.sleep(rt, shared);
+            memory = self.sleep(rt, memory);
         }
         unreachable!()
     }
@@ -75,22 +75,22 @@ impl<'b, D: BlockDisk, R: MapRule, J: Naming> SharedCore<'b, D, R, J> {
     fn wait_in<'s, W: Wait>(
         &'s self,
         rt: &W,
-        shared: MutexGuard<'s, Shared<'b, R, J>>,
+        memory: MutexGuard<'s, UnderMemoryLock<'b, R, J>>,
         session: &mut Session<'b, J, R>,
         commits: u64,
-    ) -> Result<StableNote<'b, J, R>, Why<'b, J, R>>
+    ) -> Result<StableNote<'b, J, R>, JournalRefusal<'b, J, R>>
         ensures stable { IfOk result (λ note. IsStable commits note session.new) }
         ensures exact { OnOk result (IsExact session.new) }
         ensures keeps { IsExact session.old → IsExact session.new }
         ensures session { OnlyExtends session.old session.new }
         ensures refusal { IfErr result (IsWaitRefusal session.new) }
     {
-        let mut shared = shared;
+        let mut memory = memory;
         for _ in rt.forever() {
-            if wait_step(rt, &mut shared.volatile, session, commits)? {
+            if wait_step(rt, &mut memory.volatile, session, commits)? {
                 return Ok(StableNote::new(&session.front(), commits));
             }
-            shared = self.sleep(rt, shared);
+            memory = self.sleep(rt, memory);
         }
         unreachable!()
     }
@@ -100,16 +100,16 @@ impl<'b, D: BlockDisk, R: MapRule, J: Naming> SharedCore<'b, D, R, J> {
     fn sleep<'s, W: Wait>(
         &'s self,
         rt: &W,
-        shared: MutexGuard<'s, Shared<'b, R, J>>,
-    ) -> MutexGuard<'s, Shared<'b, R, J>> {
-        let mut shared = shared;
-        let fills_group = shared.waiters.add();
-        if shared.ends_delay() || fills_group {
+        memory: MutexGuard<'s, UnderMemoryLock<'b, R, J>>,
+    ) -> MutexGuard<'s, UnderMemoryLock<'b, R, J>> {
+        let mut memory = memory;
+        let fills_group = memory.waiters.add();
+        if memory.ends_delay() || fills_group {
             self.group_full.notify_all();
         }
-        let mut shared = self.marked.wait(rt, shared);
-        shared.waiters.remove();
-        shared
+        let mut memory = self.marked.wait(rt, memory);
+        memory.waiters.remove();
+        memory
     }
 
     // Commits the transaction, gives up its slots, and sleeps in the same hold of the lock until it is stable.
@@ -130,7 +130,7 @@ impl<'b, D: BlockDisk, R: MapRule, J: Naming> SharedCore<'b, D, R, J> {
         ensures fault { IfErr result (IsWaitFault R.statement J.blocks transaction.now.seen transaction.now session.old session.new) }
     {
         let mut held = held;
-        let (mut shared, answer) = self.commit_with_room(
+        let (mut memory, answer) = self.commit_with_room(
             rt,
             session,
             transaction,
@@ -138,13 +138,13 @@ impl<'b, D: BlockDisk, R: MapRule, J: Naming> SharedCore<'b, D, R, J> {
             spares,
         );
         release_all(rt, slots, held);
-        let wake = shared.wake_after(&answer);
+        let wake = memory.wake_after(&answer);
         self.wake_after_commit(&answer, wake);
         let receipt = match answer {
             Ok(receipt) => receipt,
             Err(why) => return Err(WaitFault::Refused(why)),
         };
-        let answer = self.wait_in(rt, shared, session, receipt.count());
+        let answer = self.wait_in(rt, memory, session, receipt.count());
         // It tells the proof what is known of all that the session has then seen.
         let _seen = session.seen();
         match answer {
@@ -160,9 +160,9 @@ fn wait_step<'b, R: MapRule, J: Naming, W: Wait>(
     volatile: &mut Volatile<'b, R, J>,
     session: &mut Session<'b, J, R>,
     commits: u64,
-) -> Result<bool, Why<'b, J, R>>
+) -> Result<bool, JournalRefusal<'b, J, R>>
     ensures marked { IfOk result (λ marked. IsTrue marked → commits ≤ floor session.new.seen) }
-    ensures shown { OnOk result (session.new.seen ≡ volatile.old.memory.history) }
+    ensures shown { OnOk result (session.new.seen ≡ volatile.old.ledger.history) }
     ensures exact { OnOk result (IsExact session.new) }
     ensures keeps { IsExact session.old → IsExact session.new }
     ensures session { OnlyExtends session.old session.new }
@@ -177,7 +177,7 @@ fn flush_step<'b, R: MapRule, J: Naming, W: Wait>(
     rt: &W,
     volatile: &mut Volatile<'b, R, J>,
     session: &mut Session<'b, J, R>,
-) -> Result<Option<StableNote<'b, J, R>>, Why<'b, J, R>>
+) -> Result<Option<StableNote<'b, J, R>>, JournalRefusal<'b, J, R>>
     ensures stable { IfOk result (λ noted. IfSome noted (λ note. IsStable (count session.old.seen) note session.new)) }
     ensures exact { IfOk result (λ noted. IsSome noted → IsExact session.new) }
     ensures stays { IfOk result (λ noted. IsNone noted → session.new ≡ session.old) }

@@ -11,7 +11,7 @@ use Rattle.journal_block.specs.Block.{Bytes}
 use Rattle.journal_block.specs.Updates.{updated, updates_block}
 use Rattle.journal_block.specs.UpdateLaws.{updated-append, updated-named, updated-unnamed}
 use Rattle.journal_memlog.specs.Laws.{updates_block-append}
-use Rattle.journal_wal.specs.HomeUpdates.{home_updates}
+use Rattle.journal_wal.specs.CachedUpdates.{cached_updates}
 use Rattle.journal_wal.specs.Tails.{MakeTheSame, MakesNoOther}
 
 -- ---- what they have of a block
@@ -24,49 +24,49 @@ or_false : (x : Bool) → (x || false) ≡ x
 or_false true = refl
 or_false false = refl
 
-pub home_named : (es : List (ℕ × Bytes)) (b : ℕ) → updates_block (home_updates es) b ≡ is_some (lookup (nat_eq b) es)
+pub home_named : (es : List (ℕ × Bytes)) (b : ℕ) → updates_block (cached_updates es) b ≡ is_some (lookup (nat_eq b) es)
 home_named [] b = refl
 home_named (e ∷ es) b = by (nat_eq b e.0) refl (home_named es b)
   where
     before : Bool
-    before = updates_block (home_updates es) b
+    before = updates_block (cached_updates es) b
 
-    by : (here : Bool) → nat_eq b e.0 ≡ here → updates_block (home_updates es) b ≡ is_some (lookup (nat_eq b) es)
-        → updates_block (home_updates (e ∷ es)) b ≡ is_some (cond (nat_eq b e.0) (Some e.1) (lookup (nat_eq b) es))
+    by : (here : Bool) → nat_eq b e.0 ≡ here → updates_block (cached_updates es) b ≡ is_some (lookup (nat_eq b) es)
+        → updates_block (cached_updates (e ∷ es)) b ≡ is_some (cond (nat_eq b e.0) (Some e.1) (lookup (nat_eq b) es))
     by true is rest =
-        updates_block-append (home_updates es) (record { block = e.0; bytes = e.1 } ∷ []) b
+        updates_block-append (cached_updates es) (record { block = e.0; bytes = e.1 } ∷ []) b
         ∙ ap (λ (t : Bool). before || (t || false)) (nat_eq_equiv.symm e.0 b ∙ is)
         ∙ or_true before
         ∙ sym (ap (λ (t : Bool). is_some (cond t (Some e.1) (lookup (nat_eq b) es))) is)
     by false is rest =
-        updates_block-append (home_updates es) (record { block = e.0; bytes = e.1 } ∷ []) b
+        updates_block-append (cached_updates es) (record { block = e.0; bytes = e.1 } ∷ []) b
         ∙ ap (λ (t : Bool). before || (t || false)) (nat_eq_equiv.symm e.0 b ∙ is)
         ∙ or_false before
         ∙ rest
         ∙ sym (ap (λ (t : Bool). is_some (cond t (Some e.1) (lookup (nat_eq b) es))) is)
 
-pub home_value : (es : List (ℕ × Bytes)) (b : ℕ) (x : Bytes) → updated (home_updates es) b x ≡ unwrap_or (lookup (nat_eq b) es) x
+pub home_value : (es : List (ℕ × Bytes)) (b : ℕ) (x : Bytes) → updated (cached_updates es) b x ≡ unwrap_or (lookup (nat_eq b) es) x
 home_value [] b x = refl
 home_value (e ∷ es) b x = by (nat_eq b e.0) refl (home_value es b x)
   where
-    by : (here : Bool) → nat_eq b e.0 ≡ here → updated (home_updates es) b x ≡ unwrap_or (lookup (nat_eq b) es) x
-        → updated (home_updates (e ∷ es)) b x ≡ unwrap_or (cond (nat_eq b e.0) (Some e.1) (lookup (nat_eq b) es)) x
+    by : (here : Bool) → nat_eq b e.0 ≡ here → updated (cached_updates es) b x ≡ unwrap_or (lookup (nat_eq b) es) x
+        → updated (cached_updates (e ∷ es)) b x ≡ unwrap_or (cond (nat_eq b e.0) (Some e.1) (lookup (nat_eq b) es)) x
     by true is rest =
-        updated-append (home_updates es) (record { block = e.0; bytes = e.1 } ∷ []) b x
-        ∙ ap (λ (t : Bool). cond t e.1 (updated (home_updates es) b x)) (nat_eq_equiv.symm e.0 b ∙ is)
+        updated-append (cached_updates es) (record { block = e.0; bytes = e.1 } ∷ []) b x
+        ∙ ap (λ (t : Bool). cond t e.1 (updated (cached_updates es) b x)) (nat_eq_equiv.symm e.0 b ∙ is)
         ∙ sym (ap (λ (t : Bool). unwrap_or (cond t (Some e.1) (lookup (nat_eq b) es)) x) is)
     by false is rest =
-        updated-append (home_updates es) (record { block = e.0; bytes = e.1 } ∷ []) b x
-        ∙ ap (λ (t : Bool). cond t e.1 (updated (home_updates es) b x)) (nat_eq_equiv.symm e.0 b ∙ is)
+        updated-append (cached_updates es) (record { block = e.0; bytes = e.1 } ∷ []) b x
+        ∙ ap (λ (t : Bool). cond t e.1 (updated (cached_updates es) b x)) (nat_eq_equiv.symm e.0 b ∙ is)
         ∙ rest
         ∙ sym (ap (λ (t : Bool). unwrap_or (cond t (Some e.1) (lookup (nat_eq b) es)) x) is)
 
 -- what is found of a block
-pub home_found : (es : List (ℕ × Bytes)) (b : ℕ) (v : Bytes) → lookup (nat_eq b) es ≡ Some v → (x : Bytes) → updated (home_updates es) b x ≡ v
+pub home_found : (es : List (ℕ × Bytes)) (b : ℕ) (v : Bytes) → lookup (nat_eq b) es ≡ Some v → (x : Bytes) → updated (cached_updates es) b x ≡ v
 home_found es b v is x = home_value es b x ∙ ap (λ (o : Option Bytes). unwrap_or o x) is
 
 -- entries that have the same of each block
-pub home_alike : (es fs : List (ℕ × Bytes)) → ((b : ℕ) → lookup (nat_eq b) es ≡ lookup (nat_eq b) fs) → MakeTheSame (home_updates es) (home_updates fs)
+pub home_alike : (es fs : List (ℕ × Bytes)) → ((b : ℕ) → lookup (nat_eq b) es ≡ lookup (nat_eq b) fs) → MakeTheSame (cached_updates es) (cached_updates fs)
 home_alike es fs same = record {
   blocks = λ b. home_named es b ∙ ap (λ (o : Option Bytes). is_some o) (same b) ∙ sym (home_named fs b);
   content = λ b x. home_value es b x ∙ ap (λ (o : Option Bytes). unwrap_or o x) (same b) ∙ sym (home_value fs b x);
@@ -74,18 +74,18 @@ home_alike es fs same = record {
 
 -- entries that have no more than others
 pub home_no_other : (es fs : List (ℕ × Bytes)) → ((b : ℕ) (w : Bytes) → lookup (nat_eq b) fs ≡ Some w → lookup (nat_eq b) es ≡ Some w)
-    → MakesNoOther (home_updates es) (home_updates fs)
+    → MakesNoOther (cached_updates es) (cached_updates fs)
 home_no_other es fs fewer = record {
   blocks = λ b named. by_named b (lookup (nat_eq b) fs) refl named;
   content = λ b x named. by_content b x (lookup (nat_eq b) fs) refl named;
 }
   where
-    by_named : (b : ℕ) (o : Option Bytes) → lookup (nat_eq b) fs ≡ o → updates_block (home_updates fs) b ≡ true → updates_block (home_updates es) b ≡ true
+    by_named : (b : ℕ) (o : Option Bytes) → lookup (nat_eq b) fs ≡ o → updates_block (cached_updates fs) b ≡ true → updates_block (cached_updates es) b ≡ true
     by_named b None is named = absurd (false≢true (sym (home_named fs b ∙ ap (λ (o : Option Bytes). is_some o) is) ∙ named))
     by_named b (Some w) is named = home_named es b ∙ ap (λ (o : Option Bytes). is_some o) (fewer b w is)
 
-    by_content : (b : ℕ) (x : Bytes) (o : Option Bytes) → lookup (nat_eq b) fs ≡ o → updates_block (home_updates fs) b ≡ true
-        → updated (home_updates fs) b x ≡ updated (home_updates es) b x
+    by_content : (b : ℕ) (x : Bytes) (o : Option Bytes) → lookup (nat_eq b) fs ≡ o → updates_block (cached_updates fs) b ≡ true
+        → updated (cached_updates fs) b x ≡ updated (cached_updates es) b x
     by_content b x None is named = absurd (false≢true (sym (home_named fs b ∙ ap (λ (o : Option Bytes). is_some o) is) ∙ named))
     by_content b x (Some w) is named = home_found fs b w is x ∙ sym (home_found es b w (fewer b w is) x)
 
@@ -200,7 +200,7 @@ module _ (c : LruCache ℕ Bytes) (k : ℕ) (v : Bytes) where
       by (Some f) some = sym (first_entry c.entries k f v some b) ∙ (sym (ap (λ o. lookup (nat_eq b) (after o)) some) ∙ is)
 
   -- a block that was there already
-  pub put_there : updates_block (home_updates c.entries) k ≡ true → MakeTheSame (home_updates (put_entries nat_eq c k v)) (home_updates ((k, v) ∷ c.entries))
+  pub put_there : updates_block (cached_updates c.entries) k ≡ true → MakeTheSame (cached_updates (put_entries nat_eq c k v)) (cached_updates ((k, v) ∷ c.entries))
   put_there there = home_alike (put_entries nat_eq c k v) ((k, v) ∷ c.entries) (λ b. by b (lookup_entry (nat_eq k) c.entries) refl)
     where
       named : is_some (lookup (nat_eq k) c.entries) ≡ true
@@ -212,33 +212,33 @@ module _ (c : LruCache ℕ Bytes) (k : ℕ) (v : Bytes) where
       by b (Some f) some = ap (λ o. lookup (nat_eq b) (after o)) some ∙ first_entry c.entries k f v some b
 
   -- nothing was put of a block that was not there
-  pub left_out : updates_block (home_updates c.entries) k ≡ false → MakesNoOther (home_updates ((k, v) ∷ c.entries)) (home_updates c.entries)
+  pub left_out : updates_block (cached_updates c.entries) k ≡ false → MakesNoOther (cached_updates ((k, v) ∷ c.entries)) (cached_updates c.entries)
   left_out out = home_no_other ((k, v) ∷ c.entries) c.entries (λ b w is. by b w is (nat_eq b k) refl)
     where
       by : (b : ℕ) (w : Bytes) → lookup (nat_eq b) c.entries ≡ Some w → (here : Bool) → nat_eq b k ≡ here → cond (nat_eq b k) (Some v) (lookup (nat_eq b) c.entries) ≡ Some w
       by b w is true here =
-          let some : updates_block (home_updates c.entries) k ≡ true =
+          let some : updates_block (cached_updates c.entries) k ≡ true =
           home_named c.entries k ∙ ap (λ (o : Option Bytes). is_some o) (ap (λ (j : ℕ). lookup (nat_eq j) c.entries) (sym (eqb-true b k here)) ∙ is) in
           absurd (false≢true (sym out ∙ some))
       by b w is false here = ap (λ (t : Bool). cond t (Some v) (lookup (nat_eq b) c.entries)) here ∙ is
 
   -- of a block that was there nothing is refused
-  pub put_made : updates_block (home_updates c.entries) k ≡ true → {A E : Type 0} (new : LruCache ℕ Bytes) (result : Result A E)
+  pub put_made : updates_block (cached_updates c.entries) k ≡ true → {A E : Type 0} (new : LruCache ℕ Bytes) (result : Result A E)
       → OnOk result (new ≡ lru_cache (put_entries nat_eq c k v) c.cap) → (IsSome (lookup (nat_eq k) c.entries) → IsOk result)
-      → MakeTheSame (home_updates new.entries) (home_updates ((k, v) ∷ c.entries))
+      → MakeTheSame (cached_updates new.entries) (cached_updates ((k, v) ∷ c.entries))
   put_made there new (Ok value) ok succeeds =
-      subst (λ (d : LruCache ℕ Bytes). MakeTheSame (home_updates d.entries) (home_updates ((k, v) ∷ c.entries))) (sym ok) (put_there there)
+      subst (λ (d : LruCache ℕ Bytes). MakeTheSame (cached_updates d.entries) (cached_updates ((k, v) ∷ c.entries))) (sym ok) (put_there there)
   put_made there new (Err error) ok succeeds = absurd (false≢true (succeeds (sym (home_named c.entries k) ∙ there)))
 
   -- whether it was put or refused
   pub put_kept : {A E : Type 0} (new : LruCache ℕ Bytes) (result : Result A E) → OnOk result (new ≡ lru_cache (put_entries nat_eq c k v) c.cap)
       → OnErr result (new ≡ c) → (IsSome (lookup (nat_eq k) c.entries) → IsOk result)
-      → MakesNoOther (home_updates ((k, v) ∷ c.entries)) (home_updates new.entries)
+      → MakesNoOther (cached_updates ((k, v) ∷ c.entries)) (cached_updates new.entries)
   put_kept new (Ok value) ok err succeeds =
-      subst (λ (d : LruCache ℕ Bytes). MakesNoOther (home_updates ((k, v) ∷ c.entries)) (home_updates d.entries)) (sym ok)
+      subst (λ (d : LruCache ℕ Bytes). MakesNoOther (cached_updates ((k, v) ∷ c.entries)) (cached_updates d.entries)) (sym ok)
       (home_no_other ((k, v) ∷ c.entries) (put_entries nat_eq c k v) put_no_other)
   put_kept new (Err error) ok err succeeds =
-      subst (λ (d : LruCache ℕ Bytes). MakesNoOther (home_updates ((k, v) ∷ c.entries)) (home_updates d.entries)) (sym err)
+      subst (λ (d : LruCache ℕ Bytes). MakesNoOther (cached_updates ((k, v) ∷ c.entries)) (cached_updates d.entries)) (sym err)
       (left_out (home_named c.entries k ∙ by (lookup (nat_eq k) c.entries) refl))
     where
       by : (o : Option Bytes) → lookup (nat_eq k) c.entries ≡ o → is_some (lookup (nat_eq k) c.entries) ≡ false
@@ -306,6 +306,6 @@ copied_some None = refl
 copied_some (Some found) = refl
 
 pub copied_content : (es : List (ℕ × Bytes)) (b : ℕ) (o : Option (Bor Bytes)) → option_copied o ≡ lookup (nat_eq b) es
-    → IfSome o (λ found. (x : Bytes) → updated (home_updates es) b x ≡ found.now)
+    → IfSome o (λ found. (x : Bytes) → updated (cached_updates es) b x ≡ found.now)
 copied_content es b None is = tt
 copied_content es b (Some found) is = home_found es b found.now (sym is)

@@ -12,5 +12,5 @@ abbrev pub with_block : TailState → ℕ → Bytes → TailState
 with_block t position bytes = record t { log = with_content t.log position bytes }
 
 -- The tail ends with the content that the lent block is left with
-abbrev pub LendsBlock : MutBor TailState → ℕ → MutBor Bytes → Fml
-LendsBlock tail position block = Lends the_row block_row tail block (with_block tail.now position)
+abbrev pub LendsTailBlock : MutBor TailState → ℕ → MutBor Bytes → Fml
+LendsTailBlock tail position block = Lends the_row block_row tail block (with_block tail.now position)

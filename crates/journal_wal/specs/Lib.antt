@@ -2,6 +2,6 @@ pub mod Wal
 pub mod States
 pub mod Recovery
 pub mod Groups
-pub mod HomeUpdates
+pub mod CachedUpdates
 pub mod Tails
 pub mod Lending

@@ -7,7 +7,7 @@ use Rattle.journal_block.specs.Block.{Bytes}
 use Rattle.journal_block.specs.Updates.{updated, updates_block}
 use Rattle.journal_memlog.specs.Logs.{LogState, IsMemLog, next_position, tail_of, absorbed, fresh_count, empty_log, trimmed, CanTake}
 use Rattle.journal_wal.specs.Wal.{AreHomes}
-use Rattle.journal_wal.specs.declared.append.TheConstants.{MAX_TAIL, MAX_UPDATES}
+use Rattle.journal_wal.specs.declared.limits.TheConstants.{MAX_TAIL, MAX_UPDATES}
 use Rattle.journal_wal.specs.declared.tail.CutPoint.{CutPoint}
 
 pub record TailState : Type 0 where
@@ -18,7 +18,7 @@ pub record TailState : Type 0 where
   -- the later cuts, the oldest first
   pub cuts : List CutPoint
   -- copies of blocks that are at home, but for the updates in memory
-  pub home : List Update
+  pub cache : List Update
 
 -- the cuts from the last one whose updates were dropped
 abbrev pub cut_points : TailState → List CutPoint
@@ -26,7 +26,7 @@ cut_points t = record { end = t.log.start; commits = t.trimmed } ∷ t.cuts
 
 -- what memory knows of blocks: their copies, and then the updates
 abbrev pub known_blocks : TailState → List Update
-known_blocks t = t.home ++ t.log.updates
+known_blocks t = t.cache ++ t.log.updates
 
 -- the updates from a position on
 abbrev pub updates_from : LogState → ℕ → List Update
@@ -60,7 +60,7 @@ pub record IsTail (t : TailState) : Type 0 where
 
 -- one of a disk of so many blocks, which begins at a position and knows no block
 abbrev pub empty_tail : ℕ → ℕ → ℕ → TailState
-empty_tail blocks start room = record { log = empty_log blocks start room; trimmed = 0; cuts = []; home = [] }
+empty_tail blocks start room = record { log = empty_log blocks start room; trimmed = 0; cuts = []; cache = [] }
 
 -- with all updates cut, after so many commits
 abbrev pub cut_after : TailState → ℕ → TailState
@@ -71,8 +71,8 @@ cut_after t commits = record t {
 
 -- without the updates of the first cut, and with these copies
 abbrev pub without_first : TailState → CutPoint → List CutPoint → List Update → TailState
-without_first t c later home =
-    record { log = trimmed (record t.log { logged = c.end }) c.end; trimmed = c.commits; cuts = later; home = home }
+without_first t c later cache =
+    record { log = trimmed (record t.log { logged = c.end }) c.end; trimmed = c.commits; cuts = later; cache = cache }
 
 -- The updates of some first cuts were dropped, of none that ends past the position
 pub record DropsCuts (old : TailState) (upto : ℕ) (new : TailState) : Type 0 where

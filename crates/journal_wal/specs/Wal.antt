@@ -18,7 +18,7 @@ use Rattle.journal_circ.specs.Log.{log_block, with_end, with_group, start_block,
 use Rattle.journal_circ.specs.Ring.{Ring, home_of, bytes_put, MakesCall, TriesCall}
 use Rattle.journal_memlog.specs.Logs.{LogState, next_position, tail_of, trimmed}
 use Rattle.journal_circ.specs.declared.layout.TheConstants.{FIRST_HOME, LOG_POSITIONS}
-use Rattle.journal_wal.specs.declared.append.TheConstants.{MAX_TAIL}
+use Rattle.journal_wal.specs.declared.limits.TheConstants.{MAX_TAIL}
 use Rattle.journal_wal.specs.declared.step.GroupStep.{GroupStep}
 use Rattle.journal_wal.specs.declared.step.GroupStep.TheVariants.{Idle, Cut, Put, Logged}
 use Rattle.journal_wal.specs.declared.step.InstallStep.{InstallStep}

@@ -3,9 +3,9 @@ ghost use Rattle.std.specs.Prelude.{ℕ, ◌≡◌, ◌≤◌, ◌<◌, ◌↔�
 ghost use Rattle.journal_memlog.specs.Logs.{HasDistinctBlocks};
 ghost use Rattle.journal_wal.specs.Wal.{AreHomes, Crashes, size_of, tail_length, with_room};
 ghost use Rattle.journal_wal.specs.Groups.{FitsGroup, HasGroupRoom, TakesGroup, IsGroupRefusal};
-ghost use Rattle.journal_wal.specs.declared.append.TheConstants.{MAX_TAIL};
+ghost use Rattle.journal_wal.specs.declared.limits.TheConstants.{MAX_TAIL};
 
-use crate::append::MAX_POSITION;
+use crate::limits::MAX_POSITION;
 use crate::wal::Wal;
 use journal_block::Update;
 use journal_circ::LOG_POSITIONS;

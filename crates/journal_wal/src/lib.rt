@@ -15,11 +15,11 @@
 //! it lie copies of blocks that are at home, so that what is read often is not read from the device each time.
 #![tactic(auto)]
 
-mod append;
+mod block_cache;
 mod disk_log;
 mod group;
-mod home_blocks;
 mod install;
+mod limits;
 mod log;
 mod logged;
 mod open;
@@ -28,7 +28,7 @@ mod step;
 mod tail;
 mod wal;
 
-pub use append::{MAX_TAIL, MAX_UPDATES};
+pub use limits::{MAX_TAIL, MAX_UPDATES};
 pub use step::{GroupStep, InstallStep};
 pub use tail::{CutPoint, Tail};
 pub use wal::Wal;

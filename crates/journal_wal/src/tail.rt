@@ -7,13 +7,13 @@ ghost use Rattle.journal_block.specs.Block.{Bytes};
 ghost use Rattle.journal_block.specs.Updates.{updated, updates_block};
 ghost use Rattle.journal_memlog.specs.Logs.{IsMemLog, HasDistinctBlocks, bounds_of, next_position, tail_of, appended, trimmed};
 ghost use Rattle.journal_memlog.specs.Buckets.{IsLastOf, update_at};
-ghost use Rattle.journal_wal.specs.Lending.{LendsBlock};
+ghost use Rattle.journal_wal.specs.Lending.{LendsTailBlock};
 ghost use Rattle.journal_wal.specs.Wal.{AreHomes};
 ghost use Rattle.journal_wal.specs.Tails.{TailState, MakeTheSame, MakesNoOther, DropsCuts, AdmitsBlocks, IsTailRefusal, TakesUpdates, TakesFresh, known_blocks, updates_from, empty_tail, cut_after, without_first};
-ghost use Rattle.journal_wal.specs.declared.append.TheConstants.{MAX_TAIL};
+ghost use Rattle.journal_wal.specs.declared.limits.TheConstants.{MAX_TAIL};
 
-use crate::append::{MAX_POSITION, MAX_TAIL, MAX_UPDATES};
-use crate::home_blocks::HomeBlocks;
+use crate::block_cache::BlockCache;
+use crate::limits::{MAX_POSITION, MAX_TAIL, MAX_UPDATES};
 use journal_block::{Block, Update};
 use journal_memlog::{Bounds, MemLog};
 use journal_world::Refusal;
@@ -41,7 +41,7 @@ pub struct Tail {
     memory: MemLog,
     trimmed: u64,
     cuts: VecDeque<CutPoint>,
-    home: HomeBlocks,
+    cache: BlockCache,
 }
 
 impl Model for Tail {
@@ -49,9 +49,9 @@ impl Model for Tail {
 
     ghost Value = { TailState };
 
-    ghost view = { λ t. record { log = t.memory; trimmed = t.trimmed; cuts = t.cuts.items; home = t.home } };
+    ghost view = { λ t. record { log = t.memory; trimmed = t.trimmed; cuts = t.cuts.items; cache = t.cache } };
 
-    ghost invariant = { λ t. IsTail (record { log = t.memory; trimmed = t.trimmed; cuts = t.cuts.items; home = t.home }) };
+    ghost invariant = { λ t. IsTail (record { log = t.memory; trimmed = t.trimmed; cuts = t.cuts.items; cache = t.cache }) };
 }
 
 impl Tail {
@@ -66,13 +66,13 @@ impl Tail {
         ensures refusal { IsOkUnless result Refusal.NoMemory }
     {
         let memory = MemLog::new(alloc, blocks, start)?;
-        let home = HomeBlocks::new(alloc, most)?;
+        let cache = BlockCache::new(alloc, most)?;
         Ok(Tail {
             alloc,
             memory,
             trimmed: 0,
             cuts: VecDeque::new(alloc),
-            home,
+            cache,
         })
     }
 
@@ -100,39 +100,39 @@ impl Tail {
     }
 
     /// The block, lent, where memory knows it: with all updates where one is of it, and else as its copy has it.
-    pub fn known(&self, block: u64) -> Option<&Block>
+    pub fn get(&self, block: u64) -> Option<&Block>
         ensures found { is_some result ≡ updates_block (known_blocks self.now) block }
         ensures content { IfSome result (λ found.
             (before : Bytes) → updated (known_blocks self.now) block before ≡ found.now) }
     {
         match self.memory.latest(block) {
             Some(found) => Some(found),
-            None => self.home.find(block),
+            None => self.cache.find(block),
         }
     }
 
     /// Makes the copy of the block the one that was used last, where there is one.
     pub fn touch(&mut self, block: u64)
-        ensures same { MakeTheSame self.new.home self.old.home }
-        ensures others { self.new ≡ record self.old { home = self.new.home } }
+        ensures same { MakeTheSame self.new.cache self.old.cache }
+        ensures others { self.new ≡ record self.old { cache = self.new.cache } }
     {
-        self.home.touch(block);
+        self.cache.touch(block);
     }
 
     /// Keeps copies of these blocks, which are at home as these have them but for the updates in memory. Where there are
     /// too many, those go that were used least recently. One for which memory is refused is not kept.
     pub fn keep(&mut self, copies: Vec<Update>)
-        ensures known { MakesNoOther (self.old.home ++ copies.items) self.new.home }
-        ensures others { self.new ≡ record self.old { home = self.new.home } }
+        ensures known { MakesNoOther (self.old.cache ++ copies.items) self.new.cache }
+        ensures others { self.new ≡ record self.old { cache = self.new.cache } }
     {
-        self.home.keep_all(copies);
+        self.cache.keep_all(copies);
     }
 
     /// Whether the block stands in the tail, so that an update of it takes no new place.
-    pub fn stands(&self, block: u64) -> bool
+    pub fn is_in_tail(&self, block: u64) -> bool
         ensures { result ≡ updates_block (tail_of self.now.log) block }
     {
-        self.memory.stands(block)
+        self.memory.is_in_tail(block)
     }
 
     /// The content of the block in the tail, or `None` where it does not stand there.
@@ -158,7 +158,7 @@ impl Tail {
     pub fn tail_block(&mut self, position: u64) -> &mut Block
         requires from_cut { self.old.log.cut ≤ position }
         requires to_next { position < next_position self.old.log }
-        ensures* lends { sem 𝓛 (LendsBlock self.entry position result) }
+        ensures* lends { sem 𝓛 (LendsTailBlock self.entry position result) }
         ensures content { result.now ≡ (update_at self.old.log.updates (position - self.old.log.start)).bytes }
     {
         self.memory.tail_block(position)
@@ -280,34 +280,34 @@ impl Tail {
     // Drops the updates of the first cut.
     fn drop_first_cut(&mut self)
         requires { 0 < length self.old.cuts }
-        ensures drops { (c : CutPoint) (later : List CutPoint) → self.old.cuts ≡ c ∷ later → self.new ≡ without_first self.old c later self.new.home }
+        ensures drops { (c : CutPoint) (later : List CutPoint) → self.old.cuts ≡ c ∷ later → self.new ≡ without_first self.old c later self.new.cache }
         ensures known { MakesNoOther (known_blocks self.old) (known_blocks self.new) }
     {
         let Tail {
             memory,
             trimmed,
             cuts,
-            home,
+            cache,
             ..
         } = self;
         let cut = cuts.pop_front().unwrap();
         memory.logged(cut.end);
-        bring_home(memory, home, cut.end);
+        move_to_cache(memory, cache, cut.end);
         *trimmed = cut.commits;
     }
 }
 
 // Drops the updates before the position. Where there is a copy of their block, it is overwritten by them.
-fn bring_home(memory: &mut MemLog, home: &mut HomeBlocks, upto: u64)
+fn move_to_cache(memory: &mut MemLog, cache: &mut BlockCache, upto: u64)
     requires from_start { memory.old.start ≤ upto }
     requires to_logged { upto ≤ memory.old.logged }
     ensures log { memory.new ≡ trimmed memory.old upto }
     ensures sound { IsMemLog memory.new }
-    ensures known { MakesNoOther (home.old ++ memory.old.updates) (home.new ++ memory.new.updates) }
+    ensures known { MakesNoOther (cache.old ++ memory.old.updates) (cache.new ++ memory.new.updates) }
 {
     // Called for its contract: the log is sound.
     let _bounds = memory.bounds();
     while memory.bounds().start < upto {
-        home.replace(memory.take_first());
+        cache.replace(memory.take_first());
     }
 }

@@ -2,8 +2,8 @@
 use Rattle.std.specs.Prelude.{ℕ, true, false, List, Option, Result, Ok, Err}
 use Rattle.journal_command.specs.declared.ask.AskFault.{AskFault}
 use Rattle.journal_command.specs.declared.ask.AskFault.TheVariants as asks
-use Rattle.journal_script.specs.declared.stop.Stop.{Stop}
-use Rattle.journal_script.specs.declared.stop.Stop.TheVariants as stops
+use Rattle.journal_script.specs.declared.script_fault.ScriptFault.{ScriptFault}
+use Rattle.journal_script.specs.declared.script_fault.ScriptFault.TheVariants as stops
 use Rattle.journal_script.specs.Transcripts.{IsTranscript}
 use Rattle.jtool.specs.declared.fault.Fault.{Fault}
 use Rattle.jtool.specs.declared.fault.Fault.TheVariants.{Usage, BadSize, BadLine, BadFile, CannotListen, Refused, CannotRead, CannotWrite}
@@ -25,7 +25,7 @@ refused_words asks.Usage = Usage
 refused_words asks.BadSize = BadSize
 
 -- the fault of a program whose script was given up
-abbrev pub stopped : Stop → Fault
+abbrev pub stopped : ScriptFault → Fault
 stopped (stops.Refused why) = Refused why
 stopped stops.CannotRead = CannotRead
 stopped stops.CannotWrite = CannotWrite

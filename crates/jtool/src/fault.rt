@@ -3,7 +3,7 @@ ghost use Rattle.std.specs.Prelude.{◌≡◌};
 ghost use Rattle.jtool.specs.Programs.{status_of};
 
 use journal_command::AskFault;
-use journal_script::Stop;
+use journal_script::ScriptFault;
 use journal_service::ServiceFault;
 use journal_world::Refusal;
 use std::alloc::AllocError;
@@ -93,17 +93,17 @@ impl From<AskFault> for Fault<'_> {
 }
 
 /// Of a script that was given up.
-impl From<Stop> for Fault<'_> {
+impl From<ScriptFault> for Fault<'_> {
     ghost use Rattle.std.specs.Prelude.{◌≡◌};
     ghost use Rattle.jtool.specs.Programs.{stopped};
 
     ghost from_gives = { λ stop fault. fault ≡ stopped stop };
 
-    fn from(stop: Stop) -> Self {
+    fn from(stop: ScriptFault) -> Self {
         match stop {
-            Stop::Refused(why) => Fault::Refused(why),
-            Stop::CannotRead => Fault::CannotRead,
-            Stop::CannotWrite => Fault::CannotWrite,
+            ScriptFault::Refused(why) => Fault::Refused(why),
+            ScriptFault::CannotRead => Fault::CannotRead,
+            ScriptFault::CannotWrite => Fault::CannotWrite,
         }
     }
 }

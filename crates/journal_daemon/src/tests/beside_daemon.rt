@@ -488,7 +488,7 @@ pub(super) fn all_end_by_the_fault<
     wants_at(rt, k, &(ended, endings), &([true; 4], endings));
 }
 
-/// The log is crowded after 257 groups of so many calls each, and the installer's calls come among
+/// The log is past its threshold after 257 groups of so many calls each, and the installer's calls come among
 /// those behind.
 fn end_by_any_fault<H: Abort + Threads + Wait + Clock + Sync>(
     rt: &H,

@@ -16,7 +16,7 @@ pub(super) enum Waiting {
     Flush,
     /// A commit that is to be logged.
     LogWork,
-    /// A crowded log.
+    /// A log past its threshold.
     InstallWork,
     /// More commits, before it marks one that wrote nothing.
     MarkGroup,
@@ -111,7 +111,7 @@ impl EndedWait {
         let committed = commits_one(rt, alloc, journal, &mut session, writes);
         self.asks.store(true, Ordering::SeqCst);
         for _ in 0..1_000_000 {
-            let number = number_of(journal.log_gathered(rt));
+            let number = number_of(journal.log_step_grouped(rt));
             if number != 0 {
                 return if committed == 1 { number } else { 15 };
             }

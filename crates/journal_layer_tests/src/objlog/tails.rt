@@ -162,7 +162,7 @@ fn count(tail: &ObjectTail, call: Call) -> u64 {
         Held => between(start, next),
         HeldCut => between(start, cut),
         Start => start,
-        Stands(block) => number(tail.stands(block)),
+        Stands(block) => number(tail.is_in_tail(block)),
         _ => tail.trimmed(),
     }
 }

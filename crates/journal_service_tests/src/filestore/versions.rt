@@ -7,8 +7,8 @@ use crate::asserts::wants;
 use crate::stores::{Client, Told, Wrong, formatted, session_of};
 use journal_disk::MemDisk;
 use journal_filestore::{
-    Answer, Attributes, Changed, FileStore, Found, Handle, How, NewTime, Settings, Soon, Stability,
-    Status,
+    Answer, Attributes, Changed, CommitResult, CreateMode, FileStore, Found, Handle, NewTime,
+    Settings, Stability, Status,
 };
 use journal_history::{Book, Naming};
 use journal_inode::{FormatVersion, SoundFiles, VersionTwo};
@@ -56,7 +56,9 @@ fn reply_of(answer: Option<Answer<Attributes>>) -> Reply {
     }
 }
 
-fn found<'b, J: Naming>(soon: Soon<'b, J, Found, VersionTwo>) -> Option<Answer<Attributes>> {
+fn found<'b, J: Naming>(
+    soon: CommitResult<'b, J, Found, VersionTwo>,
+) -> Option<Answer<Attributes>> {
     match soon {
         Ok(done) => Some(match done.answer {
             Ok(found) => Ok(found.file),
@@ -66,7 +68,9 @@ fn found<'b, J: Naming>(soon: Soon<'b, J, Found, VersionTwo>) -> Option<Answer<A
     }
 }
 
-fn changed<'b, J: Naming>(soon: Soon<'b, J, Changed, VersionTwo>) -> Option<Answer<Attributes>> {
+fn changed<'b, J: Naming>(
+    soon: CommitResult<'b, J, Changed, VersionTwo>,
+) -> Option<Answer<Attributes>> {
     match soon {
         Ok(done) => Some(match done.answer {
             Ok(changed) => Ok(changed.after),
@@ -76,7 +80,9 @@ fn changed<'b, J: Naming>(soon: Soon<'b, J, Changed, VersionTwo>) -> Option<Answ
     }
 }
 
-fn removed<'b, J: Naming>(soon: Soon<'b, J, Attributes, VersionTwo>) -> Option<Answer<Attributes>> {
+fn removed<'b, J: Naming>(
+    soon: CommitResult<'b, J, Attributes, VersionTwo>,
+) -> Option<Answer<Attributes>> {
     match soon {
         Ok(done) => Some(done.answer),
         Err(_) => None,
@@ -124,7 +130,14 @@ fn create<'b, J: Naming, W: Wait>(
         size: None,
         mtime: NewTime::Leave,
     };
-    reply_of(found(files.create_soon(rt, session, root, name, How::Guarded(settings), AT)))
+    reply_of(found(files.create_no_wait(
+        rt,
+        session,
+        root,
+        name,
+        CreateMode::Guarded(settings),
+        AT,
+    )))
 }
 
 fn remove<'b, J: Naming, W: Wait>(
@@ -134,7 +147,7 @@ fn remove<'b, J: Naming, W: Wait>(
     name: &[u8],
 ) -> Reply {
     match Handle::new(1, 1) {
-        Some(root) => reply_of(removed(files.remove_soon(rt, session, root, name))),
+        Some(root) => reply_of(removed(files.remove_no_wait(rt, session, root, name))),
         None => Reply::Refused,
     }
 }
@@ -167,7 +180,7 @@ fn write_bytes<'b, J: Naming, W: Wait>(
     let Some(handle) = Handle::new(number, 1) else {
         return Reply::Refused;
     };
-    reply_of(changed(files.write_soon(
+    reply_of(changed(files.write_no_wait(
         rt,
         session,
         handle,
@@ -193,7 +206,7 @@ fn set_size<'b, J: Naming, W: Wait>(
         size: Some(size),
         mtime: NewTime::Leave,
     };
-    reply_of(changed(files.set_size_soon(rt, session, handle, settings, None, AT)))
+    reply_of(changed(files.set_size_no_wait(rt, session, handle, settings, None, AT)))
 }
 
 fn size<'b, J: Naming, W: Wait>(

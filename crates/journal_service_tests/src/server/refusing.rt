@@ -3,7 +3,7 @@ use super::pace::Pace;
 use super::sockets::listen;
 use crate::asserts::wants;
 use crate::stores::{Told, Wrong};
-use journal_server::{Crowd, Listening, Port, Source};
+use journal_server::{Listening, Port, Source, WaitingConnections};
 use std::io;
 use std::net::{Net, SocketAddr, TcpListener, TcpStream};
 use std::sync::Wait;
@@ -66,8 +66,8 @@ fn take_two<H: Net<Listener = TcpListener, Stream = TcpStream> + Wait>(
     else {
         return Err(Wrong::Refused);
     };
-    let (pace, crowd) = (Pace::new(false), Crowd::new());
-    let mut source = Listening::new(&pace, port, 2, &crowd);
+    let (pace, waiting) = (Pace::new(false), WaitingConnections::new());
+    let mut source = Listening::new(&pace, port, 2, &waiting);
     let taken = count_taken(rt, &mut source);
     Ok((taken, source.has_failed(), pace.slept_millis()))
 }

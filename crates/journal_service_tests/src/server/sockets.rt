@@ -6,7 +6,7 @@ use crate::calls::{VERIFIER, bytes_of};
 use crate::stores::{Files, Told, Wrong};
 use crate::stories::Story;
 use journal_history::Naming;
-use journal_server::{Crowd, End, Listening, Outcome, run_workers};
+use journal_server::{End, Listening, Outcome, WaitingConnections, run_workers};
 use std::alloc::{AllocError, Global};
 use std::io::{Read, Write};
 use std::net::{Net, Shutdown, SocketAddr, TcpListener, TcpStream};
@@ -367,9 +367,9 @@ fn serve_port<'b, J: Naming + Send + Sync, H: Threads + Wait + Sync>(
     come: &Coming<'_>,
     gate: &HeldGate,
 ) -> Option<Vec<(u64, Outcome)>> {
-    let crowd = Crowd::new();
+    let waiting = WaitingConnections::new();
     let pace = Pace::new(matches!(come.manner, Manner::Drip));
-    let source = Listening::new(&pace, listener, come.count, &crowd);
+    let source = Listening::new(&pace, listener, come.count, &waiting);
     let (outcomes, _) = run_workers(rt, alloc, source, files, &Still, VERIFIER, gate);
     outcomes.ok()
 }
@@ -458,7 +458,7 @@ fn silent_peers_make_room(rt: HostRuntime) {
     tells(&rt, rt.alloc(), 532, &Story::Visit(visit));
 }
 
-// The crowd's peer is answered though the others send a byte again and again.
+// The peer that waits is answered though the others send a byte again and again.
 #[test]
 fn dripping_peers_make_room(rt: HostRuntime) {
     let visit = Visit {

@@ -329,7 +329,7 @@ fn keeps_log<'s, 'b, J: Naming, W: Wait>(rt: &W, files: &Gated<'s, 'b, J>, signa
 
 // A step of the log, and one that makes room. Whether either moved.
 fn keeps_once<'s, 'b, J: Naming, W: Wait>(rt: &W, files: &Gated<'s, 'b, J>) -> bool {
-    let installed = has_moved(files.journal().install_where_crowded(rt));
+    let installed = has_moved(files.journal().install_past_threshold(rt));
     has_moved(files.journal().log_step(rt)) || installed
 }
 

@@ -14,14 +14,14 @@ pub returns-in_err-state-2-clause-crash : goal.returns-in_err-state-2-clause-cra
 returns-in_err-state-2-clause-crash g c honest =
     let old = c.args.circ.now in
     let order : old.extent.start ≤ old.extent.end = omega (arith, c.start-start.ensures.start, c.start-start.ensures.order) in
-    stepped old c.bring_home.new.circ c.requires.rests order c.in_ok-state.ensures.home c.sync_homes.new.self.disk.past honest
+    stepped old c.install_all.new.circ c.requires.rests order c.in_ok-state.ensures.home c.sync_homes.new.self.disk.past honest
     c.in_err-state-2.ensures.crash.moments
 
 pub put_start-requires-clause-installed : goal.put_start-requires-clause-installed
 put_start-requires-clause-installed g c =
     let old = c.args.circ.now in
     let order : old.extent.start ≤ old.extent.end = omega (arith, c.start-start.ensures.start, c.start-start.ensures.order) in
-    let synced = brought_synced old c.bring_home.new.circ c.requires.rests order c.in_ok-state.ensures.home c.sync_homes.new.self
+    let synced = brought_synced old c.install_all.new.circ c.requires.rests order c.in_ok-state.ensures.home c.sync_homes.new.self
     c.in_ok-state-2.ensures.ok c.in_ok-state-2.ensures.crash c.in_ok-state-2.ensures.log in
     installed old c.sync_homes.new.self c.requires.rests order synced c.end-end.result c.end-end.ensures.end
 
@@ -29,7 +29,7 @@ pub returns-in_err-state-3-clause-crash : goal.returns-in_err-state-3-clause-cra
 returns-in_err-state-3-clause-crash g c honest =
     let old = c.args.circ.now in
     let order : old.extent.start ≤ old.extent.end = omega (arith, c.start-start.ensures.start, c.start-start.ensures.order) in
-    let synced = brought_synced old c.bring_home.new.circ c.requires.rests order c.in_ok-state.ensures.home c.sync_homes.new.self
+    let synced = brought_synced old c.install_all.new.circ c.requires.rests order c.in_ok-state.ensures.home c.sync_homes.new.self
     c.in_ok-state-2.ensures.ok c.in_ok-state-2.ensures.crash c.in_ok-state-2.ensures.log in
     stepped old c.sync_homes.new.self c.requires.rests order synced c.put_start.new.self.disk.past honest c.in_err-state-3.ensures.crash.moments
 
@@ -37,7 +37,7 @@ pub returns-in_err-sync_start-clause-crash : goal.returns-in_err-sync_start-clau
 returns-in_err-sync_start-clause-crash g c honest =
     let old = c.args.circ.now in
     let order : old.extent.start ≤ old.extent.end = omega (arith, c.start-start.ensures.start, c.start-start.ensures.order) in
-    let synced = brought_synced old c.bring_home.new.circ c.requires.rests order c.in_ok-state.ensures.home c.sync_homes.new.self
+    let synced = brought_synced old c.install_all.new.circ c.requires.rests order c.in_ok-state.ensures.home c.sync_homes.new.self
     c.in_ok-state-2.ensures.ok c.in_ok-state-2.ensures.crash c.in_ok-state-2.ensures.log in
     let started = brought_started old c.sync_homes.new.self c.requires.rests order synced c.put_start.new.self
     c.end-end.result c.in_ok-state-3.ensures.ok c.in_ok-state-3.ensures.crash c.in_ok-state-3.ensures.log in
@@ -47,7 +47,7 @@ pub returns-clause-crash : goal.returns-clause-crash
 returns-clause-crash g c honest =
     let old = c.args.circ.now in
     let order : old.extent.start ≤ old.extent.end = omega (arith, c.start-start.ensures.start, c.start-start.ensures.order) in
-    let synced = brought_synced old c.bring_home.new.circ c.requires.rests order c.in_ok-state.ensures.home c.sync_homes.new.self
+    let synced = brought_synced old c.install_all.new.circ c.requires.rests order c.in_ok-state.ensures.home c.sync_homes.new.self
     c.in_ok-state-2.ensures.ok c.in_ok-state-2.ensures.crash c.in_ok-state-2.ensures.log in
     let started = brought_started old c.sync_homes.new.self c.requires.rests order synced c.put_start.new.self
     c.end-end.result c.in_ok-state-3.ensures.ok c.in_ok-state-3.ensures.crash c.in_ok-state-3.ensures.log in

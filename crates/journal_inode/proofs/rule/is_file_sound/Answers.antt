@@ -10,7 +10,7 @@ pub returns-clause-sound : goal.returns-clause-sound
 returns-clause-sound g c = λ trusted.
     IfOk-weaker c.are_blocks_sound.result _ _
     (λ sound told. file_decides c.args.version (g.O.ObjectReader.map c.args.reader.now) c.args.file sound (omega arith) (omega (arith, c.if-size-most_bytes.false, c.most_bytes.ensures)) (omega arith) (search rules)
-    (subst AllZero (take_rest c.args.file.more c.more_count-more.result ∙ ap (λ n. drop n c.args.file.more) c.more_count-more.ensures) (c.are_absent.ensures.0 c.if-not-are_absent.false))
+    (subst AllZero (take_rest c.args.file.more c.extra_count-more.result ∙ ap (λ n. drop n c.args.file.more) c.extra_count-more.ensures) (c.are_absent.ensures.0 c.if-not-are_absent.false))
     (subst (λ bs. IsTrue sound ↔ AreSoundBlocks (g.O.ObjectReader.map c.args.reader.now) c.args.file.size bs)
-    (first_blocks c.args.version c.args.file c.more_count-more.result c.numbers.result c.more_count-more.ensures c.numbers.ensures) told))
+    (first_blocks c.args.version c.args.file c.extra_count-more.result c.numbers.result c.extra_count-more.ensures c.numbers.ensures) told))
     (c.are_blocks_sound.ensures.sound trusted)

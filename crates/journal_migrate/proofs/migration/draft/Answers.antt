@@ -5,7 +5,7 @@ use Rattle.journal_world.specs.Histories.{latest}
 use Rattle.journal_objlog.proofs.Refusing.{if_err}
 use Rattle.journal_inode.specs.Places.{addr_of}
 use Rattle.journal_inode.specs.Places.Object.{superblock}
-use Rattle.journal_core.specs.Causes.{Told}
+use Rattle.journal_core.specs.Causes.{CauseState}
 use Rattle.journal_core.specs.Transactions.{TransactionState}
 use Rattle.journal_migrate.specs.Marking.{IsRunningRefusal}
 use Rattle.journal_migrate.proofs.Upgraded.{not_of_one, written_whole, block_length}
@@ -15,7 +15,7 @@ use Rattle.journal_migrate.proofs.migration.draft.Goals as goal
 pub returns-in_err-found-clause-refusal : goal.returns-in_err-found-clause-refusal
 returns-in_err-found-clause-refusal g c =
     if_err c.from_residual-in_err-found.result _ (IsRunningRefusal c.args.core.now c.read_step.new.self) c.from_residual-in_err-found.ensures.1
-    (λ (e : Refusal Told) is. subst (IsRunningRefusal c.args.core.now c.read_step.new.self) (sym is)
+    (λ (e : Refusal CauseState) is. subst (IsRunningRefusal c.args.core.now c.read_step.new.self) (sym is)
     (read_refused g.J.Naming.blocks c.args.core.now c.read_step.new.self c.args.transaction.now (addr_of superblock) c.in_err-found.field-0.0
     c.requires.running (ap (λ (t : TransactionState). t.seen) c.requires.begun) refl c.in_err-found.ensures.refusal))
 

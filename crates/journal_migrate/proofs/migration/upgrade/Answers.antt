@@ -3,7 +3,7 @@ use Rattle.std.proofs.lemmas.Result.{on_ok_weaker, on_err_weaker}
 use Rattle.journal_world.specs.declared.refusal.Refusal.{Refusal}
 use Rattle.journal_objlog.proofs.Refusing.{if_err}
 use Rattle.journal_history.specs.Tokens.{SessionState}
-use Rattle.journal_core.specs.Causes.{Told}
+use Rattle.journal_core.specs.Causes.{CauseState}
 use Rattle.journal_world.specs.Addresses.{slot_of}
 use Rattle.journal_lockmap.specs.Numbers.{slots_of}
 use Rattle.journal_inode.specs.Places.{addr_of}
@@ -38,7 +38,7 @@ returns-in_err-commit_step-clause-refusal g c =
     c.in_ok-draft.ensures.reads c.in_ok-draft.ensures.others (c.in_ok-draft.ensures.drafted is_one) in
     let refused = IsUpgradeRefusal (next_of first.objects) (disk_of first) (disk_of c.commit_step.new.self) in
     if_err c.from_residual-in_err-commit_step.result _ refused c.from_residual-in_err-commit_step.ensures.1
-    (λ (e : Refusal Told) is. subst refused (sym is)
+    (λ (e : Refusal CauseState) is. subst refused (sym is)
     (commit_refused first c.draft.new.core c.commit_step.new.self c.in_ok-session.session c.draft.new.transaction begins.map _ begins.history draft.0
     c.in_ok-draft.ensures.running draft.1
     (ap (λ (s : SessionState). s.mine) begun.is ∙ sym draft.0.history) (ap (λ (s : SessionState). s.number) begun.is ∙ begins.next)

@@ -3,7 +3,7 @@ use Rattle.journal_inode.specs.declared.version.FormatVersion.TheVariants.{One}
 use Rattle.journal_nfs3.specs.Results.{Results}
 use Rattle.journal_nfs3.specs.Profile.{refused_results}
 use Rattle.journal_nfs3.specs.Answers.{sent}
-use Rattle.journal_nfs3.proofs.Owed.{takes_place_so}
+use Rattle.journal_nfs3.proofs.Pendings.{takes_place_so}
 use Rattle.journal_nfs3.proofs.replying.refused_reply.Goals as goal
 
 pub returns-clause-takes_place : goal.returns-clause-takes_place

@@ -7,7 +7,7 @@ use Rattle.journal_memlog.specs.Logs.{tail_of}
 use Rattle.journal_wal.specs.Groups.{FitsGroup, HasGroupRoom}
 use Rattle.journal_objlog.proofs.Openings.{OnlyReads-refl}
 use Rattle.journal_objlog.proofs.Refusing.{if_err}
-use Rattle.journal_core.specs.Causes.{Told}
+use Rattle.journal_core.specs.Causes.{CauseState}
 use Rattle.journal_core.specs.Updates.{HaveAllSince}
 use Rattle.journal_core.specs.Durables.{DurableState, IsRoomRefusal}
 use Rattle.journal_core.specs.Volatiles.{VolatileState, IsVolatile, IsFrontRefusal}
@@ -19,9 +19,9 @@ use Rattle.journal_core.proofs.durable.Durable.cut.Goals as goal
 
 pub returns-in_err-front-clause-refusal : goal.returns-in_err-front-clause-refusal
 returns-in_err-front-clause-refusal g c =
-    if_err c.from_residual.result _ (IsCutRefusal c.args.memory.now c.args.self.now) c.from_residual.ensures.1
-    (λ (e : Refusal Told) is. subst (λ (r : Refusal Told). IsCutRefusal c.args.memory.now c.args.self.now r) (sym is)
-    (inl (subst (λ (d : DurableState). IsFrontRefusal c.args.memory.now.memory.history d.front c.in_err-front.field-0.0) c.self.view_is c.in_err-front.ensures.refusal)))
+    if_err c.from_residual.result _ (IsCutRefusal c.args.volatile.now c.args.self.now) c.from_residual.ensures.1
+    (λ (e : Refusal CauseState) is. subst (λ (r : Refusal CauseState). IsCutRefusal c.args.volatile.now c.args.self.now r) (sym is)
+    (inl (subst (λ (d : DurableState). IsFrontRefusal c.args.volatile.now.ledger.history d.front c.in_err-front.field-0.0) c.self.view_is c.in_err-front.ensures.refusal)))
 
 pub returns-in_err-front-clause-crash : goal.returns-in_err-front-clause-crash
 returns-in_err-front-clause-crash g c =
@@ -30,7 +30,7 @@ returns-in_err-front-clause-crash g c =
 pub returns-then-self-cut-clause-only : goal.returns-then-self-cut-clause-only
 returns-then-self-cut-clause-only g c = λ no due.
     let logged : c.self.inside.logged ≡ c.args.self.now.logged = ap (λ (d : DurableState). d.logged) c.self.view_is in
-    let cut : c.memory.inside.memory.cut ≡ c.args.memory.now.memory.cut = ap (λ (v : VolatileState). v.memory.cut) c.memory.view_is in
+    let cut : c.volatile.inside.ledger.cut ≡ c.args.volatile.now.ledger.cut = ap (λ (v : VolatileState). v.ledger.cut) c.volatile.view_is in
     omega (arith, c.if-self-cut.true, c.cut.ensures, logged, cut, due.logged)
 
 pub returns-then-self-cut-clause-crash : goal.returns-then-self-cut-clause-crash
@@ -39,70 +39,70 @@ returns-then-self-cut-clause-crash g c =
 
 pub returns-in_err-reserve-clause-refusal : goal.returns-in_err-reserve-clause-refusal
 returns-in_err-reserve-clause-refusal g c =
-    if_err c.from_residual-in_err-reserve.result _ (IsCutRefusal c.args.memory.now c.args.self.now) c.from_residual-in_err-reserve.ensures.1
-    (λ (e : Refusal Told) is. subst (λ (r : Refusal Told). IsCutRefusal c.args.memory.now c.args.self.now r) (sym is)
+    if_err c.from_residual-in_err-reserve.result _ (IsCutRefusal c.args.volatile.now c.args.self.now) c.from_residual-in_err-reserve.ensures.1
+    (λ (e : Refusal CauseState) is. subst (λ (r : Refusal CauseState). IsCutRefusal c.args.volatile.now c.args.self.now r) (sym is)
     (inr (inl (subst (λ (n : ℕ). IsRoomRefusal c.args.self.now n c.in_err-reserve.field-0.0)
-    (c.tail_len-blocks.ensures.length ∙ ap (λ (v : VolatileState). length (tail_of v.tail.log)) c.memory.view_is) c.in_err-reserve.ensures.refusal))))
+    (c.tail_len-blocks.ensures.length ∙ ap (λ (v : VolatileState). length (tail_of v.tail.log)) c.volatile.view_is) c.in_err-reserve.ensures.refusal))))
 
 pub returns-then-not-branch-clause-only : goal.returns-then-not-branch-clause-only
 returns-then-not-branch-clause-only g c = λ no due.
-    let blocks : c.tail_len-blocks.result ≡ length (tail_of c.args.memory.now.tail.log) = c.tail_len-blocks.ensures.length ∙ ap (λ (v : VolatileState). length (tail_of v.tail.log)) c.memory.view_is in
+    let blocks : c.tail_len-blocks.result ≡ length (tail_of c.args.volatile.now.tail.log) = c.tail_len-blocks.ensures.length ∙ ap (λ (v : VolatileState). length (tail_of v.tail.log)) c.volatile.view_is in
     false≢true (sym c.if-not-branch.true ∙ c.in_ok-reserve.ensures.fits.1 (subst (FitsGroup c.args.self.now.objects) (sym blocks) due.fits))
 
 pub returns-in_err-group-clause-refusal : goal.returns-in_err-group-clause-refusal
 returns-in_err-group-clause-refusal g c =
-    let blocks : c.tail_len-blocks.result ≡ length (tail_of c.args.memory.now.tail.log) = c.tail_len-blocks.ensures.length ∙ ap (λ (v : VolatileState). length (tail_of v.tail.log)) c.memory.view_is in
+    let blocks : c.tail_len-blocks.result ≡ length (tail_of c.args.volatile.now.tail.log) = c.tail_len-blocks.ensures.length ∙ ap (λ (v : VolatileState). length (tail_of v.tail.log)) c.volatile.view_is in
     let logged : c.self.inside.logged ≡ c.args.self.now.logged = ap (λ (d : DurableState). d.logged) c.self.view_is in
-    let cut : c.memory.inside.memory.cut ≡ c.args.memory.now.memory.cut = ap (λ (v : VolatileState). v.memory.cut) c.memory.view_is in
-    let due : IsCutDue c.args.memory.now c.args.self.now = record {
+    let cut : c.volatile.inside.ledger.cut ≡ c.args.volatile.now.ledger.cut = ap (λ (v : VolatileState). v.ledger.cut) c.volatile.view_is in
+    let due : IsCutDue c.args.volatile.now c.args.self.now = record {
       logged = omega (arith, c.if-self-cut.false, c.cut.ensures, logged, cut);
       fits = subst (FitsGroup c.args.self.now.objects) blocks (c.in_ok-reserve.ensures.fits.0 c.if-not-branch.false);
     } in
-    if_err c.from_residual-in_err-group.result _ (IsCutRefusal c.args.memory.now c.args.self.now) c.from_residual-in_err-group.ensures.1
-    (λ (e : Refusal Told) is. subst (λ (r : Refusal Told). IsCutRefusal c.args.memory.now c.args.self.now r) (sym is) (inr (inr (due, search rules))))
+    if_err c.from_residual-in_err-group.result _ (IsCutRefusal c.args.volatile.now c.args.self.now) c.from_residual-in_err-group.ensures.1
+    (λ (e : Refusal CauseState) is. subst (λ (r : Refusal CauseState). IsCutRefusal c.args.volatile.now c.args.self.now r) (sym is) (inr (inr (due, search rules))))
 
 pub returns-in_err-group-clause-tied : goal.returns-in_err-group-clause-tied
 returns-in_err-group-clause-tied g c = λ tied.
     subst (λ (v : VolatileState). Tied v c.reserve.new.self) (sym c.in_err-group.ensures.err)
-    (tied_roomed c.args.memory.now c.args.self.now c.reserve.new.self c.reserve.ensures.same tied)
+    (tied_roomed c.args.volatile.now c.args.self.now c.reserve.new.self c.reserve.ensures.same tied)
 
 pub take-requires-clause-room : goal.take-requires-clause-room
 take-requires-clause-room g c =
-    let blocks : c.tail_len-blocks.result ≡ length (tail_of c.args.memory.now.tail.log) = c.tail_len-blocks.ensures.length ∙ ap (λ (v : VolatileState). length (tail_of v.tail.log)) c.memory.view_is in
+    let blocks : c.tail_len-blocks.result ≡ length (tail_of c.args.volatile.now.tail.log) = c.tail_len-blocks.ensures.length ∙ ap (λ (v : VolatileState). length (tail_of v.tail.log)) c.volatile.view_is in
     subst (HasGroupRoom c.reserve.new.self.objects) (blocks ∙ sym (ap length c.in_ok-group.ensures.group)) (c.in_ok-reserve.ensures.room c.if-not-branch.false)
 
 pub take-requires-clause-longer : goal.take-requires-clause-longer
 take-requires-clause-longer g c =
     subst (λ (h : List Entry). IsPrefix c.reserve.new.self.front h) (sym c.in_ok-front.ensures.whole)
-    (subst (λ (h : List Entry). IsPrefix h c.args.memory.now.memory.history) (ap (λ (d : DurableState). d.front) c.self.view_is ∙ sym (ap (λ (d : DurableState). d.front) c.reserve.ensures.same))
+    (subst (λ (h : List Entry). IsPrefix h c.args.volatile.now.ledger.history) (ap (λ (d : DurableState). d.front) c.self.view_is ∙ sym (ap (λ (d : DurableState). d.front) c.reserve.ensures.same))
     c.in_ok-front.ensures.begins)
 
 pub take-requires-clause-all : goal.take-requires-clause-all
 take-requires-clause-all g c = λ trusted.
-    let history : c.in_ok-front.front ≡ c.args.memory.now.memory.history = c.in_ok-front.ensures.whole in
+    let history : c.in_ok-front.front ≡ c.args.volatile.now.ledger.history = c.in_ok-front.ensures.whole in
     subst (λ (h : List Entry). HaveAllSince g.J.Naming.blocks h c.reserve.new.self.logged c.in_ok-group.group.items) (sym history)
-    (since_later g.J.Naming.blocks c.args.memory.now.memory.history c.args.memory.now.memory.cut c.reserve.new.self.logged c.in_ok-group.group.items
-    (subst (λ (v : VolatileState). v.memory.cut ≤ c.reserve.new.self.logged) c.memory.view_is
-    (subst (λ (n : ℕ). c.memory.inside.memory.cut ≤ n) (ap (λ (d : DurableState). d.logged) c.self.view_is ∙ sym (ap (λ (d : DurableState). d.logged) c.reserve.ensures.same))
+    (since_later g.J.Naming.blocks c.args.volatile.now.ledger.history c.args.volatile.now.ledger.cut c.reserve.new.self.logged c.in_ok-group.group.items
+    (subst (λ (v : VolatileState). v.ledger.cut ≤ c.reserve.new.self.logged) c.volatile.view_is
+    (subst (λ (n : ℕ). c.volatile.inside.ledger.cut ≤ n) (ap (λ (d : DurableState). d.logged) c.self.view_is ∙ sym (ap (λ (d : DurableState). d.logged) c.reserve.ensures.same))
     (omega (arith, c.if-self-cut.false, c.cut.ensures))))
     (c.in_ok-group.ensures.all (subst (λ (h : List Entry). IsTrue (is_trusted h)) history trusted)))
 
 pub returns-clause-cuts : goal.returns-clause-cuts
 returns-clause-cuts g c = λ done.
-    let blocks : c.tail_len-blocks.result ≡ length (tail_of c.args.memory.now.tail.log) = c.tail_len-blocks.ensures.length ∙ ap (λ (v : VolatileState). length (tail_of v.tail.log)) c.memory.view_is in
+    let blocks : c.tail_len-blocks.result ≡ length (tail_of c.args.volatile.now.tail.log) = c.tail_len-blocks.ensures.length ∙ ap (λ (v : VolatileState). length (tail_of v.tail.log)) c.volatile.view_is in
     let logged : c.self.inside.logged ≡ c.args.self.now.logged = ap (λ (d : DurableState). d.logged) c.self.view_is in
-    let cut : c.memory.inside.memory.cut ≡ c.args.memory.now.memory.cut = ap (λ (v : VolatileState). v.memory.cut) c.memory.view_is in
-    let due : IsCutDue c.args.memory.now c.args.self.now = record {
+    let cut : c.volatile.inside.ledger.cut ≡ c.args.volatile.now.ledger.cut = ap (λ (v : VolatileState). v.ledger.cut) c.volatile.view_is in
+    let due : IsCutDue c.args.volatile.now c.args.self.now = record {
       logged = omega (arith, c.if-self-cut.false, c.cut.ensures, logged, cut);
       fits = subst (FitsGroup c.args.self.now.objects) blocks (c.in_ok-reserve.ensures.fits.0 c.if-not-branch.false);
     } in
-    cuts_both c.args.memory.now c.cut-2.new.self c.args.self.now c.reserve.new.self c.take.new.self c.in_ok-front.front c.in_ok-group.group.items due
+    cuts_both c.args.volatile.now c.cut-2.new.self c.args.self.now c.reserve.new.self c.take.new.self c.in_ok-front.front c.in_ok-group.group.items due
     c.in_ok-group.ensures.ok c.reserve.ensures.same c.in_ok-front.ensures.whole c.in_ok-group.ensures.group c.take.ensures.takes
 
 pub returns-clause-tied : goal.returns-clause-tied
 returns-clause-tied g c = λ tied.
-    tied_cut g.J.Naming.blocks c.args.memory.now c.cut-2.new.self c.args.self.now c.take.new.self
-    (subst (IsVolatile g.J.Naming.blocks) c.memory.view_is c.memory.invariant) (returns-clause-cuts g c refl) c.take.ensures.flies tied
+    tied_cut g.J.Naming.blocks c.args.volatile.now c.cut-2.new.self c.args.self.now c.take.new.self
+    (subst (IsVolatile g.J.Naming.blocks) c.volatile.view_is c.volatile.invariant) (returns-clause-cuts g c refl) c.take.ensures.flies tied
 
 pub returns-clause-crash : goal.returns-clause-crash
 returns-clause-crash g c = crashes_roomed c.args.self.now c.reserve.new.self c.take.new.self c.reserve.ensures.same c.take.ensures.crash

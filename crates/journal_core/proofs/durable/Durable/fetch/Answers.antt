@@ -6,11 +6,11 @@ returns-in-Ok-clause-event g c = record {
   named = c.in-Ok.ensures.named;
   front = c.in-Ok.ensures.front;
   commits = c.in-Ok.ensures.commits;
-  objects = c.holds.ensures;
+  objects = c.prove_fetched.ensures;
   fine = c.in-Ok.ensures.fine;
   reads = c.fetch_blocks.ensures.reads;
   others = c.fetch_blocks.ensures.others;
-  kept = c.keeps.ensures;
+  kept = c.prove_invariant.ensures;
   crash = c.fetch_blocks.ensures.crash;
 }
 
@@ -19,7 +19,7 @@ returns-in-Err-clause-event g c = record {
   refusal = c.in-Err.ensures.refusal;
   reads = c.fetch_blocks.ensures.reads;
   others = c.fetch_blocks.ensures.others;
-  kept = c.keeps-in-Err.ensures;
+  kept = c.prove_invariant-in-Err.ensures;
   crash = c.fetch_blocks.ensures.crash;
 }
 

@@ -2,7 +2,7 @@ use Rattle.std.proofs.Common.{◌≡◌, ◌∙◌, List, ℕ, false, map, refl,
 use Rattle.journal_world.specs.declared.refusal.Refusal.{Refusal}
 use Rattle.journal_world.specs.Histories.{Entry}
 use Rattle.journal_block.specs.declared.update.Update.{Update}
-use Rattle.journal_core.specs.Causes.{Told}
+use Rattle.journal_core.specs.Causes.{CauseState}
 use Rattle.journal_core.specs.Volatiles.{VolatileState}
 use Rattle.journal_core.specs.Durables.{DurableState, IsCallRefusal, is_faulted}
 use Rattle.journal_core.specs.Cores.{IsPair, core_of}
@@ -16,7 +16,7 @@ use Rattle.journal_core.proofs.durable.Durable.fetch_step.Goals as goal
 pub returns-in-Ok : goal.returns-in-Ok
 returns-in-Ok g c =
     let n = g.J.Naming.blocks in
-    let v = c.args.memory.now in
+    let v = c.args.volatile.now in
     let d = c.args.self.now in
     let e = c.fetch.new.self in
     let numbers : List ℕ = map (λ (u : Update). u.block) c.args.updates.items in
@@ -29,7 +29,7 @@ returns-in-Ok g c =
       front = it.front ∙ sym (ap (λ (x : DurableState). x.front) it.others);
       commits = it.commits ∙ sym (ap (λ (x : DurableState). x.logged) it.others);
       named = it.named;
-      memory = refl;
+      volatile = refl;
       failed = tt;
       refusal = tt;
       reads = it.reads;
@@ -42,10 +42,10 @@ returns-in-Ok g c =
 pub returns-in-Err : goal.returns-in-Err
 returns-in-Err g c =
     let n = g.J.Naming.blocks in
-    let v = c.args.memory.now in
+    let v = c.args.volatile.now in
     let d = c.args.self.now in
     let e = c.fetch.new.self in
-    let w = c.note_fault-why.new.memory in
+    let w = c.note_fault-why.new.volatile in
     let fault = c.in-Err.fault in
     let was = c.requires.pair in
     let on = c.requires.running in
@@ -56,7 +56,7 @@ returns-in-Err g c =
       front = tt;
       commits = tt;
       named = tt;
-      memory = tt;
+      volatile = tt;
       failed = c.note_fault-why.ensures.event.noted;
       refusal = subst (IsCallRefusal d e) (sym c.note_fault-why.ensures.refusal) it.refusal;
       reads = it.reads;
@@ -64,6 +64,6 @@ returns-in-Err g c =
       pair = subst (λ (x : VolatileState). IsPair n x e) (sym c.note_fault-why.ensures.event.noted) pair;
       crash = it.crash;
       event = subst (λ (x : VolatileState). RefusesFetch (core_of v d) c.note_fault-why.result (core_of x e)) (sym c.note_fault-why.ensures.event.noted)
-          (subst (λ (x : Refusal Told). RefusesFetch (core_of v d) x (core_of (failed v) e)) (sym c.note_fault-why.ensures.refusal)
+          (subst (λ (x : Refusal CauseState). RefusesFetch (core_of v d) x (core_of (failed v) e)) (sym c.note_fault-why.ensures.refusal)
           (fetch_refused n v d was on e it.reads it.others it.crash fault it.refusal pair));
     }

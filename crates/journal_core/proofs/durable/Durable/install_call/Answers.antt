@@ -1,7 +1,7 @@
 use Rattle.std.proofs.Common.{subst, rules}
 use Rattle.journal_world.specs.declared.refusal.Refusal.{Refusal}
 use Rattle.journal_wal.specs.declared.step.InstallStep.{InstallStep}
-use Rattle.journal_core.specs.Causes.{Told}
+use Rattle.journal_core.specs.Causes.{CauseState}
 use Rattle.journal_core.specs.Durables.{InstallAnswers, IsInstallRefusal}
 use Rattle.journal_core.proofs.Between.{home_faulted, freed_to}
 use Rattle.journal_core.proofs.durable.Durable.install_call.Goals as goal
@@ -10,7 +10,7 @@ pub returns-in-Ok-Idle-clause-event : goal.returns-in-Ok-Idle-clause-event
 returns-in-Ok-Idle-clause-event g c = record {
   did = subst (λ (s : InstallStep). InstallAnswers c.args.self.now s c.advance_install.new.self) c.in-Ok-Idle.field-0-is c.in-Ok-Idle.ensures.ok;
   fine = c.in-Ok-Idle.ensures.fine;
-  kept = c.keeps.ensures;
+  kept = c.prove_invariant.ensures;
   crash = c.advance_install.ensures.crash;
 }
 
@@ -18,7 +18,7 @@ pub returns-in-Ok-Put-clause-event : goal.returns-in-Ok-Put-clause-event
 returns-in-Ok-Put-clause-event g c = record {
   did = subst (λ (s : InstallStep). InstallAnswers c.args.self.now s c.advance_install.new.self) c.in-Ok-Put.field-0-is c.in-Ok-Put.ensures.ok;
   fine = c.in-Ok-Put.ensures.fine;
-  kept = c.keeps-in-Ok-Put.ensures;
+  kept = c.prove_invariant-in-Ok-Put.ensures;
   crash = c.advance_install.ensures.crash;
 }
 
@@ -26,7 +26,7 @@ pub returns-in-Ok-Freed-clause-event : goal.returns-in-Ok-Freed-clause-event
 returns-in-Ok-Freed-clause-event g c = record {
   did = subst (λ (s : InstallStep). InstallAnswers c.args.self.now s c.advance_install.new.self) c.in-Ok-Freed.field-0-is c.in-Ok-Freed.ensures.ok;
   fine = c.in-Ok-Freed.ensures.fine;
-  kept = c.keeps-in-Ok-Freed.ensures;
+  kept = c.prove_invariant-in-Ok-Freed.ensures;
   crash = c.advance_install.ensures.crash;
 }
 
@@ -37,10 +37,10 @@ returns-in-Ok-Freed-clause-home g c =
 
 pub returns-in-Err-NoMemory-clause-event : goal.returns-in-Err-NoMemory-clause-event
 returns-in-Err-NoMemory-clause-event g c = record {
-  refusal = subst (λ (why : Refusal Told). IsInstallRefusal c.args.self.now c.advance_install.new.self why) c.in-Err-NoMemory.field-0-is c.in-Err-NoMemory.ensures.refusal;
+  refusal = subst (λ (why : Refusal CauseState). IsInstallRefusal c.args.self.now c.advance_install.new.self why) c.in-Err-NoMemory.field-0-is c.in-Err-NoMemory.ensures.refusal;
   left = c.in-Err-NoMemory.ensures.left;
   tries = c.in-Err-NoMemory.ensures.tries;
-  kept = c.keeps-in-Err-NoMemory.ensures;
+  kept = c.prove_invariant-in-Err-NoMemory.ensures;
   crash = c.advance_install.ensures.crash;
 }
 
@@ -49,7 +49,7 @@ returns-in-Err-clause-event g c = record {
   refusal = c.in-Err.ensures.refusal;
   left = c.in-Err.ensures.left;
   tries = c.in-Err.ensures.tries;
-  kept = c.keeps-in-Err.ensures;
+  kept = c.prove_invariant-in-Err.ensures;
   crash = c.advance_install.ensures.crash;
 }
 

@@ -6,7 +6,7 @@ use Rattle.journal_wal.specs.declared.step.InstallStep.{InstallStep}
 use Rattle.journal_wal.specs.declared.step.InstallStep.TheVariants.{Idle, Put, Freed}
 use Rattle.journal_core.specs.declared.due.InstallCall.{InstallCall}
 use Rattle.journal_core.specs.declared.due.InstallFault.{InstallFault}
-use Rattle.journal_core.specs.Causes.{Told}
+use Rattle.journal_core.specs.Causes.{CauseState}
 use Rattle.journal_core.specs.Volatiles.{VolatileState}
 use Rattle.journal_core.specs.Durables.{DurableState, is_faulted}
 use Rattle.journal_core.specs.CallAnswers.{install_step_of, install_refusal_of, IfFreed, IfFailed}
@@ -21,7 +21,7 @@ use Rattle.journal_core.proofs.durable.Durable.install_step.Goals as goal
 pub returns-in-Ok-Idle : goal.returns-in-Ok-Idle
 returns-in-Ok-Idle g c =
     let n = g.J.Naming.blocks in
-    let v = c.args.memory.now in
+    let v = c.args.volatile.now in
     let d = c.args.self.now in
     let e = c.install_call.new.self in
     let was = c.requires.pair in
@@ -41,7 +41,7 @@ returns-in-Ok-Idle g c =
 pub returns-in-Ok-Put : goal.returns-in-Ok-Put
 returns-in-Ok-Put g c =
     let n = g.J.Naming.blocks in
-    let v = c.args.memory.now in
+    let v = c.args.volatile.now in
     let d = c.args.self.now in
     let e = c.install_call.new.self in
     let was = c.requires.pair in
@@ -66,10 +66,10 @@ trim-requires g c = record {
 pub returns-in-Ok-Freed : goal.returns-in-Ok-Freed
 returns-in-Ok-Freed g c =
     let n = g.J.Naming.blocks in
-    let v = c.args.memory.now in
+    let v = c.args.volatile.now in
     let d = c.args.self.now in
     let e = c.install_call.new.self in
-    let w = c.trim.new.memory in
+    let w = c.trim.new.volatile in
     let upto = c.in-Ok-Freed.freed in
     let was = c.requires.pair in
     let on = c.requires.running in
@@ -79,7 +79,7 @@ returns-in-Ok-Freed g c =
     record {
       ok = subst (λ (step : InstallStep). InstallAnswers (core_of v d) step (core_of w e)) (sym c.trim.ensures.told)
           (installs_as n v d was on e w (Freed upto) it.did (trims_as n v d was on e w upto trims.kept trims.drops trims.others));
-      running = (ap (λ (x : VolatileState). x.memory.closed) trims.others ∙ on.0, it.fine.1);
+      running = (ap (λ (x : VolatileState). x.ledger.closed) trims.others ∙ on.0, it.fine.1);
       refusal = tt;
       left = tt;
       tries = tt;
@@ -90,13 +90,13 @@ returns-in-Ok-Freed g c =
 pub returns-in-Err-NoMemory : goal.returns-in-Err-NoMemory
 returns-in-Err-NoMemory g c =
     let n = g.J.Naming.blocks in
-    let v = c.args.memory.now in
+    let v = c.args.volatile.now in
     let d = c.args.self.now in
     let e = c.install_call.new.self in
     let was = c.requires.pair in
     let on = c.requires.running in
     let it : FailsHomeCall n d NoMemory e =
-    subst (λ (fault : InstallFault (Refusal Told)). FailsHomeCall n d (install_refusal_of fault) e) c.in-Err-NoMemory.field-0-is c.in-Err-NoMemory.ensures.event in
+    subst (λ (fault : InstallFault (Refusal CauseState)). FailsHomeCall n d (install_refusal_of fault) e) c.in-Err-NoMemory.field-0-is c.in-Err-NoMemory.ensures.event in
     let unmade = install_starved n v d was on e it.refusal in
     let pair : IsPair n v e = subst (IsPair n v) (sym unmade.1) was in
     record {
@@ -112,15 +112,15 @@ returns-in-Err-NoMemory g c =
 pub returns-in-Err-Failed : goal.returns-in-Err-Failed
 returns-in-Err-Failed g c =
     let n = g.J.Naming.blocks in
-    let v = c.args.memory.now in
+    let v = c.args.volatile.now in
     let d = c.args.self.now in
     let e = c.install_call.new.self in
-    let w = c.note_fault-why.new.memory in
+    let w = c.note_fault-why.new.volatile in
     let fault = c.in-Err-Failed.fault in
     let was = c.requires.pair in
     let on = c.requires.running in
     let it : FailsHomeCall n d fault e =
-    subst (λ (fault : InstallFault (Refusal Told)). FailsHomeCall n d (install_refusal_of fault) e) c.in-Err-Failed.field-0-is c.in-Err-Failed.ensures.event in
+    subst (λ (fault : InstallFault (Refusal CauseState)). FailsHomeCall n d (install_refusal_of fault) e) c.in-Err-Failed.field-0-is c.in-Err-Failed.ensures.event in
     let faulted : is_faulted e ≡ true = subst (IfFailed (is_faulted e ≡ true)) c.in-Err-Failed.field-0-is c.in-Err-Failed.ensures.fault in
     let refused = install_failed n v d was on e fault faulted it.refusal in
     let pair : IsPair n (failed v) e = pair_failed n v d was on e it.kept refused.1 (stays_fault d.objects e.objects it.left.log faulted) faulted in
@@ -129,7 +129,7 @@ returns-in-Err-Failed g c =
       ok = tt;
       running = tt;
       refusal = subst (λ (x : VolatileState). IsInstallRefusal (core_of v d) (core_of x e) c.note_fault-why.result) (sym c.note_fault-why.ensures.event.noted)
-          (subst (λ (x : Refusal Told). IsInstallRefusal (core_of v d) (core_of (failed v) e) x) (sym c.note_fault-why.ensures.refusal) refused.0);
+          (subst (λ (x : Refusal CauseState). IsInstallRefusal (core_of v d) (core_of (failed v) e) x) (sym c.note_fault-why.ensures.refusal) refused.0);
       left = leaves_as n v d was on e w it.left refused.1 (ap (λ (x : VolatileState). core_of x e) c.note_fault-why.ensures.event.noted);
       tries = it.tries;
       pair = after;

@@ -8,7 +8,7 @@ pub returns-in-Ok-Put-clause-event : goal.returns-in-Ok-Put-clause-event
 returns-in-Ok-Put-clause-event g c = record {
   did = subst (λ (s : GroupStep). LogAnswers c.args.self.now s c.advance_log.new.self) c.in-Ok-Put.field-0-is c.in-Ok-Put.ensures.ok;
   fine = c.in-Ok-Put.ensures.fine;
-  kept = c.keeps.ensures;
+  kept = c.prove_invariant.ensures;
   crash = c.advance_log.ensures.crash;
 }
 
@@ -16,7 +16,7 @@ pub returns-in-Ok-Logged-clause-event : goal.returns-in-Ok-Logged-clause-event
 returns-in-Ok-Logged-clause-event g c = record {
   did = subst (λ (s : GroupStep). LogAnswers c.args.self.now s c.advance_log.new.self) c.in-Ok-Logged.field-0-is c.in-Ok-Logged.ensures.ok;
   fine = c.in-Ok-Logged.ensures.fine;
-  kept = c.keeps-in-Ok-Logged.ensures;
+  kept = c.prove_invariant-in-Ok-Logged.ensures;
   crash = c.advance_log.ensures.crash;
 }
 
@@ -24,7 +24,7 @@ pub returns-in-Ok-Idle-clause-event : goal.returns-in-Ok-Idle-clause-event
 returns-in-Ok-Idle-clause-event g c = record {
   did = subst (λ (s : GroupStep). LogAnswers c.args.self.now s c.advance_log.new.self) c.in-Ok-Idle.field-0-is c.in-Ok-Idle.ensures.ok;
   fine = c.in-Ok-Idle.ensures.fine;
-  kept = c.keeps-in-Ok-Idle.ensures;
+  kept = c.prove_invariant-in-Ok-Idle.ensures;
   crash = c.advance_log.ensures.crash;
 }
 
@@ -33,7 +33,7 @@ returns-in-Err-clause-event g c = record {
   refusal = c.in-Err.ensures.refusal;
   left = c.in-Err.ensures.left;
   tries = c.in-Err.ensures.tries;
-  kept = c.keeps-in-Err.ensures;
+  kept = c.prove_invariant-in-Err.ensures;
   crash = c.advance_log.ensures.crash;
 }
 

@@ -3,23 +3,23 @@ use Rattle.journal_world.specs.declared.refusal.Refusal.{Refusal}
 use Rattle.journal_wal.specs.Wal.{log_steps}
 use Rattle.journal_wal.specs.declared.step.GroupStep.TheVariants.{Idle, Put, Logged}
 use Rattle.journal_core.specs.declared.due.LogCall.{LogCall}
-use Rattle.journal_core.specs.Causes.{Told}
+use Rattle.journal_core.specs.Causes.{CauseState}
 use Rattle.journal_core.specs.Volatiles.{VolatileState}
 use Rattle.journal_core.specs.Durables.{DurableState, Crashes as CrashesDurable}
 use Rattle.journal_core.specs.CallAnswers.{log_step_of}
 use Rattle.journal_core.specs.Cores.{IsPair, IsRunning, core_of}
 use Rattle.journal_core.specs.Steps.{IsLogRefusal, LeavesLog, TriesToLog}
-use Rattle.journal_core.specs.Holds.{MakesGroupCall, FailsGroupCall, AnswersSettling}
+use Rattle.journal_core.specs.Holds.{MakesGroupCall, FailsGroupCall, AnswersMarkOrCut}
 use Rattle.journal_core.proofs.CallsOfLogs.{stays_fault}
 use Rattle.journal_core.proofs.Pairing.{tied_logged}
 use Rattle.journal_core.proofs.Joining.{failed, crashes_pair, pair_on, pair_failed, call_faulted, logs_put, logs_end, log_fails, leaves_as}
-use Rattle.journal_core.proofs.OneThread.{settled_ok, settled_running, settled_fine, settled_refusal, settled_left, settled_tries, settled_pair, settled_crash}
+use Rattle.journal_core.proofs.OneThread.{mark_or_cut_ok, mark_or_cut_running, mark_or_cut_fine, mark_or_cut_refusal, mark_or_cut_left, mark_or_cut_tries, mark_or_cut_pair, mark_or_cut_crash}
 use Rattle.journal_core.proofs.durable.Durable.log_step.Goals as goal
 
 pub returns-in-Ok-Put : goal.returns-in-Ok-Put
 returns-in-Ok-Put g c =
     let n = g.J.Naming.blocks in
-    let v = c.args.memory.now in
+    let v = c.args.volatile.now in
     let d = c.args.self.now in
     let e = c.log_call.new.self in
     let was = c.requires.pair in
@@ -39,7 +39,7 @@ returns-in-Ok-Put g c =
 pub returns-in-Ok-Logged : goal.returns-in-Ok-Logged
 returns-in-Ok-Logged g c =
     let n = g.J.Naming.blocks in
-    let v = c.args.memory.now in
+    let v = c.args.volatile.now in
     let d = c.args.self.now in
     let e = c.log_call.new.self in
     let was = c.requires.pair in
@@ -59,36 +59,36 @@ returns-in-Ok-Logged g c =
 pub returns-in-Ok-AtRest : goal.returns-in-Ok-AtRest
 returns-in-Ok-AtRest g c =
     let n = g.J.Naming.blocks in
-    let v = c.args.memory.now in
+    let v = c.args.volatile.now in
     let d = c.args.self.now in
-    let w = c.settle.new.memory in
-    let e = c.settle.new.self in
-    let r = c.settle.result in
+    let w = c.mark_or_cut.new.volatile in
+    let e = c.mark_or_cut.new.self in
+    let r = c.mark_or_cut.result in
     let was = c.requires.pair in
     let on = c.requires.running in
     let it : MakesGroupCall n d Idle c.log_call.new.self =
     subst (λ (call : LogCall). MakesGroupCall n d (log_step_of call) c.log_call.new.self) c.in-Ok-AtRest.field-0-is c.in-Ok-AtRest.ensures.event in
     let none : log_steps d.objects ≡ 0 = it.did.0 in
-    let settles : AnswersSettling n v d r w e = subst (λ (x : DurableState). AnswersSettling n v x r w e) it.did.1 c.settle.ensures.event in
-    let pair : IsPair n w e = settled_pair n v d was on none w e r settles in
+    let marks_or_cuts : AnswersMarkOrCut n v d r w e = subst (λ (x : DurableState). AnswersMarkOrCut n v x r w e) it.did.1 c.mark_or_cut.ensures.event in
+    let pair : IsPair n w e = mark_or_cut_pair n v d was on none w e r marks_or_cuts in
     record {
-      ok = settled_ok n v d was on none w e r settles;
-      running = settled_running n v d was on none w e r settles;
-      refusal = settled_refusal n v d was on none w e r settles;
-      left = settled_left n v d was on none w e r settles;
-      tries = settled_tries n v d was on none w e r settles;
+      ok = mark_or_cut_ok n v d was on none w e r marks_or_cuts;
+      running = mark_or_cut_running n v d was on none w e r marks_or_cuts;
+      refusal = mark_or_cut_refusal n v d was on none w e r marks_or_cuts;
+      left = mark_or_cut_left n v d was on none w e r marks_or_cuts;
+      tries = mark_or_cut_tries n v d was on none w e r marks_or_cuts;
       pair = pair;
-      fine = settled_fine n v d was on none w e r settles;
-      crash = crashes_pair n v w d e was pair (settled_crash n v d w e r settles);
+      fine = mark_or_cut_fine n v d was on none w e r marks_or_cuts;
+      crash = crashes_pair n v w d e was pair (mark_or_cut_crash n v d w e r marks_or_cuts);
     }
 
 pub returns-in-Err : goal.returns-in-Err
 returns-in-Err g c =
     let n = g.J.Naming.blocks in
-    let v = c.args.memory.now in
+    let v = c.args.volatile.now in
     let d = c.args.self.now in
     let e = c.log_call.new.self in
-    let w = c.note_fault-why.new.memory in
+    let w = c.note_fault-why.new.volatile in
     let why = c.note_fault-why.result in
     let was = c.requires.pair in
     let on = c.requires.running in
@@ -101,7 +101,7 @@ returns-in-Err g c =
       ok = tt;
       running = tt;
       refusal = subst (λ (x : VolatileState). IsLogRefusal (core_of v d) (core_of x e) why) (sym c.note_fault-why.ensures.event.noted)
-          (subst (λ (x : Refusal Told). IsLogRefusal (core_of v d) (core_of (failed v) e) x) (sym c.note_fault-why.ensures.refusal) (log_fails n v d was on e c.in-Err.fault it.refusal));
+          (subst (λ (x : Refusal CauseState). IsLogRefusal (core_of v d) (core_of (failed v) e) x) (sym c.note_fault-why.ensures.refusal) (log_fails n v d was on e c.in-Err.fault it.refusal));
       left = leaves_as n v d was on e w it.left faulted.1 same;
       tries = inr it.tries;
       pair = after;

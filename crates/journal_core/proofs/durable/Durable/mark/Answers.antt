@@ -6,7 +6,7 @@ use Rattle.journal_world.specs.Histories.Entry.{stable}
 use Rattle.journal_world.proofs.Prefixes.{IsPrefix-trans}
 use Rattle.journal_objlog.proofs.Openings.{OnlyReads-refl}
 use Rattle.journal_objlog.proofs.Refusing.{if_err}
-use Rattle.journal_core.specs.Causes.{Told}
+use Rattle.journal_core.specs.Causes.{CauseState}
 use Rattle.journal_core.specs.Durables.{DurableState}
 use Rattle.journal_core.specs.Volatiles.{VolatileState, IsFrontRefusal}
 use Rattle.journal_core.specs.Pairs.{IsMarkDue, IsMarkingRefusal}
@@ -17,9 +17,9 @@ use Rattle.journal_core.proofs.durable.Durable.mark.Goals as goal
 
 pub returns-in_err-front-clause-refusal : goal.returns-in_err-front-clause-refusal
 returns-in_err-front-clause-refusal g c =
-    if_err c.from_residual.result _ (IsMarkingRefusal c.args.memory.now c.args.self.now) c.from_residual.ensures.1
-    (λ (e : Refusal Told) is. subst (λ (r : Refusal Told). IsMarkingRefusal c.args.memory.now c.args.self.now r) (sym is)
-    (inl (inl (subst (λ (d : DurableState). IsFrontRefusal c.args.memory.now.memory.history d.front c.in_err-front.field-0.0) c.self.view_is c.in_err-front.ensures.refusal))))
+    if_err c.from_residual.result _ (IsMarkingRefusal c.args.volatile.now c.args.self.now) c.from_residual.ensures.1
+    (λ (e : Refusal CauseState) is. subst (λ (r : Refusal CauseState). IsMarkingRefusal c.args.volatile.now c.args.self.now r) (sym is)
+    (inl (inl (subst (λ (d : DurableState). IsFrontRefusal c.args.volatile.now.ledger.history d.front c.in_err-front.field-0.0) c.self.view_is c.in_err-front.ensures.refusal))))
 
 pub returns-in_err-front-clause-crash : goal.returns-in_err-front-clause-crash
 returns-in_err-front-clause-crash g c =
@@ -32,8 +32,8 @@ returns-then-self-marked-clause-crash g c =
 pub returns-then-cut-self-clause-only : goal.returns-then-cut-self-clause-only
 returns-then-cut-self-clause-only g c = λ no due.
     let logged : c.self.inside.logged ≡ c.args.self.now.logged = ap (λ (d : DurableState). d.logged) c.self.view_is in
-    let cut : c.memory.inside.memory.cut ≡ c.args.memory.now.memory.cut = ap (λ (v : VolatileState). v.memory.cut) c.memory.view_is in
-    let marked : floor c.memory.inside.memory.history ≡ floor c.args.memory.now.memory.history = ap (λ (v : VolatileState). floor v.memory.history) c.memory.view_is in
+    let cut : c.volatile.inside.ledger.cut ≡ c.args.volatile.now.ledger.cut = ap (λ (v : VolatileState). v.ledger.cut) c.volatile.view_is in
+    let marked : floor c.volatile.inside.ledger.history ≡ floor c.args.volatile.now.ledger.history = ap (λ (v : VolatileState). floor v.ledger.history) c.volatile.view_is in
     elim c.then-cut-self.branch [
       | then-cut-self-via-then-cut-self w ↦ let h = w.if-cut-self in omega (arith, h.true, c.cut.ensures, cut, logged, due.cut)
       | then-cut-self-via-else-cut-self+then-marked-self w ↦ let h = w.if-marked-self in
@@ -47,45 +47,45 @@ returns-then-cut-self-clause-crash g c =
 pub returns-in_err-mark-clause-refusal : goal.returns-in_err-mark-clause-refusal
 returns-in_err-mark-clause-refusal g c =
     let logged : c.self.inside.logged ≡ c.args.self.now.logged = ap (λ (d : DurableState). d.logged) c.self.view_is in
-    let cut : c.memory.inside.memory.cut ≡ c.args.memory.now.memory.cut = ap (λ (v : VolatileState). v.memory.cut) c.memory.view_is in
-    let marked : floor c.memory.inside.memory.history ≡ floor c.args.memory.now.memory.history = ap (λ (v : VolatileState). floor v.memory.history) c.memory.view_is in
-    let due : IsMarkDue c.args.memory.now c.args.self.now = record {
+    let cut : c.volatile.inside.ledger.cut ≡ c.args.volatile.now.ledger.cut = ap (λ (v : VolatileState). v.ledger.cut) c.volatile.view_is in
+    let marked : floor c.volatile.inside.ledger.history ≡ floor c.args.volatile.now.ledger.history = ap (λ (v : VolatileState). floor v.ledger.history) c.volatile.view_is in
+    let due : IsMarkDue c.args.volatile.now c.args.self.now = record {
       cut = omega (arith, c.if-cut-self.false, c.cut.ensures, logged, cut);
       more = omega (arith, c.if-self-marked.false, c.if-marked-self.false, c.floor-marked.ensures, marked, logged);
     } in
-    if_err c.from_residual-in_err-mark.result _ (IsMarkingRefusal c.args.memory.now c.args.self.now) c.from_residual-in_err-mark.ensures.1
-    (λ (e : Refusal Told) is. subst (λ (r : Refusal Told). IsMarkingRefusal c.args.memory.now c.args.self.now r) (sym is)
+    if_err c.from_residual-in_err-mark.result _ (IsMarkingRefusal c.args.volatile.now c.args.self.now) c.from_residual-in_err-mark.ensures.1
+    (λ (e : Refusal CauseState) is. subst (λ (r : Refusal CauseState). IsMarkingRefusal c.args.volatile.now c.args.self.now r) (sym is)
     (inr (due, c.in_err-mark.ensures.refusal)))
 
 pub returns-in_err-mark-clause-crash : goal.returns-in_err-mark-clause-crash
 returns-in_err-mark-clause-crash g c =
     crashes_reads g.J.Naming.blocks _ c.args.self.now c.args.self.now c.self.invariant c.self.view_is (OnlyReads-refl c.args.self.now.objects) refl
 
-pub note_mark-requires : goal.note_mark-requires
-note_mark-requires g c =
-    let history : c.front-2.result ≡ c.args.memory.now.memory.history ++ stable c.self.inside.logged ∷ [] =
-    c.front-2.ensures.history ∙ ap (λ (v : VolatileState). v.memory.history) (c.memory-2.view_is ∙ c.in_ok-mark.ensures.added) in
+pub set_marked-requires : goal.set_marked-requires
+set_marked-requires g c =
+    let history : c.front-2.result ≡ c.args.volatile.now.ledger.history ++ stable c.self.inside.logged ∷ [] =
+    c.front-2.ensures.history ∙ ap (λ (v : VolatileState). v.ledger.history) (c.volatile-2.view_is ∙ c.in_ok-mark.ensures.added) in
     record {
       longer = subst (λ (h : List Entry). IsPrefix c.args.self.now.front h) (sym history)
-          (IsPrefix-trans c.args.self.now.front c.args.memory.now.memory.history (c.args.memory.now.memory.history ++ stable c.self.inside.logged ∷ [])
-          (subst (λ (d : DurableState). IsPrefix d.front c.args.memory.now.memory.history) c.self.view_is c.in_ok-front.ensures.begins)
+          (IsPrefix-trans c.args.self.now.front c.args.volatile.now.ledger.history (c.args.volatile.now.ledger.history ++ stable c.self.inside.logged ∷ [])
+          (subst (λ (d : DurableState). IsPrefix d.front c.args.volatile.now.ledger.history) c.self.view_is c.in_ok-front.ensures.begins)
           (stable c.self.inside.logged ∷ [], refl));
     }
 
 pub returns-clause-marks : goal.returns-clause-marks
 returns-clause-marks g c = λ done.
     let logged : c.self.inside.logged ≡ c.args.self.now.logged = ap (λ (d : DurableState). d.logged) c.self.view_is in
-    let cut : c.memory.inside.memory.cut ≡ c.args.memory.now.memory.cut = ap (λ (v : VolatileState). v.memory.cut) c.memory.view_is in
-    let marked : floor c.memory.inside.memory.history ≡ floor c.args.memory.now.memory.history = ap (λ (v : VolatileState). floor v.memory.history) c.memory.view_is in
-    let due : IsMarkDue c.args.memory.now c.args.self.now = record {
+    let cut : c.volatile.inside.ledger.cut ≡ c.args.volatile.now.ledger.cut = ap (λ (v : VolatileState). v.ledger.cut) c.volatile.view_is in
+    let marked : floor c.volatile.inside.ledger.history ≡ floor c.args.volatile.now.ledger.history = ap (λ (v : VolatileState). floor v.ledger.history) c.volatile.view_is in
+    let due : IsMarkDue c.args.volatile.now c.args.self.now = record {
       cut = omega (arith, c.if-cut-self.false, c.cut.ensures, logged, cut);
       more = omega (arith, c.if-self-marked.false, c.if-marked-self.false, c.floor-marked.ensures, marked, logged);
     } in
-    record { due = due; memory = search rules; durable = search rules }
+    record { due = due; volatile = search rules; durable = search rules }
 
 pub returns-clause-tied : goal.returns-clause-tied
 returns-clause-tied g c = λ tied.
     let marks = returns-clause-marks g c refl in
-    tied_mark c.args.memory.now c.mark.new.self c.args.self.now c.note_mark.new.self
+    tied_mark c.args.volatile.now c.mark.new.self c.args.self.now c.set_marked.new.self
     (omega (arith, marks.due.more)) marks.due.cut
     marks tied

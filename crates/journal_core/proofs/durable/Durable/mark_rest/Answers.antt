@@ -7,7 +7,7 @@ use Rattle.journal_world.proofs.Marks.{count-mark}
 use Rattle.journal_world.proofs.Prefixes.{IsPrefix-trans}
 use Rattle.journal_objlog.proofs.Openings.{OnlyReads-refl}
 use Rattle.journal_objlog.proofs.Refusing.{if_err}
-use Rattle.journal_core.specs.Causes.{Told}
+use Rattle.journal_core.specs.Causes.{CauseState}
 use Rattle.journal_core.specs.Updates.{HaveAllSince}
 use Rattle.journal_core.specs.Durables.{DurableState, IsDurable}
 use Rattle.journal_core.specs.Volatiles.{VolatileState, IsVolatile, IsFrontRefusal}
@@ -19,9 +19,9 @@ use Rattle.journal_core.proofs.durable.Durable.mark_rest.Goals as goal
 
 pub returns-in_err-front_over-clause-refusal : goal.returns-in_err-front_over-clause-refusal
 returns-in_err-front_over-clause-refusal g c =
-    if_err c.from_residual.result _ (IsRestRefusal c.args.memory.now c.args.self.now) c.from_residual.ensures.1
-    (λ (e : Refusal Told) is. subst (λ (r : Refusal Told). IsRestRefusal c.args.memory.now c.args.self.now r) (sym is)
-    (inl (subst (λ (d : DurableState). IsFrontRefusal c.args.memory.now.memory.history d.front c.in_err-front_over.field-0.0) c.self.view_is c.in_err-front_over.ensures.refusal)))
+    if_err c.from_residual.result _ (IsRestRefusal c.args.volatile.now c.args.self.now) c.from_residual.ensures.1
+    (λ (e : Refusal CauseState) is. subst (λ (r : Refusal CauseState). IsRestRefusal c.args.volatile.now c.args.self.now r) (sym is)
+    (inl (subst (λ (d : DurableState). IsFrontRefusal c.args.volatile.now.ledger.history d.front c.in_err-front_over.field-0.0) c.self.view_is c.in_err-front_over.ensures.refusal)))
 
 pub returns-in_err-front_over-clause-crash : goal.returns-in_err-front_over-clause-crash
 returns-in_err-front_over-clause-crash g c =
@@ -29,8 +29,8 @@ returns-in_err-front_over-clause-crash g c =
 
 pub returns-then-awaits_logging-clause-only : goal.returns-then-awaits_logging-clause-only
 returns-then-awaits_logging-clause-only g c = λ no due.
-    let commits : c.count-commits.result ≡ count c.args.memory.now.memory.history = c.count-commits.ensures ∙ ap (λ (v : VolatileState). count v.memory.history) c.memory.view_is in
-    let marked : floor c.memory.inside.memory.history ≡ floor c.args.memory.now.memory.history = ap (λ (v : VolatileState). floor v.memory.history) c.memory.view_is in
+    let commits : c.count-commits.result ≡ count c.args.volatile.now.ledger.history = c.count-commits.ensures ∙ ap (λ (v : VolatileState). count v.ledger.history) c.volatile.view_is in
+    let marked : floor c.volatile.inside.ledger.history ≡ floor c.args.volatile.now.ledger.history = ap (λ (v : VolatileState). floor v.ledger.history) c.volatile.view_is in
     elim c.then-awaits_logging.branch [
       | then-awaits_logging-via-then-awaits_logging w ↦ let h = w.if-awaits_logging in c.awaits_logging.ensures.only h.true due
       | then-awaits_logging-via-else-awaits_logging+then-commits-floor w ↦ let h = w.if-commits-floor in let f = w.floor in
@@ -43,64 +43,64 @@ returns-then-awaits_logging-clause-crash g c =
 
 pub returns-in_err-mark-clause-refusal : goal.returns-in_err-mark-clause-refusal
 returns-in_err-mark-clause-refusal g c =
-    let commits : c.count-commits.result ≡ count c.args.memory.now.memory.history = c.count-commits.ensures ∙ ap (λ (v : VolatileState). count v.memory.history) c.memory.view_is in
-    let due : IsRestDue c.args.memory.now c.args.self.now = record {
+    let commits : c.count-commits.result ≡ count c.args.volatile.now.ledger.history = c.count-commits.ensures ∙ ap (λ (v : VolatileState). count v.ledger.history) c.volatile.view_is in
+    let due : IsRestDue c.args.volatile.now c.args.self.now = record {
       logged = c.if-awaits_logging.ensures.cut refl;
       rest = c.if-awaits_logging.ensures.rest refl;
       tail = c.if-awaits_logging.ensures.tail refl;
-      more = omega (arith, c.if-commits-floor.false, c.floor.ensures, commits, ap (λ (v : VolatileState). floor v.memory.history) c.memory.view_is);
+      more = omega (arith, c.if-commits-floor.false, c.floor.ensures, commits, ap (λ (v : VolatileState). floor v.ledger.history) c.volatile.view_is);
     } in
-    if_err c.from_residual-in_err-mark.result _ (IsRestRefusal c.args.memory.now c.args.self.now) c.from_residual-in_err-mark.ensures.1
-    (λ (e : Refusal Told) is. subst (λ (r : Refusal Told). IsRestRefusal c.args.memory.now c.args.self.now r) (sym is)
+    if_err c.from_residual-in_err-mark.result _ (IsRestRefusal c.args.volatile.now c.args.self.now) c.from_residual-in_err-mark.ensures.1
+    (λ (e : Refusal CauseState) is. subst (λ (r : Refusal CauseState). IsRestRefusal c.args.volatile.now c.args.self.now r) (sym is)
     (inr (due, c.in_err-mark.ensures.refusal)))
 
 pub returns-in_err-mark-clause-crash : goal.returns-in_err-mark-clause-crash
 returns-in_err-mark-clause-crash g c =
     crashes_reads g.J.Naming.blocks _ c.args.self.now c.args.self.now c.self.invariant c.self.view_is (OnlyReads-refl c.args.self.now.objects) refl
 
-pub reach-requires-clause-longer : goal.reach-requires-clause-longer
-reach-requires-clause-longer g c =
-    let history : c.front.result ≡ c.args.memory.now.memory.history ++ stable c.count-commits.result ∷ [] =
-    c.front.ensures.history ∙ ap (λ (v : VolatileState). v.memory.history) (c.memory-2.view_is ∙ c.in_ok-mark.ensures.added) in
+pub note_all_logged-requires-clause-longer : goal.note_all_logged-requires-clause-longer
+note_all_logged-requires-clause-longer g c =
+    let history : c.front.result ≡ c.args.volatile.now.ledger.history ++ stable c.count-commits.result ∷ [] =
+    c.front.ensures.history ∙ ap (λ (v : VolatileState). v.ledger.history) (c.volatile-2.view_is ∙ c.in_ok-mark.ensures.added) in
     subst (λ (h : List Entry). IsPrefix c.args.self.now.front h) (sym history)
-    (IsPrefix-trans c.args.self.now.front c.args.memory.now.memory.history (c.args.memory.now.memory.history ++ stable c.count-commits.result ∷ [])
-    (subst (λ (d : DurableState). IsPrefix d.front c.args.memory.now.memory.history) c.self.view_is c.in_ok-front_over.ensures.begins)
+    (IsPrefix-trans c.args.self.now.front c.args.volatile.now.ledger.history (c.args.volatile.now.ledger.history ++ stable c.count-commits.result ∷ [])
+    (subst (λ (d : DurableState). IsPrefix d.front c.args.volatile.now.ledger.history) c.self.view_is c.in_ok-front_over.ensures.begins)
     (stable c.count-commits.result ∷ [], refl))
 
-pub reach-requires-clause-counted : goal.reach-requires-clause-counted
-reach-requires-clause-counted g c =
-    let history : c.front.result ≡ c.args.memory.now.memory.history ++ stable c.count-commits.result ∷ [] =
-    c.front.ensures.history ∙ ap (λ (v : VolatileState). v.memory.history) (c.memory-2.view_is ∙ c.in_ok-mark.ensures.added) in
-    c.count-commits.ensures ∙ ap (λ (v : VolatileState). count v.memory.history) c.memory.view_is
-    ∙ sym (ap count history ∙ count-mark c.args.memory.now.memory.history c.count-commits.result)
+pub note_all_logged-requires-clause-counted : goal.note_all_logged-requires-clause-counted
+note_all_logged-requires-clause-counted g c =
+    let history : c.front.result ≡ c.args.volatile.now.ledger.history ++ stable c.count-commits.result ∷ [] =
+    c.front.ensures.history ∙ ap (λ (v : VolatileState). v.ledger.history) (c.volatile-2.view_is ∙ c.in_ok-mark.ensures.added) in
+    c.count-commits.ensures ∙ ap (λ (v : VolatileState). count v.ledger.history) c.volatile.view_is
+    ∙ sym (ap count history ∙ count-mark c.args.volatile.now.ledger.history c.count-commits.result)
 
-pub reach-requires-clause-all : goal.reach-requires-clause-all
-reach-requires-clause-all g c =
-    let commits : c.count-commits.result ≡ count c.args.memory.now.memory.history = c.count-commits.ensures ∙ ap (λ (v : VolatileState). count v.memory.history) c.memory.view_is in
-    let history : c.front.result ≡ c.args.memory.now.memory.history ++ stable (count c.args.memory.now.memory.history) ∷ [] =
-    c.front.ensures.history ∙ ap (λ (v : VolatileState). v.memory.history) (c.memory-2.view_is ∙ c.in_ok-mark.ensures.added)
-    ∙ ap (λ (n : ℕ). c.args.memory.now.memory.history ++ stable n ∷ []) commits in
+pub note_all_logged-requires-clause-all : goal.note_all_logged-requires-clause-all
+note_all_logged-requires-clause-all g c =
+    let commits : c.count-commits.result ≡ count c.args.volatile.now.ledger.history = c.count-commits.ensures ∙ ap (λ (v : VolatileState). count v.ledger.history) c.volatile.view_is in
+    let history : c.front.result ≡ c.args.volatile.now.ledger.history ++ stable (count c.args.volatile.now.ledger.history) ∷ [] =
+    c.front.ensures.history ∙ ap (λ (v : VolatileState). v.ledger.history) (c.volatile-2.view_is ∙ c.in_ok-mark.ensures.added)
+    ∙ ap (λ (n : ℕ). c.args.volatile.now.ledger.history ++ stable n ∷ []) commits in
     subst (λ (h : List Entry). IsTrue (is_trusted h) → HaveAllSince g.J.Naming.blocks h c.args.self.now.logged []) (sym history)
-    (rest_since g.J.Naming.blocks c.args.memory.now c.args.self.now.logged (subst (IsVolatile g.J.Naming.blocks) c.memory.view_is c.memory.invariant)
+    (rest_since g.J.Naming.blocks c.args.volatile.now c.args.self.now.logged (subst (IsVolatile g.J.Naming.blocks) c.volatile.view_is c.volatile.invariant)
     (c.if-awaits_logging.ensures.cut refl) (c.if-awaits_logging.ensures.tail refl))
 
 pub returns-clause-marks : goal.returns-clause-marks
 returns-clause-marks g c = λ done.
-    let commits : c.count-commits.result ≡ count c.args.memory.now.memory.history = c.count-commits.ensures ∙ ap (λ (v : VolatileState). count v.memory.history) c.memory.view_is in
-    let due : IsRestDue c.args.memory.now c.args.self.now = record {
+    let commits : c.count-commits.result ≡ count c.args.volatile.now.ledger.history = c.count-commits.ensures ∙ ap (λ (v : VolatileState). count v.ledger.history) c.volatile.view_is in
+    let due : IsRestDue c.args.volatile.now c.args.self.now = record {
       logged = c.if-awaits_logging.ensures.cut refl;
       rest = c.if-awaits_logging.ensures.rest refl;
       tail = c.if-awaits_logging.ensures.tail refl;
-      more = omega (arith, c.if-commits-floor.false, c.floor.ensures, commits, ap (λ (v : VolatileState). floor v.memory.history) c.memory.view_is);
+      more = omega (arith, c.if-commits-floor.false, c.floor.ensures, commits, ap (λ (v : VolatileState). floor v.ledger.history) c.volatile.view_is);
     } in
-    marks_all c.args.memory.now c.mark.new.self c.args.self.now c.reach.new.self c.note_mark.new.self c.count-commits.result c.front.result c.front-2.result due commits
-    c.in_ok-mark.ensures.added (c.front.ensures.history ∙ ap (λ (v : VolatileState). v.memory.history) c.memory-2.view_is)
-    (c.front-2.ensures.history ∙ ap (λ (v : VolatileState). v.memory.history) c.memory-2.view_is) c.reach.ensures.reaches c.note_mark.ensures.marks
+    marks_all c.args.volatile.now c.mark.new.self c.args.self.now c.note_all_logged.new.self c.set_marked.new.self c.count-commits.result c.front.result c.front-2.result due commits
+    c.in_ok-mark.ensures.added (c.front.ensures.history ∙ ap (λ (v : VolatileState). v.ledger.history) c.volatile-2.view_is)
+    (c.front-2.ensures.history ∙ ap (λ (v : VolatileState). v.ledger.history) c.volatile-2.view_is) c.note_all_logged.ensures.reaches c.set_marked.ensures.marks
 
 pub returns-clause-tied : goal.returns-clause-tied
 returns-clause-tied g c = λ tied.
-    let commits : c.count-commits.result ≡ count c.args.memory.now.memory.history = c.count-commits.ensures ∙ ap (λ (v : VolatileState). count v.memory.history) c.memory.view_is in
-    tied_rest g.J.Naming.blocks c.args.memory.now c.mark.new.self c.args.self.now c.note_mark.new.self
-    (subst (IsVolatile g.J.Naming.blocks) c.memory.view_is c.memory.invariant) (subst (IsDurable g.J.Naming.blocks) c.self.view_is c.self.invariant)
-    (omega (arith, c.if-commits-floor.false, c.floor.ensures, commits, ap (λ (v : VolatileState). floor v.memory.history) c.memory.view_is))
+    let commits : c.count-commits.result ≡ count c.args.volatile.now.ledger.history = c.count-commits.ensures ∙ ap (λ (v : VolatileState). count v.ledger.history) c.volatile.view_is in
+    tied_rest g.J.Naming.blocks c.args.volatile.now c.mark.new.self c.args.self.now c.set_marked.new.self
+    (subst (IsVolatile g.J.Naming.blocks) c.volatile.view_is c.volatile.invariant) (subst (IsDurable g.J.Naming.blocks) c.self.view_is c.self.invariant)
+    (omega (arith, c.if-commits-floor.false, c.floor.ensures, commits, ap (λ (v : VolatileState). floor v.ledger.history) c.volatile.view_is))
     (returns-clause-marks g c refl) tied

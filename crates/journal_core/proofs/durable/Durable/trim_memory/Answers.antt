@@ -7,4 +7,4 @@ use Rattle.journal_core.proofs.durable.Durable.trim_memory.Goals as goal
 pub returns-clause-tied : goal.returns-clause-tied
 returns-clause-tied g c = λ home tied.
     subst (λ (v : VolatileState). Tied v c.args.self.now) (sym c.trim.ensures.others)
-    (tied_trim c.args.memory.now c.args.self.now c.args.upto c.trim.new.self.tail c.trim.ensures.drops home tied)
+    (tied_trim c.args.volatile.now c.args.self.now c.args.upto c.trim.new.self.tail c.trim.ensures.drops home tied)

@@ -1,5 +1,5 @@
 use Rattle.std.proofs.Common.{◌≡◌, drop}
-use Rattle.journal_core.specs.Tallies.{is_in_runs}
+use Rattle.journal_core.specs.Sessions.{is_in_runs}
 use Rattle.journal_core.proofs.fenced_sessions.FencedSessions.has.Given as goal
 
 -- none of the runs that are not left has it

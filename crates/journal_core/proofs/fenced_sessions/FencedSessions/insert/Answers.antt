@@ -1,6 +1,6 @@
 use Rattle.std.proofs.Common.{◌++◌, ◌∷◌, [], List, ap, ◌∙◌}
 use Rattle.journal_core.specs.declared.fenced_sessions.Run.{Run}
-use Rattle.journal_core.specs.Tallies.{FencedState, is_in_runs}
+use Rattle.journal_core.specs.Sessions.{FencedState, is_in_runs}
 use Rattle.journal_core.proofs.Fenced.{noted}
 use Rattle.journal_core.proofs.fenced_sessions.FencedSessions.insert.Goals as goal
 

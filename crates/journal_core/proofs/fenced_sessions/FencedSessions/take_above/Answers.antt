@@ -1,6 +1,6 @@
 use Rattle.std.proofs.Common.{◌≡◌, ◌<◌, ◌+◌, List, length, ap, subst, ◌∙◌, arith, rules}
 use Rattle.journal_core.specs.declared.fenced_sessions.Run.{Run}
-use Rattle.journal_core.specs.Tallies.{FencedState, TakesAbove}
+use Rattle.journal_core.specs.Sessions.{FencedState, TakesAbove}
 use Rattle.journal_core.proofs.Fenced.{takes_above}
 use Rattle.journal_core.proofs.fenced_sessions.FencedSessions.take_above.Goals as goal
 

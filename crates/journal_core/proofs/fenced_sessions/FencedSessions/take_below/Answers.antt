@@ -1,6 +1,6 @@
 use Rattle.std.proofs.Common.{◌≡◌, ◌<◌, List, length, ap, subst, ◌∙◌, arith}
 use Rattle.journal_core.specs.declared.fenced_sessions.Run.{Run}
-use Rattle.journal_core.specs.Tallies.{FencedState, TakesBelow}
+use Rattle.journal_core.specs.Sessions.{FencedState, TakesBelow}
 use Rattle.journal_core.proofs.Fenced.{takes_below}
 use Rattle.journal_core.proofs.fenced_sessions.FencedSessions.take_below.Goals as goal
 

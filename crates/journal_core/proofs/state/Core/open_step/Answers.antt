@@ -2,10 +2,10 @@ use Rattle.std.proofs.Common.{ℕ, ◌≤◌, true, ap, sym, subst, ◌∙◌}
 use Rattle.journal_world.specs.declared.layout.TheConstants.{MIN_BLOCKS, MAX_BLOCKS}
 use Rattle.journal_world.specs.declared.refusal.Refusal.{Refusal}
 use Rattle.journal_disk.specs.Disks.{DiskState}
-use Rattle.journal_core.specs.Causes.{Told}
+use Rattle.journal_core.specs.Causes.{CauseState}
 use Rattle.journal_core.specs.Openings.{Begins, IsInRange, IsOpenRefusal}
 use Rattle.journal_core.specs.Cores.{CoreState}
-use Rattle.journal_core.specs.Memories.{MemoryState}
+use Rattle.journal_core.specs.Ledgers.{LedgerState}
 use Rattle.journal_core.proofs.Opening.{begins, refuses_log, refuses_begin, on_ok}
 use Rattle.journal_core.proofs.state.Core.open_step.Goals as goal
 
@@ -18,7 +18,7 @@ returns-in-Ok-begin-clause-begun g c =
       subst (λ (n : ℕ). MIN_BLOCKS ≤ n) (c.in-Some.ensures.value ∙ c.size.ensures) c.in-Some.layout.in_range.0,
       subst (λ (n : ℕ). n ≤ MAX_BLOCKS) (c.in-Some.ensures.value ∙ c.size.ensures) c.in-Some.layout.in_range.1,
     )
-    c.new-memory.result.history (ap (λ (m : MemoryState). m.history) c.new-memory.ensures ∙ c.in-Ok-begin.ensures.begun) c.in-Ok-begin.ensures.ruled)
+    c.new-ledger.result.history (ap (λ (m : LedgerState). m.history) c.new-ledger.ensures ∙ c.in-Ok-begin.ensures.begun) c.in-Ok-begin.ensures.ruled)
 
 pub returns-in-Err-begin-clause-refusal : goal.returns-in-Err-begin-clause-refusal
 returns-in-Err-begin-clause-refusal g c =
@@ -34,5 +34,5 @@ returns-in-Err-clause-refusal g c =
     let old = g.D.BlockDisk.state c.args.disk in
     let new = g.D.BlockDisk.state c.in-Err.field-0.disk in
     let range : IsInRange old = subst (λ (n : ℕ). (MIN_BLOCKS ≤ n) × (n ≤ MAX_BLOCKS)) (c.in-Some.ensures.value ∙ c.size.ensures) c.in-Some.layout.in_range in
-    subst (λ (why : Refusal Told). IsOpenRefusal g.R.MapRule.statement old new why) (sym c.raised.ensures)
+    subst (λ (why : Refusal CauseState). IsOpenRefusal g.R.MapRule.statement old new why) (sym c.raised.ensures)
     (refuses_log g.R.MapRule.statement old new c.in-Err.field-0.refusal range c.in-Err.ensures.refusal)

@@ -7,7 +7,7 @@ use Rattle.journal_core.proofs.state.Core.stop_step.Goals as goal
 pub invariant_of-self : goal.invariant_of-self
 invariant_of-self g c = record {
   pair = subst (λ (v : VolatileState). IsPair g.J.Naming.blocks v c.self.inside.durable) (sym c.stop.ensures.event)
-      (pair_noted g.J.Naming.blocks c.self.inside.volatile c.self.inside.durable c.self.invariant.pair c.self.inside.volatile.memory.next true);
+      (pair_noted g.J.Naming.blocks c.self.inside.volatile c.self.inside.durable c.self.invariant.pair c.self.inside.volatile.ledger.next true);
   room = c.self.invariant.room;
 }
 

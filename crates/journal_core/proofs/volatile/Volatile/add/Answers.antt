@@ -25,6 +25,6 @@ invariant_of-self-2 g c =
     → MakeTheSame (updates_from c.apply.new.self.log from) (updates_from t.log from ++ updates_with t ws c.args.prepared)) same c.apply.ensures.since)
     (subst (λ (v : VolatileState). TakesPrepared v.tail writes c.args.prepared) (sym c.self.view_is) c.requires.ready).room
     (subst (λ (v : VolatileState). (b : ℕ) → updates_block (updates_with v.tail writes c.args.prepared) b ≡ writes_block writes b) (sym c.self.view_is) c.requires.named)
-    (subst (λ (v : VolatileState). IsTrue (is_trusted v.memory.history)
-    → AreObjectsOf g.J.Naming.blocks (overwritten (latest v.memory.history) writes) (updates_with v.tail writes c.args.prepared))
+    (subst (λ (v : VolatileState). IsTrue (is_trusted v.ledger.history)
+    → AreObjectsOf g.J.Naming.blocks (overwritten (latest v.ledger.history) writes) (updates_with v.tail writes c.args.prepared))
     (sym c.self.view_is) c.requires.written)

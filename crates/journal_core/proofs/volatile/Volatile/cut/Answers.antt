@@ -1,7 +1,7 @@
 use Rattle.std.proofs.Common.{◌≡◌, ◌∙◌, ap, refl, sym, subst}
 use Rattle.journal_world.specs.Histories.{count}
 use Rattle.journal_wal.specs.Tails.{TailState, cut_after}
-use Rattle.journal_core.specs.Memories.{MemoryState}
+use Rattle.journal_core.specs.Ledgers.{LedgerState}
 use Rattle.journal_core.specs.Volatiles.{IsVolatile}
 use Rattle.journal_core.proofs.Staying.{kept_cut}
 use Rattle.journal_core.proofs.Stepping.{of_ok}
@@ -11,7 +11,7 @@ pub invariant_of-self-2 : goal.invariant_of-self-2
 invariant_of-self-2 g c =
     let tail : c.cut.new.self ≡ cut_after c.self.inside.tail c.count.result =
     of_ok (λ _. c.cut.new.self ≡ cut_after c.self.inside.tail c.count.result) c.cut.result c.in_ok-group.group c.in_ok-group.group c.in_ok-group.ensures.only_ok refl c.cut.ensures.ok in
-    subst (λ (m : MemoryState). IsVolatile g.J.Naming.blocks (record { memory = m; tail = c.cut.new.self; faulted = c.self.inside.faulted })) (sym c.note_cut.ensures)
-    (subst (λ (t : TailState). IsVolatile g.J.Naming.blocks (record { memory = record c.self.inside.memory { cut = count c.self.inside.memory.history }; tail = t; faulted = c.self.inside.faulted }))
+    subst (λ (m : LedgerState). IsVolatile g.J.Naming.blocks (record { ledger = m; tail = c.cut.new.self; faulted = c.self.inside.faulted })) (sym c.note_cut.ensures)
+    (subst (λ (t : TailState). IsVolatile g.J.Naming.blocks (record { ledger = record c.self.inside.ledger { cut = count c.self.inside.ledger.history }; tail = t; faulted = c.self.inside.faulted }))
     (sym (tail ∙ ap (cut_after c.self.inside.tail) c.count.ensures))
     (kept_cut g.J.Naming.blocks _ c.self.invariant))

@@ -3,5 +3,5 @@ use Rattle.journal_core.proofs.volatile.Volatile.keep.Goals as goal
 pub returns : goal.returns
 returns g c = record {
   event =
-      record { others = c.keep_copies.ensures; kept = c.keeps.ensures };
+      record { others = c.keep_copies.ensures; kept = c.prove_invariant.ensures };
 }

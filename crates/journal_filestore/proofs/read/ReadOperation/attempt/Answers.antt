@@ -1,10 +1,10 @@
 use Rattle.std.proofs.Common.{◌≡◌, ◌+◌, ◌*◌, ◌-◌, ◌/◌, nat_le, slice_range, refl, ap, subst, ◌∙◌, arith}
 use Rattle.journal_world.specs.declared.layout.TheConstants.{BLOCK_BYTES}
 use Rattle.journal_inode.specs.Sound.{held}
-use Rattle.journal_filestore.specs.Handles.{IsPlace}
+use Rattle.journal_filestore.specs.Handles.{IsTarget}
 use Rattle.journal_filestore.specs.Operations.{portion_length, read_case}
 use Rattle.journal_filestore.specs.Doing.{LearnsThat}
-use Rattle.journal_filestore.specs.declared.find.Place.TheVariants.{Regular}
+use Rattle.journal_filestore.specs.declared.find.Target.TheVariants.{Regular}
 use Rattle.journal_filestore.proofs.Answering.{Does-gone, Does-directory, Does-regular, Does-changed}
 use Rattle.journal_filestore.proofs.Portions.{read-portion, bytes-none, Makes-read}
 use Rattle.journal_filestore.proofs.read.ReadOperation.attempt.Goals as goal
@@ -44,7 +44,7 @@ returns g c =
     let first = w.offset / BLOCK_BYTES in
     let after = (w.offset + n - 1) / BLOCK_BYTES + 1 in
     let bytes = c.in_ok-blocks.blocks.items in
-    let place : IsPlace g.V.Version.VERSION w.handle.number (Regular f) = subst (IsPlace g.V.Version.VERSION w.handle.number) c.in-Regular.is c.in_ok-find.ensures.fits in
+    let place : IsTarget g.V.Version.VERSION w.handle.number (Regular f) = subst (IsTarget g.V.Version.VERSION w.handle.number) c.in-Regular.is c.in_ok-find.ensures.fits in
     let length_is : n ≡ portion_length g.V.Version.VERSION w.count (f.size - w.offset) = c.length_read-length.ensures.value ∙ ap (λ v. portion_length v w.count (f.size - w.offset)) c.VERSION.ensures in
     let from_is : w.offset - first * BLOCK_BYTES ≡ w.offset - BLOCK_BYTES * first = omega arith in
     record {

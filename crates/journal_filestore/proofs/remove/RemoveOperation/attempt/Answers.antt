@@ -2,7 +2,7 @@ use Rattle.std.proofs.Common.{suc, ◌≡◌, ◌≤◌, ◌+◌, ◌∷◌, tak
 use Rattle.std.proofs.lemmas.List.{length-take}
 use Rattle.journal_inode.specs.declared.node.Node.TheVariants.{File}
 use Rattle.journal_inode.specs.Nodes.{Fits}
-use Rattle.journal_inode.specs.Versions.{most_bytes, more_count}
+use Rattle.journal_inode.specs.Versions.{most_bytes, extra_count}
 use Rattle.journal_inode.proofs.Blocks.{more_fits}
 use Rattle.journal_filestore.specs.Handles.{IsSmall}
 use Rattle.journal_filestore.specs.Operations.{remove_case, remove_number}
@@ -45,14 +45,14 @@ returns g c =
     let f = c.in-File.file in
     let fits : Fits (File f) = subst Fits c.in-File.is c.in_ok-file.ensures.fits in
     let small : f.size ≤ most_bytes g.V.Version.VERSION = subst (IsSmall g.V.Version.VERSION) c.in-File.is c.in_ok-file.ensures.small in
-    let count : c.more_count-count.result ≡ more_count g.V.Version.VERSION f.size = c.more_count-count.ensures ∙ ap (λ v. more_count v f.size) c.VERSION.ensures in
+    let count : c.extra_count-count.result ≡ extra_count g.V.Version.VERSION f.size = c.extra_count-count.ensures ∙ ap (λ v. extra_count v f.size) c.VERSION.ensures in
     record {
       does = Does-made_in_root _ (remove_case w.name.now) w.directory.number w.directory.generation _ _ _ c.requires.writes c.in_ok-find.ensures.told _ _ c.in-Some.number _ _ _ _ c.in-Directory.is c.in_ok-file.ensures.told
           (Makes-remove g.V.Version.VERSION _ c.in-Some.number f _ _ _ _ (c.in_ok-file.ensures.told.writes ∙ c.in_ok-find.ensures.told.writes ∙ c.requires.writes)
           (ap (λ k. take (1 + k) c.numbers-numbers.result) count
-          ∙ ap (take (1 + more_count g.V.Version.VERSION f.size)) c.numbers-numbers.ensures
-          ∙ ap (λ k. take k (f.block ∷ f.more)) (let e : 1 + more_count g.V.Version.VERSION f.size ≡ suc (more_count g.V.Version.VERSION f.size) = omega arith in e))
-          (omega (arith, length-take (1 + c.more_count-count.result) c.numbers-numbers.result, count, more_fits g.V.Version.VERSION f.size small))
+          ∙ ap (take (1 + extra_count g.V.Version.VERSION f.size)) c.numbers-numbers.ensures
+          ∙ ap (λ k. take k (f.block ∷ f.more)) (let e : 1 + extra_count g.V.Version.VERSION f.size ≡ suc (extra_count g.V.Version.VERSION f.size) = omega arith in e))
+          (omega (arith, length-take (1 + c.extra_count-count.result) c.numbers-numbers.result, count, more_fits g.V.Version.VERSION f.size small))
           c.in_ok-write_bits.ensures.writes c.in_ok-write_node.ensures.writes c.in-Some.ensures.number fits)
           (λ m after sound is here puts.
           let at : _ ≡ File f = here ∙ c.in-File.is in (

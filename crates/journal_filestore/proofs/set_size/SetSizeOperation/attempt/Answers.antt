@@ -1,6 +1,6 @@
 use Rattle.std.proofs.Common.{◌≡◌, ◌<◌, true, false, Err, refl, sym, ap, subst, ◌∙◌}
 use Rattle.std.specs.Prelude.{unwrap_or}
-use Rattle.journal_inode.specs.Versions.{more_count}
+use Rattle.journal_inode.specs.Versions.{extra_count}
 use Rattle.journal_filestore.specs.declared.status.Status.TheVariants.{NoSpace}
 use Rattle.journal_filestore.specs.Files.{files_of}
 use Rattle.journal_filestore.specs.Handles.{data_of, time_of}
@@ -69,7 +69,7 @@ returns-in-None g c =
             stays.0,
             ap (λ F. (Err NoSpace, F)) stays.1
                 ∙ sym (set-no_space g.V.Version.VERSION w.settings w.guard (time_of w.moment) (files_of g.V.Version.VERSION m) _ _ (sym c.is_other_time.ensures ∙ c.if-is_other_time.false) (sym c.is_no_time.ensures ∙ c.if-is_no_time.false) (sym (c.is_too_big.ensures ∙ ap (λ v. is_too_big v w.settings.size) c.VERSION.ensures) ∙ c.if-is_too_big.false)
-                (subst (λ k. more_count g.V.Version.VERSION k < more_count g.V.Version.VERSION (unwrap_or w.settings.size k)) (sym whole.whole) short.needed)),
+                (subst (λ k. extra_count g.V.Version.VERSION k < extra_count g.V.Version.VERSION (unwrap_or w.settings.size k)) (sym whole.whole) short.needed)),
           )));
       refusal = tt;
     }

@@ -1,6 +1,6 @@
 use Rattle.std.proofs.Common.{◌≡◌, ◌+◌, ◌-◌, ◌*◌, ◌/◌, ◌∷◌, ◌++◌, min, length, replicate, slice_range, refl, ap, subst, ◌∙◌, arith}
 use Rattle.journal_world.specs.declared.layout.TheConstants.{BLOCK_BYTES}
-use Rattle.journal_inode.specs.Versions.{more_count}
+use Rattle.journal_inode.specs.Versions.{extra_count}
 use Rattle.journal_inode.specs.Sound.{held}
 use Rattle.journal_filestore.specs.Handles.{time_of}
 use Rattle.journal_filestore.specs.Operations.{with_data}
@@ -17,8 +17,8 @@ returns-then-self-changed-clause-makes g c =
     let taken = c.args.space.now.taken.items in
     let first = c.min-first.result in
     let after = (w.offset + length bs - 1) / BLOCK_BYTES + 1 in
-    let had : c.more_count-had.result ≡ more_count g.V.Version.VERSION c.args.file.size = c.more_count-had.ensures ∙ ap (λ v. more_count v c.args.file.size) c.VERSION.ensures in
-    let first_is : first ≡ min (more_count g.V.Version.VERSION c.args.file.size + 1) (w.offset / BLOCK_BYTES) = c.min-first.ensures ∙ ap (λ k. min (k + 1) (w.offset / BLOCK_BYTES)) had in
+    let had : c.extra_count-had.result ≡ extra_count g.V.Version.VERSION c.args.file.size = c.extra_count-had.ensures ∙ ap (λ v. extra_count v c.args.file.size) c.VERSION.ensures in
+    let first_is : first ≡ min (extra_count g.V.Version.VERSION c.args.file.size + 1) (w.offset / BLOCK_BYTES) = c.min-first.ensures ∙ ap (λ k. min (k + 1) (w.offset / BLOCK_BYTES)) had in
     OnOk-like c.write_file.result _ _
     (λ wrote.
     Makes-write_whole g.V.Version.VERSION _ w.handle.number w.offset bs (time_of w.moment) c.args.file written taken first after c.args.txn.now c.args.txn.now c.write_file.new.txn c.requires.writes c.requires.written c.requires.fits
@@ -38,9 +38,9 @@ returns-clause-makes g c =
     let after = (w.offset + length bs - 1) / BLOCK_BYTES + 1 in
     let numbers = c.numbers-numbers.result in
     let middle = slice_range numbers first c.min.result in
-    let had : c.more_count-had.result ≡ more_count g.V.Version.VERSION c.args.file.size = c.more_count-had.ensures ∙ ap (λ v. more_count v c.args.file.size) c.VERSION.ensures in
-    let first_is : first ≡ min (more_count g.V.Version.VERSION c.args.file.size + 1) (w.offset / BLOCK_BYTES) = c.min-first.ensures ∙ ap (λ k. min (k + 1) (w.offset / BLOCK_BYTES)) had in
-    let end_is : c.min.result ≡ min (1 + more_count g.V.Version.VERSION c.args.file.size) after = omega (arith, c.min.ensures, had) in
+    let had : c.extra_count-had.result ≡ extra_count g.V.Version.VERSION c.args.file.size = c.extra_count-had.ensures ∙ ap (λ v. extra_count v c.args.file.size) c.VERSION.ensures in
+    let first_is : first ≡ min (extra_count g.V.Version.VERSION c.args.file.size + 1) (w.offset / BLOCK_BYTES) = c.min-first.ensures ∙ ap (λ k. min (k + 1) (w.offset / BLOCK_BYTES)) had in
+    let end_is : c.min.result ≡ min (1 + extra_count g.V.Version.VERSION c.args.file.size) after = omega (arith, c.min.ensures, had) in
     OnOk-like c.write_file-2.result _ _
     (λ wrote.
     Makes-write_read g.V.Version.VERSION _ w.handle.number w.offset bs (time_of w.moment) c.args.file written taken first after c.args.txn.now c.read_span.new.txn c.write_file-2.new.txn c.requires.writes c.requires.written c.requires.fits

@@ -1,6 +1,6 @@
 use Rattle.std.proofs.Common.{◌≡◌, ◌<◌, ◌≤◌, ◌+◌, true, false, length, max, Err, refl, sym, ap, subst, ◌∙◌, arith}
 use Rattle.journal_inode.specs.Sound.{content}
-use Rattle.journal_inode.specs.Versions.{most_bytes, more_count}
+use Rattle.journal_inode.specs.Versions.{most_bytes, extra_count}
 use Rattle.journal_filestore.specs.declared.status.Status.TheVariants.{NoSpace}
 use Rattle.journal_filestore.specs.Files.{files_of}
 use Rattle.journal_filestore.specs.Handles.{time_of}
@@ -72,8 +72,8 @@ returns-in-None g c =
             stays.0,
             ap (λ F. (Err NoSpace, F)) stays.1
                 ∙ sym (write-no_space g.V.Version.VERSION w.offset w.count w.bytes.now (time_of w.moment) (files_of g.V.Version.VERSION m) _ _ same c.if-self-eq0.false end
-                (subst (λ k. more_count g.V.Version.VERSION (length (content g.V.Version.VERSION m f)) < more_count g.V.Version.VERSION (max (length (content g.V.Version.VERSION m f)) (w.offset + k))) (sym same)
-                (subst (λ k. more_count g.V.Version.VERSION k < more_count g.V.Version.VERSION (max k (w.offset + length w.bytes.now))) (sym whole.whole) short.needed))),
+                (subst (λ k. extra_count g.V.Version.VERSION (length (content g.V.Version.VERSION m f)) < extra_count g.V.Version.VERSION (max (length (content g.V.Version.VERSION m f)) (w.offset + k))) (sym same)
+                (subst (λ k. extra_count g.V.Version.VERSION k < extra_count g.V.Version.VERSION (max k (w.offset + length w.bytes.now))) (sym whole.whole) short.needed))),
           )));
       refusal = tt;
     }

@@ -14,6 +14,6 @@ invariant_of-self-2 g c =
     let marked : c.mark.new.self ≡ before ++ stable c.count-2.result ∷ [] = search rules in
     let same = ap (λ (ts : List Transaction). length (filter (λ (t : Transaction). t.session == number) ts)) (commits-mark before c.count-2.result) in
     record {
-      own = rw (c.tell.ensures, marked) (same ∙ c.args.self.now.own);
-      unfenced = rw (c.tell.ensures, marked) (is_fenced-mark number before c.count-2.result ∙ c.args.self.now.unfenced);
+      own = rw (c.publish_floor.ensures, marked) (same ∙ c.args.self.now.own);
+      unfenced = rw (c.publish_floor.ensures, marked) (is_fenced-mark number before c.count-2.result ∙ c.args.self.now.unfenced);
     }

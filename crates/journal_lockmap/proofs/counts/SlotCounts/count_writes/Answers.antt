@@ -1,6 +1,6 @@
 use Rattle.std.proofs.Common.{◌≡◌, ◌<◌, length, arith, sym, ◌∙◌}
 use Rattle.journal_lockmap.specs.Numbers.{is_written}
-use Rattle.journal_lockmap.proofs.Counting.{counted_touched, counted_looked, counted_all}
+use Rattle.journal_lockmap.proofs.Counting.{counted_touched, counted_checked, counted_all}
 use Rattle.journal_lockmap.proofs.counts.SlotCounts.count_writes.Goals.{then-contains, else-contains}
 use Rattle.journal_lockmap.proofs.counts.SlotCounts.count_writes.Goals as goal
 
@@ -14,10 +14,10 @@ loop-i-preserved g c =
           c.index-held-i.result w.index-held-i-then-contains.result w.touch.new.held below c.requires.apart c.loop-i.invariant
           c.slot.ensures.slot c.slot.ensures.in_range (sym marked ∙ w.if-contains.true)
           w.touch.ensures.slots w.held-is w.touch.ensures.held (w.self-is ∙ w.touch.ensures.count)
-      | else-contains w ↦ counted_looked c.args.writes.now c.args.held.now c.loop-i.held c.if-contains.held c.args.self.now c.loop-i.self c.if-contains.self c.loop-i.i slot
-          c.index-held-i.result w.index-held-i-else-contains.result w.look.new.held below c.requires.apart c.loop-i.invariant
+      | else-contains w ↦ counted_checked c.args.writes.now c.args.held.now c.loop-i.held c.if-contains.held c.args.self.now c.loop-i.self c.if-contains.self c.loop-i.i slot
+          c.index-held-i.result w.index-held-i-else-contains.result w.verify_token.new.held below c.requires.apart c.loop-i.invariant
           c.slot.ensures.slot c.slot.ensures.in_range (sym marked ∙ w.if-contains.false)
-          w.held-is w.look.ensures.held (w.self-is ∙ w.look.ensures.same) w.look.ensures.agrees
+          w.held-is w.verify_token.ensures.held (w.self-is ∙ w.verify_token.ensures.same) w.verify_token.ensures.agrees
     ]
 
 pub returns-clause-counts : goal.returns-clause-counts

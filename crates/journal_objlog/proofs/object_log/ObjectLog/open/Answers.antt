@@ -12,5 +12,5 @@ pub returns-clause-images : goal.returns-clause-images
 returns-clause-images g c = λ honest image is.
     let size : size_of c.in_ok-wal.wal ≡ c.args.layout.blocks = c.in_ok-wal.ensures.keeps.size ∙ c.requires.size in
     opens (size_of c.in_ok-wal.wal)
-    (subst Law (sym size) (λ content. c.objects_law.ensures.map c.args.layout.blocks content c.args.layout.in_range.0))
+    (subst Law (sym size) (λ content. c.prove_objects_law.ensures.map c.args.layout.blocks content c.args.layout.in_range.0))
     (blocks_now c.in_ok-wal.wal) image (c.in_ok-wal.ensures.images honest image is)

@@ -46,6 +46,6 @@ returns-clause-known c = λ fetched a.
     let old = c.args.self.now in
     let all = updates_with old c.args.writes.now c.args.prepared in
     subst (λ (t : TailState). known_at fetched t a ≡ known_object (blocks_of old) (known_updates fetched old ++ all) a) (sym (returns-clause-log c))
-    (ap (λ (us : List Update). known_object (blocks_of old) us a) (sym (append_assoc fetched old.home (appended old.log all).updates))
-    ∙ known_appended (blocks_of old) (fetched ++ old.home) old.log all a
-    ∙ ap (λ (us : List Update). known_object (blocks_of old) (us ++ all) a) (append_assoc fetched old.home old.log.updates))
+    (ap (λ (us : List Update). known_object (blocks_of old) us a) (sym (append_assoc fetched old.cache (appended old.log all).updates))
+    ∙ known_appended (blocks_of old) (fetched ++ old.cache) old.log all a
+    ∙ ap (λ (us : List Update). known_object (blocks_of old) (us ++ all) a) (append_assoc fetched old.cache old.log.updates))

@@ -32,5 +32,5 @@ loop-addr-preserved c =
           (subst (λ (n : ℕ). 532 ≤ n) (c.self.invariant.size ∙ ap blocks_of c.self.view_is) c.self.invariant.low)
           c.iter.ensures.ascending c.in-Some.ensures.steps c.loop-addr.invariant.1
           (λ is. false≢true (sym c.if-is_block.false ∙ c.is_block.ensures.1 is))
-          c.stands.result (c.stands.ensures ∙ ap (λ (w : TailState). updates_block (tail_of w.log) c.in-Some.addr.now.block) c.self.view_is)),
+          c.is_in_tail.result (c.is_in_tail.ensures ∙ ap (λ (w : TailState). updates_block (tail_of w.log) c.in-Some.addr.now.block) c.self.view_is)),
     )

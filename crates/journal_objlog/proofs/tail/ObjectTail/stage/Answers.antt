@@ -39,18 +39,18 @@ loop-addr-preserved c =
       p ∷ c.loop-addr.invariant.0,
       tail_staged_on (tail_base c.args.fetched.now c.args.self.now) c.args.writes.now (rev_source c.loop-addr.addr-iterator) (rev_source c.next.new.self) c.loop-addr.invariant.0 p
           c.loop-addr.updates c.iter.ensures.ascending c.in-Some.ensures.steps c.loop-addr.invariant.1
-          (sym c.is_in_tail.ensures.stands ∙ c.if-is_in_tail.false) c.open_block.new.updates c.store_first.new.self
+          (sym c.has_tail_block.ensures.stands ∙ c.if-has_tail_block.false) c.open_block.new.updates c.store_first.new.self
           (c.in_ok-open_block.ensures.opened (fresh_writes (tail_of c.args.self.now.log) c.loop-addr.invariant.0) c.loop-addr.invariant.1.staged under.1 under.0)
           c.store_first.ensures.stored c.self.inside.layout.blocks
           (c.self.invariant.size ∙ ap blocks_of c.self.view_is)
           c.store_first.ensures.only,
     )
 
-pub loop-addr-preserved-then-is_in_tail : goal.loop-addr-preserved-then-is_in_tail
-loop-addr-preserved-then-is_in_tail c =
+pub loop-addr-preserved-then-has_tail_block : goal.loop-addr-preserved-then-has_tail_block
+loop-addr-preserved-then-has_tail_block c =
     let p : Pair = (c.in-Some.addr.now, c.in-Some.value.now) in (
       p ∷ c.loop-addr.invariant.0,
       tail_passed (tail_base c.args.fetched.now c.args.self.now) c.args.writes.now (rev_source c.loop-addr.addr-iterator) (rev_source c.next.new.self) c.loop-addr.invariant.0 p
           c.loop-addr.updates c.iter.ensures.ascending c.in-Some.ensures.steps c.loop-addr.invariant.1
-          (sym c.is_in_tail.ensures.stands ∙ c.if-is_in_tail.true) (c.is_in_tail.ensures.value c.if-is_in_tail.true),
+          (sym c.has_tail_block.ensures.stands ∙ c.if-has_tail_block.true) (c.has_tail_block.ensures.value c.if-has_tail_block.true),
     )

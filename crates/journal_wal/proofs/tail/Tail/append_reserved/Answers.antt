@@ -7,8 +7,8 @@ use Rattle.journal_wal.proofs.tail.Tail.append_reserved.Goals as goal
 
 pub invariant_of-self : goal.invariant_of-self
 invariant_of-self c =
-    let tail : TailState = record { log = c.self.inside.memory; trimmed = c.self.inside.trimmed; cuts = c.self.inside.cuts.items; home = c.self.inside.home } in
-    subst (λ (l : LogState). IsTail (record { log = l; trimmed = c.self.inside.trimmed; cuts = c.self.inside.cuts.items; home = c.self.inside.home })) (sym c.append.ensures.log)
+    let tail : TailState = record { log = c.self.inside.memory; trimmed = c.self.inside.trimmed; cuts = c.self.inside.cuts.items; cache = c.self.inside.cache } in
+    subst (λ (l : LogState). IsTail (record { log = l; trimmed = c.self.inside.trimmed; cuts = c.self.inside.cuts.items; cache = c.self.inside.cache })) (sym c.append.ensures.log)
     (tail_appended tail c.args.updates.items c.self.invariant
     (subst (λ (t : TailState). AreHomes t.log.blocks c.args.updates.items) (sym c.self.view_is) c.requires.homes)
     (subst (λ (t : TailState). TakesUpdates t.log c.args.updates.items) (sym c.self.view_is) c.requires.room)

@@ -7,6 +7,6 @@ use Rattle.journal_wal.proofs.tail.Tail.cut.Goals as goal
 -- whatever number of commits it remembers
 pub invariant_of-self-2 : goal.invariant_of-self-2
 invariant_of-self-2 c =
-    let tail : TailState = record { log = c.self.inside.memory; trimmed = c.self.inside.trimmed; cuts = c.self.inside.cuts.items; home = c.self.inside.home } in
+    let tail : TailState = record { log = c.self.inside.memory; trimmed = c.self.inside.trimmed; cuts = c.self.inside.cuts.items; cache = c.self.inside.cache } in
     tail_cut tail _ c.push_back.new.self.items c.cut.new.self c.self.invariant c.in_ok-push_back.ensures.items
     (ap (λ (b : Bounds). b.next) c.bounds-end.ensures.bounds) c.cut.ensures.log c.cut.ensures.sound

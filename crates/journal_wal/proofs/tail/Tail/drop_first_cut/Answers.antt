@@ -14,6 +14,6 @@ logged-requires-clause-to_cut c =
 
 pub returns-clause-known : goal.returns-clause-known
 returns-clause-known c =
-    subst (λ (t : TailState). MakesNoOther (known_blocks t) (c.bring_home.new.home ++ c.bring_home.new.memory.updates)) c.self.view_is
-    (subst (λ (us : List Update). MakesNoOther (c.self.inside.home ++ us) (c.bring_home.new.home ++ c.bring_home.new.memory.updates))
-    (ap (λ (l : LogState). l.updates) c.logged.ensures.log) c.bring_home.ensures.known)
+    subst (λ (t : TailState). MakesNoOther (known_blocks t) (c.move_to_cache.new.cache ++ c.move_to_cache.new.memory.updates)) c.self.view_is
+    (subst (λ (us : List Update). MakesNoOther (c.self.inside.cache ++ us) (c.move_to_cache.new.cache ++ c.move_to_cache.new.memory.updates))
+    (ap (λ (l : LogState). l.updates) c.logged.ensures.log) c.move_to_cache.ensures.known)

@@ -8,7 +8,7 @@ use Rattle.journal_wal.proofs.tail.Tail.tail_block.Goals as goal
 
 pub invariant_of-self-lent : goal.invariant_of-self-lent
 invariant_of-self-lent c = λ w.
-    tail_content (record { log = c.self.inside.memory; trimmed = c.self.inside.trimmed; cuts = c.self.inside.cuts.items; home = c.self.inside.home }) c.args.position w
+    tail_content (record { log = c.self.inside.memory; trimmed = c.self.inside.trimmed; cuts = c.self.inside.cuts.items; cache = c.self.inside.cache }) c.args.position w
     c.self.invariant
     (subst (λ (t : TailState). t.log.cut ≤ c.args.position) (sym c.self.view_is) c.requires.from_cut)
     (subst (λ (t : TailState). c.args.position < next_position t.log) (sym c.self.view_is) c.requires.to_next)

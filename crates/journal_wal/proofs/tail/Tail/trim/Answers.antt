@@ -17,7 +17,7 @@ loop-self-smaller c =
 pub loop-self-preserved : goal.loop-self-preserved
 loop-self-preserved c =
     let first = c.loop-self-test.ensures.yes refl in (
-      drops_first c.args.self.now c.loop-self.self c.drop_first_cut.new.self c.args.upto first.0 first.1 c.drop_first_cut.new.self.home c.loop-self.invariant.0
+      drops_first c.args.self.now c.loop-self.self c.drop_first_cut.new.self c.args.upto first.0 first.1 c.drop_first_cut.new.self.cache c.loop-self.invariant.0
           first.2 first.3 first.4 (c.drop_first_cut.ensures.drops first.0 first.1 first.2),
       no_other_then (known_blocks c.args.self.now) (known_blocks c.loop-self.self) (known_blocks c.drop_first_cut.new.self) c.loop-self.invariant.1 c.drop_first_cut.ensures.known,
     )

@@ -1,0 +1,36 @@
+-- What is held agrees with the history whatever a step answers that looked first.
+use Rattle.std.proofs.Common.{◌≡◌, List, Result, Ok, Err, IfOk, OnOk, OnErr, ap, sym, subst}
+use Rattle.journal_world.specs.declared.refusal.Refusal.{Refusal}
+use Rattle.journal_world.specs.Histories.{Entry}
+use Rattle.journal_history.specs.Tokens.{SessionState, OnlyExtends}
+use Rattle.journal_lockmap.specs.Numbers.{HeldState}
+use Rattle.journal_core.specs.Causes.{CauseState}
+use Rattle.journal_core.specs.SlotCounts.{AgreeWith}
+use Rattle.journal_core.specs.declared.volatile_commit.CommitStep.{CommitStep}
+use Rattle.journal_core.specs.declared.volatile_commit.CommitStep.TheVariants.{Done, Missing}
+use Rattle.journal_core.specs.Volatiles.{VolatileState}
+use Rattle.journal_core.specs.VolatileCommits.{IfDone, IfMissing, with_room}
+use Rattle.journal_core.specs.Cores.{CoreState}
+
+-- neither the history nor what is held changed
+pub agree_still : (old new : List Entry) (before after : List HeldState) → AgreeWith old before → new ≡ old → after ≡ before → AgreeWith new after
+agree_still old new before after agree same held =
+    subst (λ (h : List Entry). AgreeWith h after) (sym same) (subst (AgreeWith old) (sym held) agree)
+
+-- a commit in memory
+pub agree_after : {T : Type 0} (r : Result (CommitStep T) (Refusal CauseState)) (old new : VolatileState) (before after : List HeldState) (s t : SessionState)
+    → AgreeWith old.ledger.history before → IfOk r (IfDone (λ receipt. AgreeWith new.ledger.history after))
+    → IfOk r (IfMissing (λ blocks. (new ≡ with_room old new.tail.log.room) × OnlyExtends s t)) → IfOk r (IfMissing (λ blocks. after ≡ before))
+    → OnErr r (new ≡ with_room old new.tail.log.room) → OnErr r (after ≡ before) → AgreeWith new.ledger.history after
+agree_after (Ok (Done receipt)) old new before after s t agree done waits missing same held = done
+agree_after (Ok (Missing blocks)) old new before after s t agree done waits missing same held =
+    agree_still old.ledger.history new.ledger.history before after agree (ap (λ (v : VolatileState). v.ledger.history) waits.0) missing
+agree_after (Err why) old new before after s t agree done waits missing same held =
+    agree_still old.ledger.history new.ledger.history before after agree (ap (λ (v : VolatileState). v.ledger.history) same) held
+
+-- a commit of the core
+pub agree_committed : {T E : Type 0} (r : Result T E) (old new : CoreState) (before after : List HeldState) → AgreeWith old.history before → OnOk r (AgreeWith new.history after)
+    → OnErr r (new ≡ record old { objects = new.objects }) → OnErr r (after ≡ before) → AgreeWith new.history after
+agree_committed (Ok value) old new before after agree done same held = done
+agree_committed (Err why) old new before after agree done same held =
+    agree_still old.history new.history before after agree (ap (λ (c : CoreState). c.history) same) held

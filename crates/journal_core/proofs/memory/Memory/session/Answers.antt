@@ -1,5 +1,0 @@
-use Rattle.journal_core.proofs.Counting.{memory_joined}
-use Rattle.journal_core.proofs.memory.Memory.session.Goals as goal
-
-pub invariant_of-self : goal.invariant_of-self
-invariant_of-self g c = memory_joined _ _ _ _ _ c.self.invariant _ c.session-session.ensures.counts

@@ -1,0 +1,31 @@
+// What a session is told of the marks of all that it has seen.
+ghost use Rattle.std.specs.Prelude.{◌≡◌, ◌≤◌, ◌↔◌, IsTrue, length};
+ghost use mathlib.Core.List.{IsPrefix};
+ghost use Rattle.journal_world.specs.Histories.{commits_of, count, floor};
+ghost use Rattle.journal_history.specs.Tokens.{made, IsExact, OnlyExtends};
+
+use crate::ledger::Ledger;
+use journal_history::{Naming, Session};
+use journal_world::MapRule;
+
+impl<'b, R: MapRule, J: Naming> Ledger<'b, R, J> {
+    /// Whether all commits are marked that the session has seen, which has seen no more of the history. It takes the same
+    /// time however long the history is.
+    pub(crate) fn has_marked(&self, session: &Session<'b, J, R>) -> bool
+        requires { IsPrefix session.now.seen self.now.history }
+        ensures { IsTrue result ↔ (count session.now.seen ≤ floor self.now.history) }
+    {
+        session.seen() <= self.lengths.marked
+    }
+
+    /// Shows the session the whole history, which has no commit under its number that it did not make.
+    pub(crate) fn show_whole(&self, session: &mut Session<'b, J, R>)
+        requires seen { IsPrefix session.old.seen self.now.history }
+        requires own { length (commits_of session.old.number self.now.history) ≡ made session.old }
+        ensures shown { session.new.seen ≡ self.now.history }
+        ensures exact { IsExact session.new }
+        ensures extends { OnlyExtends session.old session.new }
+    {
+        session.see(&self.writer.front());
+    }
+}

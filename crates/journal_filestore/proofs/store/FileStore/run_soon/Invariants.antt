@@ -1,5 +1,0 @@
-use Rattle.journal_history.specs.Tokens.{OnlyExtends}
-use Rattle.journal_filestore.proofs.store.FileStore.run_soon.Given as goal
-
-abbrev pub invariant-loop : goal.invariant-loop
-invariant-loop g l = OnlyExtends l.fn.session l.session

@@ -1,0 +1,64 @@
+// The numbers of blocks that an attempt takes and frees.
+ghost use Rattle.std.specs.Prelude.{◌≡◌, [], length, IsTrue, IfOk};
+ghost use Rattle.std.specs.List.Sorted.{IsStrictlyIncreasing};
+
+use journal_alloc::Alloc;
+use std::alloc::{AllocError, Global};
+use std::sync::{Mutex, Wait};
+
+// What an attempt took of the free blocks, and what it frees once it is committed.
+#[derive(Drop)]
+pub struct BlockReservation<'a> {
+    free: &'a Mutex<Alloc>,
+    pub(crate) alloc: Global,
+    pub(crate) taken: Vec<u64>,
+    freed: Vec<u64>,
+}
+
+impl<'a> BlockReservation<'a> {
+    pub(crate) fn new(alloc: Global, free: &'a Mutex<Alloc>) -> BlockReservation<'a>
+        ensures { result.taken.items ≡ [] }
+    {
+        BlockReservation {
+            free,
+            alloc,
+            taken: Vec::new(alloc),
+            freed: Vec::new(alloc),
+        }
+    }
+
+    // Takes the lowest free numbers, so many or none, to be given back where the attempt comes to nothing. Memory for
+    // them comes first, so that none is lost for want of it.
+    pub(crate) fn take<W: Wait>(&mut self, rt: &W, count: usize) -> Result<bool, AllocError>
+        requires { self.old.taken.items ≡ [] }
+        ensures count { IfOk result (λ took. IsTrue took → length self.new.taken.items ≡ count) }
+        ensures rising { IfOk result (λ took. IsTrue took → IsStrictlyIncreasing self.new.taken.items) }
+    {
+        self.taken.reserve(count)?;
+        Ok(self.free.lock(rt).take_many(count, &mut self.taken))
+    }
+
+    // The attempt frees these numbers, to be given back once it is committed.
+    pub(crate) fn give_up(&mut self, numbers: &[u64]) -> Result<(), AllocError>
+        ensures { self.new.taken ≡ self.old.taken }
+    {
+        self.freed.extend_from_slice(numbers)
+    }
+
+    // The attempt is committed.
+    pub(crate) fn committed<W: Wait>(self, rt: &W) {
+        give(rt, self.free, &self.freed);
+    }
+
+    // It came to nothing.
+    pub(crate) fn undone<W: Wait>(self, rt: &W) {
+        give(rt, self.free, &self.taken);
+    }
+}
+
+// Gives numbers back.
+fn give<W: Wait>(rt: &W, free: &Mutex<Alloc>, numbers: &[u64]) {
+    for number in numbers {
+        let _was_out = free.lock(rt).give(*number);
+    }
+}

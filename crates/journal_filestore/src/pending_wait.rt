@@ -1,0 +1,30 @@
+// The wait that is pending for an operation that is committed.
+use crate::store::Answer;
+use journal_core::Cause;
+use journal_history::Receipt;
+use journal_inode::{SoundFiles, VersionOne};
+use journal_world::Refusal;
+
+/// The wait that is pending for a committed operation, before it may be answered.
+#[derive(Debug, Drop)]
+pub enum PendingWait<P> {
+    /// Nothing: the operation does not wait, or its answer is no success.
+    Nothing,
+    /// The wait until the commit of this receipt is stable.
+    Wait(P),
+}
+
+/// An operation that is committed: its answer, and the wait before it.
+#[derive(Drop)]
+pub struct Committed<A, P> {
+    /// What it answers.
+    pub answer: Answer<A>,
+    /// The wait before the answer may be sent.
+    pub wait: PendingWait<P>,
+}
+
+/// What an operation comes to that is not waited for: committed, or refused by the journal, without a commit.
+pub type CommitResult<'b, J, A, V = VersionOne> = Result<
+    Committed<A, Receipt<'b, J, SoundFiles<V>>>,
+    Refusal<Cause<'b, J, SoundFiles<V>>>,
+>;

@@ -1,8 +1,0 @@
-use Rattle.std.proofs.Common.{ℕ, ◌≡◌, ◌<◌, get_or}
-use Rattle.journal_lockmap.specs.Numbers.{HeldState, HasNumber}
-use Rattle.journal_lockmap.proofs.counts.SlotCounts.look_all.Given as goal
-
-abbrev pub invariant-loop-index : goal.invariant-loop-index
-invariant-loop-index g l =
-    (l.self ≡ l.initial.self) × (l.held ≡ l.initial.held)
-    × ((k : ℕ) (d : HeldState) → k < l.index → HasNumber l.self (get_or l.held k d))

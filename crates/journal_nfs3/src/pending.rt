@@ -1,0 +1,44 @@
+// What is answered before it is waited for.
+ghost use Rattle.std.specs.Prelude.{◌≡◌};
+ghost use Rattle.journal_filestore.specs.declared.pending_wait.PendingWait.TheVariants.{Nothing};
+
+use crate::procedure::Procedure;
+use journal_filestore::PendingWait;
+
+// The answer to an operation that is not waited for, and the wait before it.
+#[derive(Drop)]
+pub(crate) struct Pending<T, P> {
+    pub value: T,
+    pub wait: PendingWait<P>,
+}
+
+impl<T, P> Pending<T, P> {
+    // An answer that may be sent at once.
+    pub fn ready(value: T) -> Pending<T, P>
+        ensures value { result.value ≡ value }
+        ensures wait { result.wait ≡ Nothing }
+    {
+        Pending {
+            value,
+            wait: PendingWait::Nothing,
+        }
+    }
+}
+
+/// The wait of a reply: of which procedure the call is, and the receipt of its commit.
+#[derive(Debug, Drop)]
+pub struct ReplyWait<P> {
+    /// The call's procedure.
+    pub procedure: Procedure,
+    /// The receipt, for `Journal::wait_stable`.
+    pub receipt: P,
+}
+
+/// The reply to a call that is committed, as a record of one fragment, and the wait before it may be sent.
+#[derive(Debug, Drop)]
+pub struct PendingReply<P> {
+    /// The reply.
+    pub reply: Vec<u8>,
+    /// The wait, or `None` where the reply may be sent at once.
+    pub wait: Option<ReplyWait<P>>,
+}

@@ -1,5 +1,0 @@
-use Rattle.journal_script.proofs.up.run.Given as goal
-
--- the book and the cell that were just opened, and the disk's blocks
-abbrev pub ghosts-mount : goal.ghosts-mount
-ghosts-mount g a = record { book = a.book.now; blocks = a.disk.past.size; cell = a.cell }

@@ -1,0 +1,8 @@
+use Rattle.std.proofs.Common.{◌≡◌}
+use Rattle.journal_history.specs.Tokens.{OnlyExtends}
+use Rattle.journal_twophase.proofs.locked_parts.LockedParts.commit_fetched.Given as goal
+
+abbrev pub invariant-loop : goal.invariant-loop
+invariant-loop g l =
+    (goal.iterator-loop g).can_next l.iterator' × (goal.iterator-loop g).is_finite l.iterator'
+    × OnlyExtends l.initial.session l.session × (l.held ≡ l.initial.held)

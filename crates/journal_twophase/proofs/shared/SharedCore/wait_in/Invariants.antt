@@ -1,7 +1,0 @@
-use Rattle.journal_history.specs.Tokens.{IsExact, OnlyExtends}
-use Rattle.journal_twophase.proofs.shared.SharedCore.wait_in.Given as goal
-
-abbrev pub invariant-loop : goal.invariant-loop
-invariant-loop g l =
-    (goal.iterator-loop g).can_next l.iterator' × (goal.iterator-loop g).is_finite l.iterator'
-    × OnlyExtends l.initial.session l.session × (IsExact l.initial.session → IsExact l.session)

@@ -1,0 +1,62 @@
+use Rattle.std.proofs.Common.{◌≡◌, IsTrue, List, sym, subst, ◌∙◌, rules}
+use Rattle.journal_world.specs.declared.refusal.Refusal.{Refusal}
+use Rattle.journal_world.specs.Addresses.{slot_of}
+use Rattle.journal_world.specs.Maps.{Agrees}
+use Rattle.journal_world.specs.Histories.{is_trusted, latest}
+use Rattle.journal_objlog.proofs.Refusing.{if_err}
+use Rattle.journal_lockmap.specs.Numbers.{HeldState, slots_of}
+use Rattle.journal_core.specs.Causes.{CauseState}
+use Rattle.journal_core.specs.SlotCounts.{AgreeWith, AreUnder}
+use Rattle.journal_twophase.specs.Transactions.{TxnState, core_of, holds, Learns, IsCheckRefusal}
+use Rattle.journal_twophase.proofs.Holding.{state_of, keeps_read, keeps_lent, lent_back, same_lent, on_err_so}
+use Rattle.journal_twophase.proofs.Looking.{learns, later_on, reads_stay}
+use Rattle.journal_twophase.proofs.txn.Txn.read_map.Goals as goal
+
+pub read-requires-clause-under : goal.read-requires-clause-under
+read-requires-clause-under g c =
+    subst (λ (l : List HeldState). AreUnder l c.self.inside.transaction.seen c.self.inside.transaction.reads) (sym c.deref_mut.ensures.value) c.self.invariant.1.reads
+
+pub invariant_of-self : goal.invariant_of-self
+invariant_of-self g c = (
+  c.self.invariant.0,
+  keeps_lent c.self.inside.held.len c.read.new.held c.self.inside.held.items c.self.inside.transaction (c.read.ensures.held ∙ c.deref_mut.ensures.value)
+      c.self.inside.held.ok.0 c.self.invariant.1,
+)
+
+pub returns-in_err-found-clause-refusal : goal.returns-in_err-found-clause-refusal
+returns-in_err-found-clause-refusal g c =
+    if_err c.from_residual.result _ (IsCheckRefusal (core_of c.args.self.now)) c.from_residual.ensures.1
+    (λ (e : Refusal CauseState) is. subst (IsCheckRefusal (core_of c.args.self.now)) (sym is) (rw (← c.self.view_is) c.in_err-found.ensures.refusal))
+
+pub returns-in_err-found-clause-same : goal.returns-in_err-found-clause-same
+returns-in_err-found-clause-same g c =
+    on_err_so c.from_residual.result (same_lent c.self.inside.began c.self.inside.transaction c.self.inside.held.len c.read.new.held c.self.inside.held.items
+    (c.read.ensures.held ∙ c.deref_mut.ensures.value) c.self.inside.held.ok.0 ∙ c.self.view_is)
+
+pub invariant_of-self-2 : goal.invariant_of-self-2
+invariant_of-self-2 g c =
+    let t = c.self.inside.transaction in
+    let same : c.read.new.held ≡ c.self.inside.held.items = c.read.ensures.held ∙ c.deref_mut.ensures.value in
+    let slot : IsTrue (holds (slots_of c.self.inside.held.items) (slot_of c.args.addr)) =
+    subst (λ (s : TxnState). IsTrue (holds s.held (slot_of c.args.addr))) (sym c.self.view_is) c.requires.slot in (
+      later_on c.self.inside.began t c.remember.new.self c.args.addr c.new-value.result c.in_ok-found.found c.self.invariant.0 c.in_ok-found.ensures.found c.remember.ensures.remembered,
+      keeps_lent c.self.inside.held.len c.read.new.held c.self.inside.held.items c.remember.new.self same c.self.inside.held.ok.0
+          (keeps_read c.self.inside.held.items t c.remember.new.self c.args.addr c.new-value.result c.in_ok-found.found c.self.invariant.1
+          (subst (AgreeWith c.in_ok-found.found.seen) same c.in_ok-found.ensures.agree) c.in_ok-found.ensures.found slot c.remember.ensures.remembered),
+    )
+
+pub returns-clause-learns : goal.returns-clause-learns
+returns-clause-learns g c =
+    let t = c.self.inside.transaction in
+    let items = c.self.inside.held.items in
+    let back = lent_back c.self.inside.held.len c.read.new.held items (c.read.ensures.held ∙ c.deref_mut.ensures.value) c.self.inside.held.ok.0 in
+    rw (← c.self.view_is)
+    (subst (λ (l : List HeldState). Learns (state_of c.self.inside.began t items) c.args.addr c.new-value.result (state_of c.self.inside.began c.remember.new.self l)) (sym back)
+    (learns c.self.inside.began (slots_of items) t c.remember.new.self c.args.addr c.new-value.result _ c.in_ok-found.found
+    c.in_ok-found.ensures.found c.in_ok-found.ensures.value (search rules) c.remember.ensures.remembered))
+
+pub returns-clause-kept : goal.returns-clause-kept
+returns-clause-kept g c =
+    subst (λ (s : TxnState). IsTrue (is_trusted c.remember.new.self.seen) → Agrees (latest c.remember.new.self.seen) s.reads) c.self.view_is
+    (reads_stay c.self.inside.transaction c.remember.new.self c.args.addr c.new-value.result c.in_ok-found.found c.front-before.ensures.begun c.front-before.ensures.agrees
+    c.in_ok-found.ensures.found c.remember.ensures.remembered)
