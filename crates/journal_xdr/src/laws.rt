@@ -1,6 +1,7 @@
 // What holds of every item.
 ghost use Rattle.std.specs.Prelude.{ℕ, ◌≡◌, Bool, Option, Some};
 ghost use Rattle.journal_xdr.specs.Items.{Item, IsGrammar, HasOneSpelling, pair, mapped_item, coded, such_that, tagged, variant};
+ghost use Rattle.journal_xdr.specs.Lists.{array, list};
 ghost use Rattle.journal_xdr.specs.Basic.{word, hyper, boolean, fixed, opaque, string, optional};
 
 /// A type whose values an item spells. It is for laws alone, which hold of any such type.
@@ -49,6 +50,12 @@ pub fn combinations_are_spellings<A: HasItem, B: HasItem + HasArms<A>>()
     ensures tagged { IsGrammar A.item → ((x : A) → IsGrammar (B.arm x))
         → ((x : A) (v : B) → (B.arm x).Has v → B.tag_of v ≡ x)
         → IsGrammar (tagged A.item B.arm B.tag_of) }
+{}
+
+/// So it is of lists of values that such an item spells.
+pub fn lists_are_spellings<A: HasItem>()
+    ensures array { (limit : ℕ) → IsGrammar A.item → IsGrammar (array limit A.item) }
+    ensures list { IsGrammar A.item → IsGrammar (list A.item) }
 {}
 
 /// And each value has one spelling then, and no spelling of a value begins another.

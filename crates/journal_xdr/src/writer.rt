@@ -1,8 +1,10 @@
 // Writing items behind some bytes.
 ghost use Rattle.std.specs.Prelude.{◌≡◌, ◌<◌, ◌≤◌, ◌^◌, List, ℕ, [], ◌++◌, length, drop, IfOk, OnOk, OnErr};
 ghost use Rattle.journal_xdr.specs.Items.{Writes, AddsItem};
+ghost use Rattle.journal_xdr.specs.Lists.{array_text, run_text, list_text};
 ghost use Rattle.journal_xdr.specs.Basic.{word, hyper, boolean, enumeration, fixed, opaque, string};
 
+use crate::element::Element;
 use crate::enumeration::Enumeration;
 use crate::padding::padding;
 use byteorder::{BigEndian, ByteOrder};
@@ -139,6 +141,57 @@ impl Writer {
         ensures err { OnErr result (self.new ≡ self.old) }
     {
         self.opaque(bytes)
+    }
+
+    /// Writes an array of variable length (RFC 4506, section 4.13): how many values there are, and then they.
+    pub fn array<E: Element>(&mut self, values: &[E]) -> Result<(), AllocError>
+        requires { length values.now < 2 ^ 32 }
+        ensures ok { OnOk result (self.new ≡ self.old ++ array_text E.spelling values.now) }
+        ensures err { OnErr result (self.new ≡ self.old) }
+    {
+        let begun = self.bytes.len();
+        self.word(values.len() as u32)?;
+        let added = self.run(values);
+        if added.is_err() {
+            self.bytes.truncate(begun);
+        }
+        added
+    }
+
+    /// Writes a linked list (RFC 4506, section 4.19): true before each value, and false behind the last.
+    pub fn list<E: Element>(&mut self, values: &[E]) -> Result<(), AllocError>
+        ensures ok { OnOk result (self.new ≡ self.old ++ list_text E.spelling values.now) }
+        ensures err { OnErr result (self.new ≡ self.old) }
+    {
+        let begun = self.bytes.len();
+        let linked = self.links(values);
+        if linked.is_err() {
+            self.bytes.truncate(begun);
+        }
+        linked
+    }
+
+    // Writes values one behind another.
+    fn run<E: Element>(&mut self, values: &[E]) -> Result<(), AllocError>
+        ensures ok { OnOk result (self.new ≡ self.old ++ run_text E.spelling values.now) }
+        ensures err { OnErr result ((front : List ℕ) × (self.new ≡ self.old ++ front)) }
+    {
+        for value in values {
+            value.write(self)?;
+        }
+        Ok(())
+    }
+
+    // Writes the links of a list.
+    fn links<E: Element>(&mut self, values: &[E]) -> Result<(), AllocError>
+        ensures ok { OnOk result (self.new ≡ self.old ++ list_text E.spelling values.now) }
+        ensures err { OnErr result ((front : List ℕ) × (self.new ≡ self.old ++ front)) }
+    {
+        for value in values {
+            self.boolean(true)?;
+            value.write(self)?;
+        }
+        self.boolean(false)
     }
 
     /// Writes an unsigned integer over the first four bytes.
