@@ -1,5 +1,6 @@
 // Whether the files of a disk of the file service are sound.
 ghost use Rattle.std.specs.Prelude.{◌≡◌};
+ghost use Rattle.journal_world.specs.Files.{files};
 
 use journal_disk::FileDisk;
 use journal_history::{Book, Naming};
@@ -54,7 +55,7 @@ fn open_under<J: Naming, V: Version>(
 ) -> Result<Checked, Refusal<()>>
     requires book { book.now ≡ J.book }
     requires cell { cell ≡ J.cell }
-    requires blocks { disk.size ≡ J.blocks }
+    requires layout { J.layout ≡ files disk.size }
 {
     let rule = SoundFiles::new(alloc);
     let opened: Result<Journal<FileDisk, SoundFiles<V>, J>, _> = Journal::open(

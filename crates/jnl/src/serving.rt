@@ -1,5 +1,6 @@
 // A disk is served to programs in any language.
 ghost use Rattle.std.specs.Prelude.{◌≡◌};
+ghost use Rattle.journal_world.specs.Files.{files};
 
 use crate::disks::{inspect_disk, open, print_line};
 use crate::fault::Fault;
@@ -135,7 +136,7 @@ fn serve_book<'w, J: Naming + Send + Sync, R: Clock + Threads + Wait + Sync, O: 
 ) -> Result<(), Fault<'w>>
     requires book { book.now ≡ J.book }
     requires cell { cell ≡ J.cell }
-    requires blocks { disk.size ≡ J.blocks }
+    requires layout { J.layout ≡ files disk.size }
 {
     let blocks = disk.size();
     let opened = Journal::open_with_cache(alloc, book, cell, disk, &AnyMap, MAX_CACHED_BLOCKS);

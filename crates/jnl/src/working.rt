@@ -27,7 +27,7 @@ pub struct OpenDisk<'j, 'b, J: Naming> {
     pub journal: &'j FileJournal<'b, J>,
     /// The number of blocks of its disk.
     pub blocks: u64,
-    pub ghost is_its_size: { blocks ≡ J.blocks },
+    pub ghost is_its_size: { blocks ≡ J.layout.blocks },
 }
 
 impl<'j, 'b, J: Naming> Drop for OpenDisk<'j, 'b, J> {

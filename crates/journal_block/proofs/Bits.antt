@@ -1,11 +1,13 @@
 -- One bit set or cleared: what it then is, and that each other stays.
-use Rattle.std.proofs.Common.{◌≡◌, ◌≢◌, ◌<◌, ◌-◌, ◌*◌, ◌/◌, ◌%◌, ◌^◌, ℕ, Bool, true, false, ◌==◌, ⊎_elim, length, set, refl, sym, ap, ◌∙◌, arith, w8, bit_and, bit_or}
-use Rattle.std.specs.Prelude.{slice_index, slice_index_or}
+use Rattle.std.proofs.Common.{◌≡◌, ◌≢◌, ◌<◌, ◌≤◌, ◌+◌, ◌-◌, ◌*◌, ◌/◌, ◌%◌, ◌^◌, ℕ, zero, suc, Bool, true, false, ◌==◌, ⊎_elim, length, take, drop, set, get_or-drop, refl, sym, ap, ◌∙◌, arith, w8, bit_and, bit_or}
+use Rattle.std.specs.Prelude.{slice_index, slice_index_or, slice_range}
 use Rattle.std.specs.Int.{bit_at}
 use Rattle.std.specs.Int.Bits.{or_add_and}
-use Rattle.std.proofs.lemmas.Bool.{cases_eq}
+use Rattle.std.proofs.lemmas.Bool.{cases_eq, cases_lt}
 use Rattle.std.proofs.lemmas.Nat.{one_shl, and-not, and_comm, and_le_l, pow_below}
-use Rattle.std.proofs.lemmas.Nat.Bits.{and_pow, shr_and_one, bit_at_set_same, bit_at_set_other, bit_at_clear_same, bit_at_clear_other}
+use Rattle.std.proofs.lemmas.Nat.Bits.{and_pow, shr_and_one, bit_at_set_same, bit_at_set_other, bit_at_clear_same, bit_at_clear_other, bit_at_cat_low, bit_at_cat_high}
+use Rattle.byteorder.specs.Endian.{little_from, little_number}
+use Rattle.byteorder.specs.Numbers.{little_from-take}
 use Rattle.std.proofs.lemmas.List.{get_or_read, get_or-set_same, get_or-set_other}
 use Rattle.journal_block.specs.Block.{Bytes, bit_of, byte_with_bit, with_bit}
 
@@ -59,3 +61,49 @@ module _ (bytes : Bytes) (i byte put : ℕ) (value : Bool) (within : i / 8 < len
       (bit_at-other byte (i % 8) fits (omega arith) value (k % 8) (omega arith) differs))
       (λ (elsewhere : k / 8 ≢ i / 8). ap (λ (n : ℕ). bit_at n (k % 8)) (get_or-set_other bytes (i / 8) (k / 8) put 0 elsewhere))
       (cases_eq (k / 8) (i / 8)))
+
+-- a bit of a number that lies in bytes from a place on, the lowest first, is the bit of one of them
+little_bit : (n j : ℕ) (xs : Bytes) (k : ℕ) → ((i : ℕ) → slice_index xs i < 256) → k < 8 * n
+    → bit_at (little_from j n xs) k ≡ bit_at (slice_index xs (j + k / 8)) (k % 8)
+little_bit zero j xs k fits within = absurd (omega arith)
+little_bit (suc n) j xs k fits within =
+    ⊎_elim low (λ le. high le (little_bit n (suc j) xs (k - 8) fits (omega (arith, le, within)))) (cases_lt k 8)
+  where
+    rest : ℕ
+    rest = little_from (suc j) n xs
+
+    split : slice_index xs j + 256 * rest ≡ rest * 2 ^ 8 + slice_index xs j
+    split = omega arith
+
+    low : k < 8 → bit_at (slice_index xs j + 256 * rest) k ≡ bit_at (slice_index xs (j + k / 8)) (k % 8)
+    low lt =
+        let place : j ≡ j + k / 8 = omega (arith, lt) in
+        let bit : k ≡ k % 8 = omega (arith, lt) in
+        ap (λ x. bit_at x k) split ∙ bit_at_cat_low rest 8 (slice_index xs j) k lt
+        ∙ ap (λ p. bit_at (slice_index xs p) k) place ∙ ap (bit_at (slice_index xs (j + k / 8))) bit
+
+    high : 8 ≤ k → bit_at rest (k - 8) ≡ bit_at (slice_index xs (suc j + (k - 8) / 8)) ((k - 8) % 8)
+        → bit_at (slice_index xs j + 256 * rest) k ≡ bit_at (slice_index xs (j + k / 8)) (k % 8)
+    high le later =
+        let place : suc j + (k - 8) / 8 ≡ j + k / 8 = omega (arith, le) in
+        let bit : (k - 8) % 8 ≡ k % 8 = omega (arith, le) in
+        ap (λ x. bit_at x k) split ∙ bit_at_cat_high rest 8 (slice_index xs j) k (fits j) le ∙ later
+        ∙ ap (λ p. bit_at (slice_index xs p) ((k - 8) % 8)) place ∙ ap (bit_at (slice_index xs (j + k / 8))) bit
+
+-- so the bits of a number that stands in a block are those of the block from there on
+pub bit_of-number : (bytes : Bytes) (i k : ℕ) → ((p : ℕ) → slice_index bytes p < 256) → i % 8 ≡ 0 → k < 64
+    → (bit_at (little_number 8 (slice_range bytes (i / 8) (i / 8 + 8))) k == 1) ≡ bit_of bytes (i + k)
+unfolding bit_of
+bit_of-number bytes i k fits multiple within =
+    let eight : i / 8 + 8 - i / 8 ≡ 8 = omega arith in
+    let first : 0 + k / 8 ≡ k / 8 = omega arith in
+    let byte : i / 8 + k / 8 ≡ (i + k) / 8 = omega (arith, multiple) in
+    let bit : k % 8 ≡ (i + k) % 8 = omega (arith, multiple) in
+    ap (λ n. n == 1)
+    (ap (λ n. bit_at (little_from 0 8 (take n (drop (i / 8) bytes))) k) eight
+    ∙ ap (λ n. bit_at n k) (little_from-take 0 8 8 (drop (i / 8) bytes) (omega arith))
+    ∙ little_bit 8 0 (drop (i / 8) bytes) k (λ p. rw (get_or-drop (i / 8) bytes p 0) (fits (i / 8 + p))) within
+    ∙ ap (λ p. bit_at (slice_index (drop (i / 8) bytes) p) (k % 8)) first
+    ∙ ap (λ n. bit_at n (k % 8)) (get_or-drop (i / 8) bytes (k / 8) 0)
+    ∙ ap (λ p. bit_at (slice_index bytes p) (k % 8)) byte
+    ∙ ap (bit_at (slice_index bytes ((i + k) / 8))) bit)

@@ -1,6 +1,7 @@
 // A block, its bytes, its words and its bits.
-ghost use Rattle.std.specs.Prelude.{◌≡◌, ◌≢◌, ◌+◌, ◌<◌, ◌≤◌, ℕ, length, slice_range, IsTrue, IfOk, IsOkUnless};
+ghost use Rattle.std.specs.Prelude.{◌≡◌, ◌≢◌, ◌+◌, ◌%◌, ◌==◌, ◌<◌, ◌≤◌, ℕ, length, slice_range, IsTrue, IfOk, IsOkUnless};
 ghost use Rattle.std.specs.Borrow.{sem};
+ghost use Rattle.std.specs.Int.{bit_at};
 ghost use Rattle.journal_world.specs.Addresses.{is_value_of, zeros_of};
 ghost use Rattle.journal_block.specs.Block.{with_bytes, u64_bytes, u64_at, bit_of, byte_with_bit, with_bit};
 ghost use Rattle.journal_block.specs.Lending.{LendsBytes};
@@ -126,6 +127,17 @@ impl Block {
         ensures { result ≡ bit_of self.now i }
     {
         (self.bytes[i / 8] >> (i % 8)) & 1 == 1
+    }
+
+    /// The 64 bits from bit `i` on as one number, bit `i` in the lowest place.
+    pub fn bits_from(&self, i: usize) -> u64
+        requires inside { i + 64 ≤ BLOCK_BITS }
+        requires multiple { i % 8 ≡ 0 }
+        ensures { (k : ℕ) → k < 64 → (bit_at result k == 1) ≡ bit_of self.now (i + k) }
+    {
+        // Of a slice with a name the proof knows that each element is a byte.
+        let bytes = self.bytes.as_slice();
+        LittleEndian::read_u64(&bytes[i / 8..i / 8 + 8])
     }
 
     /// Sets or clears bit `i`.

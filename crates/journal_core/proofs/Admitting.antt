@@ -3,6 +3,7 @@ use Rattle.std.proofs.Common.{◌≡◌, ◌⊎◌, inl, ⊎_elim, ◌≤◌, �
 use Rattle.std.proofs.lemmas.Bool.{false≢true}
 use Rattle.journal_world.specs.declared.refusal.Refusal.{Refusal}
 use Rattle.journal_world.specs.declared.refusal.Refusal.TheVariants.{NoMemory, BadAddress, BadSize, TooLarge, Busy, DeviceFailed, BadLog, BadSuper, Stale, Stranger, Worn, Full, Closed, Fenced}
+use Rattle.journal_world.specs.Addresses.{Shape}
 use Rattle.journal_world.specs.Maps.{Pair, Transaction}
 use Rattle.journal_world.specs.Histories.{Entry, commits_of, is_fenced}
 use Rattle.journal_memlog.specs.Logs.{tail_of}
@@ -27,7 +28,7 @@ use Rattle.journal_core.proofs.Committing.{commits_from}
 use Rattle.journal_core.proofs.Pairing.{tied_committed}
 use Rattle.journal_core.proofs.Joining.{failed, fails_as}
 
-module _ (blocks : ℕ) (v : VolatileState) (d : DurableState) (pair : IsPair blocks v d) (w : VolatileState) where
+module _ (layout : Shape) (v : VolatileState) (d : DurableState) (pair : IsPair layout v d) (w : VolatileState) where
   -- it was committed in memory, and the disk was read at most
   pub committed_as : (e : DurableState) (reads writes : List Pair) (s after : SessionState) → OnlyReadsLog d.objects e.objects → e ≡ record d { objects = e.objects }
       → IsCommittedIn reads writes s after v w → IsCommitted reads writes s after (core_of v d) (core_of w e)
@@ -46,7 +47,7 @@ module _ (blocks : ℕ) (v : VolatileState) (d : DurableState) (pair : IsPair bl
       start_to_cut : v.tail.log.start ≤ v.tail.log.cut
       start_to_cut = (pair.volatile.cuts 0 (record { end = 0; commits = 0 }) (omega arith)).below
 
-  pub pair_committed : (reads writes : List Pair) (s after : SessionState) → IsVolatile blocks w → IsCommittedIn reads writes s after v w → IsPair blocks w d
+  pub pair_committed : (reads writes : List Pair) (s after : SessionState) → IsVolatile layout w → IsCommittedIn reads writes s after v w → IsPair layout w d
   pair_committed reads writes s after kept it = record {
     volatile = kept;
     durable = pair.durable;
@@ -56,7 +57,7 @@ module _ (blocks : ℕ) (v : VolatileState) (d : DurableState) (pair : IsPair bl
   }
 
   -- only more room was made
-  pub pair_roomed : (room : ℕ) → IsVolatile blocks w → w ≡ with_room v room → IsPair blocks w d
+  pub pair_roomed : (room : ℕ) → IsVolatile layout w → w ≡ with_room v room → IsPair layout w d
   pair_roomed room kept same = record {
     volatile = kept;
     durable = pair.durable;
@@ -123,12 +124,12 @@ module _ (c now : CoreState) (s mid : SessionState) (t : TransactionState) (exte
   refused_again Fenced it = absurd (false≢true (sym (ap (λ (n : ℕ). is_fenced n c.history) extends.number ∙ can.may.unfenced) ∙ it.1.fenced))
 
 -- the device failed as the blocks were fetched
-module _ (blocks : ℕ) (v : VolatileState) (d : DurableState) (pair : IsPair blocks v d) (running : IsRunning (core_of v d)) (e : DurableState)
+module _ (layout : Shape) (v : VolatileState) (d : DurableState) (pair : IsPair layout v d) (running : IsRunning (core_of v d)) (e : DurableState)
     (s : SessionState) (t : TransactionState) (can : CanCommit (outset (core_of v d)) s t) where
   refused_fetch : (w : VolatileState) (why : Refusal CauseState) → core_of w e ≡ core_of (failed v) e → IsCallRefusal d e why → IsCommitRefusal (core_of v d) s t (core_of w e) why
   refused_fetch w (DeviceFailed cause) same it =
       subst (λ (c : CoreState). IsDeviceRefusal (CanCommit (outset (core_of v d)) s t) (core_of v d) c cause) (sym same)
-      (fails_as blocks v d pair running e (CanCommit (outset (core_of v d)) s t) cause can it)
+      (fails_as layout v d pair running e (CanCommit (outset (core_of v d)) s t) cause can it)
   refused_fetch w NoMemory same it = absurd it
   refused_fetch w BadAddress same it = absurd it
   refused_fetch w BadSize same it = absurd it

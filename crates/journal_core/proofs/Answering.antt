@@ -4,7 +4,7 @@ use Rattle.std.proofs.lemmas.Bool.{false≢true}
 use Rattle.std.proofs.Math.Nat.{lt_of_not-le}
 use Rattle.journal_world.specs.declared.address.Addr.{Addr}
 use Rattle.journal_world.specs.declared.refusal.Refusal.{Refusal}
-use Rattle.journal_world.specs.Addresses.{Value}
+use Rattle.journal_world.specs.Addresses.{Value, Shape}
 use Rattle.journal_world.specs.Maps.{Agrees, value_at, is_object}
 use Rattle.journal_world.specs.Histories.{is_trusted, is_fenced, commits_of, latest, count, floor}
 use Rattle.journal_disk.specs.Images.{EveryImage}
@@ -25,11 +25,11 @@ use Rattle.journal_core.specs.Pairs.{Tied, IsUntied}
 use Rattle.journal_core.specs.Cores.{Leaves}
 use Rattle.journal_core.specs.Holds.{AnswersRead, AnswersCommit, AnswersSession, AnswersFence, LacksMark, AnswersWait, AnswersFlush, AnswersShow, AnswersDisk}
 
-module _ (n : ℕ) (old new : VolatileState) where
+module _ (n : Shape) (old new : VolatileState) where
   pub answers_read : (t : TransactionState) (a : Addr) (f : FetchedState) (r : Result (Option ReadResultState) (Refusal CauseState)) (x : Value) → new ≡ old
       → OnOk r (MayRead n (outset_of old) t a) → IfOk r (λ found. IfSome found (λ found. found ≡ record { addr = a; seen = old.ledger.history }))
       → (IsTrue (is_trusted old.ledger.history) → IfOk r (λ found. IsSome found → x ≡ value_at (latest old.ledger.history) a))
-      → IfOk r (λ found. IsSome found → IsTrue (is_object n (a, x))) → IfOk r (λ found. found ≡ None → known_at (usable old f) old.tail a ≡ None)
+      → IfOk r (λ found. IsSome found → IsTrue (is_object n (a, x))) → IfOk r (λ found. found ≡ None → known_at n (usable old f) old.tail a ≡ None)
       → IfErr r (IsReadRefusal n old t a f) → AnswersRead n old t a f r x new
   answers_read t a f (Ok (Some found)) x same may is value object lacks refusal = record {
     may = may;

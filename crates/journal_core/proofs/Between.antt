@@ -5,6 +5,7 @@ use Rattle.std.proofs.lemmas.Bool.{false≢true}
 use mathlib.Core.List.{IsPrefix}
 use Rattle.journal_world.specs.declared.refusal.Refusal.{Refusal}
 use Rattle.journal_world.specs.declared.refusal.Refusal.TheVariants.{NoMemory, BadAddress, BadSize, TooLarge, Busy, DeviceFailed, BadLog, BadSuper, Stale, Stranger, Worn, Full, Closed, Fenced}
+use Rattle.journal_world.specs.Addresses.{Shape}
 use Rattle.journal_world.specs.Histories.{Entry, count, floor}
 use Rattle.journal_world.specs.Histories.Entry.{fence}
 use Rattle.journal_world.proofs.Fences.{floor-fence}
@@ -36,9 +37,9 @@ use Rattle.journal_core.proofs.Joining.{failed, volatile_failed}
 
 -- ---- what is answered, as one event
 
-module _ (blocks : ℕ) (old new : DurableState) (kept : IsDurable blocks new) (crash : Crashes old new) where
-  pub answers_mark_or_cut : (v w : VolatileState) (r : Result LogStep (Refusal CauseState)) → IsVolatile blocks w → IfOk r (λ step. DoesWhatIsDue v old step w new)
-      → IfErr r (λ why. IsDueRefusal v old why new) → OnErr r (w ≡ v) → (Tied v old → Tied w new) → AnswersMarkOrCut blocks v old r w new
+module _ (layout : Shape) (old new : DurableState) (kept : IsDurable layout new) (crash : Crashes old new) where
+  pub answers_mark_or_cut : (v w : VolatileState) (r : Result LogStep (Refusal CauseState)) → IsVolatile layout w → IfOk r (λ step. DoesWhatIsDue v old step w new)
+      → IfErr r (λ why. IsDueRefusal v old why new) → OnErr r (w ≡ v) → (Tied v old → Tied w new) → AnswersMarkOrCut layout v old r w new
   answers_mark_or_cut v w (Ok step) held did refusal same tied = record { did = did; volatile = held; durable = kept; tied = tied; crash = crash }
   answers_mark_or_cut v w (Err why) held did refusal same tied = record { refusal = refusal; volatile = same; durable = kept; tied = tied; crash = crash }
 
@@ -78,7 +79,7 @@ home_faulted d e (Full cause) room it = absurd it
 home_faulted d e (Closed cause) room it = absurd it
 home_faulted d e Fenced room it = absurd it
 
-module _ (n : ℕ) (v : VolatileState) (d : DurableState) (between : IsBetween n v d) where
+module _ (n : Shape) (v : VolatileState) (d : DurableState) (between : IsBetween n v d) where
   -- of the disk alone: memory is as it was, whoever has it
 
   -- no fault was found, so that memory knows of none
@@ -296,7 +297,7 @@ module _ (n : ℕ) (v : VolatileState) (d : DurableState) (between : IsBetween n
   }
 
 -- a pair that knows of the same faults
-pub between_pair : (n : ℕ) (v : VolatileState) (d : DurableState) → IsPair n v d → IsBetween n v d
+pub between_pair : (n : Shape) (v : VolatileState) (d : DurableState) → IsPair n v d → IsBetween n v d
 between_pair n v d pair = record {
   volatile = pair.volatile;
   durable = pair.durable;
@@ -306,19 +307,19 @@ between_pair n v d pair = record {
 
 -- ---- no hold makes another disk of it
 
-pub fetch_honest : (n : ℕ) (d e : DurableState) (numbers : List ℕ) (r : Result FetchedState (Refusal CauseState)) → AnswersFetch n d numbers r e → (disk_of e).honest ≡ (disk_of d).honest
+pub fetch_honest : (n : Shape) (d e : DurableState) (numbers : List ℕ) (r : Result FetchedState (Refusal CauseState)) → AnswersFetch n d numbers r e → (disk_of e).honest ≡ (disk_of d).honest
 fetch_honest n d e numbers (Ok f) it = it.crash.keeps.honest
 fetch_honest n d e numbers (Err why) it = it.crash.keeps.honest
 
-pub group_honest : (n : ℕ) (d e : DurableState) (r : Result GroupStep (Refusal CauseState)) → AnswersGroupCall n d r e → (disk_of e).honest ≡ (disk_of d).honest
+pub group_honest : (n : Shape) (d e : DurableState) (r : Result GroupStep (Refusal CauseState)) → AnswersGroupCall n d r e → (disk_of e).honest ≡ (disk_of d).honest
 group_honest n d e (Ok step) it = it.crash.keeps.honest
 group_honest n d e (Err why) it = it.crash.keeps.honest
 
-pub home_honest : (n : ℕ) (d e : DurableState) (r : Result InstallStep (Refusal CauseState)) → AnswersHomeCall n d r e → (disk_of e).honest ≡ (disk_of d).honest
+pub home_honest : (n : Shape) (d e : DurableState) (r : Result InstallStep (Refusal CauseState)) → AnswersHomeCall n d r e → (disk_of e).honest ≡ (disk_of d).honest
 home_honest n d e (Ok step) it = it.crash.keeps.honest
 home_honest n d e (Err why) it = it.crash.keeps.honest
 
-pub mark_or_cut_honest : (n : ℕ) (v : VolatileState) (d : DurableState) (w : VolatileState) (e : DurableState) (r : Result LogStep (Refusal CauseState)) → AnswersMarkOrCut n v d r w e
+pub mark_or_cut_honest : (n : Shape) (v : VolatileState) (d : DurableState) (w : VolatileState) (e : DurableState) (r : Result LogStep (Refusal CauseState)) → AnswersMarkOrCut n v d r w e
     → (disk_of e).honest ≡ (disk_of d).honest
 mark_or_cut_honest n v d w e (Ok step) it = it.crash.keeps.honest
 mark_or_cut_honest n v d w e (Err why) it = it.crash.keeps.honest

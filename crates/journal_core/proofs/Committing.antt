@@ -4,12 +4,13 @@ use Rattle.std.specs.List.{filter}
 use Rattle.std.proofs.lemmas.Bool.{eqb-true, eqb-false, ne_eqb}
 use Rattle.std.proofs.lemmas.List.{append-nil}
 use mathlib.Core.List.{IsPrefix}
+use Rattle.journal_world.specs.Addresses.{Shape}
 use Rattle.journal_world.specs.Maps.{Map, Pair, Transaction, Agrees, overwritten}
 use Rattle.journal_world.specs.Histories.{Entry, opened, is_trusted, commits, commits_of, count, latest}
 use Rattle.journal_world.specs.Histories.Entry.{commit, stable}
 use Rattle.journal_world.proofs.Prefixes.{IsPrefix-trans}
 use Rattle.journal_world.proofs.SessionCommits.{commits_of-append}
-use Rattle.journal_world.proofs.LongerHistories.{commits_of-commit, after-blocks, at-count}
+use Rattle.journal_world.proofs.LongerHistories.{commits_of-commit, after-layout, at-count}
 use Rattle.journal_world.proofs.Marks.{commits-mark}
 use Rattle.journal_history.specs.Tokens.{SessionState, OnlyExtends, Commits, next_transaction as numbered}
 use Rattle.journal_history.specs.Soundness.{IsSound}
@@ -68,11 +69,11 @@ stale_admits history s t (Closed cause) stale = absurd stale
 stale_admits history s t Fenced stale = absurd stale
 
 -- the map after all commits keeps the rule once it is overwritten
-pub ruled_then : (blocks : ℕ) (rule : Map → Type 0) (history : List Entry) (reads writes : List Pair) → (opened history).blocks ≡ blocks → IsSound rule history
-    → ((m : Map) → m.blocks ≡ blocks → rule m → Agrees m reads → rule (overwritten m writes))
+pub ruled_then : (layout : Shape) (rule : Map → Type 0) (history : List Entry) (reads writes : List Pair) → (opened history).layout ≡ layout → IsSound rule history
+    → ((m : Map) → m.layout ≡ layout → rule m → Agrees m reads → rule (overwritten m writes))
     → (IsTrue (is_trusted history) → Agrees (latest history) reads) → IsTrue (is_trusted history) → rule (overwritten (latest history) writes)
-ruled_then blocks rule history reads writes on_disk sound keeps agrees trusted =
-    keeps (latest history) (after-blocks (opened history) (commits history) ∙ on_disk)
+ruled_then layout rule history reads writes on_disk sound keeps agrees trusted =
+    keeps (latest history) (after-layout (opened history) (commits history) ∙ on_disk)
     (subst rule (at-count history) (sound.ruled trusted (count history))) (agrees trusted)
 
 -- one more commit is counted

@@ -2,97 +2,96 @@
 use Rattle.std.proofs.Common.{◌≡◌, inr, ⊎_elim, ◌<◌, ◌≤◌, ℕ, Bool, true, false, cond, List, [], ◌∷◌, length, IsTrue, Some, None, refl, sym, ap, subst, ◌∙◌, arith, length-append}
 use mathlib.Core.List.{IsPrefix}
 use Rattle.journal_world.specs.declared.address.Addr.{Addr}
-use Rattle.journal_world.specs.Addresses.{is_valid}
+use Rattle.journal_world.specs.Addresses.{is_valid, Shape}
 use Rattle.journal_world.specs.Maps.{Map, SameMap, value_at}
 use Rattle.journal_world.specs.Histories.{Entry, opened, is_trusted, commits, count, at, latest}
 use Rattle.journal_world.specs.Histories.Entry.{opening}
 use Rattle.journal_world.proofs.SameMaps.{SameMap-refl, SameMap-trans}
-use Rattle.journal_world.proofs.LongerHistories.{after-blocks, at-count}
+use Rattle.journal_world.proofs.LongerHistories.{after-layout, at-count}
 use Rattle.journal_block.specs.declared.update.Update.{Update}
 use Rattle.journal_block.specs.Block.{Bytes}
-use Rattle.journal_block.specs.Updates.{Content, updated, with_updates, updates_block}
+use Rattle.journal_block.specs.Updates.{updated, with_updates, updates_block}
 use Rattle.journal_block.specs.UpdateLaws.{updated-named, updated-unnamed}
 use Rattle.journal_disk.specs.Disks.{Past, DiskState, Keeps}
 use Rattle.journal_disk.specs.Images.{IsImage, EveryImage}
 use Rattle.journal_disk.specs.Laws.{leaves_also, leaves_none}
 use Rattle.journal_memlog.specs.Logs.{LogState, next_position, tail_of}
-use Rattle.journal_object.specs.Objects.{IsMapOf, map_of_blocks}
 use Rattle.journal_wal.specs.Wal.{WalState, size_of, blocks_now, blocks_logged, log_steps, tail_length, IsAtRest, EndsGroup}
 use Rattle.journal_wal.specs.Groups.{TakesGroup, HasGroupRoom}
 use Rattle.journal_objlog.specs.Groups.{TakesMap}
 use Rattle.journal_objlog.specs.Maps.{OpensAs, object_or_zeros, map_of}
-use Rattle.journal_objlog.specs.MapLaws.{map_of-blocks}
+use Rattle.journal_objlog.specs.MapLaws.{map_of-layout}
 use Rattle.journal_objlog.specs.CutLaws.{cut_is_now, logged_is_cut}
 use Rattle.journal_objlog.specs.ObjectTails.{known_object}
 use Rattle.journal_objlog.specs.ObjectLogs.{map_now, map_cut, map_logged, IsCutLogged, MayOpenAs, Crashes as MapCrashes, KeepsMaps, EndsMap, OnlyReads, is_faulted as is_log_faulted, disk_of as log_disk}
-use Rattle.journal_objlog.proofs.MapsOfBlocks.{Law, HasObjects-map_of}
+use Rattle.journal_objlog.proofs.MapsOfBlocks.{law_of, HasObjects-map_of}
 use Rattle.journal_core.specs.Updates.{IsSince, IsLastSince, HaveAllSince}
 use Rattle.journal_core.specs.Durables.{DurableState, disk_of, Leaves, Crashes, IsDurable, IsBlockAfter, begun_durable}
 use Rattle.journal_core.proofs.Fronts.{at-longer, count-longer, some-longer, opened-longer, trusted-longer}
 
 -- what a crash may leave is the map after the commits that are logged, or after those that come
-leaves_of : (blocks : ℕ) (d : DurableState) → IsDurable blocks d → IsTrue (disk_of d).honest → (image : List Bytes)
-    → MayOpenAs d.objects image → Leaves d image
-leaves_of blocks d kept honest image may = ⊎_elim
-    (λ (opens : OpensAs (map_logged d.objects) image). record {
+leaves_of : (layout : Shape) (d : DurableState) → IsDurable layout d → IsTrue (disk_of d).honest → (image : List Bytes)
+    → MayOpenAs layout d.objects image → Leaves d image
+leaves_of layout d kept honest image may = ⊎_elim
+    (λ (opens : OpensAs (map_logged layout d.objects) image). record {
       commits = d.logged;
       marked = kept.marked_to_logged;
       coming = kept.logged_to_coming;
-      map = map_logged d.objects;
+      map = map_logged layout d.objects;
       opens = opens;
       same = (kept.maps honest).logged;
     })
-    (λ (opens : OpensAs (map_cut d.objects) image). record {
+    (λ (opens : OpensAs (map_cut layout d.objects) image). record {
       commits = d.coming;
       marked = omega (arith, kept.marked_to_logged, kept.logged_to_coming);
       coming = omega arith;
-      map = map_cut d.objects;
+      map = map_cut layout d.objects;
       opens = opens;
       same = (kept.maps honest).coming;
     })
     may
 
 -- a call of the object log, before and after which the durable part is in order
-crashes_of : (blocks : ℕ) (old new : DurableState) → IsDurable blocks old → IsDurable blocks new → MapCrashes old.objects new.objects
+crashes_of : (layout : Shape) (old new : DurableState) → IsDurable layout old → IsDurable layout new → MapCrashes old.objects new.objects
     → Crashes old new
-crashes_of blocks old new before kept crash = record {
+crashes_of layout old new before kept crash = record {
   keeps = crash.keeps;
-  moments = λ honest. leaves_also (disk_of old).past (disk_of new).past (MayOpenAs old.objects) (Leaves old)
-      (crash.moments honest) (λ image may. leaves_of blocks old before honest image may);
-  images = λ honest image one. leaves_of blocks new kept honest image (crash.images honest image one);
+  moments = λ honest. leaves_also (disk_of old).past (disk_of new).past (MayOpenAs layout old.objects) (Leaves old)
+      (crash.moments honest layout (sym before.size)) (λ image may. leaves_of layout old before honest image may);
+  images = λ honest image one. leaves_of layout new kept honest image (crash.images honest layout (sym kept.size) image one);
 }
 
 -- the same, seen from outside
-pub crashes_call : (blocks : ℕ) (inside now new : DurableState) → IsDurable blocks inside → inside ≡ now → IsDurable blocks new
+pub crashes_call : (layout : Shape) (inside now new : DurableState) → IsDurable layout inside → inside ≡ now → IsDurable layout new
     → MapCrashes inside.objects new.objects → Crashes now new
-crashes_call blocks inside now new before is kept crash =
-    subst (λ (d : DurableState). Crashes d new) is (crashes_of blocks inside new before kept crash)
+crashes_call layout inside now new before is kept crash =
+    subst (λ (d : DurableState). Crashes d new) is (crashes_of layout inside new before kept crash)
 
-crashes_same : (blocks : ℕ) (old new : DurableState) → IsDurable blocks old → IsDurable blocks new → new.objects ≡ old.objects → Crashes old new
-crashes_same blocks old new before kept same = record {
+crashes_same : (layout : Shape) (old new : DurableState) → IsDurable layout old → IsDurable layout new → new.objects ≡ old.objects → Crashes old new
+crashes_same layout old new before kept same = record {
   keeps = subst (λ (w : WalState). Keeps (disk_of old) (log_disk w)) (sym same) (record { size = refl; honest = refl; failures = omega arith });
   moments = λ honest. leaves_none (disk_of old).past (disk_of new).past (Leaves old) (ap (λ (w : WalState). (log_disk w).past) same)
-      (λ image one. leaves_of blocks old before honest image (before.images honest image one));
-  images = λ honest image one. leaves_of blocks new kept honest image (kept.images honest image one);
+      (λ image one. leaves_of layout old before honest image (before.images honest image one));
+  images = λ honest image one. leaves_of layout new kept honest image (kept.images honest image one);
 }
 
 -- a call without a device call, seen from outside
-pub crashes_noted : (blocks : ℕ) (inside now new : DurableState) → IsDurable blocks inside → inside ≡ now → IsDurable blocks new
+pub crashes_noted : (layout : Shape) (inside now new : DurableState) → IsDurable layout inside → inside ≡ now → IsDurable layout new
     → new.objects ≡ inside.objects → Crashes now new
-crashes_noted blocks inside now new before is kept same =
-    subst (λ (d : DurableState). Crashes d new) is (crashes_same blocks inside new before kept same)
+crashes_noted layout inside now new before is kept same =
+    subst (λ (d : DurableState). Crashes d new) is (crashes_same layout inside new before kept same)
 
 -- each image of the disk, lent or given up
-pub leaves_disk : (blocks : ℕ) (inside now : DurableState) (disk : DiskState) → IsDurable blocks inside → inside ≡ now → disk ≡ disk_of inside
+pub leaves_disk : (layout : Shape) (inside now : DurableState) (disk : DiskState) → IsDurable layout inside → inside ≡ now → disk ≡ disk_of inside
     → IsTrue disk.honest → EveryImage disk.past (Leaves now)
-leaves_disk blocks inside now disk kept is same =
+leaves_disk layout inside now disk kept is same =
     subst (λ (s : DiskState). IsTrue s.honest → EveryImage s.past (Leaves now)) (sym same)
-    (λ honest image one. subst (λ (d : DurableState). Leaves d image) is (leaves_of blocks inside kept honest image (kept.images honest image one)))
+    (λ honest image one. subst (λ (d : DurableState). Leaves d image) is (leaves_of layout inside kept honest image (kept.images honest image one)))
 
 -- it was only read
-pub crashes_read : (blocks : ℕ) (inside now : DurableState) (objects : WalState) → IsDurable blocks inside → inside ≡ now
+pub crashes_read : (layout : Shape) (inside now : DurableState) (objects : WalState) → IsDurable layout inside → inside ≡ now
     → OnlyReads inside.objects objects → Crashes now (record inside { objects = objects })
-crashes_read blocks inside now objects kept is reads = subst (λ (d : DurableState). Crashes d (record inside { objects = objects })) is (record {
+crashes_read layout inside now objects kept is reads = subst (λ (d : DurableState). Crashes d (record inside { objects = objects })) is (record {
   keeps = reads.keeps;
   moments = λ honest. leaves_none (disk_of inside).past (log_disk objects).past (Leaves inside) (reads.past honest) (left honest);
   images = λ honest image one.
@@ -108,13 +107,13 @@ crashes_read blocks inside now objects kept is reads = subst (λ (d : DurableSta
 })
   where
     left : IsTrue (disk_of inside).honest → EveryImage (disk_of inside).past (Leaves inside)
-    left honest image one = leaves_of blocks inside kept honest image (kept.images honest image one)
+    left honest image one = leaves_of layout inside kept honest image (kept.images honest image one)
 
-pub crashes_reads : (blocks : ℕ) (inside now new : DurableState) → IsDurable blocks inside → inside ≡ now → OnlyReads now.objects new.objects
+pub crashes_reads : (layout : Shape) (inside now new : DurableState) → IsDurable layout inside → inside ≡ now → OnlyReads now.objects new.objects
     → new ≡ record now { objects = new.objects } → Crashes now new
-crashes_reads blocks inside now new kept is reads same =
-    let held : IsDurable blocks now = subst (IsDurable blocks) is kept in
-    subst (λ (d : DurableState). Crashes now d) (sym same) (crashes_read blocks now now new.objects held refl reads)
+crashes_reads layout inside now new kept is reads same =
+    let held : IsDurable layout now = subst (IsDurable layout) is kept in
+    subst (λ (d : DurableState). Crashes now d) (sym same) (crashes_read layout now now new.objects held refl reads)
 
 -- No group came or went, and no tail
 pub record StaysCut (old new : WalState) : Type 0 where
@@ -124,10 +123,10 @@ pub record StaysCut (old new : WalState) : Type 0 where
   pub next : next_position old.log ≡ old.log.cut → old.log.logged ≤ old.log.cut → next_position new.log ≡ new.log.cut
   pub idle : is_log_faulted new ≡ false → log_steps new ≡ 0 → (is_log_faulted old ≡ false) × (log_steps old ≡ 0)
 
-module _ (blocks : ℕ) (d : DurableState) (kept : IsDurable blocks d) where
+module _ (layout : Shape) (d : DurableState) (kept : IsDurable layout d) where
   -- the maps stay
   pub kept_call : (objects : WalState) → MapCrashes d.objects objects → (IsTrue (disk_of d).honest → KeepsMaps d.objects objects)
-      → StaysCut d.objects objects → IsDurable blocks (record d { objects = objects })
+      → StaysCut d.objects objects → IsDurable layout (record d { objects = objects })
   kept_call objects crash maps stays = record {
     size = crash.keeps.size ∙ kept.size;
     begun = kept.begun;
@@ -142,16 +141,15 @@ module _ (blocks : ℕ) (d : DurableState) (kept : IsDurable blocks d) where
     idle = λ fine none. let was = stays.idle fine none in stays.logged ∙ kept.idle was.0 was.1 ∙ sym stays.cut;
     rest = λ none. kept.rest (sym stays.logged ∙ none ∙ stays.cut);
     maps = λ honest. let was : IsTrue (disk_of d).honest = subst IsTrue crash.keeps.honest honest in record {
-      logged = SameMap-trans (map_logged objects) (map_logged d.objects) (at d.front d.logged) (maps was).logged (kept.maps was).logged;
-      coming = SameMap-trans (map_cut objects) (map_cut d.objects) (at d.front d.coming) (maps was).cut (kept.maps was).coming;
+      logged = SameMap-trans (map_logged layout objects) (map_logged layout d.objects) (at d.front d.logged) ((maps was).logged layout (sym kept.size)) (kept.maps was).logged;
+      coming = SameMap-trans (map_cut layout objects) (map_cut layout d.objects) (at d.front d.coming) ((maps was).cut layout (sym kept.size)) (kept.maps was).coming;
     };
-    images = crash.images;
-    law = kept.law;
+    images = λ honest. crash.images honest layout (sym (crash.keeps.size ∙ kept.size));
   }
 
   -- the cycle of the group in flight ends
   pub kept_logged : (objects : WalState) → MapCrashes d.objects objects → (IsTrue (disk_of d).honest → EndsMap d.objects objects)
-      → EndsGroup d.objects objects → IsDurable blocks (record d { objects = objects; logged = d.coming })
+      → EndsGroup d.objects objects → IsDurable layout (record d { objects = objects; logged = d.coming })
   kept_logged objects crash maps end = record {
     size = crash.keeps.size ∙ kept.size;
     begun = kept.begun;
@@ -166,22 +164,21 @@ module _ (blocks : ℕ) (d : DurableState) (kept : IsDurable blocks d) where
     idle = λ fine none. ends;
     rest = λ none. refl;
     maps = λ honest. let was : IsTrue (disk_of d).honest = subst IsTrue crash.keeps.honest honest in record {
-      logged = SameMap-trans (map_logged objects) (map_cut d.objects) (at d.front d.coming) (maps was).logged (kept.maps was).coming;
-      coming = SameMap-trans (map_cut objects) (map_cut d.objects) (at d.front d.coming) (maps was).cut (kept.maps was).coming;
+      logged = SameMap-trans (map_logged layout objects) (map_cut layout d.objects) (at d.front d.coming) ((maps was).logged layout (sym kept.size)) (kept.maps was).coming;
+      coming = SameMap-trans (map_cut layout objects) (map_cut layout d.objects) (at d.front d.coming) ((maps was).cut layout (sym kept.size)) (kept.maps was).coming;
     };
-    images = crash.images;
-    law = kept.law;
+    images = λ honest. crash.images honest layout (sym (crash.keeps.size ∙ kept.size));
   }
     where
       ends : objects.log.logged ≡ objects.log.cut
       ends = ap (λ (log : LogState). log.logged) end.end ∙ sym (ap (λ (log : LogState). log.cut) end.end)
 
   -- only the marks and the front change
-  pub kept_mark : (front : List Entry) → IsPrefix d.front front → IsDurable blocks (record d { front = front; marked = d.logged })
+  pub kept_mark : (front : List Entry) → IsPrefix d.front front → IsDurable layout (record d { front = front; marked = d.logged })
   kept_mark front longer = record {
     size = kept.size;
     begun = some-longer d.front front kept.begun longer;
-    on_disk = ap (λ (m : Map). m.blocks) (opened-longer d.front front kept.begun longer) ∙ kept.on_disk;
+    on_disk = ap (λ (m : Map). m.layout) (opened-longer d.front front kept.begun longer) ∙ kept.on_disk;
     trusted = trusted-longer d.front front kept.begun longer ∙ kept.trusted;
     marked_to_logged = omega arith;
     logged_to_coming = kept.logged_to_coming;
@@ -192,27 +189,25 @@ module _ (blocks : ℕ) (d : DurableState) (kept : IsDurable blocks d) where
     idle = kept.idle;
     rest = kept.rest;
     maps = λ honest. record {
-      logged = later d.logged (omega (arith, kept.logged_to_coming, kept.coming_to_count)) (map_logged d.objects) (kept.maps honest).logged;
-      coming = later d.coming kept.coming_to_count (map_cut d.objects) (kept.maps honest).coming;
+      logged = later d.logged (omega (arith, kept.logged_to_coming, kept.coming_to_count)) (map_logged layout d.objects) (kept.maps honest).logged;
+      coming = later d.coming kept.coming_to_count (map_cut layout d.objects) (kept.maps honest).coming;
     };
     images = kept.images;
-    law = kept.law;
   }
     where
       later : (n : ℕ) → n ≤ count d.front → (m : Map) → SameMap m (at d.front n) → SameMap m (at front n)
       later n le m same = subst (λ (k : Map). SameMap m k) (sym (at-longer d.front front kept.begun longer n le)) same
 
 -- What the blocks that are logged make with a group that has all that was written since: the map after all commits
-module _ (n : ℕ) (law : Law n) (w : WalState) (size : size_of w ≡ n) (empty : tail_length w ≡ 0) (none : IsCutLogged w) where
-  module _ (front : List Entry) (c : ℕ) (same : SameMap (map_logged w) (at front c)) (made : c ≤ count front) (group : List Update) where
+module _ (n : Shape) (w : WalState) (empty : tail_length w ≡ 0) (none : IsCutLogged w) where
+  module _ (front : List Entry) (c : ℕ) (same : SameMap (map_logged n w) (at front c)) (made : c ≤ count front) (group : List Update) where
     value_now : (a : Addr) → IsTrue (is_valid n a) → object_or_zeros n (blocks_now w a.block) a ≡ value_at (at front c) a
     unfolding map_of
     value_now a valid =
-        let now : SameMap (map_now w) (at front c) = subst (λ (m : Map). SameMap m (at front c)) (logged_is_cut w none ∙ cut_is_now w empty) same in
-        let there : IsTrue (is_valid (size_of w) a) = subst (λ (k : ℕ). IsTrue (is_valid k a)) (sym size) valid in
-        let here : value_at (map_now w) a ≡ object_or_zeros (size_of w) (blocks_now w a.block) a =
-        (HasObjects-map_of (size_of w) (subst Law (sym size) law) (blocks_now w)).values a there in
-        ap (λ (k : ℕ). object_or_zeros k (blocks_now w a.block) a) (sym size) ∙ sym here ∙ now.values a there
+        let now : SameMap (map_now n w) (at front c) = subst (λ (m : Map). SameMap m (at front c)) (logged_is_cut n w none ∙ cut_is_now n w empty) same in
+        let here : value_at (map_now n w) a ≡ object_or_zeros n (blocks_now w a.block) a =
+        (HasObjects-map_of n (law_of n) (blocks_now w)).values a valid in
+        sym here ∙ now.values a valid
 
     value_with : (a : Addr) → IsTrue (is_valid n a) → IsLastSince front c a (known_object n group a)
         → object_or_zeros n (with_updates (blocks_now w) group a.block) a ≡ value_at (latest front) a
@@ -230,23 +225,20 @@ module _ (n : ℕ) (law : Law n) (w : WalState) (size : size_of w ≡ n) (empty 
             ap (λ (bytes : Bytes). object_or_zeros n bytes a) (updated-unnamed group a.block (blocks_now w a.block) unnamed)
             ∙ value_now a valid ∙ since c (omega arith) made
 
-    map_with : (opened front).blocks ≡ n → HaveAllSince n front c group → SameMap (map_of (size_of w) (with_updates (blocks_now w) group)) (latest front)
+    map_with : (opened front).layout ≡ n → HaveAllSince n front c group → SameMap (map_of n (with_updates (blocks_now w) group)) (latest front)
     unfolding map_of
     map_with on_disk all = record {
-      blocks = size ∙ sym on_disk ∙ sym (after-blocks (opened front) (commits front));
+      layout = sym on_disk ∙ sym (after-layout (opened front) (commits front));
       values = λ a valid.
-          let there : IsTrue (is_valid n a) = subst (λ (k : ℕ). IsTrue (is_valid k a)) size valid in
-          (HasObjects-map_of (size_of w) (subst Law (sym size) law) (with_updates (blocks_now w) group)).values a valid
-          ∙ ap (λ (k : ℕ). object_or_zeros k (with_updates (blocks_now w) group a.block) a) size
-          ∙ value_with a there (all.last a there);
+          (HasObjects-map_of n (law_of n) (with_updates (blocks_now w) group)).values a valid ∙ value_with a valid (all.last a valid);
     }
 
-module _ (blocks : ℕ) (d : DurableState) (kept : IsDurable blocks d) (front : List Entry) (longer : IsPrefix d.front front) where
-  open_blocks : (opened front).blocks ≡ blocks
-  open_blocks = ap (λ (m : Map). m.blocks) (opened-longer d.front front kept.begun longer) ∙ kept.on_disk
+module _ (layout : Shape) (d : DurableState) (kept : IsDurable layout d) (front : List Entry) (longer : IsPrefix d.front front) where
+  open_layout : (opened front).layout ≡ layout
+  open_layout = ap (λ (m : Map). m.layout) (opened-longer d.front front kept.begun longer) ∙ kept.on_disk
 
-  logged_later : IsTrue (disk_of d).honest → SameMap (map_logged d.objects) (at front d.logged)
-  logged_later honest = subst (λ (m : Map). SameMap (map_logged d.objects) m)
+  logged_later : IsTrue (disk_of d).honest → SameMap (map_logged layout d.objects) (at front d.logged)
+  logged_later honest = subst (λ (m : Map). SameMap (map_logged layout d.objects) m)
       (sym (at-longer d.front front kept.begun longer d.logged (omega (arith, kept.logged_to_coming, kept.coming_to_count))))
       (kept.maps honest).logged
 
@@ -259,12 +251,12 @@ module _ (blocks : ℕ) (d : DurableState) (kept : IsDurable blocks d) (front : 
   -- a group is taken
   pub kept_take : (objects : WalState) (group : List Update) (commits : ℕ) → MapCrashes d.objects objects → TakesGroup d.objects group objects
       → TakesMap d.objects group objects → HasGroupRoom d.objects (length group) → objects.log.logged < objects.log.cut
-      → commits ≡ count front → (IsTrue (is_trusted front) → HaveAllSince blocks front d.logged group)
-      → IsDurable blocks (record d { objects = objects; front = front; coming = commits })
+      → commits ≡ count front → (IsTrue (is_trusted front) → HaveAllSince layout front d.logged group)
+      → IsDurable layout (record d { objects = objects; front = front; coming = commits })
   kept_take objects group commits crash takes maps room flies counted all = record {
     size = crash.keeps.size ∙ kept.size;
     begun = some-longer d.front front kept.begun longer;
-    on_disk = open_blocks;
+    on_disk = open_layout;
     trusted = trusted-longer d.front front kept.begun longer ∙ kept.trusted ∙ sym crash.keeps.honest;
     marked_to_logged = kept.marked_to_logged;
     logged_to_coming = omega (arith, made_later, counted);
@@ -275,23 +267,22 @@ module _ (blocks : ℕ) (d : DurableState) (kept : IsDurable blocks d) (front : 
     idle = λ fine none. absurd (omega (arith, takes.steps, none));
     rest = λ none. absurd (omega (arith, flies, none));
     maps = λ honest. let was : IsTrue (disk_of d).honest = subst IsTrue crash.keeps.honest honest in record {
-      logged = SameMap-trans (map_logged objects) (map_logged d.objects) (at front d.logged) maps.logged (logged_later was);
-      coming = subst (λ (m : Map). SameMap (map_cut objects) m) (sym (ap (at front) counted ∙ at-count front))
-          (SameMap-trans (map_cut objects) (map_of (size_of d.objects) (with_updates (blocks_now d.objects) group)) (latest front) maps.cut
-          (map_with blocks kept.law d.objects kept.size kept.tail (kept.idle room.fine room.place.rest) front d.logged (logged_later was) made_later group
-          open_blocks (all (trusts was))));
+      logged = SameMap-trans (map_logged layout objects) (map_logged layout d.objects) (at front d.logged) (maps.logged layout (sym kept.size)) (logged_later was);
+      coming = subst (λ (m : Map). SameMap (map_cut layout objects) m) (sym (ap (at front) counted ∙ at-count front))
+          (SameMap-trans (map_cut layout objects) (map_of layout (with_updates (blocks_now d.objects) group)) (latest front) (maps.cut layout (sym kept.size))
+          (map_with layout d.objects kept.tail (kept.idle room.fine room.place.rest) front d.logged (logged_later was) made_later group
+          open_layout (all (trusts was))));
     };
-    images = crash.images;
-    law = kept.law;
+    images = λ honest. crash.images honest layout (sym (crash.keeps.size ∙ kept.size));
   }
 
   -- commits that wrote nothing are logged
-  pub kept_reach : (commits : ℕ) → IsCutLogged d.objects → commits ≡ count front → (IsTrue (is_trusted front) → HaveAllSince blocks front d.logged [])
-      → IsDurable blocks (record d { front = front; logged = commits; coming = commits })
+  pub kept_reach : (commits : ℕ) → IsCutLogged d.objects → commits ≡ count front → (IsTrue (is_trusted front) → HaveAllSince layout front d.logged [])
+      → IsDurable layout (record d { front = front; logged = commits; coming = commits })
   kept_reach commits none counted all = record {
     size = kept.size;
     begun = some-longer d.front front kept.begun longer;
-    on_disk = open_blocks;
+    on_disk = open_layout;
     trusted = trusted-longer d.front front kept.begun longer ∙ kept.trusted;
     marked_to_logged = omega (arith, kept.marked_to_logged, made_later, counted);
     logged_to_coming = omega arith;
@@ -303,28 +294,27 @@ module _ (blocks : ℕ) (d : DurableState) (kept : IsDurable blocks d) (front : 
     rest = λ _. refl;
     maps = λ honest. record {
       logged = reached honest;
-      coming = subst (λ (m : Map). SameMap m (at front commits)) (logged_is_cut d.objects none) (reached honest);
+      coming = subst (λ (m : Map). SameMap m (at front commits)) (logged_is_cut layout d.objects none) (reached honest);
     };
     images = kept.images;
-    law = kept.law;
   }
     where
-      reached : IsTrue (disk_of d).honest → SameMap (map_logged d.objects) (at front commits)
-      reached honest = subst (λ (m : Map). SameMap (map_logged d.objects) m) (sym (ap (at front) counted ∙ at-count front))
-          (subst (λ (m : Map). SameMap m (latest front)) (sym (logged_is_cut d.objects none ∙ cut_is_now d.objects kept.tail))
-          (map_with blocks kept.law d.objects kept.size kept.tail none front d.logged (logged_later honest) made_later []
-          open_blocks (all (trusts honest))))
+      reached : IsTrue (disk_of d).honest → SameMap (map_logged layout d.objects) (at front commits)
+      reached honest = subst (λ (m : Map). SameMap (map_logged layout d.objects) m) (sym (ap (at front) counted ∙ at-count front))
+          (subst (λ (m : Map). SameMap m (latest front)) (sym (logged_is_cut layout d.objects none ∙ cut_is_now layout d.objects kept.tail))
+          (map_with layout d.objects kept.tail none front d.logged (logged_later honest) made_later []
+          open_layout (all (trusts honest))))
 
 -- what was opened is kept
-pub kept_begun : (blocks : ℕ) (objects : WalState) (front : List Entry) → size_of objects ≡ blocks → IsAtRest objects
-    → front ≡ opening (map_now objects) (log_disk objects).honest ∷ [] → ((content : Content) → IsMapOf content (map_of_blocks blocks content))
-    → (IsTrue (log_disk objects).honest → EveryImage (log_disk objects).past (OpensAs (map_now objects)))
-    → IsDurable blocks (begun_durable objects front)
-kept_begun blocks objects front size rest begun law images =
-    subst (λ (h : List Entry). IsDurable blocks (begun_durable objects h)) (sym begun) (record {
+pub kept_begun : (layout : Shape) (objects : WalState) (front : List Entry) → size_of objects ≡ layout.blocks → IsAtRest objects
+    → front ≡ opening (map_now layout objects) (log_disk objects).honest ∷ []
+    → (IsTrue (log_disk objects).honest → EveryImage (log_disk objects).past (OpensAs (map_now layout objects)))
+    → IsDurable layout (begun_durable objects front)
+kept_begun layout objects front size rest begun images =
+    subst (λ (h : List Entry). IsDurable layout (begun_durable objects h)) (sym begun) (record {
       size = size;
       begun = λ is. cc (is);
-      on_disk = map_of-blocks (size_of objects) (blocks_now objects) ∙ size;
+      on_disk = map_of-layout layout (blocks_now objects);
       trusted = refl;
       marked_to_logged = omega arith;
       logged_to_coming = omega arith;
@@ -335,21 +325,18 @@ kept_begun blocks objects front size rest begun law images =
       idle = λ fine none. rest.cut;
       rest = λ _. refl;
       maps = λ honest. record {
-        logged = subst (λ (m : Map). SameMap m (map_now objects)) (sym (logged_is_cut objects rest.cut ∙ cut_is_now objects rest.tail)) (SameMap-refl (map_now objects));
-        coming = subst (λ (m : Map). SameMap m (map_now objects)) (sym (cut_is_now objects rest.tail)) (SameMap-refl (map_now objects));
+        logged = subst (λ (m : Map). SameMap m (map_now layout objects)) (sym (logged_is_cut layout objects rest.cut ∙ cut_is_now layout objects rest.tail)) (SameMap-refl (map_now layout objects));
+        coming = subst (λ (m : Map). SameMap m (map_now layout objects)) (sym (cut_is_now layout objects rest.tail)) (SameMap-refl (map_now layout objects));
       };
-      images = λ honest image one. inr (subst (λ (m : Map). OpensAs m image) (sym (cut_is_now objects rest.tail)) (images honest image one));
-      law = law;
+      images = λ honest image one. inr (subst (λ (m : Map). OpensAs m image) (sym (cut_is_now layout objects rest.tail)) (images honest image one));
     })
 
 -- a block as it is logged
-pub logged_block : (blocks : ℕ) (d : DurableState) (u : Update) → IsDurable blocks d → IsTrue (is_trusted d.front)
-    → u.bytes ≡ blocks_logged d.objects u.block → IsBlockAfter blocks d.front d.logged u
+pub logged_block : (layout : Shape) (d : DurableState) (u : Update) → IsDurable layout d → IsTrue (is_trusted d.front)
+    → u.bytes ≡ blocks_logged d.objects u.block → IsBlockAfter layout d.front d.logged u
 unfolding map_of
-logged_block blocks d u kept trusted is a valid here =
+logged_block layout d u kept trusted is a valid here =
     let honest : IsTrue (disk_of d).honest = subst IsTrue kept.trusted trusted in
-    let there : IsTrue (is_valid (size_of d.objects) a) = subst (λ (k : ℕ). IsTrue (is_valid k a)) (sym kept.size) valid in
-    ap (λ (bytes : Bytes). object_or_zeros blocks bytes a) (is ∙ ap (blocks_logged d.objects) (sym here))
-    ∙ ap (λ (k : ℕ). object_or_zeros k (blocks_logged d.objects a.block) a) (sym kept.size)
-    ∙ sym ((HasObjects-map_of (size_of d.objects) (subst Law (sym kept.size) kept.law) (blocks_logged d.objects)).values a there)
-    ∙ (kept.maps honest).logged.values a there
+    ap (λ (bytes : Bytes). object_or_zeros layout bytes a) (is ∙ ap (blocks_logged d.objects) (sym here))
+    ∙ sym ((HasObjects-map_of layout (law_of layout) (blocks_logged d.objects)).values a valid)
+    ∙ (kept.maps honest).logged.values a valid

@@ -6,7 +6,7 @@ use Rattle.journal_world.specs.declared.refusal.Refusal.TheVariants.{NoMemory, B
 use Rattle.journal_wal.specs.declared.step.InstallStep.{InstallStep}
 use Rattle.journal_core.specs.declared.step.LogStep.{LogStep}
 use Rattle.journal_world.specs.declared.address.Addr.{Addr}
-use Rattle.journal_world.specs.Addresses.{Value}
+use Rattle.journal_world.specs.Addresses.{Value, Shape}
 use Rattle.journal_world.specs.Maps.{Agrees, value_at, is_object}
 use Rattle.journal_world.specs.Histories.{Entry, is_trusted, is_fenced, commits_of, latest}
 use Rattle.journal_block.specs.declared.update.Update.{Update}
@@ -61,11 +61,11 @@ module _ (old new : CoreState) (crash : Crashes old new) where
   answers_session (Err why) begins refusal same = record { refusal = refusal; same = same; crash = crash }
 
   -- the exit of a `?`
-  pub refuses_read : (blocks : ℕ) (t : TransactionState) (a : Addr) (v : Value) (r : Result ReadResultState (Refusal CauseState)) (holds : Refusal CauseState → Type 0) → IsErrAnd r holds
-      → IfErr r (IsReadRefusal blocks old t a new) → OnlyReads old.objects new.objects → new ≡ record old { objects = new.objects }
-      → AnswersRead blocks old t a r v new
-  refuses_read blocks t a v (Ok found) holds is refusal reads others = absurd is
-  refuses_read blocks t a v (Err why) holds is refusal reads others = record {
+  pub refuses_read : (layout : Shape) (t : TransactionState) (a : Addr) (v : Value) (r : Result ReadResultState (Refusal CauseState)) (holds : Refusal CauseState → Type 0) → IsErrAnd r holds
+      → IfErr r (IsReadRefusal layout old t a new) → OnlyReads old.objects new.objects → new ≡ record old { objects = new.objects }
+      → AnswersRead layout old t a r v new
+  refuses_read layout t a v (Ok found) holds is refusal reads others = absurd is
+  refuses_read layout t a v (Err why) holds is refusal reads others = record {
     refusal = refusal;
     reads = reads;
     others = others;
@@ -86,10 +86,10 @@ begins_session v w d now (Ok s) is made fresh free others = subst (λ (c : CoreS
 begins_session v w d now (Err why) is made fresh free others = tt
 
 -- a fetch, of a pair that goes on
-module _ (blocks : ℕ) (v : VolatileState) (d : DurableState) (pair : IsPair blocks v d) (running : IsRunning (core_of v d)) (e : DurableState)
+module _ (layout : Shape) (v : VolatileState) (d : DurableState) (pair : IsPair layout v d) (running : IsRunning (core_of v d)) (e : DurableState)
     (reads : OnlyReadsLog d.objects e.objects) (others : e ≡ record d { objects = e.objects }) (crash : CrashesDurable d e) where
   pub fetches_blocks : (numbers : List ℕ) (f : FetchedState) → map (λ (u : Update). u.block) f.updates ≡ numbers → f.front ≡ d.front → f.commits ≡ d.logged
-      → IsFetched blocks f → is_faulted e ≡ false → IsPair blocks v e → FetchesBlocks blocks (core_of v d) numbers f (core_of v e)
+      → IsFetched layout f → is_faulted e ≡ false → IsPair layout v e → FetchesBlocks layout (core_of v d) numbers f (core_of v e)
   fetches_blocks numbers f named front commits kept fine now = record {
     named = named;
     begins = subst (λ (h : List Entry). IsPrefix h v.ledger.history) (sym front) pair.tied.begins;
@@ -98,11 +98,11 @@ module _ (blocks : ℕ) (v : VolatileState) (d : DurableState) (pair : IsPair bl
     running = (running.0, fine);
     reads = record { wal = reads; tail = refl };
     others = ap (core_of v) others;
-    crash = crashes_pair blocks v v d e pair now crash;
+    crash = crashes_pair layout v v d e pair now crash;
   }
 
   fetch_fails : (why : Refusal CauseState) → IsCallRefusal d e why → IsFetchRefusal (core_of v d) (core_of (failed v) e) why
-  fetch_fails (DeviceFailed cause) it = fails_as blocks v d pair running e (Unit {0}) cause tt it
+  fetch_fails (DeviceFailed cause) it = fails_as layout v d pair running e (Unit {0}) cause tt it
   fetch_fails NoMemory it = absurd it
   fetch_fails BadAddress it = absurd it
   fetch_fails BadSize it = absurd it
@@ -117,37 +117,37 @@ module _ (blocks : ℕ) (v : VolatileState) (d : DurableState) (pair : IsPair bl
   fetch_fails (Closed cause) it = absurd it
   fetch_fails Fenced it = absurd it
 
-  pub fetch_refused : (why : Refusal CauseState) → IsCallRefusal d e why → IsPair blocks (failed v) e → RefusesFetch (core_of v d) why (core_of (failed v) e)
+  pub fetch_refused : (why : Refusal CauseState) → IsCallRefusal d e why → IsPair layout (failed v) e → RefusesFetch (core_of v d) why (core_of (failed v) e)
   fetch_refused why it now = record {
     refusal = fetch_fails why it;
     reads = record { wal = reads; tail = refl };
     others = ap (core_of v) others;
-    crash = crashes_pair blocks v (failed v) d e pair now crash;
+    crash = crashes_pair layout v (failed v) d e pair now crash;
   }
 
 -- a hold of memory alone, of a pair that is tied, with whatever was fetched before
-module _ (blocks : ℕ) (v : VolatileState) (d : DurableState) (pair : IsPair blocks v d) where
-  pub finds_in_memory : (t : TransactionState) (a : Addr) (x : Value) → MayRead blocks (outset_of v) t a
-      → (IsTrue (is_trusted v.ledger.history) → x ≡ value_at (latest v.ledger.history) a) → IsTrue (is_object blocks (a, x))
-      → FindsValue blocks (core_of v d) t a x (core_of v d)
+module _ (layout : Shape) (v : VolatileState) (d : DurableState) (pair : IsPair layout v d) where
+  pub finds_in_memory : (t : TransactionState) (a : Addr) (x : Value) → MayRead layout (outset_of v) t a
+      → (IsTrue (is_trusted v.ledger.history) → x ≡ value_at (latest v.ledger.history) a) → IsTrue (is_object layout (a, x))
+      → FindsValue layout (core_of v d) t a x (core_of v d)
   finds_in_memory t a x may value object = record {
-    may = subst (λ (o : Outset). MayRead blocks o t a) (same_outset blocks v d pair) may;
+    may = subst (λ (o : Outset). MayRead layout o t a) (same_outset layout v d pair) may;
     value = value;
     object = object;
     running = (may.running.0, sym pair.fault ∙ may.running.1);
     reads = record { wal = OnlyReads-refl d.objects; tail = refl };
     others = refl;
-    crash = crashes_memory blocks v v d pair pair;
+    crash = crashes_memory layout v v d pair pair;
   }
 
-  pub commits_in_memory : (w : VolatileState) (t : TransactionState) (s after : SessionState) → IsVolatile blocks w
+  pub commits_in_memory : (w : VolatileState) (t : TransactionState) (s after : SessionState) → IsVolatile layout w
       → IsCommittedIn t.reads t.writes s after v w → CanCommitFrom (outset_of v) s t
       → (IsTrue (is_trusted v.ledger.history) → Agrees (latest v.ledger.history) t.reads)
       → CommitsTransaction (core_of v d) s t (core_of w d) after
   commits_in_memory w t s after kept it can agrees = record {
-    can = subst (λ (o : Outset). CanCommitFrom o s t) (same_outset blocks v d pair) can;
-    committed = committed_as blocks v d pair w d t.reads t.writes s after (OnlyReads-refl d.objects) refl it;
+    can = subst (λ (o : Outset). CanCommitFrom o s t) (same_outset layout v d pair) can;
+    committed = committed_as layout v d pair w d t.reads t.writes s after (OnlyReads-refl d.objects) refl it;
     agrees = agrees;
     running = (ap (λ (x : VolatileState). x.ledger.closed) it.others ∙ can.may.running.0, sym pair.fault ∙ can.may.running.1);
-    crash = crashes_memory blocks v w d pair (pair_committed blocks v d pair w t.reads t.writes s after kept it);
+    crash = crashes_memory layout v w d pair (pair_committed layout v d pair w t.reads t.writes s after kept it);
   }

@@ -5,7 +5,7 @@ use mathlib.Core.List.{IsPrefix}
 use Rattle.journal_world.specs.declared.address.Addr.{Addr}
 use Rattle.journal_core.specs.declared.step.LogStep.{LogStep}
 use Rattle.journal_core.specs.declared.step.LogStep.TheVariants.{Cut, Put, Logged, Marked}
-use Rattle.journal_world.specs.Addresses.{Value, slot_of}
+use Rattle.journal_world.specs.Addresses.{Value, slot_of, Shape}
 use Rattle.journal_world.specs.Maps.{Map, is_object}
 use Rattle.journal_world.specs.Histories.{opened}
 use Rattle.journal_block.specs.Block.{Bytes}
@@ -35,7 +35,7 @@ pub record Moves (step : LogStep) (old new : CoreState) : Type 0 where
   pub same : new.history ≡ old.history
 
 -- what the core and the transaction answered, step by step
-pub record Steps (rule : Map → Type 0) (disk : DiskState) (image : List Bytes) (v w : Value) : Type 0 where
+pub record Steps (rule : Map → Type 0) (layout : Shape) (disk : DiskState) (image : List Bytes) (v w : Value) : Type 0 where
   pub at_first : CoreState
   pub joined : CoreState
   pub ready : CoreState
@@ -53,13 +53,13 @@ pub record Steps (rule : Map → Type 0) (disk : DiskState) (image : List Bytes)
   pub after : SessionState
   pub one : TransactionState
   pub both : TransactionState
-  pub begins_first : Begins rule disk at_first
+  pub begins_first : Begins rule layout disk at_first
   pub joins_one : Joins at_first session joined
-  pub fetch : FetchesBlocks (opened joined.history).blocks joined (531 ∷ []) blocks ready
+  pub fetch : FetchesBlocks (opened joined.history).layout joined (531 ∷ []) blocks ready
   pub seen : IsPrefix session.seen ready.history
-  pub first_object : IsTrue (is_object (opened ready.history).blocks (first, v))
+  pub first_object : IsTrue (is_object (opened ready.history).layout (first, v))
   pub writes_first : Overwrites (begun session.seen) first v one
-  pub second_object : IsTrue (is_object (opened ready.history).blocks (second, w))
+  pub second_object : IsTrue (is_object (opened ready.history).layout (second, w))
   pub writes_second : Overwrites one second w both
   pub commits_both : CommitsTransaction ready session both at_commit after
   pub cuts : Moves Cut at_commit cut
@@ -72,9 +72,9 @@ pub record Steps (rule : Map → Type 0) (disk : DiskState) (image : List Bytes)
   pub left : IsLeftBetween (disk_of marks).past (disk_of last).past image
   pub again : DiskState
   pub holds : HoldsImage again image
-  pub begins_next : Begins rule again next
+  pub begins_next : Begins rule (opened marks.history).layout again next
 
-module _ (rule : Map → Type 0) (disk : DiskState) (image : List Bytes) (v w : Value) (s : Steps rule disk image v w) where
+module _ (rule : Map → Type 0) (layout : Shape) (disk : DiskState) (image : List Bytes) (v w : Value) (s : Steps rule layout disk image v w) where
   -- the mount before each event of the transaction
   abbrev before : Mount
   before = record { core = s.joined; transactions = λ actor. None; holders = λ slot. None; fetched = λ actor. [] }
@@ -143,7 +143,7 @@ module _ (rule : Map → Type 0) (disk : DiskState) (image : List Bytes) (v w : 
                         up (done s.marks),
                         (s.marks, s.marks_one, refl),
                         (
-                          down image,
+                          down (opened s.marks.history).layout image,
                           (refl, (s.last, s.crash, s.left, refl)),
                           (
                             mounted s.next,

@@ -5,6 +5,7 @@ use Rattle.std.proofs.Common.{inl, inr, ⊎_elim, ◌≡◌, ◌+◌, ◌-◌, �
 use Rattle.std.proofs.lemmas.List.{length-replicate}
 use Rattle.std.specs.List.{filter}
 use Rattle.journal_world.specs.declared.refusal.Refusal.{Refusal}
+use Rattle.journal_world.specs.Addresses.{Shape}
 use Rattle.journal_world.specs.Maps.{Map, Transaction}
 use Rattle.journal_world.specs.Histories.{Entry, is_fenced, writes_slot}
 use Rattle.journal_world.specs.Histories.Entry.{fence}
@@ -95,36 +96,36 @@ ledger_fenced fenced new sessions slots lengths now m history len next session k
     })
 
 -- what the volatile part keeps
-module _ (blocks : ℕ) (v : VolatileState) (kept : IsVolatile blocks v) where
-  volatile_fenced : (session next : ℕ) → IsVolatile blocks (record v { ledger = record v.ledger { history = v.ledger.history ++ fence session ∷ []; next = next } })
+module _ (layout : Shape) (v : VolatileState) (kept : IsVolatile layout v) where
+  volatile_fenced : (session next : ℕ) → IsVolatile layout (record v { ledger = record v.ledger { history = v.ledger.history ++ fence session ∷ []; next = next } })
   volatile_fenced session next = record {
     size = kept.size;
     begun = append-some v.ledger.history (fence session ∷ []) kept.begun;
-    on_disk = ap (λ (m : Map). m.blocks) (opened-append v.ledger.history (fence session ∷ []) kept.begun) ∙ kept.on_disk;
+    on_disk = ap (λ (m : Map). m.layout) (opened-append v.ledger.history (fence session ∷ []) kept.begun) ∙ kept.on_disk;
     made = omega (arith, kept.made, count-fence v.ledger.history session);
     cut_to_next = kept.cut_to_next;
     small = kept.small;
     cuts = λ k d lt. let was = kept.cuts k d lt in record { above = was.above; below = was.below; earlier = was.earlier };
     updates = λ trusted. let has = kept.updates (subst IsTrue (is_trusted-append v.ledger.history (fence session ∷ []) kept.begun) trusted) in record {
-      since = λ k d lt. since_fence blocks v.ledger.history session _ _ kept.begun (has.since k d lt);
-      since_last = since_fence blocks v.ledger.history session _ _ kept.begun has.since_last;
+      since = λ k d lt. since_fence layout v.ledger.history session _ _ kept.begun (has.since k d lt);
+      since_last = since_fence layout v.ledger.history session _ _ kept.begun has.since_last;
     };
-    known = λ trusted. subst (λ (m : Map). AreObjectsOf blocks m (known_blocks v.tail)) (sym (latest_fence v.ledger.history session kept.begun))
+    known = λ trusted. subst (λ (m : Map). AreObjectsOf layout m (known_blocks v.tail)) (sym (latest_fence v.ledger.history session kept.begun))
         (kept.known (subst IsTrue (is_trusted-append v.ledger.history (fence session ∷ []) kept.begun) trusted));
   }
 
   -- whatever is answered
   pub kept_fenced : {T E : Type 0} (session : ℕ) (new : LedgerState) (r : Result T E) → OnOk r (SetsFence session v.ledger new) → OnErr r (new ≡ v.ledger)
-      → IsVolatile blocks (record v { ledger = new })
+      → IsVolatile layout (record v { ledger = new })
   kept_fenced session new (Ok value) did same = ⊎_elim
       (λ (adds : AddsFence session v.ledger new).
-      subst (λ (m : LedgerState). IsVolatile blocks (record v { ledger = m })) (sym adds.fenced) (volatile_fenced session (max v.ledger.next (session + 1))))
-      (λ (has : HasFence session v.ledger new). subst (λ (m : LedgerState). IsVolatile blocks (record v { ledger = m })) (sym has.same) kept)
+      subst (λ (m : LedgerState). IsVolatile layout (record v { ledger = m })) (sym adds.fenced) (volatile_fenced session (max v.ledger.next (session + 1))))
+      (λ (has : HasFence session v.ledger new). subst (λ (m : LedgerState). IsVolatile layout (record v { ledger = m })) (sym has.same) kept)
       did
-  kept_fenced session new (Err why) did same = subst (λ (m : LedgerState). IsVolatile blocks (record v { ledger = m })) (sym same) kept
+  kept_fenced session new (Err why) did same = subst (λ (m : LedgerState). IsVolatile layout (record v { ledger = m })) (sym same) kept
 
 -- what ties the two parts, and what each of them keeps
-module _ (blocks : ℕ) (v : VolatileState) (d : DurableState) (pair : IsPair blocks v d) where
+module _ (layout : Shape) (v : VolatileState) (d : DurableState) (pair : IsPair layout v d) where
   tied_fenced : (session next : ℕ) → Tied (record v { ledger = record v.ledger { history = v.ledger.history ++ fence session ∷ []; next = next } }) d
   tied_fenced session next = record {
     begins = IsPrefix-trans d.front v.ledger.history (v.ledger.history ++ fence session ∷ []) pair.tied.begins (fence session ∷ [], refl);
@@ -135,25 +136,25 @@ module _ (blocks : ℕ) (v : VolatileState) (d : DurableState) (pair : IsPair bl
     logged = pair.tied.logged;
   }
 
-  pair_added : (session next : ℕ) → IsPair blocks (record v { ledger = record v.ledger { history = v.ledger.history ++ fence session ∷ []; next = next } }) d
+  pair_added : (session next : ℕ) → IsPair layout (record v { ledger = record v.ledger { history = v.ledger.history ++ fence session ∷ []; next = next } }) d
   pair_added session next = record {
-    volatile = volatile_fenced blocks v pair.volatile session next;
+    volatile = volatile_fenced layout v pair.volatile session next;
     durable = pair.durable;
     tied = tied_fenced session next;
     fault = pair.fault;
   }
 
-  pair_set : (session : ℕ) (w : VolatileState) → w ≡ record v { ledger = w.ledger } → SetsFence session v.ledger w.ledger → IsPair blocks w d
-  pair_set session w others did = subst (λ (x : VolatileState). IsPair blocks x d) (sym others) (⊎_elim
+  pair_set : (session : ℕ) (w : VolatileState) → w ≡ record v { ledger = w.ledger } → SetsFence session v.ledger w.ledger → IsPair layout w d
+  pair_set session w others did = subst (λ (x : VolatileState). IsPair layout x d) (sym others) (⊎_elim
       (λ (adds : AddsFence session v.ledger w.ledger).
-      subst (λ (m : LedgerState). IsPair blocks (record v { ledger = m }) d) (sym adds.fenced) (pair_added session (max v.ledger.next (session + 1))))
-      (λ (has : HasFence session v.ledger w.ledger). subst (λ (m : LedgerState). IsPair blocks (record v { ledger = m }) d) (sym has.same) pair)
+      subst (λ (m : LedgerState). IsPair layout (record v { ledger = m }) d) (sym adds.fenced) (pair_added session (max v.ledger.next (session + 1))))
+      (λ (has : HasFence session v.ledger w.ledger). subst (λ (m : LedgerState). IsPair layout (record v { ledger = m }) d) (sym has.same) pair)
       did)
 
   pub pair_fenced : {T E : Type 0} (session : ℕ) (w : VolatileState) (r : Result T E) → w ≡ record v { ledger = w.ledger } → OnOk r (SetsFence session v.ledger w.ledger)
-      → OnErr r (w ≡ v) → IsPair blocks w d
+      → OnErr r (w ≡ v) → IsPair layout w d
   pair_fenced session w (Ok value) others did same = pair_set session w others did
-  pair_fenced session w (Err why) others did same = subst (λ (x : VolatileState). IsPair blocks x d) (sym same) pair
+  pair_fenced session w (Err why) others did same = subst (λ (x : VolatileState). IsPair layout x d) (sym same) pair
 
   -- the same as a step of the core
   set_in_core : (session : ℕ) (w : VolatileState) → w ≡ record v { ledger = w.ledger } → SetsFence session v.ledger w.ledger → SetsInCore session (core_of v d) (core_of w d)

@@ -5,7 +5,7 @@ use Rattle.std.proofs.lemmas.Option.{none-some}
 use Rattle.std.proofs.lemmas.List.Elements.{All-head, All-tail, All-cons}
 use Rattle.journal_world.specs.declared.address.Addr.{Addr}
 use Rattle.journal_world.specs.declared.refusal.Refusal.{Refusal}
-use Rattle.journal_world.specs.Addresses.{Value, is_valid, kind_of}
+use Rattle.journal_world.specs.Addresses.{Value, is_valid, kind_of, Shape}
 use Rattle.journal_world.specs.Maps.{Pair, is_value_at, is_object, are_objects}
 use Rattle.journal_block.specs.declared.update.Update.{Update}
 use Rattle.journal_block.specs.Updates.{updates_block}
@@ -14,7 +14,7 @@ use Rattle.journal_object.proofs.MapOfBlocks.{valid_block}
 use Rattle.journal_objlog.specs.declared.tail_prepare.Preparation.{Preparation}
 use Rattle.journal_objlog.specs.declared.tail_prepare.Preparation.TheVariants.{Ready, Missing}
 use Rattle.journal_wal.specs.Tails.{known_blocks}
-use Rattle.journal_objlog.specs.ObjectTails.{blocks_of, known_at, known_updates, is_missing, is_one_object, missing_blocks, IfMissing}
+use Rattle.journal_objlog.specs.ObjectTails.{known_at, known_updates, is_missing, is_one_object, missing_blocks, IfMissing}
 use Rattle.journal_objlog.specs.Writes.{writes_block}
 use Rattle.journal_objlog.proofs.Fetched.{or_right}
 use Rattle.journal_core.specs.Causes.{CauseState}
@@ -47,7 +47,7 @@ all_cond : (P : ℕ → Type 0) (c : Bool) (b : ℕ) (bs : List ℕ) → All P (
 all_cond P true b bs all = All-tail P b bs all
 all_cond P false b bs all = all
 
-module _ (n : ℕ) (fetched known : List Update) where
+module _ (n : Shape) (fetched known : List Update) where
   gone : (o f u : Bool) → ((o && not u) ≡ true → f ≡ true) → (o && not (f || u)) ≡ false
   gone false f u has = refl
   gone true true u has = refl
@@ -79,21 +79,21 @@ module _ (n : ℕ) (fetched known : List Update) where
           (λ i. missing i && not (unwritten i)) all)
 
 -- each of them lies on the disk
-module _ (n : ℕ) (low : 532 ≤ n) (known : List Update) where
-  below_cond : (c : Bool) (b : ℕ) (bs : List ℕ) → b < n → All (λ k. k < n) bs → All (λ k. k < n) (cond c (b ∷ bs) bs)
-  below_cond true b bs lt all = All-cons (λ k. k < n) b bs lt all
+module _ (n : Shape) (known : List Update) where
+  below_cond : (c : Bool) (b : ℕ) (bs : List ℕ) → b < n.blocks → All (λ k. k < n.blocks) bs → All (λ k. k < n.blocks) (cond c (b ∷ bs) bs)
+  below_cond true b bs lt all = All-cons (λ k. k < n.blocks) b bs lt all
   below_cond false b bs lt all = all
 
-  pub missing_below : (ws : List Pair) → IsTrue (are_objects n ws) → All (λ b. b < n) (missing_blocks n known ws)
+  pub missing_below : (ws : List Pair) → IsTrue (are_objects n ws) → All (λ b. b < n.blocks) (missing_blocks n known ws)
   missing_below [] objects = λ k d lt. absurd (omega (arith, lt))
   missing_below (p ∷ later) objects =
       let parts = and_parts (is_object n p) (are_objects n later) objects in
       let own = and_parts (is_valid n p.0) (is_value_at (kind_of n p.0.block) p.1) parts.0 in
-      below_cond (is_missing n known p.0.block && not (writes_block later p.0.block)) p.0.block (missing_blocks n known later) (valid_block n p.0 low own.0).1
+      below_cond (is_missing n known p.0.block && not (writes_block later p.0.block)) p.0.block (missing_blocks n known later) (valid_block n p.0 own.0).1
       (missing_below later parts.1)
 
 -- what is fetched names the blocks, so none is lacking
-pub fetched_all : (n : ℕ) (fetched known : List Update) (blocks : List ℕ) (ws : List Pair) → map (λ u. u.block) fetched ≡ blocks
+pub fetched_all : (n : Shape) (fetched known : List Update) (blocks : List ℕ) (ws : List Pair) → map (λ u. u.block) fetched ≡ blocks
     → blocks ≡ missing_blocks n known ws → missing_blocks n (fetched ++ known) ws ≡ []
 fetched_all n fetched known blocks ws named is =
     none_left n fetched known ws (subst (All (λ b. updates_block fetched b ≡ true)) (named ∙ is) (named_all fetched))
@@ -111,11 +111,11 @@ pub all_usable : (v : VolatileState) (f : FetchedState) → v.tail.trimmed ≤ f
 all_usable v f le = ap (λ (b : Bool). cond b f.updates []) (le-leb v.tail.trimmed f.commits le)
 
 -- a block that was fetched is known
-pub fetched_known : (v : VolatileState) (f : FetchedState) (a : Addr) → v.tail.trimmed ≤ f.commits → map (λ u. u.block) f.updates ≡ a.block ∷ []
-    → known_at (usable v f) v.tail a ≡ None → ⊥
-fetched_known v f a fresh named none =
-    some_not (sym (known_named (blocks_of v.tail) (known_updates f.updates v.tail) a there)
-    ∙ ap (λ (us : List Update). known_at us v.tail a) (sym (all_usable v f fresh)) ∙ none)
+pub fetched_known : (layout : Shape) (v : VolatileState) (f : FetchedState) (a : Addr) → v.tail.trimmed ≤ f.commits → map (λ u. u.block) f.updates ≡ a.block ∷ []
+    → known_at layout (usable v f) v.tail a ≡ None → ⊥
+fetched_known layout v f a fresh named none =
+    some_not (sym (known_named layout (known_updates f.updates v.tail) a there)
+    ∙ ap (λ (us : List Update). known_at layout us v.tail a) (sym (all_usable v f fresh)) ∙ none)
   where
     here : updates_block f.updates a.block ≡ true
     here = All-head (λ b. updates_block f.updates b ≡ true) a.block [] (subst (All (λ b. updates_block f.updates b ≡ true)) named (named_all f.updates))
@@ -127,8 +127,8 @@ fetched_known v f a fresh named none =
     some_not {x} is = none-some x (sym is)
 
 -- what is still to be fetched for writes lies on the disk
-pub answered_below : (n : ℕ) → 532 ≤ n → (known : List Update) (ws : List Pair) → IsTrue (are_objects n ws) → (answer : Result Preparation (Refusal CauseState))
-    → IfOk answer (IfMissing (λ blocks. blocks ≡ missing_blocks n known ws)) → IfOk answer (IfMissing (λ blocks. All (λ b. b < n) blocks))
-answered_below n low known ws objects (Err why) is = tt
-answered_below n low known ws objects (Ok (Ready prepared)) is = tt
-answered_below n low known ws objects (Ok (Missing blocks)) is = subst (All (λ b. b < n)) (sym is) (missing_below n low known ws objects)
+pub answered_below : (n : Shape) → (known : List Update) (ws : List Pair) → IsTrue (are_objects n ws) → (answer : Result Preparation (Refusal CauseState))
+    → IfOk answer (IfMissing (λ blocks. blocks ≡ missing_blocks n known ws)) → IfOk answer (IfMissing (λ blocks. All (λ b. b < n.blocks) blocks))
+answered_below n known ws objects (Err why) is = tt
+answered_below n known ws objects (Ok (Ready prepared)) is = tt
+answered_below n known ws objects (Ok (Missing blocks)) is = subst (All (λ b. b < n.blocks)) (sym is) (missing_below n known ws objects)

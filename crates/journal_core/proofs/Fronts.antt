@@ -5,8 +5,12 @@ use Rattle.std.proofs.lemmas.List.Elements.{filter_map-append}
 use mathlib.Core.List.{IsPrefix}
 use Rattle.journal_world.specs.Maps.{Map, Transaction}
 use Rattle.journal_world.specs.Histories.{Entry, committed, commits, count, opened, is_trusted, after, at}
-use Rattle.journal_world.proofs.LongerHistories.{opened-append}
+use Rattle.journal_world.proofs.LongerHistories.{opened-append, after-layout}
 use Rattle.journal_world.proofs.MapsOfHistories.{is_trusted-append}
+
+-- the map after any of its commits is of its layout
+pub at-layout : (history : List Entry) (n : ℕ) → (at history n).layout ≡ (opened history).layout
+at-layout history n = after-layout (opened history) (take n (commits history))
 
 at-append : (history more : List Entry) (n : ℕ) → history ≢ [] → n ≤ count history → at (history ++ more) n ≡ at history n
 at-append history more n some le =

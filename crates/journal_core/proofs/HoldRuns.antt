@@ -1,13 +1,12 @@
 -- Whole runs of holds tell how the history came to be, and keep it legal and the parts tied.
-use Rattle.std.proofs.Common.{◌≡◌, ◌≢◌, ◌⊎◌, ⊎_elim, ◌≤◌, ◌+◌, ℕ, ◌==◌, Bool, true, false, cond, IsTrue, List, [], ◌∷◌, ◌++◌, length, All, length-append, Option, Some, None, Result, Ok, Err, refl, sym, ap, subst, ◌∙◌, arith}
+use Rattle.std.proofs.Common.{◌≡◌, ◌≢◌, ◌⊎◌, ⊎_elim, ◌<◌, ◌≤◌, ◌+◌, ℕ, ◌==◌, Bool, true, false, cond, IsTrue, List, [], ◌∷◌, ◌++◌, length, All, length-append, Option, Some, None, Result, Ok, Err, refl, sym, ap, subst, ◌∙◌, arith}
 use Rattle.std.proofs.lemmas.Bool.{eqb-true, eqb-false}
 use Rattle.std.proofs.lemmas.Option.{same_Some, none-some}
 use Rattle.std.proofs.lemmas.List.Elements.{All-cons, All-weaker}
 use mathlib.Core.List.{IsPrefix}
 use Rattle.journal_world.specs.declared.address.Addr.{Addr}
-use Rattle.journal_world.specs.declared.layout.TheConstants.{MIN_BLOCKS}
 use Rattle.journal_world.specs.declared.refusal.Refusal.{Refusal}
-use Rattle.journal_world.specs.Addresses.{Value, slot_of}
+use Rattle.journal_world.specs.Addresses.{Value, slot_of, Shape}
 use Rattle.journal_world.specs.Maps.{Map, Pair, Transaction, SameMap, value_at}
 use Rattle.journal_world.specs.Histories.{Entry, opened, is_trusted, latest, count, floor, commits_of, at, Follows, IsTrueTo, IsLegal}
 use Rattle.journal_world.specs.Histories.Entry.{opening, commit, stable, fence}
@@ -36,30 +35,30 @@ use Rattle.journal_core.specs.Pairs.{IsMarkDue, MarksBoth, MarksAll}
 use Rattle.journal_core.specs.Holds.{IsBetween, FindsInMemory, LacksBlock, RefusesRead, AnswersRead, CommitsInMemory, LacksBlocks, RefusesCommit, KeepsCopies, AnswersSession, FencesSession, AnswersFence, Stops, FetchesBlocks, AnswersFetch, AnswersGroupCall, AnswersHomeCall, MarksOrCuts, AnswersMarkOrCut, Trims, NotesFault}
 use Rattle.journal_core.specs.Outcomes.{Answer, Tells, TellsAll, HoldsImage}
 use Rattle.journal_core.specs.Outcomes.Answer.{nothing, value, committed, marked, fenced, waited, imaged, crashed, reopened}
-use Rattle.journal_core.specs.TwoLocks.{Event, Parts, history_of, Mount, Machine, mounted, holds, with_parts, with_volatile, with_durable, with_transaction, with_slot, with_fetched, ended, keeping, blocks_of, BeginsApart, Ignores, BeginsTransaction, TakesSlot, ReadsUnderSlot, OverwritesUnderSlot, Finishes, MakesFence, MarksOrCutsBoth, WaitsFor, Flushes, TakesImage, HappensUp, HappensDown, Happens, Run, HasHistory, IsUndisturbed, StaysFetched}
+use Rattle.journal_core.specs.TwoLocks.{Event, Parts, history_of, Mount, Machine, mounted, holds, with_parts, with_volatile, with_durable, with_transaction, with_slot, with_fetched, ended, keeping, layout_of, BeginsApart, Ignores, BeginsTransaction, TakesSlot, ReadsUnderSlot, OverwritesUnderSlot, Finishes, MakesFence, MarksOrCutsBoth, WaitsFor, Flushes, TakesImage, HappensUp, HappensDown, Happens, Run, HasHistory, IsUndisturbed, StaysFetched}
 use Rattle.journal_core.specs.TwoLocks.Event.{begins, takes, reads, overwrites, aborts, copies, joins, fences, stops, waits, flushes, shows, fetches, logs, installs, marks_or_cuts, trims, notes, images, crashes, opens}
 use Rattle.journal_core.specs.TwoLocks.Event.{commits as finishes}
 use Rattle.journal_core.specs.TwoLocks.Machine.{up, down}
 use Rattle.journal_core.proofs.Holding.{IsSound, begun_sound, sound_held, keeps_taken, keeps_given, sound_marked, sound_fenced, sound_committed, sound_read, sound_overwritten, is_holder}
-use Rattle.journal_core.proofs.Fronts.{at-longer, count-longer, trusted-longer}
+use Rattle.journal_core.proofs.Fronts.{at-layout, at-longer, count-longer, trusted-longer}
 use Rattle.journal_core.proofs.Pairing.{begins_not, leaves_history, made_in}
 use Rattle.journal_core.proofs.Between.{between_fetch, between_group, between_home, between_mark_or_cut, between_trimmed, between_noted, between_commit, between_roomed, between_copied, between_counted, between_fenced, fetch_honest, group_honest, home_honest, mark_or_cut_honest}
 
 -- What holds of two parts whose locks are free
 pub record IsRunning (rule : Map → Type 0) (p : Parts) : Type 0 where
-  pub between : IsBetween (opened (history_of p)).blocks p.volatile p.durable
+  pub between : IsBetween (opened (history_of p)).layout p.volatile p.durable
   pub honest : IsTrue (disk_of p.durable).honest
   pub trusted : IsTrue (is_trusted (history_of p))
   pub legal : IsLegal rule (history_of p)
 
 -- of any disk
-rebased : (n : ℕ) (v : VolatileState) (d : DurableState) → IsBetween n v d → IsBetween (opened v.ledger.history).blocks v d
-rebased n v d between = subst (λ (k : ℕ). IsBetween k v d) (sym between.volatile.on_disk) between
+rebased : (n : Shape) (v : VolatileState) (d : DurableState) → IsBetween n v d → IsBetween (opened v.ledger.history).layout v d
+rebased n v d between = subst (λ (k : Shape). IsBetween k v d) (sym between.volatile.on_disk) between
 
 -- What holds of blocks that were fetched, where this is the history
 pub record WasFetched (history : List Entry) (f : FetchedState) : Type 0 where
   pub begins : IsPrefix f.front history
-  pub objects : IsFetched (opened history).blocks f
+  pub objects : IsFetched (opened history).layout f
 
 -- and of a longer history
 fetched_longer : (history : List Entry) (e : Entry) (fs : List FetchedState) → history ≢ [] → All (WasFetched history) fs → All (WasFetched (history ++ e ∷ [])) fs
@@ -68,7 +67,7 @@ fetched_longer history e fs some all = All-weaker (WasFetched history) (WasFetch
     one : (f : FetchedState) → WasFetched history f → WasFetched (history ++ e ∷ []) f
     one f was = record {
       begins = IsPrefix-trans f.front history (history ++ e ∷ []) was.begins (e ∷ [], refl);
-      objects = subst (λ (m : Map). IsFetched m.blocks f) (sym (opened-append history (e ∷ []) some)) was.objects;
+      objects = subst (λ (m : Map). IsFetched m.layout f) (sym (opened-append history (e ∷ []) some)) was.objects;
     }
 
 -- and of every mount
@@ -79,7 +78,7 @@ pub record IsUp (rule : Map → Type 0) (m : Mount) : Type 0 where
 
 abbrev pub Holds : (Map → Type 0) → Machine → List Entry → Type 0
 Holds rule (up m) history = (history_of m.parts ≡ history) × IsUp rule m
-Holds rule (down image) history = (m : Map) × OpensAs m image × (history ≡ opening m true ∷ [])
+Holds rule (down layout image) history = (m : Map) × (m.layout ≡ layout) × OpensAs m image × (history ≡ opening m true ∷ [])
 
 -- the answer tells what became of the history, and all holds on
 pub record Goes (rule : Map → Type 0) (old : List Entry) (answer : Answer) (new : Machine) : Type 0 where
@@ -89,11 +88,11 @@ pub record Goes (rule : Map → Type 0) (old : List Entry) (answer : Answer) (ne
 
 module _ (rule : Map → Type 0) where
   -- the parts go on with the same history
-  up_on : (m : Mount) (w : VolatileState) (e : DurableState) → IsUp rule m → IsBetween (blocks_of m) w e → (disk_of e).honest ≡ (disk_of m.parts.durable).honest
+  up_on : (m : Mount) (w : VolatileState) (e : DurableState) → IsUp rule m → IsBetween (layout_of m) w e → (disk_of e).honest ≡ (disk_of m.parts.durable).honest
       → w.ledger.history ≡ history_of m.parts → IsUp rule (with_parts m w e)
   up_on m w e is between honest same = record {
     runs = record {
-      between = rebased (blocks_of m) w e between;
+      between = rebased (layout_of m) w e between;
       honest = subst IsTrue (sym honest) is.runs.honest;
       trusted = subst (λ (h : List Entry). IsTrue (is_trusted h)) (sym same) is.runs.trusted;
       legal = subst (IsLegal rule) (sym same) is.runs.legal;
@@ -103,11 +102,11 @@ module _ (rule : Map → Type 0) where
   }
 
   -- and with one more entry
-  runs_adds : (m : Mount) (w : VolatileState) (d : DurableState) (e : Entry) → IsUp rule m → IsBetween (blocks_of m) w d
+  runs_adds : (m : Mount) (w : VolatileState) (d : DurableState) (e : Entry) → IsUp rule m → IsBetween (layout_of m) w d
       → (disk_of d).honest ≡ (disk_of m.parts.durable).honest → w.ledger.history ≡ history_of m.parts ++ e ∷ [] → IsLegal rule (history_of m.parts ++ e ∷ [])
       → IsRunning rule (record { volatile = w; durable = d })
   runs_adds m w d e is between honest added legal = record {
-    between = rebased (blocks_of m) w d between;
+    between = rebased (layout_of m) w d between;
     honest = subst IsTrue (sym honest) is.runs.honest;
     trusted = subst (λ (h : List Entry). IsTrue (is_trusted h)) (sym added)
         (subst IsTrue (sym (is_trusted-append (history_of m.parts) (e ∷ []) is.runs.between.volatile.begun)) is.runs.trusted);
@@ -121,7 +120,7 @@ module _ (rule : Map → Type 0) where
     agrees = Each-snoc (IsTrueTo rule) history e legal.agrees true_to;
   }
 
-  up_marked : (m : Mount) (w : VolatileState) (d : DurableState) (n : ℕ) → IsUp rule m → IsBetween (blocks_of m) w d
+  up_marked : (m : Mount) (w : VolatileState) (d : DurableState) (n : ℕ) → IsUp rule m → IsBetween (layout_of m) w d
       → (disk_of d).honest ≡ (disk_of m.parts.durable).honest → w.ledger.history ≡ history_of m.parts ++ stable n ∷ []
       → IsLegal rule (history_of m.parts ++ stable n ∷ []) → IsUp rule (with_parts m w d)
   up_marked m w d n is between honest added legal = record {
@@ -132,7 +131,7 @@ module _ (rule : Map → Type 0) where
         (fetched_longer (history_of m.parts) (stable n) (m.fetched actor) is.runs.between.volatile.begun (is.fetched actor));
   }
 
-  up_fenced : (m : Mount) (w : VolatileState) (d : DurableState) (s : ℕ) → IsUp rule m → IsBetween (blocks_of m) w d
+  up_fenced : (m : Mount) (w : VolatileState) (d : DurableState) (s : ℕ) → IsUp rule m → IsBetween (layout_of m) w d
       → (disk_of d).honest ≡ (disk_of m.parts.durable).honest → w.ledger.history ≡ history_of m.parts ++ fence s ∷ []
       → IsLegal rule (history_of m.parts ++ fence s ∷ []) → IsUp rule (with_parts m w d)
   up_fenced m w d s is between honest added legal = record {
@@ -200,7 +199,7 @@ module _ (rule : Map → Type 0) where
 
   -- a hold that leaves the history
   quiet : (m : Mount) (w : VolatileState) (e : DurableState) (answer : Answer) (new : Machine) → answer ≡ nothing → new ≡ up (with_parts m w e) → IsUp rule m
-      → IsBetween (blocks_of m) w e → (disk_of e).honest ≡ (disk_of m.parts.durable).honest → w.ledger.history ≡ history_of m.parts → Goes rule (history_of m.parts) answer new
+      → IsBetween (layout_of m) w e → (disk_of e).honest ≡ (disk_of m.parts.durable).honest → w.ledger.history ≡ history_of m.parts → Goes rule (history_of m.parts) answer new
   quiet m w e answer new none after is between honest same =
       silent (history_of m.parts) (with_parts m w e) answer new none after same (up_on m w e is between honest same)
 
@@ -222,7 +221,7 @@ module _ (rule : Map → Type 0) where
       silent (history_of m.parts) (with_slot m actor slot) answer new it.0 it.1 refl (slot_taken m actor slot free is)
 
   -- a read in memory leaves all
-  read_same : (n : ℕ) (v : VolatileState) (t : TransactionState) (a : Addr) (f : FetchedState) (r : Result (Option ReadResultState) (Refusal CauseState)) (x : Value) (w : VolatileState)
+  read_same : (n : Shape) (v : VolatileState) (t : TransactionState) (a : Addr) (f : FetchedState) (r : Result (Option ReadResultState) (Refusal CauseState)) (x : Value) (w : VolatileState)
       → AnswersRead n v t a f r x w → w ≡ v
   read_same n v t a f (Ok (Some found)) x w it = it.same
   read_same n v t a f (Ok None) x w it = it.same
@@ -234,13 +233,13 @@ module _ (rule : Map → Type 0) where
   goes-reads m actor a (Some t) false answer new it is at holder = ignored m answer new it is
   goes-reads m actor a (Some t) true nothing new it is at holder =
       let w : VolatileState = it.1.1.1.0 in
-      let same : w ≡ m.parts.volatile = read_same (blocks_of m) m.parts.volatile t a it.0 it.1.0 it.1.1.0 w it.1.1.1.1 in
-      quiet m w m.parts.durable nothing new refl it.1.1.1.2 is (subst (λ (x : VolatileState). IsBetween (blocks_of m) x m.parts.durable) (sym same) is.runs.between) refl
+      let same : w ≡ m.parts.volatile = read_same (layout_of m) m.parts.volatile t a it.0 it.1.0 it.1.1.0 w it.1.1.1.1 in
+      quiet m w m.parts.durable nothing new refl it.1.1.1.2 is (subst (λ (x : VolatileState). IsBetween (layout_of m) x m.parts.durable) (sym same) is.runs.between) refl
       (ap (λ (x : VolatileState). x.ledger.history) same)
   goes-reads m actor a (Some t) true (value b v) new it is at holder =
       let w : VolatileState = it.1.1.0 in
       let after : TransactionState = it.1.1.1.0 in
-      let finds : FindsInMemory (blocks_of m) m.parts.volatile t a it.1.0 v w = it.1.1.1.1 in
+      let finds : FindsInMemory (layout_of m) m.parts.volatile t a it.1.0 v w = it.1.1.1.1 in
       let same : w.ledger.history ≡ history_of m.parts = ap (λ (x : VolatileState). x.ledger.history) finds.same in
       let sound : IsSound (history_of m.parts) m.holders actor after =
       sound_read (history_of m.parts) m.holders actor t after a v it.1.1.1.2 finds.object (finds.value is.runs.trusted)
@@ -251,7 +250,7 @@ module _ (rule : Map → Type 0) where
         holds = (
           same,
           draft_kept (with_volatile m w) actor after
-              (up_on m w m.parts.durable is (subst (λ (x : VolatileState). IsBetween (blocks_of m) x m.parts.durable) (sym finds.same) is.runs.between) refl same)
+              (up_on m w m.parts.durable is (subst (λ (x : VolatileState). IsBetween (layout_of m) x m.parts.durable) (sym finds.same) is.runs.between) refl same)
               (subst (λ (h : List Entry). IsSound h m.holders actor after) (sym same) sound),
         );
       })
@@ -290,21 +289,21 @@ module _ (rule : Map → Type 0) where
       let w : VolatileState = it.1.0 in
       let durable : DurableState = m.parts.durable in
       ⊎_elim
-      (λ (refuses : (why : Refusal CauseState) × RefusesCommit (blocks_of m) m.parts.volatile it.0 d why w × (new ≡ up (ended (with_volatile m w) actor))).
+      (λ (refuses : (why : Refusal CauseState) × RefusesCommit (layout_of m) m.parts.volatile it.0 d why w × (new ≡ up (ended (with_volatile m w) actor))).
       let same : w.ledger.history ≡ history_of m.parts = ap (λ (x : VolatileState). x.ledger.history) refuses.1.same in
       silent (history_of m.parts) (ended (with_volatile m w) actor) nothing new refl refuses.2 same
       (has_ended (with_volatile m w) actor (up_on m w durable is
-      (between_roomed (blocks_of m) m.parts.volatile durable is.runs.between w w.tail.log.room refuses.1.kept refuses.1.same) refl same)))
-      (λ (lacks : (f : FetchedState) × ((missing : List ℕ) × LacksBlocks (blocks_of m) m.parts.volatile it.0 d f missing w × (new ≡ up (with_volatile m w)))).
+      (between_roomed (layout_of m) m.parts.volatile durable is.runs.between w w.tail.log.room refuses.1.kept refuses.1.same) refl same)))
+      (λ (lacks : (f : FetchedState) × ((missing : List ℕ) × LacksBlocks (layout_of m) m.parts.volatile it.0 d f missing w × (new ≡ up (with_volatile m w)))).
       let same : w.ledger.history ≡ history_of m.parts = ap (λ (x : VolatileState). x.ledger.history) lacks.1.1.same in
       quiet m w durable nothing new refl lacks.1.2 is
-      (between_roomed (blocks_of m) m.parts.volatile durable is.runs.between w w.tail.log.room lacks.1.1.kept lacks.1.1.same) refl same)
+      (between_roomed (layout_of m) m.parts.volatile durable is.runs.between w w.tail.log.room lacks.1.1.kept lacks.1.1.same) refl same)
       it.1.1
   goes-finishes m actor (Some d) (committed t) new it is at =
       let session : SessionState = it.0 in
       let w : VolatileState = it.1.1.0 in
       let history : List Entry = history_of m.parts in
-      let done : CommitsInMemory (blocks_of m) m.parts.volatile session d w it.1.0 = it.1.1.2 in
+      let done : CommitsInMemory (layout_of m) m.parts.volatile session d w it.1.0 = it.1.1.2 in
       let u : Transaction = next_transaction session d.reads d.writes in
       let sound = is.sound actor d at in
       let number = numbered session it.1.0 d.reads d.writes history w.ledger.history done.committed.committed in
@@ -318,7 +317,7 @@ module _ (rule : Map → Type 0) where
         holds = (
           added,
           ended_up (with_volatile m w) actor (runs_adds m w m.parts.durable (commit u) is
-              (between_commit (blocks_of m) m.parts.volatile m.parts.durable is.runs.between w session it.1.0 d done) refl added longer)
+              (between_commit (layout_of m) m.parts.volatile m.parts.durable is.runs.between w session it.1.0 d done) refl added longer)
               (λ other. subst (λ (h : List Entry). All (WasFetched h) (m.fetched other)) (sym added)
               (fetched_longer history (commit u) (m.fetched other) is.runs.between.volatile.begun (is.fetched other)))
               (λ other e apart at_other. subst (λ (h : List Entry). IsSound h m.holders other e) (sym added)
@@ -337,17 +336,17 @@ module _ (rule : Map → Type 0) where
       → AnswersSession m.parts.volatile r w → new ≡ up (with_volatile m w) → IsUp rule m → Goes rule (history_of m.parts) answer new
   goes-joins m (Ok session) w answer new none it after is =
       quiet m w m.parts.durable answer new none after is
-      (subst (λ (x : VolatileState). IsBetween (blocks_of m) x m.parts.durable) (sym it.others)
-      (between_counted (blocks_of m) m.parts.volatile m.parts.durable is.runs.between (m.parts.volatile.ledger.next + 1) m.parts.volatile.ledger.closed))
+      (subst (λ (x : VolatileState). IsBetween (layout_of m) x m.parts.durable) (sym it.others)
+      (between_counted (layout_of m) m.parts.volatile m.parts.durable is.runs.between (m.parts.volatile.ledger.next + 1) m.parts.volatile.ledger.closed))
       refl (ap (λ (x : VolatileState). x.ledger.history) it.others)
   goes-joins m (Err why) w answer new none it after is =
       quiet m w m.parts.durable answer new none after is
-      (subst (λ (x : VolatileState). IsBetween (blocks_of m) x m.parts.durable) (sym it.same) is.runs.between) refl (ap (λ (x : VolatileState). x.ledger.history) it.same)
+      (subst (λ (x : VolatileState). IsBetween (layout_of m) x m.parts.durable) (sym it.same) is.runs.between) refl (ap (λ (x : VolatileState). x.ledger.history) it.same)
 
-  fence_on : (m : Mount) (session : ℕ) (r : Result (Unit {0}) (Refusal CauseState)) (w : VolatileState) → AnswersFence (blocks_of m) session m.parts.volatile r w → IsUp rule m
-      → IsBetween (blocks_of m) w m.parts.durable
-  fence_on m session (Ok done) w it is = between_fenced (blocks_of m) m.parts.volatile m.parts.durable is.runs.between session w it
-  fence_on m session (Err why) w it is = subst (λ (x : VolatileState). IsBetween (blocks_of m) x m.parts.durable) (sym it.same) is.runs.between
+  fence_on : (m : Mount) (session : ℕ) (r : Result (Unit {0}) (Refusal CauseState)) (w : VolatileState) → AnswersFence (layout_of m) session m.parts.volatile r w → IsUp rule m
+      → IsBetween (layout_of m) w m.parts.durable
+  fence_on m session (Ok done) w it is = between_fenced (layout_of m) m.parts.volatile m.parts.durable is.runs.between session w it
+  fence_on m session (Err why) w it is = subst (λ (x : VolatileState). IsBetween (layout_of m) x m.parts.durable) (sym it.same) is.runs.between
 
   goes-fences : (m : Mount) (session : ℕ) (answer : Answer) (new : Machine) → MakesFence m session answer new → IsUp rule m → Goes rule (history_of m.parts) answer new
   goes-fences m session nothing new it is =
@@ -364,7 +363,7 @@ module _ (rule : Map → Type 0) where
         tells = (follows, tt, refl);
         holds = (
           added,
-          up_fenced m w m.parts.durable s is (between_fenced (blocks_of m) m.parts.volatile m.parts.durable is.runs.between session w it.1.2) refl added
+          up_fenced m w m.parts.durable s is (between_fenced (layout_of m) m.parts.volatile m.parts.durable is.runs.between session w it.1.2) refl added
               (legal_adds history (fence s) is.runs.legal follows tt),
         );
       })
@@ -377,19 +376,19 @@ module _ (rule : Map → Type 0) where
   goes-fences m session reopened new it is = absurd it
 
   goes-fetched : (m : Mount) (actor : ℕ) (numbers : List ℕ) (r : Result FetchedState (Refusal CauseState)) (e : DurableState) (answer : Answer) (new : Machine)
-      → answer ≡ nothing → AnswersFetch (blocks_of m) m.parts.durable numbers r e → new ≡ up (keeping (with_durable m e) actor r) → IsUp rule m
+      → answer ≡ nothing → AnswersFetch (layout_of m) m.parts.durable numbers r e → new ≡ up (keeping (with_durable m e) actor r) → IsUp rule m
       → Goes rule (history_of m.parts) answer new
   goes-fetched m actor numbers (Err why) e answer new none it after is =
-      quiet m m.parts.volatile e answer new none after is (between_fetch (blocks_of m) m.parts.volatile m.parts.durable is.runs.between e numbers (Err why) it)
+      quiet m m.parts.volatile e answer new none after is (between_fetch (layout_of m) m.parts.volatile m.parts.durable is.runs.between e numbers (Err why) it)
       it.crash.keeps.honest refl
   goes-fetched m actor numbers (Ok f) e answer new none it after is =
       silent (history_of m.parts) (with_fetched (with_durable m e) actor f) answer new none after refl
       (fetched_kept (with_durable m e) actor f
-      (up_on m m.parts.volatile e is (between_fetch (blocks_of m) m.parts.volatile m.parts.durable is.runs.between e numbers (Ok f) it) it.crash.keeps.honest refl)
+      (up_on m m.parts.volatile e is (between_fetch (layout_of m) m.parts.volatile m.parts.durable is.runs.between e numbers (Ok f) it) it.crash.keeps.honest refl)
       (record { begins = subst (λ (h : List Entry). IsPrefix h (history_of m.parts)) (sym it.front) is.runs.between.tied.begins; objects = it.objects }))
 
   -- what a mark adds
-  goes-marked : (m : Mount) (n : ℕ) (w : VolatileState) (e : DurableState) (new : Machine) → MarksOrCuts (blocks_of m) m.parts.volatile m.parts.durable (Marked n) w e
+  goes-marked : (m : Mount) (n : ℕ) (w : VolatileState) (e : DurableState) (new : Machine) → MarksOrCuts (layout_of m) m.parts.volatile m.parts.durable (Marked n) w e
       → new ≡ up (with_parts m w e) → IsUp rule m → Goes rule (history_of m.parts) (marked n) new
   goes-marked m n w e new it after is =
       let history : List Entry = history_of m.parts in
@@ -399,7 +398,7 @@ module _ (rule : Map → Type 0) where
         tells = (follows, tt, refl);
         holds = (
           added,
-          up_marked m w e n is (between_mark_or_cut (blocks_of m) m.parts.volatile m.parts.durable is.runs.between w e (Ok (Marked n)) it)
+          up_marked m w e n is (between_mark_or_cut (layout_of m) m.parts.volatile m.parts.durable is.runs.between w e (Ok (Marked n)) it)
               it.crash.keeps.honest added (legal_adds history (stable n) is.runs.legal follows tt),
         );
       })
@@ -426,7 +425,7 @@ module _ (rule : Map → Type 0) where
       to_count : n ≤ count v.ledger.history
       to_count = ⊎_elim
           (λ (both : (n ≡ d.logged) × MarksBoth v d w e).
-          omega (arith, both.0, made_in (blocks_of m) d v.ledger.history is.runs.between.durable is.runs.between.tied.begins))
+          omega (arith, both.0, made_in (layout_of m) d v.ledger.history is.runs.between.durable is.runs.between.tied.begins))
           (λ (all : (n ≡ count v.ledger.history) × (IsMarkDue v d → ⊥) × MarksAll v d w e). omega (arith, all.0))
           it.did
 
@@ -434,8 +433,8 @@ module _ (rule : Map → Type 0) where
   goes-marks_or_cuts m nothing new it is =
       let w : VolatileState = it.1.0 in
       let e : DurableState = it.1.1.0 in
-      quiet m w e nothing new refl it.1.1.3 is (between_mark_or_cut (blocks_of m) m.parts.volatile m.parts.durable is.runs.between w e it.0 it.1.1.1)
-      (mark_or_cut_honest (blocks_of m) m.parts.volatile m.parts.durable w e it.0 it.1.1.1) it.1.1.2
+      quiet m w e nothing new refl it.1.1.3 is (between_mark_or_cut (layout_of m) m.parts.volatile m.parts.durable is.runs.between w e it.0 it.1.1.1)
+      (mark_or_cut_honest (layout_of m) m.parts.volatile m.parts.durable w e it.0 it.1.1.1) it.1.1.2
   goes-marks_or_cuts m (marked n) new it is = goes-marked m n it.0 it.1.0 new it.1.1 it.1.2 is
   goes-marks_or_cuts m (value a v) new it is = absurd it
   goes-marks_or_cuts m (committed t) new it is = absurd it
@@ -491,20 +490,18 @@ module _ (rule : Map → Type 0) where
   goes-images m image (waited k) new it is = absurd it
 
 -- an image opens as one map
-opens_same : (m k : Map) (image : List Bytes) → MIN_BLOCKS ≤ length image → OpensAs m image → OpensAs k image → SameMap m k
-opens_same m k image large first second =
-    let size : m.blocks ≡ length image = sym first.stands.size in
-    let blocks : m.blocks ≡ k.blocks = size ∙ second.stands.size in
-    same_objects first.content second.content m k first.objects second.objects blocks (omega (arith, large, size))
-    (λ b above below. sym (first.stands.each b above below) ∙ second.stands.each b above (omega (arith, below, blocks)))
+opens_same : (m k : Map) (image : List Bytes) → m.layout ≡ k.layout → OpensAs m image → OpensAs k image → SameMap m k
+opens_same m k image layout first second =
+    same_objects first.content second.content m k first.objects second.objects layout
+    (λ b above below. sym (first.stands.each b above below) ∙ second.stands.each b above (subst (λ (s : Shape). b < s.blocks) layout below))
 
 -- a mount begins with a legal history
-running : (rule : Map → Type 0) (disk : DiskState) (p : Parts) → IsTrue disk.honest → BeginsApart rule disk p → IsRunning rule p
-running rule disk p trusted it =
+running : (rule : Map → Type 0) (layout : Shape) (disk : DiskState) (p : Parts) → IsTrue disk.honest → BeginsApart rule layout disk p → IsRunning rule p
+running rule layout disk p trusted it =
     let begin = it.begins in
     let is : history_of p ≡ opening begin.map true ∷ [] = begin.history ∙ ap (λ (b : Bool). opening begin.map b ∷ []) trusted in
     record {
-      between = rebased disk.past.size p.volatile p.durable it.between;
+      between = rebased layout p.volatile p.durable it.between;
       honest = subst IsTrue (sym begin.keeps.honest) trusted;
       trusted = subst (λ (h : List Entry). IsTrue (is_trusted h)) (sym is) refl;
       legal = subst (IsLegal rule) (sym is) (record {
@@ -514,10 +511,10 @@ running rule disk p trusted it =
     }
 
 module _ (rule : Map → Type 0) where
-  begun_up : (disk : DiskState) (p : Parts) → IsTrue disk.honest → BeginsApart rule disk p
+  begun_up : (layout : Shape) (disk : DiskState) (p : Parts) → IsTrue disk.honest → BeginsApart rule layout disk p
       → IsUp rule (record { parts = p; transactions = λ actor. None; holders = λ slot. None; fetched = λ actor. [] })
-  begun_up disk p trusted begin = record {
-    runs = running rule disk p trusted begin;
+  begun_up layout disk p trusted begin = record {
+    runs = running rule layout disk p trusted begin;
     sound = λ actor d is. absurd (none-some d is);
     fetched = λ actor k f lt. absurd (omega (arith, lt));
   }
@@ -530,14 +527,14 @@ module _ (rule : Map → Type 0) where
   goes-up m (aborts actor) answer new it is = silent rule (history_of m.parts) (ended m actor) answer new it.0 it.1 refl (has_ended rule m actor is)
   goes-up m (finishes actor) answer new it is = goes-finishes rule m actor (m.transactions actor) answer new it is refl
   goes-up m copies answer new it is =
-      quiet rule m it.1.0 m.parts.durable answer new it.0 it.1.2 is (between_copied (blocks_of m) m.parts.volatile m.parts.durable is.runs.between it.1.0 it.1.1) refl
+      quiet rule m it.1.0 m.parts.durable answer new it.0 it.1.2 is (between_copied (layout_of m) m.parts.volatile m.parts.durable is.runs.between it.1.0 it.1.1) refl
       (ap (λ (x : VolatileState). x.ledger.history) it.1.1.others)
   goes-up m joins answer new it is = goes-joins rule m it.1.0 it.1.1.0 answer new it.0 it.1.1.1 it.1.1.2 is
   goes-up m (fences session) answer new it is = goes-fences rule m session answer new it is
   goes-up m stops answer new it is =
       quiet rule m it.1.0 m.parts.durable answer new it.0 it.1.2 is
-      (subst (λ (x : VolatileState). IsBetween (blocks_of m) x m.parts.durable) (sym it.1.1)
-      (between_counted (blocks_of m) m.parts.volatile m.parts.durable is.runs.between m.parts.volatile.ledger.next true))
+      (subst (λ (x : VolatileState). IsBetween (layout_of m) x m.parts.durable) (sym it.1.1)
+      (between_counted (layout_of m) m.parts.volatile m.parts.durable is.runs.between m.parts.volatile.ledger.next true))
       refl (ap (λ (x : VolatileState). x.ledger.history) it.1.1)
   goes-up m (waits n) answer new it is = goes-waits rule m n answer new it is
   goes-up m flushes answer new it is = goes-flushes rule m answer new it is
@@ -545,18 +542,18 @@ module _ (rule : Map → Type 0) where
   goes-up m (fetches actor numbers) answer new it is = goes-fetched rule m actor numbers it.1.0 it.1.1.0 answer new it.0 it.1.1.1 it.1.1.2 is
   goes-up m logs answer new it is =
       quiet rule m m.parts.volatile it.1.1.0 answer new it.0 it.1.1.2 is
-      (between_group (blocks_of m) m.parts.volatile m.parts.durable is.runs.between it.1.1.0 it.1.0 it.1.1.1)
-      (group_honest (blocks_of m) m.parts.durable it.1.1.0 it.1.0 it.1.1.1) refl
+      (between_group (layout_of m) m.parts.volatile m.parts.durable is.runs.between it.1.1.0 it.1.0 it.1.1.1)
+      (group_honest (layout_of m) m.parts.durable it.1.1.0 it.1.0 it.1.1.1) refl
   goes-up m installs answer new it is =
       quiet rule m m.parts.volatile it.1.1.0 answer new it.0 it.1.1.2 is
-      (between_home (blocks_of m) m.parts.volatile m.parts.durable is.runs.between it.1.1.0 it.1.0 it.1.1.1)
-      (home_honest (blocks_of m) m.parts.durable it.1.1.0 it.1.0 it.1.1.1) refl
+      (between_home (layout_of m) m.parts.volatile m.parts.durable is.runs.between it.1.1.0 it.1.0 it.1.1.1)
+      (home_honest (layout_of m) m.parts.durable it.1.1.0 it.1.0 it.1.1.1) refl
   goes-up m marks_or_cuts answer new it is = goes-marks_or_cuts rule m answer new it is
   goes-up m (trims upto) answer new it is =
-      quiet rule m it.1.0 m.parts.durable answer new it.0 it.1.2 is (between_trimmed (blocks_of m) m.parts.volatile m.parts.durable is.runs.between it.1.0 upto it.1.1) refl
+      quiet rule m it.1.0 m.parts.durable answer new it.0 it.1.2 is (between_trimmed (layout_of m) m.parts.volatile m.parts.durable is.runs.between it.1.0 upto it.1.1) refl
       (ap (λ (x : VolatileState). x.ledger.history) it.1.1.others)
   goes-up m notes answer new it is =
-      quiet rule m it.1.0 m.parts.durable answer new it.0 it.1.2 is (between_noted (blocks_of m) m.parts.volatile m.parts.durable is.runs.between it.1.0 it.1.1) refl
+      quiet rule m it.1.0 m.parts.durable answer new it.0 it.1.2 is (between_noted (layout_of m) m.parts.volatile m.parts.durable is.runs.between it.1.0 it.1.1) refl
       (ap (λ (x : VolatileState). x.ledger.history) it.1.1.noted)
   goes-up m (images image) answer new it is = goes-images rule m image answer new it is
   goes-up m (crashes image) answer new it is =
@@ -564,74 +561,73 @@ module _ (rule : Map → Type 0) where
       let parts = is.runs.between in
       let left : LeavesDurable m.parts.durable image = (it.1.1.moments is.runs.honest).each between.moment between.since between.until image between.is_image in
       let whole : Leaves (history_of m.parts) image =
-      leaves_history (blocks_of m) m.parts.durable (history_of m.parts) image parts.durable parts.tied.begins (omega (arith, parts.tied.marked)) left in
+      leaves_history (layout_of m) m.parts.durable (history_of m.parts) image parts.durable parts.tied.begins (omega (arith, parts.tied.marked)) left in
       subst (λ (a : Answer). Goes rule (history_of m.parts) a new) (sym it.0)
       (subst (λ (s : Machine). Goes rule (history_of m.parts) crashed s) (sym it.1.3) (record {
         history = opening whole.map true ∷ [];
         tells = (whole.commits, whole.marked, whole.made, (whole.map, whole.same, refl));
-        holds = (whole.map, whole.opens, refl);
+        holds = (whole.map, whole.same.layout ∙ at-layout (history_of m.parts) whole.commits, whole.opens, refl);
       }))
   goes-up m opens answer new it is = silent rule (history_of m.parts) m answer new it.0 it.1 refl is
 
-  stays-down : (image : List Bytes) (m : Map) (answer : Answer) (new : Machine) → OpensAs m image → answer ≡ nothing → new ≡ down image
+  stays-down : (layout : Shape) (image : List Bytes) (m : Map) (answer : Answer) (new : Machine) → m.layout ≡ layout → OpensAs m image → answer ≡ nothing → new ≡ down layout image
       → Goes rule (opening m true ∷ []) answer new
-  stays-down image m answer new holds no_answer is =
+  stays-down layout image m answer new on_disk holds no_answer is =
       subst (λ (a : Answer). Goes rule (opening m true ∷ []) a new) (sym no_answer)
       (subst (λ (s : Machine). Goes rule (opening m true ∷ []) nothing s) (sym is)
-      (record { history = opening m true ∷ []; tells = refl; holds = (m, holds, refl) }))
+      (record { history = opening m true ∷ []; tells = refl; holds = (m, on_disk, holds, refl) }))
 
-  goes-opens : (image : List Bytes) (m : Map) (answer : Answer) (new : Machine) → HappensDown rule image opens answer new → OpensAs m image
+  goes-opens : (layout : Shape) (image : List Bytes) (m : Map) (answer : Answer) (new : Machine) → HappensDown rule layout image opens answer new → m.layout ≡ layout → OpensAs m image
       → Goes rule (opening m true ∷ []) answer new
-  goes-opens image m reopened new it holds =
+  goes-opens layout image m reopened new it on_disk holds =
       let disk : DiskState = it.0 in
       let held : HoldsImage disk image = it.1 in
       let parts : Parts = it.2.0 in
-      let begin : BeginsApart rule disk parts = it.2.1 in
-      let large : MIN_BLOCKS ≤ length image = omega (arith, begin.begins.range.0, held.is_image.size) in
+      let begin : BeginsApart rule layout disk parts = it.2.1 in
       subst (λ (s : Machine). Goes rule (opening m true ∷ []) reopened s) (sym it.2.2) (record {
         history = opening begin.begins.map true ∷ [];
-        tells = (begin.begins.map, opens_same begin.begins.map m image large (begin.begins.holds held.honest image held.is_image) holds, refl);
-        holds = (begin.begins.history ∙ ap (λ (b : Bool). opening begin.begins.map b ∷ []) held.honest, begun_up disk parts held.honest begin);
+        tells = (begin.begins.map, opens_same begin.begins.map m image (begin.begins.on_disk ∙ sym on_disk) (begin.begins.holds held.honest image held.is_image) holds, refl);
+        holds = (begin.begins.history ∙ ap (λ (b : Bool). opening begin.begins.map b ∷ []) held.honest, begun_up layout disk parts held.honest begin);
       })
-  goes-opens image m nothing new it holds = stays-down image m nothing new holds it.0 it.1
-  goes-opens image m (value a v) new it holds = stays-down image m (value a v) new holds it.0 it.1
-  goes-opens image m (committed t) new it holds = stays-down image m (committed t) new holds it.0 it.1
-  goes-opens image m (marked n) new it holds = stays-down image m (marked n) new holds it.0 it.1
-  goes-opens image m (fenced s) new it holds = stays-down image m (fenced s) new holds it.0 it.1
-  goes-opens image m (waited k) new it holds = stays-down image m (waited k) new holds it.0 it.1
-  goes-opens image m (imaged other) new it holds = stays-down image m (imaged other) new holds it.0 it.1
-  goes-opens image m crashed new it holds = stays-down image m crashed new holds it.0 it.1
+  goes-opens layout image m nothing new it on_disk holds = stays-down layout image m nothing new on_disk holds it.0 it.1
+  goes-opens layout image m (value a v) new it on_disk holds = stays-down layout image m (value a v) new on_disk holds it.0 it.1
+  goes-opens layout image m (committed t) new it on_disk holds = stays-down layout image m (committed t) new on_disk holds it.0 it.1
+  goes-opens layout image m (marked n) new it on_disk holds = stays-down layout image m (marked n) new on_disk holds it.0 it.1
+  goes-opens layout image m (fenced s) new it on_disk holds = stays-down layout image m (fenced s) new on_disk holds it.0 it.1
+  goes-opens layout image m (waited k) new it on_disk holds = stays-down layout image m (waited k) new on_disk holds it.0 it.1
+  goes-opens layout image m (imaged other) new it on_disk holds = stays-down layout image m (imaged other) new on_disk holds it.0 it.1
+  goes-opens layout image m crashed new it on_disk holds = stays-down layout image m crashed new on_disk holds it.0 it.1
 
-  goes-down : (image : List Bytes) (m : Map) (event : Event) (answer : Answer) (new : Machine) → HappensDown rule image event answer new → OpensAs m image
+  goes-down : (layout : Shape) (image : List Bytes) (m : Map) (event : Event) (answer : Answer) (new : Machine) → HappensDown rule layout image event answer new → m.layout ≡ layout → OpensAs m image
       → Goes rule (opening m true ∷ []) answer new
-  goes-down image m opens answer new it holds = goes-opens image m answer new it holds
-  goes-down image m (begins actor) answer new it holds = stays-down image m answer new holds it.0 it.1
-  goes-down image m (takes actor slot) answer new it holds = stays-down image m answer new holds it.0 it.1
-  goes-down image m (reads actor a) answer new it holds = stays-down image m answer new holds it.0 it.1
-  goes-down image m (overwrites actor a v) answer new it holds = stays-down image m answer new holds it.0 it.1
-  goes-down image m (aborts actor) answer new it holds = stays-down image m answer new holds it.0 it.1
-  goes-down image m (finishes actor) answer new it holds = stays-down image m answer new holds it.0 it.1
-  goes-down image m copies answer new it holds = stays-down image m answer new holds it.0 it.1
-  goes-down image m joins answer new it holds = stays-down image m answer new holds it.0 it.1
-  goes-down image m (fences session) answer new it holds = stays-down image m answer new holds it.0 it.1
-  goes-down image m stops answer new it holds = stays-down image m answer new holds it.0 it.1
-  goes-down image m (waits n) answer new it holds = stays-down image m answer new holds it.0 it.1
-  goes-down image m flushes answer new it holds = stays-down image m answer new holds it.0 it.1
-  goes-down image m shows answer new it holds = stays-down image m answer new holds it.0 it.1
-  goes-down image m (fetches actor numbers) answer new it holds = stays-down image m answer new holds it.0 it.1
-  goes-down image m logs answer new it holds = stays-down image m answer new holds it.0 it.1
-  goes-down image m installs answer new it holds = stays-down image m answer new holds it.0 it.1
-  goes-down image m marks_or_cuts answer new it holds = stays-down image m answer new holds it.0 it.1
-  goes-down image m (trims upto) answer new it holds = stays-down image m answer new holds it.0 it.1
-  goes-down image m notes answer new it holds = stays-down image m answer new holds it.0 it.1
-  goes-down image m (images other) answer new it holds = stays-down image m answer new holds it.0 it.1
-  goes-down image m (crashes other) answer new it holds = stays-down image m answer new holds it.0 it.1
+  goes-down layout image m opens answer new it on_disk holds = goes-opens layout image m answer new it on_disk holds
+  goes-down layout image m (begins actor) answer new it on_disk holds = stays-down layout image m answer new on_disk holds it.0 it.1
+  goes-down layout image m (takes actor slot) answer new it on_disk holds = stays-down layout image m answer new on_disk holds it.0 it.1
+  goes-down layout image m (reads actor a) answer new it on_disk holds = stays-down layout image m answer new on_disk holds it.0 it.1
+  goes-down layout image m (overwrites actor a v) answer new it on_disk holds = stays-down layout image m answer new on_disk holds it.0 it.1
+  goes-down layout image m (aborts actor) answer new it on_disk holds = stays-down layout image m answer new on_disk holds it.0 it.1
+  goes-down layout image m (finishes actor) answer new it on_disk holds = stays-down layout image m answer new on_disk holds it.0 it.1
+  goes-down layout image m copies answer new it on_disk holds = stays-down layout image m answer new on_disk holds it.0 it.1
+  goes-down layout image m joins answer new it on_disk holds = stays-down layout image m answer new on_disk holds it.0 it.1
+  goes-down layout image m (fences session) answer new it on_disk holds = stays-down layout image m answer new on_disk holds it.0 it.1
+  goes-down layout image m stops answer new it on_disk holds = stays-down layout image m answer new on_disk holds it.0 it.1
+  goes-down layout image m (waits n) answer new it on_disk holds = stays-down layout image m answer new on_disk holds it.0 it.1
+  goes-down layout image m flushes answer new it on_disk holds = stays-down layout image m answer new on_disk holds it.0 it.1
+  goes-down layout image m shows answer new it on_disk holds = stays-down layout image m answer new on_disk holds it.0 it.1
+  goes-down layout image m (fetches actor numbers) answer new it on_disk holds = stays-down layout image m answer new on_disk holds it.0 it.1
+  goes-down layout image m logs answer new it on_disk holds = stays-down layout image m answer new on_disk holds it.0 it.1
+  goes-down layout image m installs answer new it on_disk holds = stays-down layout image m answer new on_disk holds it.0 it.1
+  goes-down layout image m marks_or_cuts answer new it on_disk holds = stays-down layout image m answer new on_disk holds it.0 it.1
+  goes-down layout image m (trims upto) answer new it on_disk holds = stays-down layout image m answer new on_disk holds it.0 it.1
+  goes-down layout image m notes answer new it on_disk holds = stays-down layout image m answer new on_disk holds it.0 it.1
+  goes-down layout image m (images other) answer new it on_disk holds = stays-down layout image m answer new on_disk holds it.0 it.1
+  goes-down layout image m (crashes other) answer new it on_disk holds = stays-down layout image m answer new on_disk holds it.0 it.1
 
   goes : (old : Machine) (history : List Entry) (event : Event) (answer : Answer) (new : Machine) → Happens rule old event answer new → Holds rule old history
       → Goes rule history answer new
   goes (up m) history event answer new it holds = subst (λ (h : List Entry). Goes rule h answer new) holds.0 (goes-up m event answer new it holds.1)
-  goes (down image) history event answer new it holds =
-      subst (λ (h : List Entry). Goes rule h answer new) (sym holds.2) (goes-down image holds.0 event answer new it holds.1)
+  goes (down layout image) history event answer new it holds =
+      subst (λ (h : List Entry). Goes rule h answer new) (sym holds.3) (goes-down layout image holds.0 event answer new it holds.1 holds.2)
 
   -- a run tells what became of the history
   pub runs : (old : Machine) (history : List Entry) (events : List Event) (answers : List Answer) (new : Machine) → Run rule old events answers new
@@ -646,10 +642,10 @@ module _ (rule : Map → Type 0) where
 
   pub has_history : (s : Machine) (history : List Entry) → Holds rule s history → HasHistory s history
   has_history (up m) history holds = holds.0
-  has_history (down image) history holds = holds
+  has_history (down layout image) history holds = holds
 
-  pub first_holds : (disk : DiskState) (p : Parts) → IsTrue disk.honest → BeginsApart rule disk p → Holds rule (mounted p) (history_of p)
-  first_holds disk p trusted begin = (refl, begun_up disk p trusted begin)
+  pub first_holds : (layout : Shape) (disk : DiskState) (p : Parts) → IsTrue disk.honest → BeginsApart rule layout disk p → Holds rule (mounted p) (history_of p)
+  first_holds layout disk p trusted begin = (refl, begun_up layout disk p trusted begin)
 
 -- what holds of an open transaction keeps it from being refused for what others did
 pub undisturbed : (history : List Entry) (holders : ℕ → Option ℕ) (actor : ℕ) (t : TransactionState) → IsSound history holders actor t → IsUndisturbed history t
@@ -665,7 +661,7 @@ stays_so : (history : List Entry) (f : FetchedState) → IsTrue (is_trusted hist
 stays_so history f trusted was = record {
   begins = was.begins;
   made = omega (arith, was.objects.made, count-longer f.front history was.objects.begun was.begins);
-  blocks = All-weaker (IsBlockAfter (opened history).blocks f.front f.commits) (IsBlockAfter (opened history).blocks history f.commits)
+  blocks = All-weaker (IsBlockAfter (opened history).layout f.front f.commits) (IsBlockAfter (opened history).layout history f.commits)
       (λ u is a valid named. is a valid named ∙ ap (λ (m : Map). value_at m a) (sym (at-longer f.front history was.objects.begun was.begins f.commits was.objects.made)))
       f.updates
       (was.objects.objects (subst IsTrue (trusted-longer f.front history was.objects.begun was.begins) trusted));

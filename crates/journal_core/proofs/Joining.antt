@@ -2,6 +2,7 @@
 use Rattle.std.proofs.Common.{◌≡◌, ◌⊎◌, inl, inr, ⊎_elim, ◌<◌, ◌≤◌, ◌+◌, ◌-◌, ℕ, zero, suc, Bool, true, false, List, [], ◌∷◌, drop, length, IsTrue, None, Option, Result, Ok, Err, OnOk, OnErr, IfOk, IfErr, refl, sym, ap, subst, ◌∙◌, arith}
 use Rattle.std.proofs.lemmas.Bool.{false≢true, cases_lt}
 use Rattle.std.proofs.lemmas.List.{drop_all, drop-drop}
+use Rattle.journal_world.specs.Addresses.{Shape}
 use Rattle.journal_core.specs.Causes.{CauseState}
 use Rattle.journal_world.specs.declared.refusal.Refusal.{Refusal}
 use Rattle.journal_world.specs.declared.refusal.Refusal.TheVariants.{NoMemory, BadAddress, BadSize, TooLarge, Busy, DeviceFailed, BadLog, BadSuper, Stale, Stranger, Worn, Full, Closed, Fenced}
@@ -36,8 +37,8 @@ use Rattle.journal_core.proofs.Pairing.{begins_not, leaves_history, made_in, pla
 -- ---- of every pair
 
 -- both parts judge by the same
-pub same_outset : (blocks : ℕ) (v : VolatileState) (d : DurableState) → IsPair blocks v d → outset_of v ≡ outset (core_of v d)
-same_outset blocks v d pair = λ i. record {
+pub same_outset : (layout : Shape) (v : VolatileState) (d : DurableState) → IsPair layout v d → outset_of v ≡ outset (core_of v d)
+same_outset layout v d pair = λ i. record {
   closed = v.ledger.closed;
   faulted = pair.fault i;
   history = v.ledger.history;
@@ -46,29 +47,29 @@ same_outset blocks v d pair = λ i. record {
 }
   where
     here : next_position v.tail.log ≡ next_position d.objects.log + length (tail_of v.tail.log)
-    here = omega (arith, place_of blocks v pair.volatile, pair.tied.position)
+    here = omega (arith, place_of layout v pair.volatile, pair.tied.position)
 
 -- what a crash leaves of the durable part
-pub crashes_pair : (blocks : ℕ) (v w : VolatileState) (d e : DurableState) → IsPair blocks v d → IsPair blocks w e → CrashesDurable d e
+pub crashes_pair : (layout : Shape) (v w : VolatileState) (d e : DurableState) → IsPair layout v d → IsPair layout w e → CrashesDurable d e
     → Crashes (core_of v d) (core_of w e)
-crashes_pair blocks v w d e pair now crash = record {
+crashes_pair layout v w d e pair now crash = record {
   keeps = crash.keeps;
   moments = λ honest. leaves_also (disk_of d).past (disk_of e).past (Leaves d) (LeavesHistory v.ledger.history) (crash.moments honest)
-      (λ image left. leaves_history blocks d v.ledger.history image pair.durable pair.tied.begins (omega (arith, pair.tied.marked)) left);
+      (λ image left. leaves_history layout d v.ledger.history image pair.durable pair.tied.begins (omega (arith, pair.tied.marked)) left);
   images = λ honest image one.
-      leaves_history blocks e w.ledger.history image now.durable now.tied.begins (omega (arith, now.tied.marked)) (crash.images honest image one);
+      leaves_history layout e w.ledger.history image now.durable now.tied.begins (omega (arith, now.tied.marked)) (crash.images honest image one);
 }
 
 -- where no device call was made
-pub crashes_memory : (blocks : ℕ) (v w : VolatileState) (d : DurableState) → IsPair blocks v d → IsPair blocks w d → Crashes (core_of v d) (core_of w d)
-crashes_memory blocks v w d pair now = crashes_pair blocks v w d d pair now (crashes_noted blocks d d d pair.durable refl pair.durable refl)
+pub crashes_memory : (layout : Shape) (v w : VolatileState) (d : DurableState) → IsPair layout v d → IsPair layout w d → Crashes (core_of v d) (core_of w d)
+crashes_memory layout v w d pair now = crashes_pair layout v w d d pair now (crashes_noted layout d d d pair.durable refl pair.durable refl)
 
 -- the volatile part has noted a fault
 abbrev pub failed : VolatileState → VolatileState
 failed v = record v { faulted = true }
 
-pub volatile_failed : (blocks : ℕ) (v : VolatileState) → IsVolatile blocks v → IsVolatile blocks (failed v)
-volatile_failed blocks v kept = record {
+pub volatile_failed : (layout : Shape) (v : VolatileState) → IsVolatile layout v → IsVolatile layout (failed v)
+volatile_failed layout v kept = record {
   size = kept.size;
   begun = kept.begun;
   on_disk = kept.on_disk;
@@ -105,17 +106,17 @@ no_call_by sealed log_spent group left put after header none = refl
 
 -- ---- of a pair that goes on
 
-module _ (blocks : ℕ) (v : VolatileState) (d : DurableState) (pair : IsPair blocks v d) (running : IsRunning (core_of v d)) (e : DurableState) where
+module _ (layout : Shape) (v : VolatileState) (d : DurableState) (pair : IsPair layout v d) (running : IsRunning (core_of v d)) (e : DurableState) where
   -- a call without a fault, of the durable part alone
-  pub pair_on : IsDurable blocks e → Tied v e → is_faulted e ≡ false → IsPair blocks v e
+  pub pair_on : IsDurable layout e → Tied v e → is_faulted e ≡ false → IsPair layout v e
   pair_on kept tied fine = record { volatile = pair.volatile; durable = kept; tied = tied; fault = pair.fault ∙ running.1 ∙ sym fine }
 
   -- a fault
-  pub pair_failed : IsDurable blocks e → e ≡ record d { objects = e.objects } → StaysCut d.objects e.objects → is_faulted e ≡ true → IsPair blocks (failed v) e
+  pub pair_failed : IsDurable layout e → e ≡ record d { objects = e.objects } → StaysCut d.objects e.objects → is_faulted e ≡ true → IsPair layout (failed v) e
   pair_failed kept same stays faulted = record {
-    volatile = volatile_failed blocks v pair.volatile;
+    volatile = volatile_failed layout v pair.volatile;
     durable = kept;
-    tied = tied_failed v e (tied_stays blocks v d e pair.durable same stays pair.tied);
+    tied = tied_failed v e (tied_stays layout v d e pair.durable same stays pair.tied);
     fault = sym faulted;
   }
 
@@ -228,7 +229,7 @@ module _ (blocks : ℕ) (v : VolatileState) (d : DurableState) (pair : IsPair bl
         steps = none;
         marks = record {
           rises = omega (arith, marks.due.more);
-          made = made_in blocks d v.ledger.history pair.durable pair.tied.begins;
+          made = made_in layout d v.ledger.history pair.durable pair.tied.begins;
           marked = λ i. core_of (marks.volatile i) (marks.durable i);
         };
         due = inl (sym all_logged, omega (arith, marks.due.more, all_logged));
@@ -310,7 +311,7 @@ module _ (blocks : ℕ) (v : VolatileState) (d : DurableState) (pair : IsPair bl
     room_refused : (why : Refusal CauseState) → IsRoomRefusal d (length (tail_of v.tail.log)) why → (why ≡ NoMemory) × FitsGroup d.objects (length (tail_of v.tail.log))
     room_refused NoMemory it = (refl, it.1)
     room_refused (DeviceFailed cause) it = absurd (false≢true (sym running.1 ∙ it.0))
-    room_refused (Worn cause) it = absurd (omega (arith, it.2, place_of blocks v pair.volatile, pair.tied.position, pair.volatile.small))
+    room_refused (Worn cause) it = absurd (omega (arith, it.2, place_of layout v pair.volatile, pair.tied.position, pair.volatile.small))
     room_refused BadAddress it = absurd it
     room_refused BadSize it = absurd it
     room_refused TooLarge it = absurd it
@@ -411,7 +412,7 @@ module _ (blocks : ℕ) (v : VolatileState) (d : DurableState) (pair : IsPair bl
           (roomed_leaves (due_roomed why it), roomed_tries (due_roomed why it))
 
   -- what a call of the logger that is due, or what else is, does to a pair
-  pub pair_due : (w : VolatileState) → IsVolatile blocks w → IsDurable blocks e → Tied w e → w.faulted ≡ v.faulted → is_faulted e ≡ is_faulted d → IsPair blocks w e
+  pub pair_due : (w : VolatileState) → IsVolatile layout w → IsDurable layout e → Tied w e → w.faulted ≡ v.faulted → is_faulted e ≡ is_faulted d → IsPair layout w e
   pair_due w volatile durable tied memory disk = record {
     volatile = volatile;
     durable = durable;
@@ -425,7 +426,7 @@ module _ (blocks : ℕ) (v : VolatileState) (d : DurableState) (pair : IsPair bl
   installs_stay step it = stays_install d.objects e.objects (Ok step) it.0 tt (λ faulted. absurd (false≢true (sym running.1 ∙ faulted)))
 
   pub installs_tied : (step : InstallStep) → DurableInstalls d step e → Tied v e
-  installs_tied step it = tied_stays blocks v d e pair.durable it.1 (installs_stay step it) pair.tied
+  installs_tied step it = tied_stays layout v d e pair.durable it.1 (installs_stay step it) pair.tied
 
   pub installs_as : (w : VolatileState) (step : InstallStep) → DurableInstalls d step e → core_of w e ≡ core_of v e → InstallAnswers (core_of v d) step (core_of w e)
   installs_as w step it same = (it.0, same ∙ ap (core_of v) it.1)
@@ -445,7 +446,7 @@ module _ (blocks : ℕ) (v : VolatileState) (d : DurableState) (pair : IsPair bl
       omega (arith, frees.below, is, ap (λ (l : LogState). l.logged) frees.log)
 
   -- what is dropped from memory is not in the tail
-  pub tail_trimmed : (w : VolatileState) (upto : ℕ) → IsVolatile blocks w → DropsCuts v.tail upto w.tail → tail_of w.tail.log ≡ tail_of v.tail.log
+  pub tail_trimmed : (w : VolatileState) (upto : ℕ) → IsVolatile layout w → DropsCuts v.tail upto w.tail → tail_of w.tail.log ≡ tail_of v.tail.log
   tail_trimmed w upto kept drops =
       ap (λ (l : LogState). tail_of l) drops.log
       ∙ drop-drop (v.tail.log.cut - w.tail.log.start) (w.tail.log.start - v.tail.log.start) v.tail.log.updates
@@ -457,12 +458,12 @@ module _ (blocks : ℕ) (v : VolatileState) (d : DurableState) (pair : IsPair bl
       place : (w.tail.log.start - v.tail.log.start) + (v.tail.log.cut - w.tail.log.start) ≡ v.tail.log.cut - v.tail.log.start
       place = omega (arith, drops.above, start_to_cut, ap (λ (l : LogState). l.cut) drops.log)
 
-  pub trims_as : (w : VolatileState) (upto : ℕ) → IsVolatile blocks w → DropsCuts v.tail upto w.tail → w ≡ record v { tail = w.tail } → core_of w e ≡ core_of v e
+  pub trims_as : (w : VolatileState) (upto : ℕ) → IsVolatile layout w → DropsCuts v.tail upto w.tail → w ≡ record v { tail = w.tail } → core_of w e ≡ core_of v e
   trims_as w upto kept drops same =
       ap (λ (x : VolatileState). core_of x e) same
       ∙ ap (λ (us : List Update). record (core_of v e) { objects = record { wal = e.objects; tail = us } }) (tail_trimmed w upto kept drops)
 
-  pub pair_trimmed : (w : VolatileState) → IsVolatile blocks w → IsDurable blocks e → Tied w e → w ≡ record v { tail = w.tail } → is_faulted e ≡ false → IsPair blocks w e
+  pub pair_trimmed : (w : VolatileState) → IsVolatile layout w → IsDurable layout e → Tied w e → w ≡ record v { tail = w.tail } → is_faulted e ≡ false → IsPair layout w e
   pair_trimmed w volatile durable tied same fine = record {
     volatile = volatile;
     durable = durable;
@@ -493,43 +494,43 @@ module _ (blocks : ℕ) (v : VolatileState) (d : DurableState) (pair : IsPair bl
 
   -- a fetch
 
-  pub pair_fetched : IsDurable blocks e → e ≡ record d { objects = e.objects } → OnlyReadsLog d.objects e.objects → is_faulted e ≡ false → IsPair blocks v e
-  pair_fetched kept same reads fine = pair_on kept (tied_stays blocks v d e pair.durable same (stays_read d.objects e.objects reads) pair.tied) fine
+  pub pair_fetched : IsDurable layout e → e ≡ record d { objects = e.objects } → OnlyReadsLog d.objects e.objects → is_faulted e ≡ false → IsPair layout v e
+  pair_fetched kept same reads fine = pair_on kept (tied_stays layout v d e pair.durable same (stays_read d.objects e.objects reads) pair.tied) fine
 
 -- ---- of the core, seen from outside
 
-module _ (blocks : ℕ) (v : VolatileState) (d : DurableState) (now : CoreState) (pair : IsPair blocks v d) (is : core_of v d ≡ now) where
+module _ (layout : Shape) (v : VolatileState) (d : DurableState) (now : CoreState) (pair : IsPair layout v d) (is : core_of v d ≡ now) where
   pub crashes_still : Crashes now now
-  crashes_still = subst (λ (c : CoreState). Crashes c c) is (crashes_memory blocks v v d pair pair)
+  crashes_still = subst (λ (c : CoreState). Crashes c c) is (crashes_memory layout v v d pair pair)
 
-  pub crashes_seen : (w : VolatileState) (e : DurableState) → IsPair blocks w e → CrashesDurable d e → Crashes now (core_of w e)
-  crashes_seen w e after crash = subst (λ (c : CoreState). Crashes c (core_of w e)) is (crashes_pair blocks v w d e pair after crash)
+  pub crashes_seen : (w : VolatileState) (e : DurableState) → IsPair layout w e → CrashesDurable d e → Crashes now (core_of w e)
+  crashes_seen w e after crash = subst (λ (c : CoreState). Crashes c (core_of w e)) is (crashes_pair layout v w d e pair after crash)
 
-  pub crashes_noticed : (w : VolatileState) → IsPair blocks w d → Crashes now (core_of w d)
-  crashes_noticed w after = subst (λ (c : CoreState). Crashes c (core_of w d)) is (crashes_memory blocks v w d pair after)
+  pub crashes_noticed : (w : VolatileState) → IsPair layout w d → Crashes now (core_of w d)
+  crashes_noticed w after = subst (λ (c : CoreState). Crashes c (core_of w d)) is (crashes_memory layout v w d pair after)
 
   pub leaves_lent : (IsTrue (disk_of d).honest → EveryImage (disk_of d).past (Leaves d)) → IsTrue (core_disk now).honest
       → EveryImage (core_disk now).past (LeavesHistory now.history)
   leaves_lent images = subst (λ (c : CoreState). IsTrue (core_disk c).honest → EveryImage (core_disk c).past (LeavesHistory c.history)) is
-      (λ honest image one. leaves_history blocks d v.ledger.history image pair.durable pair.tied.begins (omega (arith, pair.tied.marked)) (images honest image one))
+      (λ honest image one. leaves_history layout d v.ledger.history image pair.durable pair.tied.begins (omega (arith, pair.tied.marked)) (images honest image one))
 
   pub leaves_given : (disk : DiskState) → (IsTrue disk.honest → EveryImage disk.past (Leaves d)) → IsTrue disk.honest → EveryImage disk.past (LeavesHistory now.history)
   leaves_given disk images = subst (λ (c : CoreState). IsTrue disk.honest → EveryImage disk.past (LeavesHistory c.history)) is
-      (λ honest image one. leaves_history blocks d v.ledger.history image pair.durable pair.tied.begins (omega (arith, pair.tied.marked)) (images honest image one))
+      (λ honest image one. leaves_history layout d v.ledger.history image pair.durable pair.tied.begins (omega (arith, pair.tied.marked)) (images honest image one))
 
   pub trusted_seen : is_trusted now.history ≡ (core_disk now).honest
   trusted_seen = subst (λ (c : CoreState). is_trusted c.history ≡ (core_disk c).honest) is
       (trusted-longer d.front v.ledger.history pair.durable.begun pair.tied.begins ∙ pair.durable.trusted)
 
-  pub size_seen : (core_disk now).past.size ≡ blocks
-  size_seen = subst (λ (c : CoreState). (core_disk c).past.size ≡ blocks) is pair.durable.size
+  pub size_seen : (core_disk now).past.size ≡ layout.blocks
+  size_seen = subst (λ (c : CoreState). (core_disk c).past.size ≡ layout.blocks) is pair.durable.size
 
   pub outset_seen : outset_of v ≡ outset now
-  outset_seen = same_outset blocks v d pair ∙ ap outset is
+  outset_seen = same_outset layout v d pair ∙ ap outset is
 
 -- a session began, or it was stopped
-module _ (blocks : ℕ) (v : VolatileState) (d : DurableState) (pair : IsPair blocks v d) where
-  pub pair_noted : (next : ℕ) (closed : Bool) → IsPair blocks (record v { ledger = record v.ledger { next = next; closed = closed } }) d
+module _ (layout : Shape) (v : VolatileState) (d : DurableState) (pair : IsPair layout v d) where
+  pub pair_noted : (next : ℕ) (closed : Bool) → IsPair layout (record v { ledger = record v.ledger { next = next; closed = closed } }) d
   pair_noted next closed = record {
     volatile = record {
       size = pair.volatile.size;
@@ -555,6 +556,6 @@ module _ (blocks : ℕ) (v : VolatileState) (d : DurableState) (pair : IsPair bl
   }
 
   pub pair_joined : {T E : Type 0} (w : VolatileState) (r : Result T E) → OnOk r (w ≡ record v { ledger = record v.ledger { next = v.ledger.next + 1 } }) → OnErr r (w ≡ v)
-      → IsPair blocks w d
-  pair_joined w (Ok value) joined same = subst (λ (x : VolatileState). IsPair blocks x d) (sym joined) (pair_noted (v.ledger.next + 1) v.ledger.closed)
-  pair_joined w (Err why) joined same = subst (λ (x : VolatileState). IsPair blocks x d) (sym same) pair
+      → IsPair layout w d
+  pair_joined w (Ok value) joined same = subst (λ (x : VolatileState). IsPair layout x d) (sym joined) (pair_noted (v.ledger.next + 1) v.ledger.closed)
+  pair_joined w (Err why) joined same = subst (λ (x : VolatileState). IsPair layout x d) (sym same) pair

@@ -5,7 +5,7 @@ use Rattle.std.proofs.lemmas.Cmp.{nat_eq_equiv}
 use Rattle.std.proofs.lemmas.List.Elements.{All-head, All-tail}
 use mathlib.Core.List.{IsPrefix}
 use Rattle.journal_world.specs.declared.address.Addr.{Addr}
-use Rattle.journal_world.specs.Addresses.{Value, is_valid, is_same}
+use Rattle.journal_world.specs.Addresses.{Value, is_valid, is_same, Shape}
 use Rattle.journal_world.specs.Maps.{Pair, Map, Transaction, value_at, overwritten}
 use Rattle.journal_world.specs.Histories.{Entry, count, after, at, latest}
 use Rattle.journal_world.specs.Histories.Entry.{commit, stable, fence}
@@ -48,11 +48,11 @@ last_same history longer c a None cases maps value last = λ n from to. ⊎_elim
 
 -- ---- of updates
 
-pub since_later : (n : ℕ) (history : List Entry) (c d : ℕ) (us : List Update) → c ≤ d → HaveAllSince n history c us → HaveAllSince n history d us
+pub since_later : (n : Shape) (history : List Entry) (c d : ℕ) (us : List Update) → c ≤ d → HaveAllSince n history c us → HaveAllSince n history d us
 since_later n history c d us le all = record { last = λ a valid. last_later history c d a (known_object n us a) le (all.last a valid) }
 
 -- no commit is after all
-pub since_all : (n : ℕ) (history : List Entry) (c : ℕ) → count history ≤ c → HaveAllSince n history c []
+pub since_all : (n : Shape) (history : List Entry) (c : ℕ) → count history ≤ c → HaveAllSince n history c []
 since_all n history c le = record {
   last = λ a valid k from to.
       let whole : k ≡ count history = omega (arith, le, from, to) in
@@ -60,7 +60,7 @@ since_all n history c le = record {
 }
 
 -- updates that make the same of each block have the same
-pub since_alike : (n : ℕ) (history : List Entry) (c : ℕ) (us vs : List Update) → MakeTheSame us vs → HaveAllSince n history c vs → HaveAllSince n history c us
+pub since_alike : (n : Shape) (history : List Entry) (c : ℕ) (us vs : List Update) → MakeTheSame us vs → HaveAllSince n history c vs → HaveAllSince n history c us
 since_alike n history c us vs same all = record {
   last = λ a valid. subst (IsLastSince history c a)
       (ap (λ (t : Bool). cond t (Some (object_or_zeros n (updated vs a.block []) a)) None) (sym (same.blocks a.block))
@@ -72,7 +72,7 @@ since_alike n history c us vs same all = record {
 pub latest_mark : (history : List Entry) (k : ℕ) → history ≢ [] → latest (history ++ stable k ∷ []) ≡ latest history
 latest_mark history k some = λ i. after (opened-append history (stable k ∷ []) some i) (commits-mark history k i)
 
-pub since_mark : (n : ℕ) (history : List Entry) (k c : ℕ) (us : List Update) → history ≢ [] → HaveAllSince n history c us
+pub since_mark : (n : Shape) (history : List Entry) (k c : ℕ) (us : List Update) → history ≢ [] → HaveAllSince n history c us
     → HaveAllSince n (history ++ stable k ∷ []) c us
 since_mark n history k c us some all = record {
   last = λ a valid. last_same history longer c a (known_object n us a) (λ m from to. inr (omega (arith, to, count-mark history k)))
@@ -89,7 +89,7 @@ since_mark n history k c us some all = record {
 pub latest_fence : (history : List Entry) (s : ℕ) → history ≢ [] → latest (history ++ fence s ∷ []) ≡ latest history
 latest_fence history s some = λ i. after (opened-append history (fence s ∷ []) some i) (commits-fence history s i)
 
-pub since_fence : (n : ℕ) (history : List Entry) (s c : ℕ) (us : List Update) → history ≢ [] → HaveAllSince n history c us
+pub since_fence : (n : Shape) (history : List Entry) (s c : ℕ) (us : List Update) → history ≢ [] → HaveAllSince n history c us
     → HaveAllSince n (history ++ fence s ∷ []) c us
 since_fence n history s c us some all = record {
   last = λ a valid. last_same history longer c a (known_object n us a) (λ m from to. inr (omega (arith, to, count-fence history s)))
@@ -135,10 +135,10 @@ written_in m (w ∷ ws) a o is = by (is_same a w.0) refl (written_in m ws a o is
         (subst (λ (v : Value). IsOrNone v (after_writes ws o a)) (sym (value false here)) rest)
 
 -- what is known by updates, where their block is among them
-pub known_named : (n : ℕ) (us : List Update) (a : Addr) → updates_block us a.block ≡ true → known_object n us a ≡ Some (object_or_zeros n (updated us a.block []) a)
+pub known_named : (n : Shape) (us : List Update) (a : Addr) → updates_block us a.block ≡ true → known_object n us a ≡ Some (object_or_zeros n (updated us a.block []) a)
 known_named n us a named = ap (λ (t : Bool). cond t (Some (object_or_zeros n (updated us a.block []) a)) None) named
 
-module _ (n : ℕ) (us more : List Update) (a : Addr) where
+module _ (n : Shape) (us more : List Update) (a : Addr) where
   -- the last update of a block counts
   pub known_later : updates_block more a.block ≡ true → known_object n (us ++ more) a ≡ known_object n more a
   known_later named =
@@ -154,7 +154,7 @@ module _ (n : ℕ) (us more : List Update) (a : Addr) where
       (updated-append us more a.block [] ∙ updated-unnamed more a.block (updated us a.block []) unnamed)
 
 -- what writes make of what is known is what they make of the map
-pub objects_written : (n : ℕ) (m : Map) (writes : List Pair) (known prepared : List Update) → AreObjectsOf n m known → OverwritesKnown n known prepared writes
+pub objects_written : (n : Shape) (m : Map) (writes : List Pair) (known prepared : List Update) → AreObjectsOf n m known → OverwritesKnown n known prepared writes
     → AreObjectsOf n (overwritten m writes) prepared
 objects_written n m writes known prepared are over = record { values = λ a valid. by a valid (updates_block prepared a.block) refl }
   where
@@ -164,7 +164,7 @@ objects_written n m writes known prepared are over = record { values = λ a vali
     by a valid false is = subst (IsOrNone (value_at (overwritten m writes) a))
         (sym (ap (λ (t : Bool). cond t (Some (object_or_zeros n (updated prepared a.block []) a)) None) is)) tt
 
-module _ (n : ℕ) (history : List Entry) (t : Transaction) (some : history ≢ []) (prepared : List Update)
+module _ (n : Shape) (history : List Entry) (t : Transaction) (some : history ≢ []) (prepared : List Update)
     (named : (b : ℕ) → updates_block prepared b ≡ writes_block t.writes b) (written : AreObjectsOf n (overwritten (latest history) t.writes) prepared) where
   abbrev pub longer : List Entry
   longer = history ++ commit t ∷ []
@@ -219,7 +219,7 @@ last_of P (u ∷ later) b all named = by (updates_block later b) refl (last_of P
             (subst (λ (k : ℕ). P k u.bytes) (eqb-true u.block b is) (All-head (λ u. P u.block u.bytes) u later all))
         here false is = absurd (false≢true (sym (ap (λ (t : Bool). t || updates_block later b) is ∙ more) ∙ named))
 
-module _ (n : ℕ) (history : List Entry) (trimmed : ℕ) (us : List Update) (all : HaveAllSince n history trimmed us)
+module _ (n : Shape) (history : List Entry) (trimmed : ℕ) (us : List Update) (all : HaveAllSince n history trimmed us)
     (front : List Entry) (commits : ℕ) (some : front ≢ []) (begins : IsPrefix front history) (made : commits ≤ count front) (fresh : trimmed ≤ commits)
     (fetched : List Update) (are : All (IsBlockAfter n front commits) fetched) where
   fetched_latest : (a : Addr) → IsTrue (is_valid n a) → IsOrNone (value_at (latest history) a) (known_object n (fetched ++ us) a)
@@ -248,7 +248,7 @@ module _ (n : ℕ) (history : List Entry) (trimmed : ℕ) (us : List Update) (al
 -- ---- what memory knows with the copies of home blocks
 
 -- what makes no other has the same objects
-pub objects_no_other : (n : ℕ) (m : Map) (earlier later : List Update) → MakesNoOther earlier later → AreObjectsOf n m earlier → AreObjectsOf n m later
+pub objects_no_other : (n : Shape) (m : Map) (earlier later : List Update) → MakesNoOther earlier later → AreObjectsOf n m earlier → AreObjectsOf n m later
 objects_no_other n m earlier later fewer are = record { values = λ a valid. by a (updates_block later a.block) refl (are.values a valid) }
   where
     by : (a : Addr) (b : Bool) → updates_block later a.block ≡ b → IsOrNone (value_at m a) (known_object n earlier a) → IsOrNone (value_at m a) (known_object n later a)
@@ -256,7 +256,7 @@ objects_no_other n m earlier later fewer are = record { values = λ a valid. by 
         (known_named n earlier a (fewer.blocks a.block is) ∙ ap (λ (bytes : Bytes). Some (object_or_zeros n bytes a)) (sym (fewer.content a.block [] is)) ∙ sym (known_named n later a is)) was
     by a false is was = subst (IsOrNone (value_at m a)) (sym (ap (λ (t : Bool). cond t (Some (object_or_zeros n (updated later a.block []) a)) None) is)) tt
 
-module _ (n : ℕ) (m : Map) (first second us : List Update) (one : AreObjectsOf n m (first ++ us)) (other : AreObjectsOf n m (second ++ us)) where
+module _ (n : Shape) (m : Map) (first second us : List Update) (one : AreObjectsOf n m (first ++ us)) (other : AreObjectsOf n m (second ++ us)) where
   both_objects : (a : Addr) → IsTrue (is_valid n a) → IsOrNone (value_at m a) (known_object n (first ++ (second ++ us)) a)
   both_objects a valid = by (updates_block (second ++ us) a.block) refl
     where
@@ -271,14 +271,14 @@ module _ (n : ℕ) (m : Map) (first second us : List Update) (one : AreObjectsOf
   objects_both = record { values = both_objects }
 
 -- what is kept of copies and of fetched blocks has the objects of both
-pub objects_kept : (n : ℕ) (m : Map) (home fetched later us : List Update) → AreObjectsOf n m (home ++ us) → AreObjectsOf n m (fetched ++ us)
+pub objects_kept : (n : Shape) (m : Map) (home fetched later us : List Update) → AreObjectsOf n m (home ++ us) → AreObjectsOf n m (fetched ++ us)
     → MakesNoOther (home ++ fetched) later → AreObjectsOf n m (later ++ us)
 objects_kept n m home fetched later us at_home are fewer =
     objects_no_other n m ((home ++ fetched) ++ us) (later ++ us) (no_other_behind (home ++ fetched) later us fewer)
     (subst (AreObjectsOf n m) (sym (append_assoc home fetched us)) (objects_both n m home fetched us at_home are))
 
 -- with the updates of a commit behind
-pub objects_commit : (n : ℕ) (m : Map) (writes : List Pair) (us prepared : List Update) → ((b : ℕ) → updates_block prepared b ≡ writes_block writes b)
+pub objects_commit : (n : Shape) (m : Map) (writes : List Pair) (us prepared : List Update) → ((b : ℕ) → updates_block prepared b ≡ writes_block writes b)
     → AreObjectsOf n (overwritten m writes) prepared → AreObjectsOf n m us → AreObjectsOf n (overwritten m writes) (us ++ prepared)
 objects_commit n m writes us prepared named written are = record { values = λ a valid. by a valid (updates_block prepared a.block) refl }
   where
@@ -289,7 +289,7 @@ objects_commit n m writes us prepared named written are = record { values = λ a
         (subst (IsOrNone (value_at m a)) (sym (known_before n us prepared a is)) (are.values a valid))
 
 -- the same updates in a log
-pub objects_appended : (n : ℕ) (m : Map) (home : List Update) (log : LogState) (prepared : List Update) → AreObjectsOf n m ((home ++ log.updates) ++ prepared)
+pub objects_appended : (n : Shape) (m : Map) (home : List Update) (log : LogState) (prepared : List Update) → AreObjectsOf n m ((home ++ log.updates) ++ prepared)
     → AreObjectsOf n m (home ++ (appended log prepared).updates)
 objects_appended n m home log prepared are = record {
   values = λ a valid. subst (IsOrNone (value_at m a)) (sym (known_appended n home log prepared a)) (are.values a valid);

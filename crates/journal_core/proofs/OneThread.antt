@@ -3,6 +3,7 @@ use Rattle.std.proofs.Common.{◌≡◌, ◌⊎◌, ⊎_elim, ◌<◌, ◌≤◌
 use Rattle.std.proofs.lemmas.Bool.{false≢true}
 use Rattle.journal_world.specs.declared.refusal.Refusal.{Refusal}
 use Rattle.journal_world.specs.declared.refusal.Refusal.TheVariants.{NoMemory, BadAddress, BadSize, TooLarge, Busy, DeviceFailed, BadLog, BadSuper, Stale, Stranger, Worn, Full, Closed, Fenced}
+use Rattle.journal_world.specs.Addresses.{Shape}
 use Rattle.journal_world.specs.Histories.{count}
 use Rattle.journal_wal.specs.Wal.{log_steps}
 use Rattle.journal_core.specs.declared.step.LogStep.{LogStep}
@@ -16,7 +17,7 @@ use Rattle.journal_core.specs.Steps.{LogAnswers, IsLogRefusal, LeavesLog, TriesT
 use Rattle.journal_core.specs.Holds.{AnswersMarkOrCut}
 use Rattle.journal_core.proofs.Joining.{failed, pair_due, due_done, due_fault, due_refused, due_roomed, roomed_leaves, roomed_tries, roomed_fault, install_fails, install_unmade}
 
-module _ (n : ℕ) (v : VolatileState) (d : DurableState) (pair : IsPair n v d) (running : IsRunning (core_of v d)) (none : log_steps d.objects ≡ 0) (w : VolatileState) (e : DurableState) where
+module _ (n : Shape) (v : VolatileState) (d : DurableState) (pair : IsPair n v d) (running : IsRunning (core_of v d)) (none : log_steps d.objects ≡ 0) (w : VolatileState) (e : DurableState) where
   -- a stop is no hold of both
   due_closed : (step : LogStep) → DoesWhatIsDue v d step w e → w.ledger.closed ≡ v.ledger.closed
   due_closed Idle does = ap (λ (x : VolatileState). x.ledger.closed) does.1
@@ -65,11 +66,11 @@ module _ (n : ℕ) (v : VolatileState) (d : DurableState) (pair : IsPair n v d) 
       pair_due n v d pair running e w (subst (IsVolatile n) (sym it.volatile) pair.volatile) it.durable (it.tied pair.tied)
       (ap (λ (x : VolatileState). x.faulted) it.volatile) (roomed_fault n v d pair running e none (due_roomed n v d pair running e none why it.refusal))
 
-pub mark_or_cut_crash : (n : ℕ) (v : VolatileState) (d : DurableState) (w : VolatileState) (e : DurableState) (r : Result LogStep (Refusal CauseState)) → AnswersMarkOrCut n v d r w e → Crashes d e
+pub mark_or_cut_crash : (n : Shape) (v : VolatileState) (d : DurableState) (w : VolatileState) (e : DurableState) (r : Result LogStep (Refusal CauseState)) → AnswersMarkOrCut n v d r w e → Crashes d e
 mark_or_cut_crash n v d w e (Ok step) it = it.crash
 mark_or_cut_crash n v d w e (Err why) it = it.crash
 
-module _ (n : ℕ) (v : VolatileState) (d : DurableState) (pair : IsPair n v d) (running : IsRunning (core_of v d)) (e : DurableState) where
+module _ (n : Shape) (v : VolatileState) (d : DurableState) (pair : IsPair n v d) (running : IsRunning (core_of v d)) (e : DurableState) where
   -- the device failed in a call of the installer
   pub install_failed : (why : Refusal CauseState) → is_faulted e ≡ true → IsDurableRefusal d e why
       → IsInstallRefusal (core_of v d) (core_of (failed v) e) why × (e ≡ record d { objects = e.objects })

@@ -3,16 +3,17 @@ use Rattle.std.proofs.Common.{◌≡◌, inr, ⊎_elim, ℕ, Bool, false, IsTrue
 use Rattle.std.proofs.lemmas.Bool.{false≢true}
 use Rattle.journal_world.specs.declared.refusal.Refusal.{Refusal}
 use Rattle.journal_world.specs.declared.refusal.Refusal.TheVariants.{NoMemory, BadAddress, BadSize, TooLarge, Busy, DeviceFailed, BadLog, BadSuper, Stale, Stranger, Worn, Full, Closed, Fenced}
+use Rattle.journal_world.specs.Addresses.{Shape}
 use Rattle.journal_world.specs.Refusals.{IsReadingRefusal}
-use Rattle.journal_world.specs.Maps.{Map, are_objects}
+use Rattle.journal_world.specs.Maps.{Map}
 use Rattle.journal_world.specs.Histories.{Entry, commits}
 use Rattle.journal_world.specs.Histories.Entry.{opening}
 use Rattle.journal_disk.specs.Disks.{DiskState, Keeps, Past, HasFailed}
 use Rattle.journal_disk.specs.Images.{EveryImage}
 use Rattle.journal_memlog.specs.Logs.{next_position}
-use Rattle.journal_wal.specs.Wal.{WalState, IsAtRest as AtRest, size_of, blocks_now, log_steps, install_steps, tail_length}
+use Rattle.journal_wal.specs.Wal.{WalState, IsAtRest as AtRest, blocks_now, log_steps, install_steps, tail_length}
 use Rattle.journal_objlog.specs.Maps.{OpensAs}
-use Rattle.journal_objlog.specs.MapLaws.{map_of-blocks, map_of-objects}
+use Rattle.journal_objlog.specs.MapLaws.{map_of-layout, map_of-objects}
 use Rattle.journal_objlog.specs.ObjectLogs.{map_now, OnlyReads}
 use Rattle.journal_objlog.specs.ReadLaws.{now_read, images_read}
 use Rattle.journal_objlog.proofs.Openings.{failed_after}
@@ -29,7 +30,7 @@ use Rattle.journal_core.specs.Durables.{DurableState, IsDurable, begun_durable}
 use Rattle.journal_core.specs.Volatiles.{VolatileState, IsVolatile}
 use Rattle.journal_core.specs.Pairs.{Tied}
 use Rattle.journal_core.specs.Cores.{IsPair}
-use Rattle.journal_core.specs.Openings.{HoldsMap, Begins, IsInRange, IsBeginRefusal, IsOpenRefusal, OnlyReadsDisk}
+use Rattle.journal_core.specs.Openings.{HoldsMap, Begins, HasSize, IsBeginRefusal, IsLayoutRefusal, OnlyReadsDisk}
 use Rattle.journal_objlog.specs.ObjectLogs.{is_faulted as is_log_faulted, disk_of as log_disk}
 use Rattle.journal_circ.specs.Ring.{IsOpenRefusal as IsLogRefusal}
 
@@ -38,21 +39,21 @@ pub on_ok : {T E P : Type 0} (r : Result T E) (value : T) → r ≡ Ok value →
 on_ok {T} {E} {P} r value is holds = subst (λ (x : Result T E). OnOk x P) is holds
 
 -- why the log is not opened, as the core's
-pub refuses_log : (rule : Map → Type 0) (old new : DiskState) (why : Refusal Unit) → IsInRange old → IsLogRefusal old new why → IsOpenRefusal rule old new (raised_of why)
-refuses_log rule old new NoMemory range is = range
-refuses_log rule old new (DeviceFailed cause) range is = (range, is, refl)
-refuses_log rule old new BadLog range is = (range, is)
-refuses_log rule old new BadAddress range is = absurd is
-refuses_log rule old new BadSize range is = absurd is
-refuses_log rule old new TooLarge range is = absurd is
-refuses_log rule old new Busy range is = absurd is
-refuses_log rule old new BadSuper range is = absurd is
-refuses_log rule old new (Stale cause) range is = absurd is
-refuses_log rule old new (Stranger cause) range is = absurd is
-refuses_log rule old new (Worn cause) range is = absurd is
-refuses_log rule old new (Full cause) range is = absurd is
-refuses_log rule old new (Closed cause) range is = absurd is
-refuses_log rule old new Fenced range is = absurd is
+pub refuses_log : (rule : Map → Type 0) (layout : Shape) (old new : DiskState) (why : Refusal Unit) → HasSize layout old → IsLogRefusal old new why → IsLayoutRefusal rule layout old new (raised_of why)
+refuses_log rule layout old new NoMemory size is = size
+refuses_log rule layout old new (DeviceFailed cause) size is = (size, is, refl)
+refuses_log rule layout old new BadLog size is = (size, is)
+refuses_log rule layout old new BadAddress size is = absurd is
+refuses_log rule layout old new BadSize size is = absurd is
+refuses_log rule layout old new TooLarge size is = absurd is
+refuses_log rule layout old new Busy size is = absurd is
+refuses_log rule layout old new BadSuper size is = absurd is
+refuses_log rule layout old new (Stale cause) size is = absurd is
+refuses_log rule layout old new (Stranger cause) size is = absurd is
+refuses_log rule layout old new (Worn cause) size is = absurd is
+refuses_log rule layout old new (Full cause) size is = absurd is
+refuses_log rule layout old new (Closed cause) size is = absurd is
+refuses_log rule layout old new Fenced size is = absurd is
 
 -- nothing is in flight still, where the log was only read
 pub rests_still : (old new : WalState) → OnlyReads old new → is_log_faulted new ≡ false → AtRest old → AtRest new
@@ -67,9 +68,9 @@ rests_still old new reads fine rest = record {
 }
 
 -- A disk was opened, and its map was read
-module _ (disk : DiskState) (opened objects : WalState) (keeps : Keeps disk (log_disk opened))
+module _ (layout : Shape) (disk : DiskState) (opened objects : WalState) (keeps : Keeps disk (log_disk opened))
     (same : IsTrue disk.honest → (log_disk opened).past ≡ disk.past) (rest : AtRest opened)
-    (images : IsTrue disk.honest → EveryImage (log_disk opened).past (OpensAs (map_now opened))) (reads : OnlyReads opened objects) where
+    (images : IsTrue disk.honest → EveryImage (log_disk opened).past (OpensAs (map_now layout opened))) (reads : OnlyReads opened objects) where
   honest_is : (log_disk objects).honest ≡ disk.honest
   honest_is = reads.keeps.honest ∙ keeps.honest
 
@@ -86,12 +87,12 @@ module _ (disk : DiskState) (opened objects : WalState) (keeps : Keeps disk (log
   past_both : IsTrue disk.honest → (log_disk objects).past ≡ disk.past
   past_both honest = reads.past (opened_honest honest) ∙ same honest
 
-  pub images_now : IsTrue (log_disk objects).honest → EveryImage (log_disk objects).past (OpensAs (map_now objects))
-  images_now honest = let was : IsTrue disk.honest = subst IsTrue honest_is honest in images_read opened objects reads (opened_honest was) (images was)
+  pub images_now : IsTrue (log_disk objects).honest → EveryImage (log_disk objects).past (OpensAs (map_now layout objects))
+  images_now honest = let was : IsTrue disk.honest = subst IsTrue honest_is honest in images_read opened objects reads (opened_honest was) layout (images was)
 
-  holds_now : IsTrue disk.honest → HoldsMap disk (map_now objects)
-  holds_now honest = subst (HoldsMap disk) (sym (now_read opened objects reads (opened_honest honest)))
-      (subst (λ (p : Past). EveryImage p (OpensAs (map_now opened))) (same honest) (images honest))
+  holds_now : IsTrue disk.honest → HoldsMap disk (map_now layout objects)
+  holds_now honest = subst (HoldsMap disk) (sym (now_read opened objects reads (opened_honest honest) layout))
+      (subst (λ (p : Past). EveryImage p (OpensAs (map_now layout opened))) (same honest) (images honest))
 
   -- it is faulted only where the device failed since
   failed_since : IsTrue (is_log_faulted objects) → HasFailed disk (log_disk objects)
@@ -104,18 +105,17 @@ module _ (disk : DiskState) (opened objects : WalState) (keeps : Keeps disk (log
   handed_back = record { keeps = keeps_both; past = past_both }
 
   module _ (rule : Map → Type 0) (fine : is_log_faulted objects ≡ false) where
-    pub begins : IsInRange disk → (history : List Entry) → history ≡ opening (map_now objects) (log_disk objects).honest ∷ []
-        → (IsTrue (log_disk objects).honest → rule (map_now objects))
-        → Begins rule disk (record { objects = record { wal = objects; tail = [] }; history = history; cut = 0; logged = 0; next = 0; closed = false })
-    begins range history is ruled = record {
-      map = map_now objects;
-      range = range;
-      size = map_of-blocks (size_of objects) (blocks_now objects) ∙ keeps_both.size;
-      objects = subst (λ (n : ℕ). IsTrue (are_objects n (map_now objects).pairs)) (sym (map_of-blocks (size_of objects) (blocks_now objects)))
-          (map_of-objects (size_of objects) (blocks_now objects));
+    pub begins : HasSize layout disk → (history : List Entry) → history ≡ opening (map_now layout objects) (log_disk objects).honest ∷ []
+        → (IsTrue (log_disk objects).honest → rule (map_now layout objects))
+        → Begins rule layout disk (record { objects = record { wal = objects; tail = [] }; history = history; cut = 0; logged = 0; next = 0; closed = false })
+    begins size history is ruled = record {
+      map = map_now layout objects;
+      size = size;
+      on_disk = map_of-layout layout (blocks_now objects);
+      objects = map_of-objects layout (blocks_now objects);
       holds = holds_now;
       ruled = λ honest. ruled (subst IsTrue (sym honest_is) honest);
-      history = is ∙ ap (λ (b : Bool). opening (map_now objects) b ∷ []) honest_is;
+      history = is ∙ ap (λ (b : Bool). opening (map_now layout objects) b ∷ []) honest_is;
       keeps = keeps_both;
       past = past_both;
       rest = rests_still opened objects reads fine rest;
@@ -126,11 +126,11 @@ module _ (disk : DiskState) (opened objects : WalState) (keeps : Keeps disk (log
       running = (refl, fine);
     }
 
-  module _ (rule : Map → Type 0) (range : IsInRange disk) where
+  module _ (rule : Map → Type 0) (size : HasSize layout disk) where
     -- what the rule's refusal is
-    raised_rule : (refusal : Refusal Unit) → IsReadingRefusal (is_log_faulted objects) refusal → IsOpenRefusal rule disk (log_disk objects) (raised_of refusal)
-    raised_rule NoMemory is = range
-    raised_rule (DeviceFailed cause) is = (range, failed_since is, refl)
+    raised_rule : (refusal : Refusal Unit) → IsReadingRefusal (is_log_faulted objects) refusal → IsLayoutRefusal rule layout disk (log_disk objects) (raised_of refusal)
+    raised_rule NoMemory is = size
+    raised_rule (DeviceFailed cause) is = (size, failed_since is, refl)
     raised_rule BadAddress is = absurd is
     raised_rule BadSize is = absurd is
     raised_rule TooLarge is = absurd is
@@ -146,13 +146,13 @@ module _ (disk : DiskState) (opened objects : WalState) (keeps : Keeps disk (log
 
     -- why the history was not begun, seen from outside
     pub refuses_begin : (admitted : Result Bool (Refusal Unit)) (why : Refusal CauseState) → IfErr admitted (IsReadingRefusal (is_log_faulted objects))
-        → IsBeginRefusal rule objects admitted why → IsOpenRefusal rule disk (log_disk objects) why
+        → IsBeginRefusal rule layout objects admitted why → IsLayoutRefusal rule layout disk (log_disk objects) why
     refuses_begin (Err refusal) why is because =
-        subst (IsOpenRefusal rule disk (log_disk objects)) (sym because) (raised_rule refusal is)
+        subst (IsLayoutRefusal rule layout disk (log_disk objects)) (sym because) (raised_rule refusal is)
     refuses_begin (Ok admitted) BadSuper is because =
-        inr (range, λ honest. (map_now objects, holds_now honest, because (subst IsTrue (sym honest_is) honest)))
+        inr (size, λ honest. (map_now layout objects, map_of-layout layout (blocks_now objects), holds_now honest, because (subst IsTrue (sym honest_is) honest)))
     refuses_begin (Ok admitted) (Stale cause) is because =
-        (range, λ honest. (map_now objects, holds_now honest, because.0 (subst IsTrue (sym honest_is) honest)), because.1)
+        (size, λ honest. (map_now layout objects, map_of-layout layout (blocks_now objects), holds_now honest, because.0 (subst IsTrue (sym honest_is) honest)), because.1)
     refuses_begin (Ok admitted) NoMemory is because = absurd because
     refuses_begin (Ok admitted) (DeviceFailed cause) is because = absurd because
     refuses_begin (Ok admitted) BadAddress is because = absurd because
@@ -171,9 +171,9 @@ pub none_begun : (history : List Entry) (m : Map) (trusted : Bool) → history �
 none_begun history m trusted is = ap commits is
 
 -- the pair that a mount begins with
-module _ (blocks : ℕ) (objects : WalState) (front : List Entry) (ledger : LedgerState) (new : TailState) (m : Map) (trusted : Bool) (room : ℕ) (rest : AtRest objects)
+module _ (layout : Shape) (objects : WalState) (front : List Entry) (ledger : LedgerState) (new : TailState) (m : Map) (trusted : Bool) (room : ℕ) (rest : AtRest objects)
     (is : front ≡ ledger.history) (begun : ledger ≡ record { history = opening m trusted ∷ []; cut = 0; next = 0; closed = false })
-    (empty : new ≡ empty_tail blocks (end_of objects) room) where
+    (empty : new ≡ empty_tail layout.blocks (end_of objects) room) where
   begun_tied : Tied (record { ledger = ledger; tail = new; faulted = false }) (begun_durable objects front)
   begun_tied = record {
     begins = subst (IsPrefix front) is (IsPrefix-refl front);
@@ -186,8 +186,8 @@ module _ (blocks : ℕ) (objects : WalState) (front : List Entry) (ledger : Ledg
         (λ k d lt. absurd (omega (arith, lt))));
   }
 
-  pub pair_begun : (v : VolatileState) (d : DurableState) → IsVolatile blocks v → IsDurable blocks d → v ≡ record { ledger = ledger; tail = new; faulted = false }
-      → d ≡ begun_durable objects front → IsPair blocks v d
+  pub pair_begun : (v : VolatileState) (d : DurableState) → IsVolatile layout v → IsDurable layout d → v ≡ record { ledger = ledger; tail = new; faulted = false }
+      → d ≡ begun_durable objects front → IsPair layout v d
   pair_begun v d volatile durable memory_is durable_is = record {
     volatile = volatile;
     durable = durable;

@@ -4,6 +4,7 @@ use Rattle.std.proofs.lemmas.List.Elements.{All-push}
 use mathlib.Core.List.{IsPrefix}
 use Rattle.journal_world.specs.declared.refusal.Refusal.{Refusal}
 use Rattle.journal_world.specs.declared.refusal.Refusal.TheVariants.{NoMemory, BadAddress, BadSize, TooLarge, Busy, DeviceFailed, BadLog, BadSuper, Stale, Stranger, Worn, Full, Closed, Fenced}
+use Rattle.journal_world.specs.Addresses.{Shape}
 use Rattle.journal_world.specs.Maps.{Map, Transaction, SameMap}
 use Rattle.journal_world.specs.Histories.{Entry, is_trusted, count, floor}
 use Rattle.journal_world.specs.Histories.Entry.{commit, stable}
@@ -49,9 +50,9 @@ begins_not history seen (Closed cause) why begins = why
 begins_not history seen Fenced why begins = why
 
 -- an image of a disk that has all marks of the history opens as the map after a front of it
-pub leaves_history : (blocks : ℕ) (d : DurableState) (history : List Entry) (image : List Bytes) → IsDurable blocks d → IsPrefix d.front history
+pub leaves_history : (layout : Shape) (d : DurableState) (history : List Entry) (image : List Bytes) → IsDurable layout d → IsPrefix d.front history
     → floor history ≤ d.marked → Leaves d image → LeavesHistory history image
-leaves_history blocks d history image kept begins low leaves = record {
+leaves_history layout d history image kept begins low leaves = record {
   commits = leaves.commits;
   marked = omega (arith, low, leaves.marked);
   made = omega (arith, leaves.coming, kept.coming_to_count, count-longer d.front history kept.begun begins);
@@ -111,15 +112,15 @@ cuts_both v w d mid e front group due volatile same whole is takes =
     }
 
 -- the tail's blocks lie behind the cut
-pub place_of : (blocks : ℕ) (v : VolatileState) → IsVolatile blocks v → next_position v.tail.log ≡ v.tail.log.cut + length (tail_of v.tail.log)
-place_of blocks v kept = omega (arith, start_to_cut, kept.cut_to_next, length-drop (v.tail.log.cut - v.tail.log.start) v.tail.log.updates)
+pub place_of : (layout : Shape) (v : VolatileState) → IsVolatile layout v → next_position v.tail.log ≡ v.tail.log.cut + length (tail_of v.tail.log)
+place_of layout v kept = omega (arith, start_to_cut, kept.cut_to_next, length-drop (v.tail.log.cut - v.tail.log.start) v.tail.log.updates)
   where
     start_to_cut : v.tail.log.start ≤ v.tail.log.cut
     start_to_cut = (kept.cuts 0 (record { end = 0; commits = 0 }) (omega arith)).below
 
-pub tied_cut : (blocks : ℕ) (v w : VolatileState) (d e : DurableState) → IsVolatile blocks v → CutsBoth v d w e → end_of e.objects < e.objects.log.cut
+pub tied_cut : (layout : Shape) (v w : VolatileState) (d e : DurableState) → IsVolatile layout v → CutsBoth v d w e → end_of e.objects < e.objects.log.cut
     → Tied v d → Tied w e
-tied_cut blocks v w d e kept cuts flies tied =
+tied_cut layout v w d e kept cuts flies tied =
     subst (λ (x : VolatileState). Tied x e) (sym cuts.volatile) (subst (Tied later) (sym cuts.group.others) (record {
       begins = IsPrefix-refl v.ledger.history;
       marked = tied.marked;
@@ -135,7 +136,7 @@ tied_cut blocks v w d e kept cuts flies tied =
     later = record v { ledger = record v.ledger { cut = count v.ledger.history }; tail = cut_after v.tail (count v.ledger.history) }
 
     place : next_position v.tail.log ≡ v.tail.log.cut + length (tail_of v.tail.log)
-    place = place_of blocks v kept
+    place = place_of layout v kept
 
     here : v.tail.log.cut ≡ next_position d.objects.log
     here = tied.position
@@ -163,8 +164,8 @@ tied_mark v w d e low cut marks tied =
     }))
 
 -- what is logged stands in the longer history
-pub made_in : (blocks : ℕ) (d : DurableState) (history : List Entry) → IsDurable blocks d → IsPrefix d.front history → d.logged ≤ count history
-made_in blocks d history kept begins =
+pub made_in : (layout : Shape) (d : DurableState) (history : List Entry) → IsDurable layout d → IsPrefix d.front history → d.logged ≤ count history
+made_in layout d history kept begins =
     omega (arith, kept.logged_to_coming, kept.coming_to_count, count-longer d.front history kept.begun begins)
 
 -- updates of some first cuts were dropped, of which all are at home
@@ -207,13 +208,13 @@ marks_all v w d mid e n front again due is volatile first second reached marked 
     counted = ap count (first ∙ longer) ∙ count-mark v.ledger.history (count v.ledger.history)
 
 -- a hold of both that marks all commits
-pub tied_rest : (blocks : ℕ) (v w : VolatileState) (d e : DurableState) → IsVolatile blocks v → IsDurable blocks d → floor v.ledger.history ≤ count v.ledger.history
+pub tied_rest : (layout : Shape) (v w : VolatileState) (d e : DurableState) → IsVolatile layout v → IsDurable layout d → floor v.ledger.history ≤ count v.ledger.history
     → MarksAll v d w e → Tied v d → Tied w e
-tied_rest blocks v w d e held kept low marks tied =
+tied_rest layout v w d e held kept low marks tied =
     subst (λ (x : VolatileState). Tied x e) (sym marks.volatile) (subst (Tied later) (sym marks.durable) (record {
       begins = IsPrefix-refl later.ledger.history;
       marked = floor-mark v.ledger.history (count v.ledger.history) low;
-      trimmed = omega (arith, tied.trimmed, made_in blocks d v.ledger.history kept tied.begins);
+      trimmed = omega (arith, tied.trimmed, made_in layout d v.ledger.history kept tied.begins);
       cut = refl;
       position = tied.position;
       logged = λ k dflt lt below. let was = held.cuts k dflt lt in omega (arith, was.earlier, held.made);
@@ -223,23 +224,23 @@ tied_rest blocks v w d e held kept low marks tied =
     later = record v { ledger = record v.ledger { history = v.ledger.history ++ stable (count v.ledger.history) ∷ []; cut = count v.ledger.history } }
 
 -- the commits after those that are logged wrote nothing
-pub rest_since : (blocks : ℕ) (v : VolatileState) (n : ℕ) → IsVolatile blocks v → v.ledger.cut ≤ n → tail_of v.tail.log ≡ []
+pub rest_since : (layout : Shape) (v : VolatileState) (n : ℕ) → IsVolatile layout v → v.ledger.cut ≤ n → tail_of v.tail.log ≡ []
     → IsTrue (is_trusted (v.ledger.history ++ stable (count v.ledger.history) ∷ []))
-    → HaveAllSince blocks (v.ledger.history ++ stable (count v.ledger.history) ∷ []) n []
-rest_since blocks v n held le empty trusted =
-    since_later blocks (v.ledger.history ++ stable (count v.ledger.history) ∷ []) v.ledger.cut n [] le
-    (since_mark blocks v.ledger.history (count v.ledger.history) v.ledger.cut [] held.begun
-    (subst (HaveAllSince blocks v.ledger.history v.ledger.cut) empty
+    → HaveAllSince layout (v.ledger.history ++ stable (count v.ledger.history) ∷ []) n []
+rest_since layout v n held le empty trusted =
+    since_later layout (v.ledger.history ++ stable (count v.ledger.history) ∷ []) v.ledger.cut n [] le
+    (since_mark layout v.ledger.history (count v.ledger.history) v.ledger.cut [] held.begun
+    (subst (HaveAllSince layout v.ledger.history v.ledger.cut) empty
     (held.updates (subst IsTrue (is_trusted-append v.ledger.history (stable (count v.ledger.history) ∷ []) held.begun) trusted)).since_last))
 
 -- ---- holds of one part
 
 -- the logger's call
-pub tied_logged : (blocks : ℕ) (v : VolatileState) (d e : DurableState) (step : GroupStep) → IsVolatile blocks v → IsDurable blocks d → LogAnswers d step e
+pub tied_logged : (layout : Shape) (v : VolatileState) (d e : DurableState) (step : GroupStep) → IsVolatile layout v → IsDurable layout d → LogAnswers d step e
     → Tied v d → Tied v e
-tied_logged blocks v d e Idle held kept answers tied = subst (Tied v) (sym answers.1) tied
-tied_logged blocks v d e Cut held kept answers tied = absurd answers
-tied_logged blocks v d e Put held kept answers tied = subst (Tied v) (sym answers.1) (record {
+tied_logged layout v d e Idle held kept answers tied = subst (Tied v) (sym answers.1) tied
+tied_logged layout v d e Cut held kept answers tied = absurd answers
+tied_logged layout v d e Put held kept answers tied = subst (Tied v) (sym answers.1) (record {
   begins = tied.begins;
   marked = tied.marked;
   trimmed = tied.trimmed;
@@ -247,7 +248,7 @@ tied_logged blocks v d e Put held kept answers tied = subst (Tied v) (sym answer
   position = tied.position ∙ sym (ap next_position answers.0.log);
   logged = λ k c lt below. tied.logged k c lt (omega (arith, below, ap (λ (l : LogState). l.logged) answers.0.log));
 })
-tied_logged blocks v d e Logged held kept answers tied = subst (Tied v) (sym answers.1) (record {
+tied_logged layout v d e Logged held kept answers tied = subst (Tied v) (sym answers.1) (record {
   begins = tied.begins;
   marked = tied.marked;
   trimmed = omega (arith, tied.trimmed, kept.logged_to_coming);
@@ -257,9 +258,9 @@ tied_logged blocks v d e Logged held kept answers tied = subst (Tied v) (sym ans
 })
 
 -- the installer's call, and one that was refused: no group came or went
-pub tied_stays : (blocks : ℕ) (v : VolatileState) (d e : DurableState) → IsDurable blocks d → e ≡ record d { objects = e.objects } → StaysCut d.objects e.objects
+pub tied_stays : (layout : Shape) (v : VolatileState) (d e : DurableState) → IsDurable layout d → e ≡ record d { objects = e.objects } → StaysCut d.objects e.objects
     → Tied v d → Tied v e
-tied_stays blocks v d e kept same stays tied = subst (Tied v) (sym same) (record {
+tied_stays layout v d e kept same stays tied = subst (Tied v) (sym same) (record {
   begins = tied.begins;
   marked = tied.marked;
   trimmed = tied.trimmed;

@@ -5,7 +5,7 @@ use Rattle.std.proofs.lemmas.Bool.{and_from, eq-eqb}
 use Rattle.std.proofs.lemmas.Option.{same_Some}
 use Rattle.std.proofs.lemmas.List.Elements.{All-nil, All-head, All-tail, All-cons}
 use Rattle.journal_world.specs.declared.address.Addr.{Addr}
-use Rattle.journal_world.specs.Addresses.{Value, is_same, slot_of}
+use Rattle.journal_world.specs.Addresses.{Value, is_same, slot_of, Shape}
 use Rattle.journal_world.specs.Maps.{Pair, Map, value_among, value_at, SamePairs, Agrees, is_object, are_objects}
 use Rattle.journal_world.specs.Histories.{Entry, opened, is_trusted, latest, touched}
 use Rattle.journal_world.proofs.Lookups.{same_addr}
@@ -76,15 +76,15 @@ verified_under history held t agree under = λ k d lt.
     agrees_at (x ∷ xs) (suc k) h all at = agrees_at xs k h (All-tail (λ (y : HeldState). y.count ≡ touched history y.slot) x xs all) at
 
 -- what a transaction keeps once it has read the value of one more address at the end of a history
-pub remembered : (blocks : ℕ) (t : TransactionState) → IsTransaction blocks t → (history : List Entry) (a : Addr) (v : Value)
+pub remembered : (layout : Shape) (t : TransactionState) → IsTransaction layout t → (history : List Entry) (a : Addr) (v : Value)
     → IsPrefix t.seen history → AreUnmoved history t
-    → IsTrue (is_object blocks (a, v))
+    → IsTrue (is_object layout (a, v))
     → (IsTrue (is_trusted history) → v ≡ value_at (latest history) a)
-    → IsTransaction blocks (record { reads = (a, v) ∷ t.reads; writes = t.writes; seen = history })
-remembered blocks t kept history a v begins still object gives = record {
+    → IsTransaction layout (record { reads = (a, v) ∷ t.reads; writes = t.writes; seen = history })
+remembered layout t kept history a v begins still object gives = record {
   begun = λ empty. kept.begun (front_empty t.seen history begins empty);
-  on_disk = ap (λ (h : List Entry). (opened h).blocks) (sym begins.1) ∙ ap (λ (m : Map). m.blocks) (opened-append t.seen begins.0 kept.begun) ∙ kept.on_disk;
-  reads = and_from (is_object blocks (a, v)) (are_objects blocks t.reads) object kept.reads;
+  on_disk = ap (λ (h : List Entry). (opened h).layout) (sym begins.1) ∙ ap (λ (m : Map). m.layout) (opened-append t.seen begins.0 kept.begun) ∙ kept.on_disk;
+  reads = and_from (is_object layout (a, v)) (are_objects layout t.reads) object kept.reads;
   writes = kept.writes;
   agrees = λ trusted. All-cons (λ (p : Pair). value_at (latest history) p.0 ≡ p.1) (a, v) t.reads (sym (gives trusted))
       (agrees_later t.seen history t.reads kept.begun begins still kept.agrees trusted);
@@ -95,7 +95,7 @@ pub remembers : (t : TransactionState) (a : Addr) (v : Value) (history : List En
     → Remembers t a v history (record { reads = (a, v) ∷ t.reads; writes = t.writes; seen = history })
 remembers t a v history = record {
   reads = λ b. refl;
-  objects = λ blocks old new. and_from (is_object blocks (a, v)) (are_objects blocks t.reads) new old;
+  objects = λ layout old new. and_from (is_object layout (a, v)) (are_objects layout t.reads) new old;
   agrees = λ m old new. All-cons (λ (p : Pair). value_at m p.0 ≡ p.1) (a, v) t.reads new old;
   others = refl;
 }

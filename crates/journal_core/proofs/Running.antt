@@ -1,17 +1,16 @@
 -- Whole runs tell how the history came to be, and keep it legal.
-use Rattle.std.proofs.Common.{◌≡◌, ◌≢◌, ⊎_elim, ◌≤◌, ℕ, ◌==◌, Bool, true, false, cond, IsTrue, List, [], ◌∷◌, ◌++◌, length, All, length-append, Option, Some, None, Result, Ok, Err, refl, sym, ap, subst, ◌∙◌, arith}
+use Rattle.std.proofs.Common.{◌≡◌, ◌≢◌, ⊎_elim, ◌<◌, ◌≤◌, ℕ, ◌==◌, Bool, true, false, cond, IsTrue, List, [], ◌∷◌, ◌++◌, length, All, length-append, Option, Some, None, Result, Ok, Err, refl, sym, ap, subst, ◌∙◌, arith}
 use Rattle.std.proofs.lemmas.Bool.{eqb-true, eqb-false}
 use Rattle.std.proofs.lemmas.Option.{same_Some, none-some}
 use Rattle.std.proofs.lemmas.List.Elements.{All-cons, All-weaker}
 use mathlib.Core.List.{IsPrefix}
 use Rattle.journal_world.specs.declared.address.Addr.{Addr}
-use Rattle.journal_world.specs.declared.layout.TheConstants.{MIN_BLOCKS}
 use Rattle.journal_world.specs.declared.refusal.Refusal.{Refusal}
 use Rattle.journal_world.specs.declared.refusal.Refusal.TheVariants.{NoMemory, BadAddress, BadSize, TooLarge, Busy, DeviceFailed, BadLog, BadSuper, Stale, Stranger, Worn, Full, Closed, Fenced}
 use Rattle.journal_wal.specs.declared.step.InstallStep.{InstallStep}
 use Rattle.journal_core.specs.declared.step.LogStep.{LogStep}
 use Rattle.journal_core.specs.declared.step.LogStep.TheVariants.{Marked}
-use Rattle.journal_world.specs.Addresses.{slot_of}
+use Rattle.journal_world.specs.Addresses.{slot_of, Shape}
 use Rattle.journal_world.specs.Maps.{Map, Pair, Transaction, SameMap, value_at}
 use Rattle.journal_world.specs.Histories.{Entry, opened, is_trusted, latest, commits_of, at, Follows, IsTrueTo, IsLegal}
 use Rattle.journal_world.specs.Histories.Entry.{opening, commit, stable, fence}
@@ -32,7 +31,7 @@ use Rattle.journal_core.specs.Transactions.{TransactionState, begun}
 use Rattle.journal_core.specs.Steps.{Marks, IsInstallRefusal}
 use Rattle.journal_core.specs.FenceSteps.{AddsFence, AnswersFence}
 use Rattle.journal_core.specs.Openings.{Begins}
-use Rattle.journal_core.specs.Interleavings.{Event, Mount, Machine, mounted, holds, with_core, with_transaction, with_slot, with_fetched, ended, keeping, blocks_of, FindsValue, ReadsValue, IsUnread, CommitsTransaction, RefusesCommit, LogsStep, AnswersLog, AnswersInstall, AnswersSession, AnswersFetch, Ignores, BeginsTransaction, TakesSlot, ReadsUnderSlot, OverwritesUnderSlot, Finishes, MakesLogStep, MakesFence, HappensUp, HappensDown, Happens, Run, HasHistory, IsUndisturbed, StaysFetched}
+use Rattle.journal_core.specs.Interleavings.{Event, Mount, Machine, mounted, holds, with_core, with_transaction, with_slot, with_fetched, ended, keeping, layout_of, FindsValue, ReadsValue, IsUnread, CommitsTransaction, RefusesCommit, LogsStep, AnswersLog, AnswersInstall, AnswersSession, AnswersFetch, Ignores, BeginsTransaction, TakesSlot, ReadsUnderSlot, OverwritesUnderSlot, Finishes, MakesLogStep, MakesFence, HappensUp, HappensDown, Happens, Run, HasHistory, IsUndisturbed, StaysFetched}
 use Rattle.journal_core.specs.Outcomes.{Answer, Tells, TellsAll, HoldsImage}
 use Rattle.journal_core.specs.Interleavings.Event.{begins, takes, reads, overwrites, aborts, fetches, joins, fences, stops, logs, installs, crashes, opens}
 use Rattle.journal_core.specs.Interleavings.Event.{commits as finishes}
@@ -40,7 +39,7 @@ use Rattle.journal_core.specs.Outcomes.Answer.{nothing, value, committed, marked
 use Rattle.journal_core.specs.Interleavings.Machine.{up, down}
 use Rattle.journal_core.proofs.Holding.{IsSound, begun_sound, sound_held, keeps_taken, keeps_given, sound_marked, sound_fenced, sound_committed, sound_read, sound_overwritten, is_holder}
 use Rattle.journal_core.specs.Cores.{disk_of}
-use Rattle.journal_core.proofs.Fronts.{at-longer, count-longer, trusted-longer}
+use Rattle.journal_core.proofs.Fronts.{at-layout, at-longer, count-longer, trusted-longer}
 use Rattle.journal_core.proofs.Pairing.{begins_not}
 
 -- What holds of every core that runs
@@ -52,8 +51,8 @@ pub record IsRunning (rule : Map → Type 0) (c : CoreState) : Type 0 where
   pub some : c.history ≢ []
 
 -- a read that is not answered leaves the history
-unread_same : (blocks : ℕ) (old : CoreState) (t : TransactionState) (a : Addr) (new : CoreState) → IsUnread blocks old t a new → new.history ≡ old.history
-unread_same blocks old t a new it = ⊎_elim
+unread_same : (layout : Shape) (old : CoreState) (t : TransactionState) (a : Addr) (new : CoreState) → IsUnread layout old t a new → new.history ≡ old.history
+unread_same layout old t a new it = ⊎_elim
     (λ refused. ap (λ (c : CoreState). c.history) refused.1.others)
     (λ other. ⊎_elim
     (λ found. ap (λ (c : CoreState). c.history) found.1.others)
@@ -64,7 +63,7 @@ unread_same blocks old t a new it = ⊎_elim
 -- What holds of blocks that were fetched, where this is the history
 pub record WasFetched (history : List Entry) (f : FetchedState) : Type 0 where
   pub begins : IsPrefix f.front history
-  pub objects : IsFetched (opened history).blocks f
+  pub objects : IsFetched (opened history).layout f
 
 -- and of a longer history
 fetched_longer : (history : List Entry) (e : Entry) (fs : List FetchedState) → history ≢ [] → All (WasFetched history) fs → All (WasFetched (history ++ e ∷ [])) fs
@@ -73,7 +72,7 @@ fetched_longer history e fs some all = All-weaker (WasFetched history) (WasFetch
     one : (f : FetchedState) → WasFetched history f → WasFetched (history ++ e ∷ []) f
     one f was = record {
       begins = IsPrefix-trans f.front history (history ++ e ∷ []) was.begins (e ∷ [], refl);
-      objects = subst (λ (m : Map). IsFetched m.blocks f) (sym (opened-append history (e ∷ []) some)) was.objects;
+      objects = subst (λ (m : Map). IsFetched m.layout f) (sym (opened-append history (e ∷ []) some)) was.objects;
     }
 
 -- and of every mount
@@ -84,7 +83,7 @@ pub record IsUp (rule : Map → Type 0) (m : Mount) : Type 0 where
 
 abbrev pub Holds : (Map → Type 0) → Machine → List Entry → Type 0
 Holds rule (up m) history = (m.core.history ≡ history) × IsUp rule m
-Holds rule (down image) history = (m : Map) × OpensAs m image × (history ≡ opening m true ∷ [])
+Holds rule (down layout image) history = (m : Map) × (m.layout ≡ layout) × OpensAs m image × (history ≡ opening m true ∷ [])
 
 -- the answer tells what became of the history, and all holds on
 pub record Goes (rule : Map → Type 0) (old : List Entry) (answer : Answer) (new : Machine) : Type 0 where
@@ -229,7 +228,7 @@ module _ (rule : Map → Type 0) where
       silent m.core.history (with_slot m actor slot) answer new it.0 it.1 refl (slot_taken m actor slot free is)
 
   -- the core is left as a read that is not answered leaves it
-  unread_up : {t : TransactionState} {a : Addr} (m : Mount) (core : CoreState) → IsUnread (blocks_of m) m.core t a core → IsUp rule m → IsUp rule (with_core m core)
+  unread_up : {t : TransactionState} {a : Addr} (m : Mount) (core : CoreState) → IsUnread (layout_of m) m.core t a core → IsUp rule m → IsUp rule (with_core m core)
   unread_up {t} {a} m core it is = ⊎_elim
       (λ refused. up_on m core is refused.1.crash (ap (λ (c : CoreState). c.history) refused.1.others))
       (λ other. ⊎_elim
@@ -244,13 +243,13 @@ module _ (rule : Map → Type 0) where
   goes-reads m actor a (Some t) false answer new it is at holder = ignored m answer new it is
   goes-reads m actor a (Some t) true nothing new it is at holder =
       let core : CoreState = it.0 in
-      let same : core.history ≡ m.core.history = unread_same (blocks_of m) m.core t a core it.1 in
+      let same : core.history ≡ m.core.history = unread_same (layout_of m) m.core t a core it.1 in
       silent m.core.history (with_core m core) nothing new refl it.2 same (unread_up m core it.1 is)
   goes-reads m actor a (Some t) true (value b v) new it is at holder =
       let core : CoreState = it.1.0 in
       let after : TransactionState = it.1.1.0 in
-      let read : ReadsValue (blocks_of m) m.core t a v core after = it.1.1.1 in
-      let finds : FindsValue (blocks_of m) m.core t a v core = read.finds in
+      let read : ReadsValue (layout_of m) m.core t a v core after = it.1.1.1 in
+      let finds : FindsValue (layout_of m) m.core t a v core = read.finds in
       let same : core.history ≡ m.core.history = ap (λ (c : CoreState). c.history) finds.others in
       let sound : IsSound m.core.history m.holders actor after =
       sound_read m.core.history m.holders actor t after a v read.remembers finds.object (finds.value is.runs.trusted)
@@ -332,7 +331,7 @@ module _ (rule : Map → Type 0) where
   goes-finishes m actor (Some d) reopened new it is at = absurd it
 
   goes-fetched : (m : Mount) (actor : ℕ) (numbers : List ℕ) (result : Result FetchedState (Refusal CauseState)) (core : CoreState) (answer : Answer) (new : Machine)
-      → answer ≡ nothing → AnswersFetch (blocks_of m) m.core numbers result core → new ≡ up (keeping (with_core m core) actor result) → IsUp rule m
+      → answer ≡ nothing → AnswersFetch (layout_of m) m.core numbers result core → new ≡ up (keeping (with_core m core) actor result) → IsUp rule m
       → Goes rule m.core.history answer new
   goes-fetched m actor numbers (Err why) core answer new none it after is =
       let same : core.history ≡ m.core.history = ap (λ (c : CoreState). c.history) it.others in
@@ -432,16 +431,14 @@ joins_crash old (Ok session) new it = it.crash
 joins_crash old (Err why) new it = it.crash
 
 -- an image opens as one map
-opens_same : (m k : Map) (image : List Bytes) → MIN_BLOCKS ≤ length image → OpensAs m image → OpensAs k image → SameMap m k
-opens_same m k image large first second =
-    let size : m.blocks ≡ length image = sym first.stands.size in
-    let blocks : m.blocks ≡ k.blocks = size ∙ second.stands.size in
-    same_objects first.content second.content m k first.objects second.objects blocks (omega (arith, large, size))
-    (λ b above below. sym (first.stands.each b above below) ∙ second.stands.each b above (omega (arith, below, blocks)))
+opens_same : (m k : Map) (image : List Bytes) → m.layout ≡ k.layout → OpensAs m image → OpensAs k image → SameMap m k
+opens_same m k image layout first second =
+    same_objects first.content second.content m k first.objects second.objects layout
+    (λ b above below. sym (first.stands.each b above below) ∙ second.stands.each b above (subst (λ (s : Shape). b < s.blocks) layout below))
 
 -- a mount begins with a legal history
-running : (rule : Map → Type 0) (disk : DiskState) (core : CoreState) → IsTrue disk.honest → Begins rule disk core → IsRunning rule core
-running rule disk core trusted begin =
+running : (rule : Map → Type 0) (layout : Shape) (disk : DiskState) (core : CoreState) → IsTrue disk.honest → Begins rule layout disk core → IsRunning rule core
+running rule layout disk core trusted begin =
     let is : core.history ≡ opening begin.map true ∷ [] = begin.history ∙ ap (λ (b : Bool). opening begin.map b ∷ []) trusted in
     record {
       honest = subst IsTrue (sym begin.keeps.honest) trusted;
@@ -462,9 +459,9 @@ running rule disk core trusted begin =
     }
 
 module _ (rule : Map → Type 0) where
-  begun_up : (disk : DiskState) (core : CoreState) → IsTrue disk.honest → Begins rule disk core → IsUp rule (record { core = core; transactions = λ actor. None; holders = λ slot. None; fetched = λ actor. [] })
-  begun_up disk core trusted begin = record {
-    runs = running rule disk core trusted begin;
+  begun_up : (layout : Shape) (disk : DiskState) (core : CoreState) → IsTrue disk.honest → Begins rule layout disk core → IsUp rule (record { core = core; transactions = λ actor. None; holders = λ slot. None; fetched = λ actor. [] })
+  begun_up layout disk core trusted begin = record {
+    runs = running rule layout disk core trusted begin;
     sound = λ actor d is. absurd (none-some d is);
     fetched = λ actor k f lt. absurd (omega (arith, lt));
   }
@@ -497,61 +494,60 @@ module _ (rule : Map → Type 0) where
       (subst (λ (s : Machine). Goes rule m.core.history crashed s) (sym it.1.3) (record {
         history = opening left.map true ∷ [];
         tells = (left.commits, left.marked, left.made, (left.map, left.same, refl));
-        holds = (left.map, left.opens, refl);
+        holds = (left.map, left.same.layout ∙ at-layout m.core.history left.commits, left.opens, refl);
       }))
   goes-up m opens answer new it is = silent rule m.core.history m answer new it.0 it.1 refl is
 
-  stays-down : (image : List Bytes) (m : Map) (answer : Answer) (new : Machine) → OpensAs m image → answer ≡ nothing → new ≡ down image
+  stays-down : (layout : Shape) (image : List Bytes) (m : Map) (answer : Answer) (new : Machine) → m.layout ≡ layout → OpensAs m image → answer ≡ nothing → new ≡ down layout image
       → Goes rule (opening m true ∷ []) answer new
-  stays-down image m answer new holds no_answer is =
+  stays-down layout image m answer new on_disk holds no_answer is =
       subst (λ (a : Answer). Goes rule (opening m true ∷ []) a new) (sym no_answer)
       (subst (λ (s : Machine). Goes rule (opening m true ∷ []) nothing s) (sym is)
-      (record { history = opening m true ∷ []; tells = refl; holds = (m, holds, refl) }))
+      (record { history = opening m true ∷ []; tells = refl; holds = (m, on_disk, holds, refl) }))
 
-  goes-opens : (image : List Bytes) (m : Map) (answer : Answer) (new : Machine) → HappensDown rule image opens answer new → OpensAs m image
+  goes-opens : (layout : Shape) (image : List Bytes) (m : Map) (answer : Answer) (new : Machine) → HappensDown rule layout image opens answer new → m.layout ≡ layout → OpensAs m image
       → Goes rule (opening m true ∷ []) answer new
-  goes-opens image m reopened new it holds =
+  goes-opens layout image m reopened new it on_disk holds =
       let disk : DiskState = it.0 in
       let held : HoldsImage disk image = it.1 in
       let core : CoreState = it.2.0 in
-      let begin : Begins rule disk core = it.2.1 in
-      let large : MIN_BLOCKS ≤ length image = omega (arith, begin.range.0, held.is_image.size) in
+      let begin : Begins rule layout disk core = it.2.1 in
       subst (λ (s : Machine). Goes rule (opening m true ∷ []) reopened s) (sym it.2.2) (record {
         history = opening begin.map true ∷ [];
-        tells = (begin.map, opens_same begin.map m image large (begin.holds held.honest image held.is_image) holds, refl);
-        holds = (begin.history ∙ ap (λ (b : Bool). opening begin.map b ∷ []) held.honest, begun_up disk core held.honest begin);
+        tells = (begin.map, opens_same begin.map m image (begin.on_disk ∙ sym on_disk) (begin.holds held.honest image held.is_image) holds, refl);
+        holds = (begin.history ∙ ap (λ (b : Bool). opening begin.map b ∷ []) held.honest, begun_up layout disk core held.honest begin);
       })
-  goes-opens image m nothing new it holds = stays-down image m nothing new holds it.0 it.1
-  goes-opens image m (value a v) new it holds = stays-down image m (value a v) new holds it.0 it.1
-  goes-opens image m (committed t) new it holds = stays-down image m (committed t) new holds it.0 it.1
-  goes-opens image m (marked n) new it holds = stays-down image m (marked n) new holds it.0 it.1
-  goes-opens image m (fenced s) new it holds = stays-down image m (fenced s) new holds it.0 it.1
-  goes-opens image m (waited k) new it holds = stays-down image m (waited k) new holds it.0 it.1
-  goes-opens image m (imaged other) new it holds = stays-down image m (imaged other) new holds it.0 it.1
-  goes-opens image m crashed new it holds = stays-down image m crashed new holds it.0 it.1
+  goes-opens layout image m nothing new it on_disk holds = stays-down layout image m nothing new on_disk holds it.0 it.1
+  goes-opens layout image m (value a v) new it on_disk holds = stays-down layout image m (value a v) new on_disk holds it.0 it.1
+  goes-opens layout image m (committed t) new it on_disk holds = stays-down layout image m (committed t) new on_disk holds it.0 it.1
+  goes-opens layout image m (marked n) new it on_disk holds = stays-down layout image m (marked n) new on_disk holds it.0 it.1
+  goes-opens layout image m (fenced s) new it on_disk holds = stays-down layout image m (fenced s) new on_disk holds it.0 it.1
+  goes-opens layout image m (waited k) new it on_disk holds = stays-down layout image m (waited k) new on_disk holds it.0 it.1
+  goes-opens layout image m (imaged other) new it on_disk holds = stays-down layout image m (imaged other) new on_disk holds it.0 it.1
+  goes-opens layout image m crashed new it on_disk holds = stays-down layout image m crashed new on_disk holds it.0 it.1
 
-  goes-down : (image : List Bytes) (m : Map) (event : Event) (answer : Answer) (new : Machine) → HappensDown rule image event answer new → OpensAs m image
+  goes-down : (layout : Shape) (image : List Bytes) (m : Map) (event : Event) (answer : Answer) (new : Machine) → HappensDown rule layout image event answer new → m.layout ≡ layout → OpensAs m image
       → Goes rule (opening m true ∷ []) answer new
-  goes-down image m opens answer new it holds = goes-opens image m answer new it holds
-  goes-down image m (begins actor) answer new it holds = stays-down image m answer new holds it.0 it.1
-  goes-down image m (takes actor slot) answer new it holds = stays-down image m answer new holds it.0 it.1
-  goes-down image m (reads actor a) answer new it holds = stays-down image m answer new holds it.0 it.1
-  goes-down image m (overwrites actor a v) answer new it holds = stays-down image m answer new holds it.0 it.1
-  goes-down image m (aborts actor) answer new it holds = stays-down image m answer new holds it.0 it.1
-  goes-down image m (finishes actor) answer new it holds = stays-down image m answer new holds it.0 it.1
-  goes-down image m (fetches actor numbers) answer new it holds = stays-down image m answer new holds it.0 it.1
-  goes-down image m joins answer new it holds = stays-down image m answer new holds it.0 it.1
-  goes-down image m (fences session) answer new it holds = stays-down image m answer new holds it.0 it.1
-  goes-down image m stops answer new it holds = stays-down image m answer new holds it.0 it.1
-  goes-down image m logs answer new it holds = stays-down image m answer new holds it.0 it.1
-  goes-down image m installs answer new it holds = stays-down image m answer new holds it.0 it.1
-  goes-down image m (crashes other) answer new it holds = stays-down image m answer new holds it.0 it.1
+  goes-down layout image m opens answer new it on_disk holds = goes-opens layout image m answer new it on_disk holds
+  goes-down layout image m (begins actor) answer new it on_disk holds = stays-down layout image m answer new on_disk holds it.0 it.1
+  goes-down layout image m (takes actor slot) answer new it on_disk holds = stays-down layout image m answer new on_disk holds it.0 it.1
+  goes-down layout image m (reads actor a) answer new it on_disk holds = stays-down layout image m answer new on_disk holds it.0 it.1
+  goes-down layout image m (overwrites actor a v) answer new it on_disk holds = stays-down layout image m answer new on_disk holds it.0 it.1
+  goes-down layout image m (aborts actor) answer new it on_disk holds = stays-down layout image m answer new on_disk holds it.0 it.1
+  goes-down layout image m (finishes actor) answer new it on_disk holds = stays-down layout image m answer new on_disk holds it.0 it.1
+  goes-down layout image m (fetches actor numbers) answer new it on_disk holds = stays-down layout image m answer new on_disk holds it.0 it.1
+  goes-down layout image m joins answer new it on_disk holds = stays-down layout image m answer new on_disk holds it.0 it.1
+  goes-down layout image m (fences session) answer new it on_disk holds = stays-down layout image m answer new on_disk holds it.0 it.1
+  goes-down layout image m stops answer new it on_disk holds = stays-down layout image m answer new on_disk holds it.0 it.1
+  goes-down layout image m logs answer new it on_disk holds = stays-down layout image m answer new on_disk holds it.0 it.1
+  goes-down layout image m installs answer new it on_disk holds = stays-down layout image m answer new on_disk holds it.0 it.1
+  goes-down layout image m (crashes other) answer new it on_disk holds = stays-down layout image m answer new on_disk holds it.0 it.1
 
   goes : (old : Machine) (history : List Entry) (event : Event) (answer : Answer) (new : Machine) → Happens rule old event answer new → Holds rule old history
       → Goes rule history answer new
   goes (up m) history event answer new it holds = subst (λ (h : List Entry). Goes rule h answer new) holds.0 (goes-up m event answer new it holds.1)
-  goes (down image) history event answer new it holds =
-      subst (λ (h : List Entry). Goes rule h answer new) (sym holds.2) (goes-down image holds.0 event answer new it holds.1)
+  goes (down layout image) history event answer new it holds =
+      subst (λ (h : List Entry). Goes rule h answer new) (sym holds.3) (goes-down layout image holds.0 event answer new it holds.1 holds.2)
 
   -- a run tells what became of the history
   pub runs : (old : Machine) (history : List Entry) (events : List Event) (answers : List Answer) (new : Machine) → Run rule old events answers new
@@ -566,10 +562,10 @@ module _ (rule : Map → Type 0) where
 
   pub has_history : (s : Machine) (history : List Entry) → Holds rule s history → HasHistory s history
   has_history (up m) history holds = holds.0
-  has_history (down image) history holds = holds
+  has_history (down layout image) history holds = holds
 
-  pub first_holds : (disk : DiskState) (core : CoreState) → IsTrue disk.honest → Begins rule disk core → Holds rule (mounted core) core.history
-  first_holds disk core trusted begin = (refl, begun_up disk core trusted begin)
+  pub first_holds : (layout : Shape) (disk : DiskState) (core : CoreState) → IsTrue disk.honest → Begins rule layout disk core → Holds rule (mounted core) core.history
+  first_holds layout disk core trusted begin = (refl, begun_up layout disk core trusted begin)
 
 -- what holds of an open transaction keeps it from being refused for what others did
 pub undisturbed : (c : CoreState) (holders : ℕ → Option ℕ) (actor : ℕ) (t : TransactionState) → IsSound c.history holders actor t → IsUndisturbed c t
@@ -585,7 +581,7 @@ stays_so : (rule : Map → Type 0) (c : CoreState) (f : FetchedState) → IsRunn
 stays_so rule c f runs was = record {
   begins = was.begins;
   made = omega (arith, was.objects.made, count-longer f.front c.history was.objects.begun was.begins);
-  blocks = All-weaker (IsBlockAfter (opened c.history).blocks f.front f.commits) (IsBlockAfter (opened c.history).blocks c.history f.commits)
+  blocks = All-weaker (IsBlockAfter (opened c.history).layout f.front f.commits) (IsBlockAfter (opened c.history).layout c.history f.commits)
       (λ u is a valid named. is a valid named ∙ ap (λ (m : Map). value_at m a) (sym (at-longer f.front c.history was.objects.begun was.begins f.commits was.objects.made)))
       f.updates
       (was.objects.objects (subst IsTrue (trusted-longer f.front c.history was.objects.begun was.begins) runs.trusted));

@@ -1,7 +1,7 @@
 -- Why writes are not made ready in memory alone, and what it is where they are.
 use Rattle.std.proofs.Common.{◌≡◌, ◌⊎◌, inr, ⊎_elim, ◌<◌, ◌≤◌, ◌+◌, ◌^◌, ℕ, Bool, ◌&&◌, false, [], ◌∷◌, IsTrue, List, length, Result, Ok, Err, IfOk, IfErr, OnOk, refl, sym, ap, subst, ◌∙◌, arith}
 use Rattle.std.proofs.lemmas.Bool.{false≢true, and_parts}
-use Rattle.journal_world.specs.Addresses.{is_valid, kind_of}
+use Rattle.journal_world.specs.Addresses.{is_valid, kind_of, Shape}
 use Rattle.journal_world.specs.declared.refusal.Refusal.{Refusal}
 use Rattle.journal_world.specs.declared.refusal.Refusal.TheVariants.{NoMemory, BadAddress, BadSize, TooLarge, Busy, DeviceFailed, BadLog, BadSuper, Stale, Stranger, Worn, Full, Closed, Fenced}
 use mathlib.Core.List.{IsPrefix}
@@ -13,7 +13,7 @@ use Rattle.journal_memlog.specs.Logs.{next_position, tail_of}
 use Rattle.journal_wal.specs.Tails.{TailState}
 use Rattle.journal_objlog.specs.declared.tail_prepare.Preparation.{Preparation}
 use Rattle.journal_objlog.specs.declared.tail_prepare.Preparation.TheVariants.{Ready, Missing}
-use Rattle.journal_objlog.specs.ObjectTails.{blocks_of, known_updates, tail_base, with_tail_room, OverwritesKnown, IsTailWriteRefusal, IfReady, updates_with}
+use Rattle.journal_objlog.specs.ObjectTails.{known_updates, tail_base, with_tail_room, OverwritesKnown, IsTailWriteRefusal, IfReady, updates_with}
 use Rattle.journal_objlog.specs.Writes.{CanPrepare, IsWriteRefusal, are_valid, written_blocks, fresh_among}
 use Rattle.journal_history.specs.Tokens.{SessionState}
 use Rattle.journal_core.specs.Causes.{CauseState, raised_of}
@@ -24,22 +24,19 @@ use Rattle.journal_core.specs.Volatiles.{VolatileState, IsFrontRefusal, outset_o
 use Rattle.journal_core.proofs.Latest.{objects_written}
 
 -- objects have valid addresses
-pub valid_of : (blocks : ℕ) (ps : List Pair) → IsTrue (are_objects blocks ps) → IsTrue (are_valid blocks ps)
-valid_of blocks [] objects = refl
-valid_of blocks (p ∷ later) objects =
-    let parts = and_parts (is_object blocks p) (are_objects blocks later) objects in
-    let own = and_parts (is_valid blocks p.0) (is_value_at (kind_of blocks p.0.block) p.1) parts.0 in
-    subst (λ (b : Bool). IsTrue (b && are_valid blocks later)) (sym own.0) (valid_of blocks later parts.1)
+pub valid_of : (layout : Shape) (ps : List Pair) → IsTrue (are_objects layout ps) → IsTrue (are_valid layout ps)
+valid_of layout [] objects = refl
+valid_of layout (p ∷ later) objects =
+    let parts = and_parts (is_object layout p) (are_objects layout later) objects in
+    let own = and_parts (is_valid layout p.0) (is_value_at (kind_of layout p.0.block) p.1) parts.0 in
+    subst (λ (b : Bool). IsTrue (b && are_valid layout later)) (sym own.0) (valid_of layout later parts.1)
 
-module _ (blocks : ℕ) (v : VolatileState) (fetched : List Update) (writes : List Pair) (size : blocks_of v.tail ≡ blocks)
-    (given : IsTrue (are_objects blocks writes)) where
-  objects : IsTrue (are_objects (blocks_of v.tail) writes)
-  objects = subst (λ (n : ℕ). IsTrue (are_objects n writes)) (sym size) given
-
+module _ (layout : Shape) (v : VolatileState) (fetched : List Update) (writes : List Pair)
+    (objects : IsTrue (are_objects layout writes)) where
   -- what is known of a refusal but J4
-  early : (refusal : Refusal Unit) → IsWriteRefusal false (tail_base fetched v.tail) writes refusal → (refusal ≡ TooLarge → ⊥) → written_blocks writes ≤ 128
+  early : (refusal : Refusal Unit) → IsWriteRefusal false (tail_base layout fetched v.tail) writes refusal → (refusal ≡ TooLarge → ⊥) → written_blocks writes ≤ 128
   early (DeviceFailed cause) why other = absurd (false≢true why)
-  early BadAddress why other = absurd (false≢true (sym why.1 ∙ valid_of (blocks_of v.tail) writes objects))
+  early BadAddress why other = absurd (false≢true (sym why.1 ∙ valid_of layout writes objects))
   early BadSize why other = absurd (false≢true (sym why.2 ∙ objects))
   early TooLarge why other = absurd (other refl)
   early (Worn cause) why other = why.2
@@ -54,8 +51,8 @@ module _ (blocks : ℕ) (v : VolatileState) (fetched : List Update) (writes : Li
   early Fenced why other = absurd why
 
   -- where it was not refused by J4, there are few blocks
-  pub few_blocks : {T : Type 0} (answer : Result T (Refusal Unit)) → OnOk answer (CanPrepare (tail_base fetched v.tail) writes)
-      → IfErr answer (IsTailWriteRefusal (tail_base fetched v.tail) writes) → (answer ≡ Err TooLarge → ⊥) → written_blocks writes ≤ 128
+  pub few_blocks : {T : Type 0} (answer : Result T (Refusal Unit)) → OnOk answer (CanPrepare (tail_base layout fetched v.tail) writes)
+      → IfErr answer (IsTailWriteRefusal (tail_base layout fetched v.tail) writes) → (answer ≡ Err TooLarge → ⊥) → written_blocks writes ≤ 128
   few_blocks (Ok value) can why other = can.few
   few_blocks (Err refusal) can why other = ⊎_elim (λ first. early refusal first (λ is. other (ap Err is))) (λ late. late.0.few) why
 
@@ -71,12 +68,12 @@ module _ (blocks : ℕ) (v : VolatileState) (fetched : List Update) (writes : Li
         other)
         worn
 
-    can_prepare : CanPrepare (tail_base fetched v.tail) writes → CanPrepareWrites (outset_of v) s writes
+    can_prepare : CanPrepare (tail_base layout fetched v.tail) writes → CanPrepareWrites (outset_of v) s writes
     can_prepare can = record { few = can.few; unworn = λ worn. worn_log worn can.small; room = λ full. omega (arith, full, can.tail) }
 
-    first_of : (refusal : Refusal Unit) → IsWriteRefusal false (tail_base fetched v.tail) writes refusal → IsPreparingRefusal (outset_of v) s writes (raised_of refusal)
+    first_of : (refusal : Refusal Unit) → IsWriteRefusal false (tail_base layout fetched v.tail) writes refusal → IsPreparingRefusal (outset_of v) s writes (raised_of refusal)
     first_of (DeviceFailed cause) why = absurd (false≢true why)
-    first_of BadAddress why = absurd (false≢true (sym why.1 ∙ valid_of (blocks_of v.tail) writes objects))
+    first_of BadAddress why = absurd (false≢true (sym why.1 ∙ valid_of layout writes objects))
     first_of BadSize why = absurd (false≢true (sym why.2 ∙ objects))
     first_of TooLarge why = why.2
     first_of (Worn cause) why = (why.2, inr (inr why.3), refl)
@@ -91,7 +88,7 @@ module _ (blocks : ℕ) (v : VolatileState) (fetched : List Update) (writes : Li
     first_of Fenced why = absurd why
 
     pub prepares_not : {T : Type 0} (answer : Result T (Refusal Unit)) (result : Result T (Refusal CauseState)) → IfOk answer (λ value. result ≡ Ok value)
-        → IfErr answer (λ refusal. result ≡ Err (raised_of refusal)) → IfErr answer (IsTailWriteRefusal (tail_base fetched v.tail) writes)
+        → IfErr answer (λ refusal. result ≡ Err (raised_of refusal)) → IfErr answer (IsTailWriteRefusal (tail_base layout fetched v.tail) writes)
         → IfErr result (IsPreparingRefusal (outset_of v) s writes)
     prepares_not (Ok value) result ok err why = subst (λ r. IfErr r (IsPreparingRefusal (outset_of v) s writes)) (sym ok) tt
     prepares_not (Err refusal) result ok err why = subst (λ r. IfErr r (IsPreparingRefusal (outset_of v) s writes)) (sym err)
@@ -100,21 +97,20 @@ module _ (blocks : ℕ) (v : VolatileState) (fetched : List Update) (writes : Li
         why)
 
 -- what is prepared has the objects of the map overwritten
-pub raised_written : (blocks : ℕ) (m : Map) (writes : List Pair) (fetched : List Update) (old new : TailState) → blocks_of old ≡ blocks
-    → new ≡ with_tail_room old new.log.room → AreObjectsOf blocks m (known_updates fetched old)
+pub raised_written : (layout : Shape) (m : Map) (writes : List Pair) (fetched : List Update) (old new : TailState)
+    → new ≡ with_tail_room old new.log.room → AreObjectsOf layout m (known_updates fetched old)
     → (answer : Result Preparation (Refusal Unit)) (result : Result Preparation (Refusal CauseState)) → IfOk result (λ value. answer ≡ Ok value)
-    → IfOk answer (IfReady (λ prepared. OverwritesKnown (blocks_of new) (known_updates fetched new) (updates_with new writes prepared) writes))
-    → IfOk result (IfReady (λ prepared. AreObjectsOf blocks (overwritten m writes) (updates_with new writes prepared)))
-raised_written blocks m writes fetched old new size same are answer (Err why) is over = tt
-raised_written blocks m writes fetched old new size same are answer (Ok (Missing missing)) is over = tt
-raised_written blocks m writes fetched old new size same are answer (Ok (Ready prepared)) is over =
-    let all = updates_with new writes prepared in
-    let here : OverwritesKnown (blocks_of new) (known_updates fetched new) all writes =
-    subst (λ (r : Result Preparation (Refusal Unit)). IfOk r (IfReady (λ ready. OverwritesKnown (blocks_of new) (known_updates fetched new) (updates_with new writes ready) writes))) is over in
-    let there : OverwritesKnown (blocks_of old) (known_updates fetched old) all writes =
-    subst (λ (t : TailState). OverwritesKnown (blocks_of t) (known_updates fetched t) all writes) same here in
-    objects_written blocks m writes (known_updates fetched old) all are
-    (subst (λ (n : ℕ). OverwritesKnown n (known_updates fetched old) all writes) size there)
+    → IfOk answer (IfReady (λ prepared. OverwritesKnown layout (known_updates fetched new) (updates_with layout new writes prepared) writes))
+    → IfOk result (IfReady (λ prepared. AreObjectsOf layout (overwritten m writes) (updates_with layout new writes prepared)))
+raised_written layout m writes fetched old new same are answer (Err why) is over = tt
+raised_written layout m writes fetched old new same are answer (Ok (Missing missing)) is over = tt
+raised_written layout m writes fetched old new same are answer (Ok (Ready prepared)) is over =
+    let all = updates_with layout new writes prepared in
+    let here : OverwritesKnown layout (known_updates fetched new) all writes =
+    subst (λ (r : Result Preparation (Refusal Unit)). IfOk r (IfReady (λ ready. OverwritesKnown layout (known_updates fetched new) (updates_with layout new writes ready) writes))) is over in
+    let there : OverwritesKnown layout (known_updates fetched old) all writes =
+    subst (λ (t : TailState). OverwritesKnown layout (known_updates fetched t) all writes) same here in
+    objects_written layout m writes (known_updates fetched old) all are there
 
 -- what a session has seen that is shown a longer front
 pub shows_front : (history seen : List Entry) (after : SessionState) (why : Refusal CauseState) → IsFrontRefusal history seen why → IsPrefix seen after.seen

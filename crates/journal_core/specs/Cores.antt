@@ -1,5 +1,6 @@
 -- What contracts see of the core, the pair of its durable and its volatile part, and what a crash may leave of it.
 use Rattle.std.specs.Prelude.{ℕ, ◌≡◌, ◌≤◌, ◌+◌, Bool, false, IsTrue, List, length}
+use Rattle.journal_world.specs.Addresses.{Shape}
 use Rattle.journal_world.specs.Maps.{Map, SameMap}
 use Rattle.journal_world.specs.Histories.{Entry, count, floor, at}
 use Rattle.journal_block.specs.declared.update.Update.{Update}
@@ -104,15 +105,15 @@ pub record Crashes (old new : CoreState) : Type 0 where
   pub moments : IsTrue (disk_of old).honest → LeavesOnly (disk_of old).past (disk_of new).past (Leaves old.history)
   pub images : IsTrue (disk_of new).honest → EveryImage (disk_of new).past (Leaves new.history)
 
--- What the pair keeps, on a disk of so many blocks: what each part keeps by itself, what ties the two, and that both know of a
+-- What the pair keeps, on a disk of a layout: what each part keeps by itself, what ties the two, and that both know of a
 -- fault
-pub record IsPair (blocks : ℕ) (v : VolatileState) (d : DurableState) : Type 0 where
-  pub volatile : IsVolatile blocks v
-  pub durable : IsDurable blocks d
+pub record IsPair (layout : Shape) (v : VolatileState) (d : DurableState) : Type 0 where
+  pub volatile : IsVolatile layout v
+  pub durable : IsDurable layout d
   pub tied : Tied v d
   pub fault : v.faulted ≡ is_log_faulted d.objects
 
 -- What the core keeps: while no device call has failed, also memory for a block that a read fetches
-pub record IsCore (blocks : ℕ) (v : VolatileState) (d : DurableState) (spare : List Update) : Type 0 where
-  pub pair : IsPair blocks v d
+pub record IsCore (layout : Shape) (v : VolatileState) (d : DurableState) (spare : List Update) : Type 0 where
+  pub pair : IsPair layout v d
   pub room : is_log_faulted d.objects ≡ false → length spare ≡ 1

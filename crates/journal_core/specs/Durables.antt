@@ -4,17 +4,15 @@ use Rattle.std.specs.Prelude.{ℕ, ◌≡◌, ◌≢◌, ◌⊎◌, ◌<◌, ◌
 use Rattle.journal_world.specs.declared.address.Addr.{Addr}
 use Rattle.journal_world.specs.declared.refusal.Refusal.{Refusal}
 use Rattle.journal_world.specs.declared.refusal.Refusal.TheVariants.{NoMemory, DeviceFailed, Worn}
-use Rattle.journal_world.specs.Addresses.{is_valid}
+use Rattle.journal_world.specs.Addresses.{is_valid, Shape}
 use Rattle.journal_world.specs.Maps.{Map, SameMap, value_at}
 use Rattle.journal_world.specs.Histories.{Entry, opened, is_trusted, count, at}
 use Rattle.journal_block.specs.declared.update.Update.{Update}
 use Rattle.journal_block.specs.Block.{Bytes}
-use Rattle.journal_block.specs.Updates.{Content}
 use Rattle.journal_disk.specs.Disks.{DiskState, Keeps, HasFailed}
 use Rattle.journal_disk.specs.Images.{EveryImage}
 use Rattle.journal_disk.specs.Moments.{LeavesOnly}
 use Rattle.journal_memlog.specs.Logs.{next_position}
-use Rattle.journal_object.specs.Objects.{IsMapOf, map_of_blocks}
 use Rattle.journal_wal.specs.Wal.{WalState, size_of, log_steps, install_steps, tail_length, LogsOn, EndsGroup, InstallAnswers as WalInstalls}
 use Rattle.journal_wal.specs.Groups.{FitsGroup, TakesGroup}
 use Rattle.journal_wal.specs.declared.step.GroupStep.{GroupStep}
@@ -62,18 +60,18 @@ pub record Crashes (old new : DurableState) : Type 0 where
   pub images : IsTrue (disk_of new).honest → EveryImage (disk_of new).past (Leaves new)
 
 -- What is logged is the map after n commits, and with the group in flight it is that after m
-pub record IsLoggedAt (objects : WalState) (front : List Entry) (n m : ℕ) : Type 0 where
-  pub logged : SameMap (map_logged objects) (at front n)
-  pub coming : SameMap (map_cut objects) (at front m)
+pub record IsLoggedAt (layout : Shape) (objects : WalState) (front : List Entry) (n m : ℕ) : Type 0 where
+  pub logged : SameMap (map_logged layout objects) (at front n)
+  pub coming : SameMap (map_cut layout objects) (at front m)
 
--- What it keeps by itself, on a disk of so many blocks: marked <= logged <= coming; what is logged
+-- What it keeps by itself, on a disk of a layout: marked <= logged <= coming; what is logged
 -- is the map after `logged` commits, and with the group in flight that after `coming`. In `maps`
 -- the log is the one in memory, which between the write of block 0 and its barrier says more than a
 -- crash leaves; `images` says what a crash leaves
-pub record IsDurable (blocks : ℕ) (d : DurableState) : Type 0 where
-  pub size : size_of d.objects ≡ blocks
+pub record IsDurable (layout : Shape) (d : DurableState) : Type 0 where
+  pub size : size_of d.objects ≡ layout.blocks
   pub begun : d.front ≢ []
-  pub on_disk : (opened d.front).blocks ≡ blocks
+  pub on_disk : (opened d.front).layout ≡ layout
   pub trusted : is_trusted d.front ≡ (disk_of d).honest
   pub marked_to_logged : d.marked ≤ d.logged
   pub logged_to_coming : d.logged ≤ d.coming
@@ -87,10 +85,8 @@ pub record IsDurable (blocks : ℕ) (d : DurableState) : Type 0 where
   pub rest : IsCutLogged d.objects → d.logged ≡ d.coming
   -- of the log in memory: while block 0 is written and its barrier is not made, a crash may leave
   -- the group in flight, which is not counted as logged yet
-  pub maps : IsTrue (disk_of d).honest → IsLoggedAt d.objects d.front d.logged d.coming
-  pub images : IsTrue (disk_of d).honest → EveryImage (disk_of d).past (MayOpenAs d.objects)
-  -- the law of the map that blocks make, at this size
-  pub law : (content : Content) → IsMapOf content (map_of_blocks blocks content)
+  pub maps : IsTrue (disk_of d).honest → IsLoggedAt layout d.objects d.front d.logged d.coming
+  pub images : IsTrue (disk_of d).honest → EveryImage (disk_of d).past (MayOpenAs layout d.objects)
 
 -- that of a mount that begins: no commit was made
 abbrev pub begun_durable : WalState → List Entry → DurableState
@@ -157,12 +153,12 @@ pub record FetchedState : Type 0 where
   pub commits : ℕ
   pub updates : List Update
 
--- on a disk of n blocks, the update has its block as the history's first commits left it
-abbrev pub IsBlockAfter : ℕ → List Entry → ℕ → Update → Type 0
+-- on a disk of a layout, the update has its block as the history's first commits left it
+abbrev pub IsBlockAfter : Shape → List Entry → ℕ → Update → Type 0
 IsBlockAfter n front commits u = (a : Addr) → IsTrue (is_valid n a) → a.block ≡ u.block → object_or_zeros n u.bytes a ≡ value_at (at front commits) a
 
--- What holds of them for good, on a disk of so many blocks
-pub record IsFetched (blocks : ℕ) (f : FetchedState) : Type 0 where
+-- What holds of them for good, on a disk of a layout
+pub record IsFetched (layout : Shape) (f : FetchedState) : Type 0 where
   pub begun : f.front ≢ []
   pub made : f.commits ≤ count f.front
-  pub objects : IsTrue (is_trusted f.front) → All (IsBlockAfter blocks f.front f.commits) f.updates
+  pub objects : IsTrue (is_trusted f.front) → All (IsBlockAfter layout f.front f.commits) f.updates

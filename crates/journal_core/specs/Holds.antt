@@ -3,7 +3,7 @@
 use Rattle.std.specs.Prelude.{ℕ, ◌≡◌, ◌⊎◌, ◌<◌, ◌≤◌, ◌+◌, Bool, true, false, IsTrue, List, [], map, All, Option, Some, None, Result, Ok, Err}
 use Rattle.journal_world.specs.declared.address.Addr.{Addr}
 use Rattle.journal_world.specs.declared.refusal.Refusal.{Refusal}
-use Rattle.journal_world.specs.Addresses.{Value}
+use Rattle.journal_world.specs.Addresses.{Value, Shape}
 use Rattle.journal_world.specs.Maps.{Pair, Agrees, value_at, is_object}
 use Rattle.journal_world.specs.Histories.{Entry, is_trusted, latest, count, floor, commits_of, is_fenced}
 use Rattle.journal_block.specs.declared.update.Update.{Update}
@@ -34,68 +34,68 @@ use Rattle.journal_core.specs.Cores.{Leaves}
 -- What holds of the two parts between any two holds of their locks, whoever made them: what each
 -- keeps by itself, what ties them, and that memory knows of no fault that was none. The disk's part
 -- may know of one that memory does not know yet
-pub record IsBetween (blocks : ℕ) (v : VolatileState) (d : DurableState) : Type 0 where
-  pub volatile : IsVolatile blocks v
-  pub durable : IsDurable blocks d
+pub record IsBetween (layout : Shape) (v : VolatileState) (d : DurableState) : Type 0 where
+  pub volatile : IsVolatile layout v
+  pub durable : IsDurable layout d
   pub tied : Tied v d
   pub noted : IsTrue v.faulted → IsTrue (is_faulted d)
 
 -- ---- holds of memory alone
 
 -- An object was read in memory
-pub record FindsInMemory (blocks : ℕ) (old : VolatileState) (t : TransactionState) (a : Addr) (answer : ReadResultState) (x : Value) (new : VolatileState) : Type 0 where
-  pub may : MayRead blocks (outset_of old) t a
+pub record FindsInMemory (layout : Shape) (old : VolatileState) (t : TransactionState) (a : Addr) (answer : ReadResultState) (x : Value) (new : VolatileState) : Type 0 where
+  pub may : MayRead layout (outset_of old) t a
   pub found : answer ≡ record { addr = a; seen = old.ledger.history }
   pub value : IsTrue (is_trusted old.ledger.history) → x ≡ value_at (latest old.ledger.history) a
-  pub object : IsTrue (is_object blocks (a, x))
+  pub object : IsTrue (is_object layout (a, x))
   pub same : new ≡ old
 
 -- or its block is to be fetched
-pub record LacksBlock (blocks : ℕ) (old : VolatileState) (t : TransactionState) (a : Addr) (f : FetchedState) (new : VolatileState) : Type 0 where
-  pub may : MayRead blocks (outset_of old) t a
-  pub lacks : known_at (usable old f) old.tail a ≡ None
+pub record LacksBlock (layout : Shape) (old : VolatileState) (t : TransactionState) (a : Addr) (f : FetchedState) (new : VolatileState) : Type 0 where
+  pub may : MayRead layout (outset_of old) t a
+  pub lacks : known_at layout (usable old f) old.tail a ≡ None
   pub same : new ≡ old
 
 -- or it was refused
-pub record RefusesRead (blocks : ℕ) (old : VolatileState) (t : TransactionState) (a : Addr) (f : FetchedState) (why : Refusal CauseState) (new : VolatileState) : Type 0 where
-  pub refusal : IsReadRefusal blocks old t a f why
+pub record RefusesRead (layout : Shape) (old : VolatileState) (t : TransactionState) (a : Addr) (f : FetchedState) (why : Refusal CauseState) (new : VolatileState) : Type 0 where
+  pub refusal : IsReadRefusal layout old t a f why
   pub same : new ≡ old
 
 -- what is answered, with what was fetched before, where the bytes read are these
-abbrev pub AnswersRead : ℕ → VolatileState → TransactionState → Addr → FetchedState → Result (Option ReadResultState) (Refusal CauseState) → Value → VolatileState → Type 0
-AnswersRead blocks old t a f (Ok (Some found)) x new = FindsInMemory blocks old t a found x new
-AnswersRead blocks old t a f (Ok None) x new = LacksBlock blocks old t a f new
-AnswersRead blocks old t a f (Err why) x new = RefusesRead blocks old t a f why new
+abbrev pub AnswersRead : Shape → VolatileState → TransactionState → Addr → FetchedState → Result (Option ReadResultState) (Refusal CauseState) → Value → VolatileState → Type 0
+AnswersRead layout old t a f (Ok (Some found)) x new = FindsInMemory layout old t a found x new
+AnswersRead layout old t a f (Ok None) x new = LacksBlock layout old t a f new
+AnswersRead layout old t a f (Err why) x new = RefusesRead layout old t a f why new
 
 -- The session's next transaction was committed in memory, as it is
-pub record CommitsInMemory (blocks : ℕ) (old : VolatileState) (session : SessionState) (t : TransactionState) (new : VolatileState) (after : SessionState) : Type 0 where
+pub record CommitsInMemory (layout : Shape) (old : VolatileState) (session : SessionState) (t : TransactionState) (new : VolatileState) (after : SessionState) : Type 0 where
   pub can : CanCommit (outset_of old) session t
   pub committed : IsCommitted t.reads t.writes session after old new
   pub agrees : IsTrue (is_trusted old.ledger.history) → Agrees (latest old.ledger.history) t.reads
-  pub kept : IsVolatile blocks new
+  pub kept : IsVolatile layout new
 
 -- or blocks are to be fetched for it
-pub record LacksBlocks (blocks : ℕ) (old : VolatileState) (session : SessionState) (t : TransactionState) (f : FetchedState) (asked : List ℕ) (new : VolatileState) : Type 0 where
+pub record LacksBlocks (layout : Shape) (old : VolatileState) (session : SessionState) (t : TransactionState) (f : FetchedState) (asked : List ℕ) (new : VolatileState) : Type 0 where
   pub can : CanCommit (outset_of old) session t
-  pub missing : asked ≡ missing_blocks blocks (known_updates (usable old f) old.tail) t.writes
+  pub missing : asked ≡ missing_blocks layout (known_updates (usable old f) old.tail) t.writes
   pub same : new ≡ with_room old new.tail.log.room
-  pub kept : IsVolatile blocks new
+  pub kept : IsVolatile layout new
 
 -- or it was refused
-pub record RefusesCommit (blocks : ℕ) (old : VolatileState) (session : SessionState) (t : TransactionState) (why : Refusal CauseState) (new : VolatileState) : Type 0 where
+pub record RefusesCommit (layout : Shape) (old : VolatileState) (session : SessionState) (t : TransactionState) (why : Refusal CauseState) (new : VolatileState) : Type 0 where
   pub refusal : IsCommitRefusal (outset_of old) session t why
   pub same : new ≡ with_room old new.tail.log.room
-  pub kept : IsVolatile blocks new
+  pub kept : IsVolatile layout new
 
-abbrev pub AnswersCommit : ℕ → VolatileState → SessionState → TransactionState → FetchedState → Result (CommitStep CommitPlace) (Refusal CauseState) → VolatileState → SessionState → Type 0
-AnswersCommit blocks old session t f (Ok (Done place)) new after = CommitsInMemory blocks old session t new after
-AnswersCommit blocks old session t f (Ok (Missing missing)) new after = LacksBlocks blocks old session t f missing.items new
-AnswersCommit blocks old session t f (Err why) new after = RefusesCommit blocks old session t why new
+abbrev pub AnswersCommit : Shape → VolatileState → SessionState → TransactionState → FetchedState → Result (CommitStep CommitPlace) (Refusal CauseState) → VolatileState → SessionState → Type 0
+AnswersCommit layout old session t f (Ok (Done place)) new after = CommitsInMemory layout old session t new after
+AnswersCommit layout old session t f (Ok (Missing missing)) new after = LacksBlocks layout old session t f missing.items new
+AnswersCommit layout old session t f (Err why) new after = RefusesCommit layout old session t why new
 
 -- There are other copies of blocks that are at home, and nothing else was done
-pub record KeepsCopies (blocks : ℕ) (old new : VolatileState) : Type 0 where
+pub record KeepsCopies (layout : Shape) (old new : VolatileState) : Type 0 where
   pub others : new ≡ record old { tail = record old.tail { cache = new.tail.cache } }
-  pub kept : IsVolatile blocks new
+  pub kept : IsVolatile layout new
 
 -- A session began
 pub record BeginsSession (old : VolatileState) (session : SessionState) (new : VolatileState) : Type 0 where
@@ -114,19 +114,19 @@ AnswersSession old (Ok session) new = BeginsSession old session new
 AnswersSession old (Err why) new = RefusesSession old why new
 
 -- A session is fenced, by one entry more, or by one that stands
-pub record FencesSession (blocks : ℕ) (session : ℕ) (old new : VolatileState) : Type 0 where
+pub record FencesSession (layout : Shape) (session : ℕ) (old new : VolatileState) : Type 0 where
   pub did : SetsFence session old.ledger new.ledger
   pub others : new ≡ record old { ledger = new.ledger }
-  pub kept : IsVolatile blocks new
+  pub kept : IsVolatile layout new
 
 -- or that was refused
 pub record RefusesFence (session : ℕ) (old : VolatileState) (why : Refusal CauseState) (new : VolatileState) : Type 0 where
   pub refusal : IsFenceRefusal session (outset_of old) why
   pub same : new ≡ old
 
-abbrev pub AnswersFence : ℕ → ℕ → VolatileState → Result (Unit {0}) (Refusal CauseState) → VolatileState → Type 0
-AnswersFence blocks session old (Ok done) new = FencesSession blocks session old new
-AnswersFence blocks session old (Err why) new = RefusesFence session old why new
+abbrev pub AnswersFence : Shape → ℕ → VolatileState → Result (Unit {0}) (Refusal CauseState) → VolatileState → Type 0
+AnswersFence layout session old (Ok done) new = FencesSession layout session old new
+AnswersFence layout session old (Err why) new = RefusesFence session old why new
 
 -- It was stopped, and nothing else was done
 abbrev pub Stops : VolatileState → VolatileState → Type 0
@@ -166,96 +166,96 @@ AnswersShow v session (Err why) after = IsStaleRefusal v.ledger.history why × O
 
 -- Blocks were read as they are logged: they are what the first commits of a front of the history
 -- left
-pub record FetchesBlocks (blocks : ℕ) (old : DurableState) (numbers : List ℕ) (f : FetchedState) (new : DurableState) : Type 0 where
+pub record FetchesBlocks (layout : Shape) (old : DurableState) (numbers : List ℕ) (f : FetchedState) (new : DurableState) : Type 0 where
   pub named : map (λ (u : Update). u.block) f.updates ≡ numbers
   pub front : f.front ≡ old.front
   pub commits : f.commits ≡ old.logged
-  pub objects : IsFetched blocks f
+  pub objects : IsFetched layout f
   pub fine : is_faulted old ≡ false → is_faulted new ≡ false
   pub reads : OnlyReadsLog old.objects new.objects
   pub others : new ≡ record old { objects = new.objects }
-  pub kept : IsDurable blocks new
+  pub kept : IsDurable layout new
   pub crash : Crashes old new
 
 -- or the device failed
-pub record RefusesFetch (blocks : ℕ) (old : DurableState) (why : Refusal CauseState) (new : DurableState) : Type 0 where
+pub record RefusesFetch (layout : Shape) (old : DurableState) (why : Refusal CauseState) (new : DurableState) : Type 0 where
   pub refusal : IsCallRefusal old new why
   pub reads : OnlyReadsLog old.objects new.objects
   pub others : new ≡ record old { objects = new.objects }
-  pub kept : IsDurable blocks new
+  pub kept : IsDurable layout new
   pub crash : Crashes old new
 
-abbrev pub AnswersFetch : ℕ → DurableState → List ℕ → Result FetchedState (Refusal CauseState) → DurableState → Type 0
-AnswersFetch blocks old numbers (Ok f) new = FetchesBlocks blocks old numbers f new
-AnswersFetch blocks old numbers (Err why) new = RefusesFetch blocks old why new
+abbrev pub AnswersFetch : Shape → DurableState → List ℕ → Result FetchedState (Refusal CauseState) → DurableState → Type 0
+AnswersFetch layout old numbers (Ok f) new = FetchesBlocks layout old numbers f new
+AnswersFetch layout old numbers (Err why) new = RefusesFetch layout old why new
 
 -- The device call of the group in flight that was due was made, or none is in flight
-pub record MakesGroupCall (blocks : ℕ) (old : DurableState) (step : GroupStep) (new : DurableState) : Type 0 where
+pub record MakesGroupCall (layout : Shape) (old : DurableState) (step : GroupStep) (new : DurableState) : Type 0 where
   pub did : LogAnswers old step new
   pub fine : (is_faulted old ≡ false) × (is_faulted new ≡ false)
-  pub kept : IsDurable blocks new
+  pub kept : IsDurable layout new
   pub crash : Crashes old new
 
 -- or the device failed, in the call that was due or before
-pub record FailsGroupCall (blocks : ℕ) (old : DurableState) (why : Refusal CauseState) (new : DurableState) : Type 0 where
+pub record FailsGroupCall (layout : Shape) (old : DurableState) (why : Refusal CauseState) (new : DurableState) : Type 0 where
   pub refusal : IsCallRefusal old new why
   pub left : LeavesLog old new
   pub tries : TriesDueCall (log_call old.objects) (disk_of old) (disk_of new)
-  pub kept : IsDurable blocks new
+  pub kept : IsDurable layout new
   pub crash : Crashes old new
 
-abbrev pub AnswersGroupCall : ℕ → DurableState → Result GroupStep (Refusal CauseState) → DurableState → Type 0
-AnswersGroupCall blocks old (Ok step) new = MakesGroupCall blocks old step new
-AnswersGroupCall blocks old (Err why) new = FailsGroupCall blocks old why new
+abbrev pub AnswersGroupCall : Shape → DurableState → Result GroupStep (Refusal CauseState) → DurableState → Type 0
+AnswersGroupCall layout old (Ok step) new = MakesGroupCall layout old step new
+AnswersGroupCall layout old (Err why) new = FailsGroupCall layout old why new
 
 -- The installer's next device call was made, or nothing is logged that is not at home
-pub record MakesHomeCall (blocks : ℕ) (old : DurableState) (step : InstallStep) (new : DurableState) : Type 0 where
+pub record MakesHomeCall (layout : Shape) (old : DurableState) (step : InstallStep) (new : DurableState) : Type 0 where
   pub did : InstallAnswers old step new
   pub fine : (is_faulted old ≡ false) × (is_faulted new ≡ false)
-  pub kept : IsDurable blocks new
+  pub kept : IsDurable layout new
   pub crash : Crashes old new
 
 -- or the device failed, or memory for the list of addresses was refused
-pub record FailsHomeCall (blocks : ℕ) (old : DurableState) (why : Refusal CauseState) (new : DurableState) : Type 0 where
+pub record FailsHomeCall (layout : Shape) (old : DurableState) (why : Refusal CauseState) (new : DurableState) : Type 0 where
   pub refusal : IsInstallRefusal old new why
   pub left : LeavesLog old new
   pub tries : TriesAhead old.objects new.objects
-  pub kept : IsDurable blocks new
+  pub kept : IsDurable layout new
   pub crash : Crashes old new
 
-abbrev pub AnswersHomeCall : ℕ → DurableState → Result InstallStep (Refusal CauseState) → DurableState → Type 0
-AnswersHomeCall blocks old (Ok step) new = MakesHomeCall blocks old step new
-AnswersHomeCall blocks old (Err why) new = FailsHomeCall blocks old why new
+abbrev pub AnswersHomeCall : Shape → DurableState → Result InstallStep (Refusal CauseState) → DurableState → Type 0
+AnswersHomeCall layout old (Ok step) new = MakesHomeCall layout old step new
+AnswersHomeCall layout old (Err why) new = FailsHomeCall layout old why new
 
 -- ---- holds of both: no device call is made in any
 
 -- The first was done that was due of a mark, a cut, and a mark of the rest, or none is due
-pub record MarksOrCuts (blocks : ℕ) (v : VolatileState) (d : DurableState) (step : LogStep) (w : VolatileState) (e : DurableState) : Type 0 where
+pub record MarksOrCuts (layout : Shape) (v : VolatileState) (d : DurableState) (step : LogStep) (w : VolatileState) (e : DurableState) : Type 0 where
   pub did : DoesWhatIsDue v d step w e
-  pub volatile : IsVolatile blocks w
-  pub durable : IsDurable blocks e
+  pub volatile : IsVolatile layout w
+  pub durable : IsDurable layout e
   pub tied : Tied v d → Tied w e
   pub crash : Crashes d e
 
 -- or that was refused, and the log on the disk may have other room in memory
-pub record RefusesMarkOrCut (blocks : ℕ) (v : VolatileState) (d : DurableState) (why : Refusal CauseState) (w : VolatileState) (e : DurableState) : Type 0 where
+pub record RefusesMarkOrCut (layout : Shape) (v : VolatileState) (d : DurableState) (why : Refusal CauseState) (w : VolatileState) (e : DurableState) : Type 0 where
   pub refusal : IsDueRefusal v d why e
   pub volatile : w ≡ v
-  pub durable : IsDurable blocks e
+  pub durable : IsDurable layout e
   pub tied : Tied v d → Tied w e
   pub crash : Crashes d e
 
-abbrev pub AnswersMarkOrCut : ℕ → VolatileState → DurableState → Result LogStep (Refusal CauseState) → VolatileState → DurableState → Type 0
-AnswersMarkOrCut blocks v d (Ok step) w e = MarksOrCuts blocks v d step w e
-AnswersMarkOrCut blocks v d (Err why) w e = RefusesMarkOrCut blocks v d why w e
+abbrev pub AnswersMarkOrCut : Shape → VolatileState → DurableState → Result LogStep (Refusal CauseState) → VolatileState → DurableState → Type 0
+AnswersMarkOrCut layout v d (Ok step) w e = MarksOrCuts layout v d step w e
+AnswersMarkOrCut layout v d (Err why) w e = RefusesMarkOrCut layout v d why w e
 
 -- What is at home was dropped from memory, and nothing else was done. Each cut that is left ends
 -- above the freed positions
-pub record Trims (blocks : ℕ) (v : VolatileState) (d : DurableState) (upto : ℕ) (w : VolatileState) : Type 0 where
+pub record Trims (layout : Shape) (v : VolatileState) (d : DurableState) (upto : ℕ) (w : VolatileState) : Type 0 where
   pub drops : DropsCuts v.tail upto w.tail
   pub left : All (λ c. upto < c.end) w.tail.cuts
   pub others : w ≡ record v { tail = w.tail }
-  pub kept : IsVolatile blocks w
+  pub kept : IsVolatile layout w
   pub tied : Tied v d → Tied w d
 
 -- A fault of the device was noted in memory, and nothing else was done

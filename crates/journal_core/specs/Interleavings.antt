@@ -4,7 +4,7 @@ use Rattle.std.specs.Prelude.{ℕ, ◌≡◌, ◌⊎◌, ◌==◌, ◌≤◌, tr
 use mathlib.Core.List.{IsPrefix}
 use Rattle.journal_world.specs.declared.address.Addr.{Addr}
 use Rattle.journal_world.specs.declared.refusal.Refusal.{Refusal}
-use Rattle.journal_world.specs.Addresses.{Value, slot_of}
+use Rattle.journal_world.specs.Addresses.{Value, slot_of, Shape}
 use Rattle.journal_world.specs.Maps.{Map, Pair, Agrees, value_at, is_object}
 use Rattle.journal_world.specs.Histories.{Entry, opened, is_trusted, latest, at, count}
 use Rattle.journal_world.specs.Histories.Entry.{opening, commit, fence}
@@ -62,10 +62,10 @@ pub record Mount : Type 0 where
 abbrev pub holds : Mount → ℕ → Addr → Bool
 holds m actor a = is_actor (m.holders (slot_of a)) actor
 
--- A mount, or a disk that waits to be opened, as a crash left it
+-- A mount, or a disk that waits to be opened by the layout that it had, as a crash left it
 pub data Machine : Type 0 where
   up : Mount → Machine
-  down : List Bytes → Machine
+  down : Shape → List Bytes → Machine
 
 -- nobody has a transaction open, holds a slot, or has fetched a block
 abbrev pub mounted : CoreState → Machine
@@ -93,40 +93,40 @@ ended m actor = record (with_transaction m actor None) { holders = λ slot. if i
 
 -- The steps of the core, as events: each step's contract cites what it answers and leaves
 
--- A read was answered, on a disk of so many blocks
-pub record FindsValue (blocks : ℕ) (old : CoreState) (t : TransactionState) (a : Addr) (v : Value) (new : CoreState) : Type 0 where
-  pub may : MayRead blocks old t a
+-- A read was answered, on a disk of a layout
+pub record FindsValue (layout : Shape) (old : CoreState) (t : TransactionState) (a : Addr) (v : Value) (new : CoreState) : Type 0 where
+  pub may : MayRead layout old t a
   pub value : IsTrue (is_trusted old.history) → v ≡ value_at (latest old.history) a
-  pub object : IsTrue (is_object blocks (a, v))
+  pub object : IsTrue (is_object layout (a, v))
   pub running : IsRunning new
   pub reads : OnlyReads old.objects new.objects
   pub others : new ≡ record old { objects = new.objects }
   pub crash : Crashes old new
 
 -- A read was answered, and its transaction, which no one else has, remembers it
-pub record ReadsValue (blocks : ℕ) (old : CoreState) (t : TransactionState) (a : Addr) (v : Value) (new : CoreState) (after : TransactionState) : Type 0 where
-  pub finds : FindsValue blocks old t a v new
+pub record ReadsValue (layout : Shape) (old : CoreState) (t : TransactionState) (a : Addr) (v : Value) (new : CoreState) (after : TransactionState) : Type 0 where
+  pub finds : FindsValue layout old t a v new
   pub remembers : Remembers t a v old.history after
 
 -- A read was refused
-pub record RefusesRead (blocks : ℕ) (old : CoreState) (t : TransactionState) (a : Addr) (why : Refusal CauseState) (new : CoreState) : Type 0 where
-  pub refusal : IsReadRefusal blocks old t a new why
+pub record RefusesRead (layout : Shape) (old : CoreState) (t : TransactionState) (a : Addr) (why : Refusal CauseState) (new : CoreState) : Type 0 where
+  pub refusal : IsReadRefusal layout old t a new why
   pub reads : OnlyReads old.objects new.objects
   pub others : new ≡ record old { objects = new.objects }
   pub crash : Crashes old new
 
 -- what is answered, where the bytes read are these
-abbrev pub AnswersRead : ℕ → CoreState → TransactionState → Addr → Result ReadResultState (Refusal CauseState) → Value → CoreState → Type 0
-AnswersRead blocks old t a (Ok found) v new = FindsValue blocks old t a v new
-AnswersRead blocks old t a (Err why) v new = RefusesRead blocks old t a why new
+abbrev pub AnswersRead : Shape → CoreState → TransactionState → Addr → Result ReadResultState (Refusal CauseState) → Value → CoreState → Type 0
+AnswersRead layout old t a (Ok found) v new = FindsValue layout old t a v new
+AnswersRead layout old t a (Err why) v new = RefusesRead layout old t a why new
 
 -- what the core did for a read that is answered by a refusal, or whose answer is not remembered: it refused the read, or
 -- found the value, or was not asked for want of memory to read into
-abbrev pub IsUnread : ℕ → CoreState → TransactionState → Addr → CoreState → Type 0
-IsUnread blocks old t a new =
-    ((why : Refusal CauseState) × RefusesRead blocks old t a why new)
-    ⊎ ((v : Value) × FindsValue blocks old t a v new)
-    ⊎ (MayRead blocks old t a × (new ≡ old))
+abbrev pub IsUnread : Shape → CoreState → TransactionState → Addr → CoreState → Type 0
+IsUnread layout old t a new =
+    ((why : Refusal CauseState) × RefusesRead layout old t a why new)
+    ⊎ ((v : Value) × FindsValue layout old t a v new)
+    ⊎ (MayRead layout old t a × (new ≡ old))
 
 -- The session's next transaction was committed, as it is
 pub record CommitsTransaction (old : CoreState) (session : SessionState) (d : TransactionState) (new : CoreState) (after : SessionState) : Type 0 where
@@ -149,11 +149,11 @@ AnswersCommit old session d (Ok place) new after = CommitsTransaction old sessio
 AnswersCommit old session d (Err why) new after = RefusesCommit old session d why new
 
 -- Blocks were read as they are logged, and nothing else was done: they are what the first commits of a front of the history left
-pub record FetchesBlocks (blocks : ℕ) (old : CoreState) (numbers : List ℕ) (f : FetchedState) (new : CoreState) : Type 0 where
+pub record FetchesBlocks (layout : Shape) (old : CoreState) (numbers : List ℕ) (f : FetchedState) (new : CoreState) : Type 0 where
   pub named : map (λ (u : Update). u.block) f.updates ≡ numbers
   pub begins : IsPrefix f.front old.history
   pub commits : f.commits ≡ old.logged
-  pub objects : IsFetched blocks f
+  pub objects : IsFetched layout f
   pub running : IsRunning new
   pub reads : OnlyReads old.objects new.objects
   pub others : new ≡ record old { objects = new.objects }
@@ -166,9 +166,9 @@ pub record RefusesFetch (old : CoreState) (why : Refusal CauseState) (new : Core
   pub others : new ≡ record old { objects = new.objects }
   pub crash : Crashes old new
 
-abbrev pub AnswersFetch : ℕ → CoreState → List ℕ → Result FetchedState (Refusal CauseState) → CoreState → Type 0
-AnswersFetch blocks old numbers (Ok fetched) new = FetchesBlocks blocks old numbers fetched new
-AnswersFetch blocks old numbers (Err why) new = RefusesFetch old why new
+abbrev pub AnswersFetch : Shape → CoreState → List ℕ → Result FetchedState (Refusal CauseState) → CoreState → Type 0
+AnswersFetch layout old numbers (Ok fetched) new = FetchesBlocks layout old numbers fetched new
+AnswersFetch layout old numbers (Err why) new = RefusesFetch old why new
 
 -- The logger made a step
 pub record LogsStep (old : CoreState) (step : LogStep) (new : CoreState) : Type 0 where
@@ -234,18 +234,18 @@ TakesSlot old actor slot None holder answer new = Ignores old answer new
 TakesSlot old actor slot (Some draft) (Some holder) answer new = Ignores old answer new
 TakesSlot old actor slot (Some draft) None answer new = (answer ≡ nothing) × (new ≡ up (with_slot old actor slot))
 
--- the number of blocks of the mount's disk
-abbrev pub blocks_of : Mount → ℕ
-blocks_of m = (opened m.core.history).blocks
+-- the layout of the mount's disk
+abbrev pub layout_of : Mount → Shape
+layout_of m = (opened m.core.history).layout
 
 -- a read under its slot is answered by the core, and the answer is remembered; or it is refused
 abbrev pub ReadsUnderSlot : Mount → ℕ → Addr → Option TransactionState → Bool → Answer → Machine → Type 0
 ReadsUnderSlot old actor a None held answer new = Ignores old answer new
 ReadsUnderSlot old actor a (Some draft) false answer new = Ignores old answer new
 ReadsUnderSlot old actor a (Some draft) true nothing new =
-    (core : CoreState) × IsUnread (blocks_of old) old.core draft a core × (new ≡ up (with_core old core))
+    (core : CoreState) × IsUnread (layout_of old) old.core draft a core × (new ≡ up (with_core old core))
 ReadsUnderSlot old actor a (Some draft) true (value b v) new =
-    (b ≡ a) × ((core : CoreState) × ((after : TransactionState) × ReadsValue (blocks_of old) old.core draft a v core after
+    (b ≡ a) × ((core : CoreState) × ((after : TransactionState) × ReadsValue (layout_of old) old.core draft a v core after
     × (new ≡ up (with_transaction (with_core old core) actor (Some after)))))
 ReadsUnderSlot old actor a (Some draft) true other new = ⊥
 
@@ -256,7 +256,7 @@ OverwritesUnderSlot old actor p (Some draft) false answer new = Ignores old answ
 OverwritesUnderSlot old actor p (Some draft) true answer new =
     (answer ≡ nothing)
     × ((new ≡ up old)
-    ⊎ (IsTrue (is_object (blocks_of old) p)
+    ⊎ (IsTrue (is_object (layout_of old) p)
     × ((after : TransactionState) × Overwrites draft p.0 p.1 after × (new ≡ up (with_transaction old actor (Some after))))))
 
 -- the transaction is committed by some session, as that session's next one, or refused; it is ended either way
@@ -278,7 +278,7 @@ keeping m actor (Err why) = m
 -- blocks are fetched, or that is refused
 abbrev pub FetchesFor : Mount → ℕ → List ℕ → Answer → Machine → Type 0
 FetchesFor old actor numbers answer new =
-    (answer ≡ nothing) × ((result : Result FetchedState (Refusal CauseState)) × ((core : CoreState) × AnswersFetch (blocks_of old) old.core numbers result core
+    (answer ≡ nothing) × ((result : Result FetchedState (Refusal CauseState)) × ((core : CoreState) × AnswersFetch (layout_of old) old.core numbers result core
     × (new ≡ up (keeping (with_core old core) actor result))))
 
 -- a step of the logger that marks is answered by its mark, and any other leaves the history
@@ -319,18 +319,18 @@ HappensUp old installs answer new =
     × (new ≡ up (with_core old core))))
 HappensUp old (crashes image) answer new =
     (answer ≡ crashed) × ((core : CoreState) × Crashes old.core core
-    × IsLeftBetween (disk_of old.core).past (disk_of core).past image × (new ≡ down image))
+    × IsLeftBetween (disk_of old.core).past (disk_of core).past image × (new ≡ down (layout_of old) image))
 HappensUp old opens answer new = Ignores old answer new
 
 -- what waits is opened, or is refused and waits on
-abbrev pub HappensDown : (Map → Type 0) → List Bytes → Event → Answer → Machine → Type 0
-HappensDown rule image opens reopened new =
-    (disk : DiskState) × HoldsImage disk image × ((core : CoreState) × Begins rule disk core × (new ≡ mounted core))
-HappensDown rule image event answer new = (answer ≡ nothing) × (new ≡ down image)
+abbrev pub HappensDown : (Map → Type 0) → Shape → List Bytes → Event → Answer → Machine → Type 0
+HappensDown rule layout image opens reopened new =
+    (disk : DiskState) × HoldsImage disk image × ((core : CoreState) × Begins rule layout disk core × (new ≡ mounted core))
+HappensDown rule layout image event answer new = (answer ≡ nothing) × (new ≡ down layout image)
 
 abbrev pub Happens : (Map → Type 0) → Machine → Event → Answer → Machine → Type 0
 Happens rule (up old) event answer new = HappensUp old event answer new
-Happens rule (down image) event answer new = HappensDown rule image event answer new
+Happens rule (down layout image) event answer new = HappensDown rule layout image event answer new
 
 -- the same of a list of events and their answers
 abbrev pub Run : (Map → Type 0) → Machine → List Event → List Answer → Machine → Type 0
@@ -340,10 +340,10 @@ Run rule old (event ∷ events) [] new = ⊥
 Run rule old (event ∷ events) (answer ∷ answers) new =
     (mid : Machine) × Happens rule old event answer mid × Run rule mid events answers new
 
--- The history of a mount is its core's. That of a disk that waits is the opening of the map that it opens as
+-- The history of a mount is its core's. That of a disk that waits is the opening of the map that it opens as by its layout
 abbrev pub HasHistory : Machine → List Entry → Type 0
 HasHistory (up m) history = m.core.history ≡ history
-HasHistory (down image) history = (m : Map) × OpensAs m image × (history ≡ opening m true ∷ [])
+HasHistory (down layout image) history = (m : Map) × (m.layout ≡ layout) × OpensAs m image × (history ≡ opening m true ∷ [])
 
 -- What an open transaction has read is what the map gives now, and no commit touched a slot under which it read: neither a
 -- read nor its commit is refused for what others did
@@ -359,5 +359,5 @@ pub record IsUndisturbed (c : CoreState) (t : TransactionState) : Type 0 where
 pub record StaysFetched (c : CoreState) (f : FetchedState) : Type 0 where
   pub begins : IsPrefix f.front c.history
   pub made : f.commits ≤ count c.history
-  pub blocks : All (IsBlockAfter (opened c.history).blocks c.history f.commits) f.updates
+  pub blocks : All (IsBlockAfter (opened c.history).layout c.history f.commits) f.updates
   pub never_longer : (why : Refusal CauseState) → IsFrontRefusal c.history f.front why → ⊥

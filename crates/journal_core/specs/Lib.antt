@@ -17,6 +17,7 @@ pub mod Steps
 pub mod FenceSteps
 pub mod Commits
 pub mod Openings
+pub mod OpenLaws
 pub mod Holds
 pub mod Outcomes
 pub mod Interleavings

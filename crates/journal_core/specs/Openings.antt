@@ -3,6 +3,8 @@ use Rattle.std.specs.Prelude.{◌≡◌, ◌≢◌, ◌⊎◌, ◌≤◌, Bool, 
 use Rattle.journal_world.specs.declared.refusal.Refusal.{Refusal}
 use Rattle.journal_world.specs.declared.refusal.Refusal.TheVariants.{NoMemory, DeviceFailed, BadLog, BadSuper, Stale}
 use Rattle.journal_world.specs.declared.layout.TheConstants.{MIN_BLOCKS, MAX_BLOCKS}
+use Rattle.journal_world.specs.Addresses.{Shape}
+use Rattle.journal_world.specs.Files.{files}
 use Rattle.journal_world.specs.Maps.{Map, are_objects}
 use Rattle.journal_world.specs.Histories.{Entry}
 use Rattle.journal_world.specs.Histories.Entry.{opening}
@@ -20,9 +22,13 @@ use Rattle.journal_core.specs.Cores.{CoreState, disk_of, IsRunning}
 abbrev pub HoldsMap : DiskState → Map → Type 0
 HoldsMap disk m = EveryImage disk.past (OpensAs m)
 
--- The number of blocks is one that a disk may have
+-- The number of blocks is one that a disk with files may have
 abbrev pub IsInRange : DiskState → Type 0
 IsInRange disk = (MIN_BLOCKS ≤ disk.past.size) × (disk.past.size ≤ MAX_BLOCKS)
+
+-- The disk has as many blocks as the layout
+abbrev pub HasSize : Shape → DiskState → Type 0
+HasSize layout disk = disk.past.size ≡ layout.blocks
 
 -- The log's headers on the disk are well formed
 abbrev pub HasWellFormedLog : DiskState → Type 0
@@ -33,11 +39,11 @@ abbrev pub HasBoundsOf : DiskState → CoreState → Type 0
 HasBoundsOf disk c = HasBoundsIn (reading disk.past) c.objects.wal
 
 -- A mount of a disk begins: its history is the opening, and the disk was only read
-pub record Begins (rule : Map → Type 0) (disk : DiskState) (new : CoreState) : Type 0 where
+pub record Begins (rule : Map → Type 0) (layout : Shape) (disk : DiskState) (new : CoreState) : Type 0 where
   pub map : Map
-  pub range : IsInRange disk
-  pub size : map.blocks ≡ disk.past.size
-  pub objects : IsTrue (are_objects map.blocks map.pairs)
+  pub size : HasSize layout disk
+  pub on_disk : map.layout ≡ layout
+  pub objects : IsTrue (are_objects map.layout map.pairs)
   pub holds : IsTrue disk.honest → HoldsMap disk map
   pub ruled : IsTrue disk.honest → rule map
   pub history : new.history ≡ opening map disk.honest ∷ []
@@ -50,15 +56,29 @@ pub record Begins (rule : Map → Type 0) (disk : DiskState) (new : CoreState) :
   pub next : new.next ≡ 0
   pub running : IsRunning new
 
--- Why a disk is not opened. The number of blocks comes first, then the log, the rule and the book; J1 and J6 come as they are met
+-- Why a disk is not opened by a layout. The number of blocks comes first, then the log, the rule and the book; J1 and J6 come as they are met
+abbrev pub IsLayoutRefusal : (Map → Type 0) → Shape → DiskState → DiskState → Refusal CauseState → Type 0
+IsLayoutRefusal rule layout old new BadSuper =
+    (HasSize layout old → ⊥)
+    ⊎ (HasSize layout old × (IsTrue old.honest → (m : Map) × (m.layout ≡ layout) × HoldsMap old m × (rule m → ⊥)))
+IsLayoutRefusal rule layout old new BadLog = HasSize layout old × (IsTrue old.honest → HasWellFormedLog old → ⊥)
+IsLayoutRefusal rule layout old new (Stale cause) =
+    HasSize layout old
+    × (IsTrue old.honest → (m : Map) × (m.layout ≡ layout) × HoldsMap old m × rule m)
+    × ((front : List Entry) × IsExplained J9 front cause × (front ≢ []))
+IsLayoutRefusal rule layout old new NoMemory = HasSize layout old
+IsLayoutRefusal rule layout old new (DeviceFailed cause) = HasSize layout old × HasFailed old new × IsUnexplained J6 cause
+IsLayoutRefusal rule layout old new other = ⊥
+
+-- Why a disk is not opened by the layout of files, of as many blocks as it has
 abbrev pub IsOpenRefusal : (Map → Type 0) → DiskState → DiskState → Refusal CauseState → Type 0
 IsOpenRefusal rule old new BadSuper =
     (IsInRange old → ⊥)
-    ⊎ (IsInRange old × (IsTrue old.honest → (m : Map) × HoldsMap old m × (rule m → ⊥)))
+    ⊎ (IsInRange old × (IsTrue old.honest → (m : Map) × (m.layout ≡ files old.past.size) × HoldsMap old m × (rule m → ⊥)))
 IsOpenRefusal rule old new BadLog = IsInRange old × (IsTrue old.honest → HasWellFormedLog old → ⊥)
 IsOpenRefusal rule old new (Stale cause) =
     IsInRange old
-    × (IsTrue old.honest → (m : Map) × HoldsMap old m × rule m)
+    × (IsTrue old.honest → (m : Map) × (m.layout ≡ files old.past.size) × HoldsMap old m × rule m)
     × ((front : List Entry) × IsExplained J9 front cause × (front ≢ []))
 IsOpenRefusal rule old new NoMemory = IsInRange old
 IsOpenRefusal rule old new (DeviceFailed cause) = IsInRange old × HasFailed old new × IsUnexplained J6 cause
@@ -70,10 +90,10 @@ pub record OnlyReadsDisk (old new : DiskState) : Type 0 where
   pub past : IsTrue old.honest → new.past ≡ old.past
 
 -- Why a history is not begun: the rule was not asked to its end, it does not hold, or it does and there is a history
-abbrev pub IsBeginRefusal : (Map → Type 0) → WalState → Result Bool (Refusal Unit) → Refusal CauseState → Type 0
-IsBeginRefusal rule objects (Err refusal) why = why ≡ raised_of refusal
-IsBeginRefusal rule objects (Ok admitted) BadSuper = IsTrue (log_disk objects).honest → rule (map_now objects) → ⊥
-IsBeginRefusal rule objects (Ok admitted) (Stale cause) =
-    (IsTrue (log_disk objects).honest → rule (map_now objects))
+abbrev pub IsBeginRefusal : (Map → Type 0) → Shape → WalState → Result Bool (Refusal Unit) → Refusal CauseState → Type 0
+IsBeginRefusal rule layout objects (Err refusal) why = why ≡ raised_of refusal
+IsBeginRefusal rule layout objects (Ok admitted) BadSuper = IsTrue (log_disk objects).honest → rule (map_now layout objects) → ⊥
+IsBeginRefusal rule layout objects (Ok admitted) (Stale cause) =
+    (IsTrue (log_disk objects).honest → rule (map_now layout objects))
     × ((front : List Entry) × IsExplained J9 front cause × (front ≢ []))
-IsBeginRefusal rule objects (Ok admitted) other = ⊥
+IsBeginRefusal rule layout objects (Ok admitted) other = ⊥

@@ -4,7 +4,7 @@ use mathlib.Core.List.{IsPrefix}
 use Rattle.journal_world.specs.declared.address.Addr.{Addr}
 use Rattle.journal_world.specs.declared.refusal.Refusal.{Refusal}
 use Rattle.journal_world.specs.declared.refusal.Refusal.TheVariants.{NoMemory, BadAddress, TooLarge, DeviceFailed, Stale, Stranger, Worn, Full, Closed, Fenced}
-use Rattle.journal_world.specs.Addresses.{is_valid}
+use Rattle.journal_world.specs.Addresses.{is_valid, Shape}
 use Rattle.journal_world.specs.Maps.{Pair}
 use Rattle.journal_world.specs.Histories.{Entry, commits_of, is_fenced}
 use Rattle.journal_block.specs.declared.update.Update.{Update}
@@ -36,17 +36,17 @@ IsEndRefusal o (DeviceFailed cause) = IsUnexplained J6 cause × (o.closed ≡ fa
 IsEndRefusal o other = ⊥
 
 -- Nothing that is known before the value is looked for refuses the read
-pub record MayRead (blocks : ℕ) (o : Outset) (t : TransactionState) (a : Addr) : Type 0 where
+pub record MayRead (layout : Shape) (o : Outset) (t : TransactionState) (a : Addr) : Type 0 where
   pub running : GoesOn o
-  pub valid : IsTrue (is_valid blocks a)
+  pub valid : IsTrue (is_valid layout a)
   pub later : IsPrefix t.seen o.history
   pub unmoved : AreUnmoved o.history t
 
 -- why a read is refused by what is known then: the first of these that holds
-abbrev pub IsCheckRefusal : ℕ → Outset → TransactionState → Addr → Refusal CauseState → Type 0
-IsCheckRefusal blocks o t a BadAddress = GoesOn o × (is_valid blocks a ≡ false)
-IsCheckRefusal blocks o t a (Stale cause) = GoesOn o × IsTrue (is_valid blocks a) × IsBehind o.history t cause
-IsCheckRefusal blocks o t a other = IsEndRefusal o other
+abbrev pub IsCheckRefusal : Shape → Outset → TransactionState → Addr → Refusal CauseState → Type 0
+IsCheckRefusal layout o t a BadAddress = GoesOn o × (is_valid layout a ≡ false)
+IsCheckRefusal layout o t a (Stale cause) = GoesOn o × IsTrue (is_valid layout a) × IsBehind o.history t cause
+IsCheckRefusal layout o t a other = IsEndRefusal o other
 
 -- The history's length, the session's number or a position of the log would reach 2^62
 abbrev pub IsWorn : Outset → SessionState → List Pair → Type 0

@@ -3,7 +3,7 @@ use Rattle.std.specs.Prelude.{ℕ, ◌≡◌, ◌⊎◌, ◌<◌, ◌≤◌, ◌
 use Rattle.journal_world.specs.declared.address.Addr.{Addr}
 use Rattle.journal_world.specs.declared.refusal.Refusal.{Refusal}
 use Rattle.journal_world.specs.declared.refusal.Refusal.TheVariants.{NoMemory, BadAddress, DeviceFailed, Stale, Closed}
-use Rattle.journal_world.specs.Addresses.{is_valid}
+use Rattle.journal_world.specs.Addresses.{is_valid, Shape}
 use Rattle.journal_disk.specs.Disks.{HasFailed}
 use Rattle.journal_world.specs.Histories.{count, floor, commits_of, is_fenced}
 use Rattle.journal_world.specs.Histories.Entry.{stable}
@@ -141,17 +141,17 @@ IsFetchRefusal old new (DeviceFailed cause) = IsDeviceRefusal (Unit {0}) old new
 IsFetchRefusal old new other = ⊥
 
 -- Nothing but memory and the device can refuse the read
-abbrev pub MayRead : ℕ → CoreState → TransactionState → Addr → Type 0
-MayRead blocks c t a = MayReadFrom blocks (outset c) t a
+abbrev pub MayRead : Shape → CoreState → TransactionState → Addr → Type 0
+MayRead layout c t a = MayReadFrom layout (outset c) t a
 
 -- why an object is not read: the first of these that holds, then a new J6
-abbrev pub IsReadRefusal : ℕ → CoreState → TransactionState → Addr → CoreState → Refusal CauseState → Type 0
-IsReadRefusal blocks old t addr new (Closed cause) = IsStopped old new cause
-IsReadRefusal blocks old t addr new (DeviceFailed cause) = IsDeviceRefusal (MayRead blocks old t addr) old new cause
-IsReadRefusal blocks old t addr new BadAddress = IsRunning old × (is_valid blocks addr ≡ false)
-IsReadRefusal blocks old t addr new (Stale cause) =
-    IsRunning old × IsTrue (is_valid blocks addr) × IsBehind old.history t cause × (new ≡ old)
-IsReadRefusal blocks old t addr new other = ⊥
+abbrev pub IsReadRefusal : Shape → CoreState → TransactionState → Addr → CoreState → Refusal CauseState → Type 0
+IsReadRefusal layout old t addr new (Closed cause) = IsStopped old new cause
+IsReadRefusal layout old t addr new (DeviceFailed cause) = IsDeviceRefusal (MayRead layout old t addr) old new cause
+IsReadRefusal layout old t addr new BadAddress = IsRunning old × (is_valid layout addr ≡ false)
+IsReadRefusal layout old t addr new (Stale cause) =
+    IsRunning old × IsTrue (is_valid layout addr) × IsBehind old.history t cause × (new ≡ old)
+IsReadRefusal layout old t addr new other = ⊥
 
 -- A session of a number that no session had before, and that the history has no commit and no fence of. It has seen the whole
 -- history

@@ -4,7 +4,7 @@ use Rattle.std.specs.Prelude.{ℕ, ◌≡◌, ◌⊎◌, ◌==◌, ◌≤◌, tr
 use mathlib.Core.List.{IsPrefix}
 use Rattle.journal_world.specs.declared.address.Addr.{Addr}
 use Rattle.journal_world.specs.declared.refusal.Refusal.{Refusal}
-use Rattle.journal_world.specs.Addresses.{Value, slot_of}
+use Rattle.journal_world.specs.Addresses.{Value, slot_of, Shape}
 use Rattle.journal_world.specs.Maps.{Map, Pair, Agrees, is_object}
 use Rattle.journal_world.specs.Histories.{Entry, opened, latest, count}
 use Rattle.journal_world.specs.Histories.Entry.{opening}
@@ -79,10 +79,10 @@ pub record Mount : Type 0 where
   pub holders : ℕ → Option ℕ
   pub fetched : ℕ → List FetchedState
 
--- A mount, or a disk that waits to be opened, as a crash left it
+-- A mount, or a disk that waits to be opened by the layout that it had, as a crash left it
 pub data Machine : Type 0 where
   up : Mount → Machine
-  down : List Bytes → Machine
+  down : Shape → List Bytes → Machine
 
 -- nobody has a transaction open, holds a slot, or has fetched a block
 abbrev pub mounted : Parts → Machine
@@ -118,14 +118,14 @@ with_fetched m actor blocks = record m { fetched = λ other. if other == actor t
 abbrev pub ended : Mount → ℕ → Mount
 ended m actor = record (with_transaction m actor None) { holders = λ slot. if is_actor (m.holders slot) actor then None else m.holders slot }
 
--- the number of blocks of the mount's disk
-abbrev pub blocks_of : Mount → ℕ
-blocks_of m = (opened (history_of m.parts)).blocks
+-- the layout of the mount's disk
+abbrev pub layout_of : Mount → Shape
+layout_of m = (opened (history_of m.parts)).layout
 
 -- A mount begins, whose parts are apart from then on
-pub record BeginsApart (rule : Map → Type 0) (disk : DiskState) (p : Parts) : Type 0 where
-  pub begins : Begins rule disk (core_of p.volatile p.durable)
-  pub between : IsBetween disk.past.size p.volatile p.durable
+pub record BeginsApart (rule : Map → Type 0) (layout : Shape) (disk : DiskState) (p : Parts) : Type 0 where
+  pub begins : Begins rule layout disk (core_of p.volatile p.durable)
+  pub between : IsBetween layout p.volatile p.durable
 
 -- nothing is answered, and nothing changes
 abbrev pub Ignores : Mount → Answer → Machine → Type 0
@@ -150,10 +150,10 @@ ReadsUnderSlot old actor a None held answer new = Ignores old answer new
 ReadsUnderSlot old actor a (Some draft) false answer new = Ignores old answer new
 ReadsUnderSlot old actor a (Some draft) true nothing new =
     (f : FetchedState) × ((r : Result (Option ReadResultState) (Refusal CauseState)) × ((x : Value) × ((w : VolatileState)
-    × AnswersRead (blocks_of old) old.parts.volatile draft a f r x w × (new ≡ up (with_volatile old w)))))
+    × AnswersRead (layout_of old) old.parts.volatile draft a f r x w × (new ≡ up (with_volatile old w)))))
 ReadsUnderSlot old actor a (Some draft) true (value b x) new =
     (b ≡ a) × ((found : ReadResultState) × ((w : VolatileState) × ((after : TransactionState)
-    × FindsInMemory (blocks_of old) old.parts.volatile draft a found x w × Remembers draft a x (history_of old.parts) after
+    × FindsInMemory (layout_of old) old.parts.volatile draft a found x w × Remembers draft a x (history_of old.parts) after
     × (new ≡ up (with_transaction (with_volatile old w) actor (Some after))))))
 ReadsUnderSlot old actor a (Some draft) true other new = ⊥
 
@@ -164,7 +164,7 @@ OverwritesUnderSlot old actor p (Some draft) false answer new = Ignores old answ
 OverwritesUnderSlot old actor p (Some draft) true answer new =
     (answer ≡ nothing)
     × ((new ≡ up old)
-    ⊎ (IsTrue (is_object (blocks_of old) p)
+    ⊎ (IsTrue (is_object (layout_of old) p)
     × ((after : TransactionState) × Overwrites draft p.0 p.1 after × (new ≡ up (with_transaction old actor (Some after))))))
 
 -- the transaction is committed in memory by some session, as that session's next one, or refused,
@@ -173,12 +173,12 @@ abbrev pub Finishes : Mount → ℕ → Option TransactionState → Answer → M
 Finishes old actor None answer new = Ignores old answer new
 Finishes old actor (Some draft) nothing new =
     (session : SessionState) × ((w : VolatileState)
-    × (((why : Refusal CauseState) × RefusesCommit (blocks_of old) old.parts.volatile session draft why w × (new ≡ up (ended (with_volatile old w) actor)))
-    ⊎ ((f : FetchedState) × ((missing : List ℕ) × LacksBlocks (blocks_of old) old.parts.volatile session draft f missing w
+    × (((why : Refusal CauseState) × RefusesCommit (layout_of old) old.parts.volatile session draft why w × (new ≡ up (ended (with_volatile old w) actor)))
+    ⊎ ((f : FetchedState) × ((missing : List ℕ) × LacksBlocks (layout_of old) old.parts.volatile session draft f missing w
     × (new ≡ up (with_volatile old w))))))
 Finishes old actor (Some draft) (committed t) new =
     (session : SessionState) × ((after : SessionState) × ((w : VolatileState) × (t ≡ next_transaction session draft.reads draft.writes)
-    × CommitsInMemory (blocks_of old) old.parts.volatile session draft w after × (new ≡ up (ended (with_volatile old w) actor))))
+    × CommitsInMemory (layout_of old) old.parts.volatile session draft w after × (new ≡ up (ended (with_volatile old w) actor))))
 Finishes old actor (Some draft) other new = ⊥
 
 -- what was fetched is the actor's from then on
@@ -190,20 +190,20 @@ keeping m actor (Err why) = m
 -- history
 abbrev pub MakesFence : Mount → ℕ → Answer → Machine → Type 0
 MakesFence old session nothing new =
-    (r : Result (Unit {0}) (Refusal CauseState)) × ((w : VolatileState) × AnswersFence (blocks_of old) session old.parts.volatile r w
+    (r : Result (Unit {0}) (Refusal CauseState)) × ((w : VolatileState) × AnswersFence (layout_of old) session old.parts.volatile r w
     × (w.ledger.history ≡ history_of old.parts) × (new ≡ up (with_volatile old w)))
 MakesFence old session (fenced s) new =
-    (s ≡ session) × ((w : VolatileState) × AddsFence session old.parts.volatile.ledger w.ledger × FencesSession (blocks_of old) session old.parts.volatile w
+    (s ≡ session) × ((w : VolatileState) × AddsFence session old.parts.volatile.ledger w.ledger × FencesSession (layout_of old) session old.parts.volatile w
     × (new ≡ up (with_volatile old w)))
 MakesFence old session other new = ⊥
 
 -- what is due of both is done: a mark is answered by it, and any other leaves the history
 abbrev pub MarksOrCutsBoth : Mount → Answer → Machine → Type 0
 MarksOrCutsBoth old nothing new =
-    (r : Result LogStep (Refusal CauseState)) × ((w : VolatileState) × ((e : DurableState) × AnswersMarkOrCut (blocks_of old) old.parts.volatile old.parts.durable r w e
+    (r : Result LogStep (Refusal CauseState)) × ((w : VolatileState) × ((e : DurableState) × AnswersMarkOrCut (layout_of old) old.parts.volatile old.parts.durable r w e
     × (w.ledger.history ≡ history_of old.parts) × (new ≡ up (with_parts old w e))))
 MarksOrCutsBoth old (marked n) new =
-    (w : VolatileState) × ((e : DurableState) × MarksOrCuts (blocks_of old) old.parts.volatile old.parts.durable (Marked n) w e × (new ≡ up (with_parts old w e)))
+    (w : VolatileState) × ((e : DurableState) × MarksOrCuts (layout_of old) old.parts.volatile old.parts.durable (Marked n) w e × (new ≡ up (with_parts old w e)))
 MarksOrCutsBoth old other new = ⊥
 
 -- a mark that stands is answered by how many commits it is of. Else nothing is answered, and either
@@ -241,7 +241,7 @@ HappensUp old (overwrites actor a v) answer new = OverwritesUnderSlot old actor 
 HappensUp old (aborts actor) answer new = (answer ≡ nothing) × (new ≡ up (ended old actor))
 HappensUp old (commits actor) answer new = Finishes old actor (old.transactions actor) answer new
 HappensUp old copies answer new =
-    (answer ≡ nothing) × ((w : VolatileState) × KeepsCopies (blocks_of old) old.parts.volatile w × (new ≡ up (with_volatile old w)))
+    (answer ≡ nothing) × ((w : VolatileState) × KeepsCopies (layout_of old) old.parts.volatile w × (new ≡ up (with_volatile old w)))
 HappensUp old joins answer new =
     (answer ≡ nothing) × ((r : Result SessionState (Refusal CauseState)) × ((w : VolatileState) × AnswersSession old.parts.volatile r w × (new ≡ up (with_volatile old w))))
 HappensUp old (fences session) answer new = MakesFence old session answer new
@@ -251,34 +251,34 @@ HappensUp old flushes answer new = Flushes old answer new
 HappensUp old shows answer new =
     (answer ≡ nothing) × ((session : SessionState) × ((after : SessionState) × ((r : Result (Unit {0}) (Refusal CauseState)) × AnswersShow old.parts.volatile session r after × (new ≡ up old))))
 HappensUp old (fetches actor numbers) answer new =
-    (answer ≡ nothing) × ((r : Result FetchedState (Refusal CauseState)) × ((e : DurableState) × AnswersFetch (blocks_of old) old.parts.durable numbers r e
+    (answer ≡ nothing) × ((r : Result FetchedState (Refusal CauseState)) × ((e : DurableState) × AnswersFetch (layout_of old) old.parts.durable numbers r e
     × (new ≡ up (keeping (with_durable old e) actor r))))
 HappensUp old logs answer new =
-    (answer ≡ nothing) × ((r : Result GroupStep (Refusal CauseState)) × ((e : DurableState) × AnswersGroupCall (blocks_of old) old.parts.durable r e
+    (answer ≡ nothing) × ((r : Result GroupStep (Refusal CauseState)) × ((e : DurableState) × AnswersGroupCall (layout_of old) old.parts.durable r e
     × (new ≡ up (with_durable old e))))
 HappensUp old installs answer new =
-    (answer ≡ nothing) × ((r : Result InstallStep (Refusal CauseState)) × ((e : DurableState) × AnswersHomeCall (blocks_of old) old.parts.durable r e
+    (answer ≡ nothing) × ((r : Result InstallStep (Refusal CauseState)) × ((e : DurableState) × AnswersHomeCall (layout_of old) old.parts.durable r e
     × (new ≡ up (with_durable old e))))
 HappensUp old marks_or_cuts answer new = MarksOrCutsBoth old answer new
 HappensUp old (trims upto) answer new =
-    (answer ≡ nothing) × ((w : VolatileState) × Trims (blocks_of old) old.parts.volatile old.parts.durable upto w × (new ≡ up (with_volatile old w)))
+    (answer ≡ nothing) × ((w : VolatileState) × Trims (layout_of old) old.parts.volatile old.parts.durable upto w × (new ≡ up (with_volatile old w)))
 HappensUp old notes answer new =
     (answer ≡ nothing) × ((w : VolatileState) × NotesFault old.parts.volatile old.parts.durable w × (new ≡ up (with_volatile old w)))
 HappensUp old (images image) answer new = TakesImage old image answer new
 HappensUp old (crashes image) answer new =
     (answer ≡ crashed) × ((e : DurableState) × Crashes old.parts.durable e
-    × IsLeftBetween (disk_of old.parts.durable).past (disk_of e).past image × (new ≡ down image))
+    × IsLeftBetween (disk_of old.parts.durable).past (disk_of e).past image × (new ≡ down (layout_of old) image))
 HappensUp old opens answer new = Ignores old answer new
 
 -- what waits is opened, or is refused and waits on
-abbrev pub HappensDown : (Map → Type 0) → List Bytes → Event → Answer → Machine → Type 0
-HappensDown rule image opens reopened new =
-    (disk : DiskState) × HoldsImage disk image × ((parts : Parts) × BeginsApart rule disk parts × (new ≡ mounted parts))
-HappensDown rule image event answer new = (answer ≡ nothing) × (new ≡ down image)
+abbrev pub HappensDown : (Map → Type 0) → Shape → List Bytes → Event → Answer → Machine → Type 0
+HappensDown rule layout image opens reopened new =
+    (disk : DiskState) × HoldsImage disk image × ((parts : Parts) × BeginsApart rule layout disk parts × (new ≡ mounted parts))
+HappensDown rule layout image event answer new = (answer ≡ nothing) × (new ≡ down layout image)
 
 abbrev pub Happens : (Map → Type 0) → Machine → Event → Answer → Machine → Type 0
 Happens rule (up old) event answer new = HappensUp old event answer new
-Happens rule (down image) event answer new = HappensDown rule image event answer new
+Happens rule (down layout image) event answer new = HappensDown rule layout image event answer new
 
 -- the same of a list of events and their answers
 abbrev pub Run : (Map → Type 0) → Machine → List Event → List Answer → Machine → Type 0
@@ -289,10 +289,10 @@ Run rule old (event ∷ events) (answer ∷ answers) new =
     (mid : Machine) × Happens rule old event answer mid × Run rule mid events answers new
 
 -- The history of a mount is its memory's. That of a disk that waits is the opening of the map that
--- it opens as
+-- it opens as by its layout
 abbrev pub HasHistory : Machine → List Entry → Type 0
 HasHistory (up m) history = history_of m.parts ≡ history
-HasHistory (down image) history = (m : Map) × OpensAs m image × (history ≡ opening m true ∷ [])
+HasHistory (down layout image) history = (m : Map) × (m.layout ≡ layout) × OpensAs m image × (history ≡ opening m true ∷ [])
 
 -- What an open transaction has read is what the map gives now, and no commit touched a slot under
 -- which it read: neither a read nor its commit is refused for what others did
@@ -308,5 +308,5 @@ pub record IsUndisturbed (history : List Entry) (t : TransactionState) : Type 0 
 pub record StaysFetched (history : List Entry) (f : FetchedState) : Type 0 where
   pub begins : IsPrefix f.front history
   pub made : f.commits ≤ count history
-  pub blocks : All (IsBlockAfter (opened history).blocks history f.commits) f.updates
+  pub blocks : All (IsBlockAfter (opened history).layout history f.commits) f.updates
   pub never_longer : (why : Refusal CauseState) → IsFrontRefusal history f.front why → ⊥

@@ -4,6 +4,7 @@ use Rattle.std.specs.Prelude.{ℕ, ◌≡◌, ◌≢◌, ◌⊎◌, ◌<◌, ◌
 use Rattle.journal_world.specs.declared.address.Addr.{Addr}
 use Rattle.journal_world.specs.declared.refusal.Refusal.{Refusal}
 use Rattle.journal_world.specs.declared.refusal.Refusal.TheVariants.{Stale}
+use Rattle.journal_world.specs.Addresses.{Shape}
 use Rattle.journal_world.specs.Histories.{Entry, opened, is_trusted, count, floor, latest}
 use Rattle.journal_block.specs.declared.update.Update.{Update}
 use Rattle.journal_memlog.specs.Logs.{next_position, tail_of}
@@ -46,25 +47,25 @@ pub record IsCutOf (v : VolatileState) (c : CutPoint) : Type 0 where
   pub earlier : c.commits ≤ v.ledger.cut
 
 -- What was written since: each cut, the last one too, is followed by all updates of the commits after it
-pub record HasUpdates (blocks : ℕ) (v : VolatileState) : Type 0 where
-  pub since : All (λ c. HaveAllSince blocks v.ledger.history c.commits (updates_from v.tail.log c.end)) (cut_points v.tail)
-  pub since_last : HaveAllSince blocks v.ledger.history v.ledger.cut (tail_of v.tail.log)
+pub record HasUpdates (layout : Shape) (v : VolatileState) : Type 0 where
+  pub since : All (λ c. HaveAllSince layout v.ledger.history c.commits (updates_from v.tail.log c.end)) (cut_points v.tail)
+  pub since_last : HaveAllSince layout v.ledger.history v.ledger.cut (tail_of v.tail.log)
 
--- What it keeps by itself, on a disk of so many blocks. Where the history is trusted it is said of
+-- What it keeps by itself, on a disk of a layout. Where the history is trusted it is said of
 -- values: what the updates after a cut have of an address is what the map gives it after all
 -- commits, and no commit after that cut changed the value of an address of which they have nothing.
 -- A commit that wrote what stood there already may so have no update
-pub record IsVolatile (blocks : ℕ) (v : VolatileState) : Type 0 where
-  pub size : blocks_of v.tail ≡ blocks
+pub record IsVolatile (layout : Shape) (v : VolatileState) : Type 0 where
+  pub size : blocks_of v.tail ≡ layout.blocks
   pub begun : v.ledger.history ≢ []
-  pub on_disk : (opened v.ledger.history).blocks ≡ blocks
+  pub on_disk : (opened v.ledger.history).layout ≡ layout
   pub made : v.ledger.cut ≤ count v.ledger.history
   pub cut_to_next : v.tail.log.cut ≤ next_position v.tail.log
   pub small : next_position v.tail.log < 2 ^ 62
   pub cuts : All (IsCutOf v) (cut_points v.tail)
-  pub updates : IsTrue (is_trusted v.ledger.history) → HasUpdates blocks v
+  pub updates : IsTrue (is_trusted v.ledger.history) → HasUpdates layout v
   -- what it knows of an address, by its updates or by a copy of its block alone, is what the latest map gives it
-  pub known : IsTrue (is_trusted v.ledger.history) → AreObjectsOf blocks (latest v.ledger.history) (known_blocks v.tail)
+  pub known : IsTrue (is_trusted v.ledger.history) → AreObjectsOf layout (latest v.ledger.history) (known_blocks v.tail)
 
 -- how many positions of the log have updates up to the last cut, where it starts at this one
 abbrev pub used_positions : VolatileState → ℕ → ℕ
@@ -89,6 +90,6 @@ IsFrontRefusal history seen other = ⊥
 
 -- why an object is not read: by what is known before the value is looked for, or else the fetch has
 -- seen more of the history
-abbrev pub IsReadRefusal : ℕ → VolatileState → TransactionState → Addr → FetchedState → Refusal CauseState → Type 0
-IsReadRefusal blocks v t a f why =
-    IsCheckRefusal blocks (outset_of v) t a why ⊎ (MayRead blocks (outset_of v) t a × IsFrontRefusal v.ledger.history f.front why)
+abbrev pub IsReadRefusal : Shape → VolatileState → TransactionState → Addr → FetchedState → Refusal CauseState → Type 0
+IsReadRefusal layout v t a f why =
+    IsCheckRefusal layout (outset_of v) t a why ⊎ (MayRead layout (outset_of v) t a × IsFrontRefusal v.ledger.history f.front why)

@@ -46,7 +46,7 @@ impl<'b, D: BlockDisk, R: MapRule, J: Naming> Core<'b, D, R, J> {
         held: &mut [Held<J>],
         spares: &mut Spares,
     ) -> Result<Receipt<'b, J, R>, Refusal<Cause<'b, J, R>>>
-        requires rule { (m : Map) → m.blocks ≡ J.blocks → R.statement m → Agrees m transaction.now.reads
+        requires rule { (m : Map) → m.layout ≡ J.layout → R.statement m → Agrees m transaction.now.reads
             → R.statement (overwritten m transaction.now.writes) }
         requires under { AreUnder held.old transaction.now.seen transaction.now.reads }
         requires covered { HoldsSlots held.old transaction.now.writes }
@@ -80,7 +80,7 @@ impl<'b, D: BlockDisk, R: MapRule, J: Naming> Core<'b, D, R, J> {
         held: &mut [Held<J>],
         spares: &mut Spares,
     ) -> Result<Receipt<'b, J, R>, Refusal<Cause<'b, J, R>>>
-        requires rule { (m : Map) → m.blocks ≡ J.blocks → R.statement m → Agrees m transaction.now.reads
+        requires rule { (m : Map) → m.layout ≡ J.layout → R.statement m → Agrees m transaction.now.reads
             → R.statement (overwritten m transaction.now.writes) }
         requires unmoved { AreUnmoved self.old.history transaction.now }
         requires covered { HoldsSlots held.old transaction.now.writes }

@@ -9,7 +9,6 @@ ghost use Rattle.journal_core.specs.Durables.{IsDurable, Leaves, begun_durable, 
 
 use journal_disk::{BlockDisk, MemDisk};
 use journal_history::{Front, Naming};
-use journal_object::prove_objects_law;
 use journal_objlog::ObjectLog;
 use journal_world::MapRule;
 use std::marker::Model;
@@ -35,21 +34,18 @@ impl<'b, D: BlockDisk, R: MapRule, J: Naming> Model for Durable<'b, D, R, J> {
 
     ghost view = { λ d. record { objects = d.objects; front = d.front; marked = d.marked; logged = d.logged; coming = d.coming } };
 
-    ghost invariant = { λ d. IsDurable J.blocks (record { objects = d.objects; front = d.front; marked = d.marked; logged = d.logged; coming = d.coming }) };
+    ghost invariant = { λ d. IsDurable J.layout (record { objects = d.objects; front = d.front; marked = d.marked; logged = d.logged; coming = d.coming }) };
 }
 
 impl<'b, D: BlockDisk, R: MapRule, J: Naming> Durable<'b, D, R, J> {
     /// That of a mount that begins: the history has the opening alone, and the disk holds its map.
     pub(crate) fn new(objects: ObjectLog<D>, front: Front<'b, J, R>) -> Durable<'b, D, R, J>
-        requires size { size_of objects ≡ J.blocks }
+        requires size { size_of objects ≡ J.layout.blocks }
         requires rest { IsAtRest objects }
-        requires begun { front ≡ opening (map_now objects) (log_disk objects).honest ∷ [] }
-        requires images { IsTrue (log_disk objects).honest → EveryImage (log_disk objects).past (OpensAs (map_now objects)) }
+        requires begun { front ≡ opening (map_now J.layout objects) (log_disk objects).honest ∷ [] }
+        requires images { IsTrue (log_disk objects).honest → EveryImage (log_disk objects).past (OpensAs (map_now J.layout objects)) }
         ensures { result ≡ begun_durable objects front.entry }
     {
-        // Both are called for their contracts: the law of the map that blocks make, at this size.
-        let _layout = objects.layout();
-        prove_objects_law();
         Durable {
             objects,
             front,
@@ -61,7 +57,7 @@ impl<'b, D: BlockDisk, R: MapRule, J: Naming> Durable<'b, D, R, J> {
 
     /// It keeps what its type keeps. Called for its contract.
     pub(crate) fn prove_invariant(&self)
-        ensures { IsDurable J.blocks self.now }
+        ensures { IsDurable J.layout self.now }
     {
         let _marked = self.marked;
     }
@@ -77,7 +73,7 @@ impl<'b, D: BlockDisk, R: MapRule, J: Naming> Durable<'b, D, R, J> {
     /// opens as the map after some of the front's commits: at least those that are marked, at most those that come.
     pub fn disk(&self) -> &D
         ensures disk { D.state result.now ≡ disk_of self.now }
-        ensures size { (disk_of self.now).past.size ≡ J.blocks }
+        ensures size { (disk_of self.now).past.size ≡ J.layout.blocks }
         ensures images { IsTrue (disk_of self.now).honest → EveryImage (disk_of self.now).past (Leaves self.now) }
         ensures rest { IsCutLogged self.now.objects → self.now.logged ≡ self.now.coming }
     {
@@ -88,7 +84,7 @@ impl<'b, D: BlockDisk, R: MapRule, J: Naming> Durable<'b, D, R, J> {
     /// leave of it opens as the map after some of the front's commits.
     pub fn into_disk(self) -> D
         ensures disk { D.state result ≡ disk_of self.entry }
-        ensures size { (D.state result).past.size ≡ J.blocks }
+        ensures size { (D.state result).past.size ≡ J.layout.blocks }
         ensures images { IsTrue (D.state result).honest → EveryImage (D.state result).past (Leaves self.entry) }
     {
         let Durable { objects, .. } = self;

@@ -40,12 +40,12 @@ impl<'b, D: BlockDisk, R: MapRule, J: Naming> Durable<'b, D, R, J> {
     /// Takes a group that was cut from memory, which `reserve` made room for, and the history that has its commits,
     /// of which there are so many. It takes no memory, and moves the blocks.
     pub(crate) fn take(&mut self, group: Vec<Update>, front: Front<'b, J, R>, commits: u64)
-        requires homes { AreHomes J.blocks group.items }
+        requires homes { AreHomes J.layout.blocks group.items }
         requires distinct { HasDistinctBlocks group.items }
         requires room { HasGroupRoom self.old.objects (length group.items) }
         requires longer { IsPrefix self.old.front front }
         requires counted { commits ≡ count front }
-        requires all { IsTrue (is_trusted front) → HaveAllSince J.blocks front self.old.logged group.items }
+        requires all { IsTrue (is_trusted front) → HaveAllSince J.layout front self.old.logged group.items }
         ensures takes { TakesCut front.entry group.items self.old self.new }
         ensures flies { end_of self.new.objects < self.new.objects.log.cut }
         ensures crash { Crashes self.old self.new }
@@ -63,7 +63,7 @@ impl<'b, D: BlockDisk, R: MapRule, J: Naming> Durable<'b, D, R, J> {
         requires rest { IsCutLogged self.old.objects }
         requires longer { IsPrefix self.old.front front }
         requires counted { commits ≡ count front }
-        requires all { IsTrue (is_trusted front) → HaveAllSince J.blocks front self.old.logged [] }
+        requires all { IsTrue (is_trusted front) → HaveAllSince J.layout front self.old.logged [] }
         ensures reaches { self.new ≡ record self.old { front = front.entry; logged = count front.entry; coming = count front.entry } }
         ensures crash { Crashes self.old self.new }
     {

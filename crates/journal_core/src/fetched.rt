@@ -29,7 +29,7 @@ impl<'b, J: Naming, R: MapRule> Model for Fetched<'b, J, R> {
 
     ghost view = { λ f. record { front = f.front; commits = f.commits; updates = f.updates.items } };
 
-    ghost invariant = { λ f. IsFetched J.blocks (record { front = f.front; commits = f.commits; updates = f.updates.items }) };
+    ghost invariant = { λ f. IsFetched J.layout (record { front = f.front; commits = f.commits; updates = f.updates.items }) };
 }
 
 impl<'b, J: Naming, R: MapRule> Fetched<'b, J, R> {
@@ -47,7 +47,7 @@ impl<'b, J: Naming, R: MapRule> Fetched<'b, J, R> {
 
     /// It keeps what its type keeps. Called for its contract.
     pub(crate) fn prove_fetched(&self)
-        ensures { IsFetched J.blocks self.now }
+        ensures { IsFetched J.layout self.now }
     {
         let _commits = self.commits;
     }
@@ -62,7 +62,7 @@ impl<'b, D: BlockDisk, R: MapRule, J: Naming> Durable<'b, D, R, J> {
         &mut self,
         mut updates: Vec<Update>,
     ) -> Result<Fetched<'b, J, R>, Refusal<Cause<'b, J, R>>>
-        requires blocks { All (λ u. u.block < J.blocks) updates.items }
+        requires blocks { All (λ u. u.block < J.layout.blocks) updates.items }
         ensures front { IfOk result (λ fetched. fetched.front ≡ self.old.front) }
         ensures commits { IfOk result (λ fetched. fetched.commits ≡ self.old.logged) }
         ensures named { IfOk result (λ fetched. map (λ u. u.block) fetched.updates ≡ map (λ u. u.block) updates.items) }
@@ -85,9 +85,9 @@ impl<'b, D: BlockDisk, R: MapRule, J: Naming> Durable<'b, D, R, J> {
 
     // Reads the block that this names, as it is logged, into its bytes.
     fn fetch_block(&mut self, update: &mut Update) -> Result<(), Refusal<Cause<'b, J, R>>>
-        requires { update.old.block < J.blocks }
+        requires { update.old.block < J.layout.blocks }
         ensures block { update.new.block ≡ update.old.block }
-        ensures after { IsTrue (is_trusted self.old.front) → OnOk result (IsBlockAfter J.blocks self.old.front self.old.logged update.new) }
+        ensures after { IsTrue (is_trusted self.old.front) → OnOk result (IsBlockAfter J.layout self.old.front self.old.logged update.new) }
         ensures fine { OnOk result (is_faulted self.new ≡ false) }
         ensures refusal { IfErr result (IsCallRefusal self.old self.new) }
         ensures reads { OnlyReads self.old.objects self.new.objects }

@@ -36,7 +36,7 @@ impl<'b, D: BlockDisk, R: MapRule, J: Naming> Durable<'b, D, R, J> {
     /// Refused where the device failed in this call or before, by J6 `DeviceFailed`, which memory
     /// is to be told of.
     pub fn log_call(&mut self) -> Result<LogCall, UnnotedFault<'b, J, R>>
-        ensures event { AnswersGroupCall J.blocks self.old (log_answer result) self.new }
+        ensures event { AnswersGroupCall J.layout self.old (log_answer result) self.new }
         ensures fault { OnErr result (IsTrue (is_faulted self.new)) }
     {
         match self.advance_log() {
@@ -69,7 +69,7 @@ impl<'b, D: BlockDisk, R: MapRule, J: Naming> Durable<'b, D, R, J> {
     /// is to be told of, and where memory for the list of addresses is refused, at the first of
     /// these calls.
     pub fn install_call(&mut self) -> Result<InstallCall, InstallFault<UnnotedFault<'b, J, R>>>
-        ensures event { AnswersHomeCall J.blocks self.old (install_answer result) self.new }
+        ensures event { AnswersHomeCall J.layout self.old (install_answer result) self.new }
         ensures fault { IfErr result (IfFailed (IsTrue (is_faulted self.new))) }
         ensures home { IfOk result (IfFreed (λ upto. upto ≤ end_of self.new.objects)) }
     {
@@ -107,8 +107,8 @@ impl<'b, D: BlockDisk, R: MapRule, J: Naming> Durable<'b, D, R, J> {
         &mut self,
         updates: Vec<Update>,
     ) -> Result<Fetched<'b, J, R>, UnnotedFault<'b, J, R>>
-        requires blocks { All (λ u. u.block < J.blocks) updates.items }
-        ensures event { AnswersFetch J.blocks self.old (map (λ u. u.block) updates.items) result self.new }
+        requires blocks { All (λ u. u.block < J.layout.blocks) updates.items }
+        ensures event { AnswersFetch J.layout self.old (map (λ u. u.block) updates.items) result self.new }
         ensures fault { OnErr result (IsTrue (is_faulted self.new)) }
     {
         match self.fetch_blocks(updates) {
@@ -137,7 +137,7 @@ impl<'b, D: BlockDisk, R: MapRule, J: Naming> Durable<'b, D, R, J> {
         volatile: &mut Volatile<'b, R, J>,
         rest: RestingLog,
     ) -> Result<LogStep, Refusal<Cause<'b, J, R>>>
-        ensures event { AnswersMarkOrCut J.blocks volatile.old self.old result volatile.new self.new }
+        ensures event { AnswersMarkOrCut J.layout volatile.old self.old result volatile.new self.new }
     {
         let RestingLog { made: _ } = rest;
         let answer = self.do_due(volatile);
@@ -150,7 +150,7 @@ impl<'b, D: BlockDisk, R: MapRule, J: Naming> Durable<'b, D, R, J> {
     /// at the freed positions or before. It answers how far, as a step of the installer.
     pub fn trim(&self, volatile: &mut Volatile<'b, R, J>, freed: FreedLog) -> InstallStep
         requires home { freed ≤ end_of self.now.objects }
-        ensures event { Trims J.blocks volatile.old self.now freed volatile.new }
+        ensures event { Trims J.layout volatile.old self.now freed volatile.new }
         ensures told { result ≡ Freed freed }
     {
         let FreedLog { upto } = freed;

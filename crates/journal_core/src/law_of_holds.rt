@@ -1,19 +1,20 @@
 // The law over whole lists of holds.
 ghost use Rattle.std.specs.Prelude.{ℕ, ◌≡◌, List, Some, IsTrue, All};
 ghost use Rattle.journal_world.specs.Histories.{IsLegal, Entry};
+ghost use Rattle.journal_world.specs.Addresses.{Shape};
 ghost use Rattle.journal_disk.specs.Disks.{DiskState};
 ghost use Rattle.journal_core.specs.Transactions.{TransactionState};
 ghost use Rattle.journal_core.specs.Outcomes.{Answer, TellsAll};
 ghost use Rattle.journal_core.specs.Holds.{IsBetween};
 ghost use Rattle.journal_core.specs.TwoLocks.Machine.{up};
-ghost use Rattle.journal_core.specs.TwoLocks.{Event, Machine, Mount, Parts, history_of, blocks_of, mounted, BeginsApart, Run, HasHistory, IsUndisturbed, StaysFetched};
+ghost use Rattle.journal_core.specs.TwoLocks.{Event, Machine, Mount, Parts, history_of, layout_of, mounted, BeginsApart, Run, HasHistory, IsUndisturbed, StaysFetched};
 
 use journal_world::MapRule;
 
 /// Transactions of any number of actors, and the holds of two locks that threads make for them: a
 /// hold of memory alone, of the disk alone with at most one device call that changes the disk, or
 /// of both. Each hold is one event. Crashes at any moment of any call, and openings, come between
-/// them in any order, on a disk that is honest.
+/// them in any order, on a disk that is honest and is opened by one layout.
 ///
 /// The answers are those of one history, as `every_interleaving` says of the steps of one thread. A
 /// wait that ends well says that the history has so many commits marked, and an image of the disk
@@ -24,19 +25,19 @@ use journal_world::MapRule;
 /// The call does nothing: its contract is the law, over the definitions that the holds of `Durable`
 /// and `Volatile` cite.
 pub fn every_order_of_holds<R: MapRule>()
-    ensures told { (disk : DiskState) (first : Parts) (events : List Event) (answers : List Answer) (last : Machine) →
-        IsTrue disk.honest → BeginsApart R.statement disk first → Run R.statement (mounted first) events answers last →
+    ensures told { (layout : Shape) (disk : DiskState) (first : Parts) (events : List Event) (answers : List Answer) (last : Machine) →
+        IsTrue disk.honest → BeginsApart R.statement layout disk first → Run R.statement (mounted first) events answers last →
         (history : List Entry) × HasHistory last history × TellsAll R.statement (history_of first) answers history }
-    ensures legal { (disk : DiskState) (first : Parts) (events : List Event) (answers : List Answer) (last : Mount) →
-        IsTrue disk.honest → BeginsApart R.statement disk first → Run R.statement (mounted first) events answers (up last) →
+    ensures legal { (layout : Shape) (disk : DiskState) (first : Parts) (events : List Event) (answers : List Answer) (last : Mount) →
+        IsTrue disk.honest → BeginsApart R.statement layout disk first → Run R.statement (mounted first) events answers (up last) →
         IsLegal R.statement (history_of last.parts) }
-    ensures between { (disk : DiskState) (first : Parts) (events : List Event) (answers : List Answer) (last : Mount) →
-        IsTrue disk.honest → BeginsApart R.statement disk first → Run R.statement (mounted first) events answers (up last) →
-        IsBetween (blocks_of last) last.parts.volatile last.parts.durable }
-    ensures two_phase { (disk : DiskState) (first : Parts) (events : List Event) (answers : List Answer) (last : Mount) (actor : ℕ) (draft : TransactionState) →
-        IsTrue disk.honest → BeginsApart R.statement disk first → Run R.statement (mounted first) events answers (up last) →
+    ensures between { (layout : Shape) (disk : DiskState) (first : Parts) (events : List Event) (answers : List Answer) (last : Mount) →
+        IsTrue disk.honest → BeginsApart R.statement layout disk first → Run R.statement (mounted first) events answers (up last) →
+        IsBetween (layout_of last) last.parts.volatile last.parts.durable }
+    ensures two_phase { (layout : Shape) (disk : DiskState) (first : Parts) (events : List Event) (answers : List Answer) (last : Mount) (actor : ℕ) (draft : TransactionState) →
+        IsTrue disk.honest → BeginsApart R.statement layout disk first → Run R.statement (mounted first) events answers (up last) →
         last.transactions actor ≡ Some draft → IsUndisturbed (history_of last.parts) draft }
-    ensures fetched { (disk : DiskState) (first : Parts) (events : List Event) (answers : List Answer) (last : Mount) (actor : ℕ) →
-        IsTrue disk.honest → BeginsApart R.statement disk first → Run R.statement (mounted first) events answers (up last) →
+    ensures fetched { (layout : Shape) (disk : DiskState) (first : Parts) (events : List Event) (answers : List Answer) (last : Mount) (actor : ℕ) →
+        IsTrue disk.honest → BeginsApart R.statement layout disk first → Run R.statement (mounted first) events answers (up last) →
         All (StaysFetched (history_of last.parts)) (last.fetched actor) }
 {}

@@ -111,7 +111,7 @@ impl<'b, R: MapRule, J: Naming> Ledger<'b, R, J> {
     /// The whole history, which is sound.
     pub(crate) fn front(&self) -> Front<'b, J, R>
         ensures history { result ≡ self.now.history }
-        ensures size { (opened self.now.history).blocks ≡ J.blocks }
+        ensures size { (opened self.now.history).layout ≡ J.layout }
         ensures sound { IsSound R.statement self.now.history }
     {
         // Called for its contract: the history is sound.

@@ -74,9 +74,9 @@ impl<'b, R: MapRule, J: Naming> Ledger<'b, R, J> {
         transaction: &Transaction<'b, J, R>,
         held: &mut [Held<J>],
     ) -> Result<Receipt<'b, J, R>, Refusal<Cause<'b, J, R>>>
-        requires reads { IsTrue (are_objects J.blocks transaction.now.reads) }
-        requires writes { IsTrue (are_objects J.blocks transaction.now.writes) }
-        requires rule { (m : Map) → m.blocks ≡ J.blocks → R.statement m → Agrees m transaction.now.reads
+        requires reads { IsTrue (are_objects J.layout transaction.now.reads) }
+        requires writes { IsTrue (are_objects J.layout transaction.now.writes) }
+        requires rule { (m : Map) → m.layout ≡ J.layout → R.statement m → Agrees m transaction.now.reads
             → R.statement (overwritten m transaction.now.writes) }
         requires agrees { IsTrue (is_trusted self.old.history) → Agrees (latest self.old.history) transaction.now.reads }
         requires own { length (commits_of session.old.number self.old.history) ≡ made session.old }

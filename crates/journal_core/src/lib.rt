@@ -45,6 +45,7 @@ mod ledger_flush;
 mod ledger_session;
 mod log;
 mod marked_lengths;
+mod named_layout;
 mod open;
 mod pair;
 mod pair_commit;

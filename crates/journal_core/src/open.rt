@@ -1,5 +1,6 @@
 // The opening of a mount.
 ghost use Rattle.std.specs.Prelude.{◌≡◌, ◌<◌, ◌↔◌, ◌∷◌, [], false, true, length, replicate, IsTrue, OnOk, IfOk, IfErr, IfSome};
+ghost use Rattle.journal_world.specs.Files.{shape};
 ghost use Rattle.journal_world.specs.declared.address.TheConstants.{SLOTS as SLOT_COUNT};
 ghost use Rattle.journal_world.specs.Histories.Entry.{opening};
 ghost use Rattle.journal_wal.specs.Wal.{size_of, IsAtRest};
@@ -8,7 +9,7 @@ ghost use Rattle.journal_objlog.specs.Maps.{OpensAs};
 ghost use Rattle.journal_objlog.specs.ObjectLogs.{map_now, disk_of, end_of};
 ghost use Rattle.journal_disk.specs.Disks.{IsSettled};
 ghost use Rattle.journal_disk.specs.Images.{EveryImage};
-ghost use Rattle.journal_core.specs.Openings.{HasWellFormedLog, HasBoundsOf, Begins, IsBeginRefusal, IsOpenRefusal, OnlyReadsDisk};
+ghost use Rattle.journal_core.specs.Openings.{HasWellFormedLog, HasBoundsOf, Begins, IsBeginRefusal, IsLayoutRefusal, OnlyReadsDisk};
 
 use crate::cause::{Cause, raise, raised};
 use crate::durable::Durable;
@@ -24,16 +25,18 @@ use journal_objlog::{ObjectLog, ObjectTail};
 use journal_world::{Layout, MapRule, Refusal, Refused};
 use std::alloc::Global;
 
-// The map that an object log has now.
+// The map that an object log has now, by a layout.
 #[derive(Drop)]
 struct MapNow<'a, D: BlockDisk> {
+    layout: Layout,
     objects: &'a ObjectLog<D>,
 }
 
 impl<'a, D: BlockDisk> Opened for MapNow<'a, D> {
+    ghost use Rattle.journal_world.specs.Files.{shape};
     ghost use Rattle.journal_objlog.specs.ObjectLogs.{map_now, disk_of};
 
-    ghost map = { λ now. map_now now.objects.now };
+    ghost map = { λ now. map_now (shape now.layout) now.objects.now };
 
     ghost trusted = { λ now. (disk_of now.objects.now).honest };
 }
@@ -44,7 +47,7 @@ impl<'b, D: BlockDisk, R: MapRule, J: Naming> Core<'b, D, R, J> {
     /// than so many blocks that are at home will be kept in memory. The slots of the journal, by whose cell it is named, come
     /// with it: all are free, and no commit touched any.
     ///
-    /// The first that applies of these refuses it: J8 `BadSuper` where the number of blocks is out of range, J7
+    /// The first that applies of these refuses it: J8 `BadSuper` where the disk has not as many blocks as the layout, J7
     /// `BadLog` where the disk's log is not well formed, J8 where the rule does not hold of the map, J9 `Stale`
     /// where the book has a history already. J1 `NoMemory` where memory is refused, and J6 `DeviceFailed` where
     /// the device fails in this call, come where they are met. A refusal hands the disk back as it was.
@@ -52,6 +55,7 @@ impl<'b, D: BlockDisk, R: MapRule, J: Naming> Core<'b, D, R, J> {
         alloc: Global,
         book: &'b Book<R>,
         cell: SlotCell,
+        layout: Layout,
         disk: D,
         rule: &R,
         copies: usize,
@@ -59,16 +63,16 @@ impl<'b, D: BlockDisk, R: MapRule, J: Naming> Core<'b, D, R, J> {
         requires some { 0 < copies }
         requires book { book.now ≡ J.book }
         requires cell { cell ≡ J.cell }
-        requires blocks { (D.state disk).past.size ≡ J.blocks }
+        requires layout { shape layout ≡ J.layout }
         requires settled { IsTrue (D.state disk).honest → IsSettled (D.state disk).past }
-        ensures begun { IfOk result (λ opened. Begins R.statement (D.state disk) opened.0) }
+        ensures begun { IfOk result (λ opened. Begins R.statement J.layout (D.state disk) opened.0) }
         ensures free { IfOk result (λ opened. opened.1 ≡ replicate SLOT_COUNT false) }
         ensures well_formed { IsTrue (D.state disk).honest → OnOk result (HasWellFormedLog (D.state disk)) }
         ensures bounds { IsTrue (D.state disk).honest → IfOk result (λ opened. HasBoundsOf (D.state disk) opened.0) }
-        ensures refusal { IfErr result (λ refused. IsOpenRefusal R.statement (D.state disk) (D.state refused.disk) refused.refusal) }
+        ensures refusal { IfErr result (λ refused. IsLayoutRefusal R.statement J.layout (D.state disk) (D.state refused.disk) refused.refusal) }
         ensures left { IfErr result (λ refused. OnlyReadsDisk (D.state disk) (D.state refused.disk)) }
     {
-        let Some(layout) = Layout::new(disk.size()) else {
+        if disk.size() != layout.blocks {
             return Err(Refused {
                 refusal: Refusal::BadSuper,
                 disk,
@@ -80,7 +84,7 @@ impl<'b, D: BlockDisk, R: MapRule, J: Naming> Core<'b, D, R, J> {
                 disk,
             });
         };
-        let objects = match ObjectLog::open(alloc, layout, disk) {
+        let objects = match ObjectLog::open(alloc, disk) {
             Ok(objects) => objects,
             Err(Refused { refusal, disk }) => {
                 return Err(Refused {
@@ -89,7 +93,7 @@ impl<'b, D: BlockDisk, R: MapRule, J: Naming> Core<'b, D, R, J> {
                 });
             }
         };
-        let tail = match ObjectTail::new(alloc, layout, objects.log_range().1, copies) {
+        let tail = match ObjectTail::new(alloc, layout.blocks, objects.log_range().1, copies) {
             Ok(tail) => tail,
             Err(refusal) => {
                 return Err(Refused {
@@ -98,11 +102,14 @@ impl<'b, D: BlockDisk, R: MapRule, J: Naming> Core<'b, D, R, J> {
                 });
             }
         };
-        let (objects, admitted) = objects.admitted_by(rule);
-        match begin(book, &objects, admitted) {
+        let (objects, admitted) = objects.admitted_by(layout, rule);
+        match begin(book, layout, &objects, admitted) {
             Ok(writer) => {
                 let ledger = Ledger::new(alloc, writer, counts, sessions);
-                Ok((Core::begun(alloc, objects, ledger, tail, spare), slots))
+                Ok((
+                    Core::begun(alloc, layout, objects, ledger, tail, spare),
+                    slots,
+                ))
             }
             Err(refusal) => Err(Refused {
                 refusal,
@@ -114,16 +121,18 @@ impl<'b, D: BlockDisk, R: MapRule, J: Naming> Core<'b, D, R, J> {
     // That of a mount that begins: its history is the opening.
     fn begun(
         alloc: Global,
+        layout: Layout,
         objects: ObjectLog<D>,
         ledger: Ledger<'b, R, J>,
         tail: ObjectTail,
         spare: Vec<Update>,
     ) -> Core<'b, D, R, J>
-        requires size { size_of objects ≡ J.blocks }
+        requires layout { shape layout ≡ J.layout }
+        requires size { size_of objects ≡ J.layout.blocks }
         requires rest { IsAtRest objects }
-        requires images { IsTrue (disk_of objects).honest → EveryImage (disk_of objects).past (OpensAs (map_now objects)) }
-        requires begun { ledger ≡ record { history = opening (map_now objects) (disk_of objects).honest ∷ []; cut = 0; next = 0; closed = false } }
-        requires tail { tail ≡ empty_tail J.blocks (end_of objects) tail.log.room }
+        requires images { IsTrue (disk_of objects).honest → EveryImage (disk_of objects).past (OpensAs (map_now J.layout objects)) }
+        requires begun { ledger ≡ record { history = opening (map_now J.layout objects) (disk_of objects).honest ∷ []; cut = 0; next = 0; closed = false } }
+        requires tail { tail ≡ empty_tail J.layout.blocks (end_of objects) tail.log.room }
         requires spare { length spare.items ≡ 1 }
         ensures { result ≡ record {
           objects = record { wal = objects; tail = [] };
@@ -135,7 +144,7 @@ impl<'b, D: BlockDisk, R: MapRule, J: Naming> Core<'b, D, R, J> {
         } }
     {
         let durable = Durable::new(objects, ledger.front());
-        let volatile = Volatile::new(ledger, tail);
+        let volatile = Volatile::new(layout, ledger, tail);
         durable.prove_invariant();
         volatile.prove_invariant();
         Core {
@@ -169,21 +178,22 @@ fn slots_and_counts<J: Naming>(
 // Begins the book's history with the map now, where the rule admitted it.
 fn begin<'b, D: BlockDisk, R: MapRule, J: Naming>(
     book: &'b Book<R>,
+    layout: Layout,
     objects: &ObjectLog<D>,
     admitted: Result<bool, Refusal<()>>,
 ) -> Result<Writer<'b, J, R>, Refusal<Cause<'b, J, R>>>
     requires book { book.now ≡ J.book }
-    requires blocks { size_of objects.now ≡ J.blocks }
-    requires admitted { IsTrue (disk_of objects.now).honest → IfOk admitted (λ admitted. IsTrue admitted ↔ R.statement (map_now objects.now)) }
-    ensures begun { IfOk result (λ writer. writer ≡ opening (map_now objects.now) (disk_of objects.now).honest ∷ []) }
+    requires layout { shape layout ≡ J.layout }
+    requires admitted { IsTrue (disk_of objects.now).honest → IfOk admitted (λ admitted. IsTrue admitted ↔ R.statement (map_now J.layout objects.now)) }
+    ensures begun { IfOk result (λ writer. writer ≡ opening (map_now J.layout objects.now) (disk_of objects.now).honest ∷ []) }
     ensures admitted { OnOk result (admitted ≡ Ok true) }
-    ensures ruled { OnOk result (IsTrue (disk_of objects.now).honest → R.statement (map_now objects.now)) }
-    ensures refusal { IfErr result (IsBeginRefusal R.statement objects.now admitted) }
+    ensures ruled { OnOk result (IsTrue (disk_of objects.now).honest → R.statement (map_now J.layout objects.now)) }
+    ensures refusal { IfErr result (IsBeginRefusal R.statement J.layout objects.now admitted) }
 {
     if !raise(admitted)? {
         return Err(Refusal::BadSuper);
     }
-    let now = MapNow { objects };
+    let now = MapNow { layout, objects };
     match Writer::begin(book, &now) {
         Ok(writer) => Ok(writer),
         Err(front) => Err(Refusal::Stale(Cause::of(RefusalNumber::J9, front))),

@@ -29,7 +29,7 @@ impl<'b, D: BlockDisk, R: MapRule, J: Naming> Durable<'b, D, R, J> {
         volatile: &Volatile<'b, R, J>,
     ) -> Result<&D, Refusal<Cause<'b, J, R>>>
         ensures disk { IfOk result (λ disk. D.state disk.now ≡ disk_of self.now) }
-        ensures size { (disk_of self.now).past.size ≡ J.blocks }
+        ensures size { (disk_of self.now).past.size ≡ J.layout.blocks }
         ensures trusted { OnOk result (is_trusted volatile.now.ledger.history ≡ (disk_of self.now).honest) }
         ensures images { IsTrue (disk_of self.now).honest → IfOk result (λ _. EveryImage (disk_of self.now).past (LeavesHistory volatile.now.ledger.history)) }
         ensures refusal { IfErr result (IsUntied volatile.now self.now self.now.marked) }

@@ -41,12 +41,12 @@ impl<'b, D: BlockDisk, R: MapRule, J: Naming> Durable<'b, D, R, J> {
         held: &mut [Held<J>],
         spares: &mut Spares,
     ) -> Result<Receipt<'b, J, R>, Refusal<Cause<'b, J, R>>>
-        requires rule { (m : Map) → m.blocks ≡ J.blocks → R.statement m → Agrees m transaction.now.reads
+        requires rule { (m : Map) → m.layout ≡ J.layout → R.statement m → Agrees m transaction.now.reads
             → R.statement (overwritten m transaction.now.writes) }
         requires unmoved { AreUnmoved volatile.old.ledger.history transaction.now }
         requires covered { HoldsSlots held.old transaction.now.writes }
         requires apart { AreApart held.old }
-        requires pair { IsPair J.blocks volatile.old self.old }
+        requires pair { IsPair J.layout volatile.old self.old }
         ensures agree { OnOk result (AgreeWith volatile.new.ledger.history held.new) }
         ensures slots { slots_of held.new ≡ slots_of held.old }
         ensures held { OnErr result (held.new ≡ held.old) }
@@ -60,7 +60,7 @@ impl<'b, D: BlockDisk, R: MapRule, J: Naming> Durable<'b, D, R, J> {
         ensures left { OnErr result (OnlyReads (core_of volatile.old self.old).objects (core_of volatile.new self.new).objects) }
         ensures session { OnErr result (OnlyExtends session.old session.new) }
         ensures longer { IfErr result (ShowsLonger volatile.old.ledger.history session.new) }
-        ensures pair { IsPair J.blocks volatile.new self.new }
+        ensures pair { IsPair J.layout volatile.new self.new }
         ensures crash { Crashes (core_of volatile.old self.old) (core_of volatile.new self.new) }
     {
         let nothing = Fetched::empty(alloc, volatile.ledger.front());
@@ -88,14 +88,14 @@ impl<'b, D: BlockDisk, R: MapRule, J: Naming> Durable<'b, D, R, J> {
         spares: &mut Spares,
         rooms: Vec<Update>,
     ) -> Result<Receipt<'b, J, R>, Refusal<Cause<'b, J, R>>>
-        requires rule { (m : Map) → m.blocks ≡ J.blocks → R.statement m → Agrees m transaction.now.reads
+        requires rule { (m : Map) → m.layout ≡ J.layout → R.statement m → Agrees m transaction.now.reads
             → R.statement (overwritten m transaction.now.writes) }
         requires unmoved { AreUnmoved volatile.old.ledger.history transaction.now }
         requires covered { HoldsSlots held.old transaction.now.writes }
         requires apart { AreApart held.old }
-        requires blocks { All (λ u. u.block < J.blocks) rooms.items }
-        requires named { map (λ u. u.block) rooms.items ≡ missing_blocks J.blocks (known_updates [] volatile.old.tail) transaction.now.writes }
-        requires pair { IsPair J.blocks volatile.old self.old }
+        requires blocks { All (λ u. u.block < J.layout.blocks) rooms.items }
+        requires named { map (λ u. u.block) rooms.items ≡ missing_blocks J.layout (known_updates [] volatile.old.tail) transaction.now.writes }
+        requires pair { IsPair J.layout volatile.old self.old }
         requires running { IsRunning (core_of volatile.old self.old) }
         ensures agree { OnOk result (AgreeWith volatile.new.ledger.history held.new) }
         ensures slots { slots_of held.new ≡ slots_of held.old }
@@ -110,7 +110,7 @@ impl<'b, D: BlockDisk, R: MapRule, J: Naming> Durable<'b, D, R, J> {
         ensures left { OnErr result (OnlyReads (core_of volatile.old self.old).objects (core_of volatile.new self.new).objects) }
         ensures session { OnErr result (OnlyExtends session.old session.new) }
         ensures longer { IfErr result (ShowsLonger volatile.old.ledger.history session.new) }
-        ensures pair { IsPair J.blocks volatile.new self.new }
+        ensures pair { IsPair J.layout volatile.new self.new }
         ensures crash { Crashes (core_of volatile.old self.old) (core_of volatile.new self.new) }
     {
         let fetched = self.fetch_step(volatile, rooms)?;

@@ -27,14 +27,14 @@ impl<'b, D: BlockDisk, R: MapRule, J: Naming> Durable<'b, D, R, J> {
         &mut self,
         volatile: &mut Volatile<'b, R, J>,
     ) -> Result<LogStep, Refusal<Cause<'b, J, R>>>
-        requires pair { IsPair J.blocks volatile.old self.old }
+        requires pair { IsPair J.layout volatile.old self.old }
         requires running { IsRunning (core_of volatile.old self.old) }
         ensures ok { IfOk result (λ step. LogAnswers (core_of volatile.old self.old) step (core_of volatile.new self.new)) }
         ensures running { OnOk result (IsRunning (core_of volatile.new self.new)) }
         ensures refusal { IfErr result (IsLogRefusal (core_of volatile.old self.old) (core_of volatile.new self.new)) }
         ensures left { OnErr result (LeavesLog (core_of volatile.old self.old) (core_of volatile.new self.new)) }
         ensures tries { OnErr result (TriesToLog (core_of volatile.old self.old) (core_of volatile.new self.new)) }
-        ensures pair { IsPair J.blocks volatile.new self.new }
+        ensures pair { IsPair J.layout volatile.new self.new }
         ensures fine { OnOk result (volatile.new.faulted ≡ false) }
         ensures crash { Crashes (core_of volatile.old self.old) (core_of volatile.new self.new) }
     {
@@ -54,14 +54,14 @@ impl<'b, D: BlockDisk, R: MapRule, J: Naming> Durable<'b, D, R, J> {
         &mut self,
         volatile: &mut Volatile<'b, R, J>,
     ) -> Result<InstallStep, Refusal<Cause<'b, J, R>>>
-        requires pair { IsPair J.blocks volatile.old self.old }
+        requires pair { IsPair J.layout volatile.old self.old }
         requires running { IsRunning (core_of volatile.old self.old) }
         ensures ok { IfOk result (λ step. InstallAnswers (core_of volatile.old self.old) step (core_of volatile.new self.new)) }
         ensures running { OnOk result (IsRunning (core_of volatile.new self.new)) }
         ensures refusal { IfErr result (IsInstallRefusal (core_of volatile.old self.old) (core_of volatile.new self.new)) }
         ensures left { OnErr result (LeavesLog (core_of volatile.old self.old) (core_of volatile.new self.new)) }
         ensures tries { OnErr result (TriesToInstall (core_of volatile.old self.old) (core_of volatile.new self.new)) }
-        ensures pair { IsPair J.blocks volatile.new self.new }
+        ensures pair { IsPair J.layout volatile.new self.new }
         ensures crash { Crashes (core_of volatile.old self.old) (core_of volatile.new self.new) }
     {
         match self.install_call() {
@@ -82,8 +82,8 @@ impl<'b, D: BlockDisk, R: MapRule, J: Naming> Durable<'b, D, R, J> {
         volatile: &mut Volatile<'b, R, J>,
         updates: Vec<Update>,
     ) -> Result<Fetched<'b, J, R>, Refusal<Cause<'b, J, R>>>
-        requires blocks { All (λ u. u.block < J.blocks) updates.items }
-        requires pair { IsPair J.blocks volatile.old self.old }
+        requires blocks { All (λ u. u.block < J.layout.blocks) updates.items }
+        requires pair { IsPair J.layout volatile.old self.old }
         requires running { IsRunning (core_of volatile.old self.old) }
         ensures front { IfOk result (λ fetched. fetched.front ≡ self.new.front) }
         ensures commits { IfOk result (λ fetched. fetched.commits ≡ self.new.logged) }
@@ -93,9 +93,9 @@ impl<'b, D: BlockDisk, R: MapRule, J: Naming> Durable<'b, D, R, J> {
         ensures refusal { IfErr result (IsCallRefusal self.old self.new) }
         ensures reads { OnlyReads self.old.objects self.new.objects }
         ensures others { self.new ≡ record self.old { objects = self.new.objects } }
-        ensures pair { IsPair J.blocks volatile.new self.new }
+        ensures pair { IsPair J.layout volatile.new self.new }
         ensures crash { CrashesDurable self.old self.new }
-        ensures event { AnswersFetch J.blocks (core_of volatile.old self.old) (map (λ u. u.block) updates.items) result (core_of volatile.new self.new) }
+        ensures event { AnswersFetch J.layout (core_of volatile.old self.old) (map (λ u. u.block) updates.items) result (core_of volatile.new self.new) }
     {
         match self.fetch(updates) {
             Ok(fetched) => Ok(fetched),

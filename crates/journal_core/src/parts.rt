@@ -16,8 +16,8 @@ impl<'b, D: BlockDisk, R: MapRule, J: Naming> Core<'b, D, R, J> {
     #[tactic(auto, using(crate::proofs::Between::between_pair))]
     pub fn into_parts(self) -> (Durable<'b, D, R, J>, Volatile<'b, R, J>)
         ensures parts { core_of result.1 result.0 ≡ self.entry }
-        ensures pair { IsPair J.blocks result.1 result.0 }
-        ensures between { IsBetween J.blocks result.1 result.0 }
+        ensures pair { IsPair J.layout result.1 result.0 }
+        ensures between { IsBetween J.layout result.1 result.0 }
     {
         let Core {
             durable,

@@ -41,20 +41,20 @@ impl<'b, D: BlockDisk, R: MapRule, J: Naming> Core<'b, D, R, J> {
         addr: Addr,
         into: &mut [u8],
     ) -> Result<ReadResult<'b, J, R>, Refusal<Cause<'b, J, R>>>
-        requires size { IsTrue (is_valid J.blocks addr) → length into.old ≡ size_at J.blocks addr }
+        requires size { IsTrue (is_valid J.layout addr) → length into.old ≡ size_at J.layout addr }
         requires under { AreUnder held.old transaction.now.seen transaction.now.reads }
         ensures agree { AgreeWith self.new.history held.new }
         ensures held { held.new ≡ held.old }
         ensures value { IsTrue (is_trusted self.old.history) → OnOk result (into.new ≡ value_at (latest self.old.history) addr) }
-        ensures object { OnOk result (IsTrue (is_object J.blocks (addr, into.new))) }
+        ensures object { OnOk result (IsTrue (is_object J.layout (addr, into.new))) }
         ensures found { IfOk result (λ found. found ≡ record { addr = addr; seen = self.old.history }) }
-        ensures may { OnOk result (MayRead J.blocks self.old transaction.now addr) }
+        ensures may { OnOk result (MayRead J.layout self.old transaction.now addr) }
         ensures running { OnOk result (IsRunning self.new) }
-        ensures refusal { IfErr result (IsReadRefusal J.blocks self.old transaction.now addr self.new) }
+        ensures refusal { IfErr result (IsReadRefusal J.layout self.old transaction.now addr self.new) }
         ensures reads { OnlyReads self.old.objects self.new.objects }
         ensures others { self.new ≡ record self.old { objects = self.new.objects } }
         ensures crash { Crashes self.old self.new }
-        ensures event { AnswersRead J.blocks self.old transaction.now addr result into.new self.new }
+        ensures event { AnswersRead J.layout self.old transaction.now addr result into.new self.new }
     {
         self.verify_tokens(rt, held);
         self.read_verified(transaction, addr, into)
@@ -67,22 +67,20 @@ impl<'b, D: BlockDisk, R: MapRule, J: Naming> Core<'b, D, R, J> {
         addr: Addr,
         into: &mut [u8],
     ) -> Result<ReadResult<'b, J, R>, Refusal<Cause<'b, J, R>>>
-        requires size { IsTrue (is_valid J.blocks addr) → length into.old ≡ size_at J.blocks addr }
+        requires size { IsTrue (is_valid J.layout addr) → length into.old ≡ size_at J.layout addr }
         requires unmoved { AreUnmoved self.old.history transaction.now }
         ensures value { IsTrue (is_trusted self.old.history) → OnOk result (into.new ≡ value_at (latest self.old.history) addr) }
-        ensures object { OnOk result (IsTrue (is_object J.blocks (addr, into.new))) }
+        ensures object { OnOk result (IsTrue (is_object J.layout (addr, into.new))) }
         ensures found { IfOk result (λ found. found ≡ record { addr = addr; seen = self.old.history }) }
-        ensures may { OnOk result (MayRead J.blocks self.old transaction.now addr) }
+        ensures may { OnOk result (MayRead J.layout self.old transaction.now addr) }
         ensures running { OnOk result (IsRunning self.new) }
-        ensures refusal { IfErr result (IsReadRefusal J.blocks self.old transaction.now addr self.new) }
+        ensures refusal { IfErr result (IsReadRefusal J.layout self.old transaction.now addr self.new) }
         ensures reads { OnlyReads self.old.objects self.new.objects }
         ensures others { self.new ≡ record self.old { objects = self.new.objects } }
         ensures crash { Crashes self.old self.new }
-        ensures event { AnswersRead J.blocks self.old transaction.now addr result into.new self.new }
+        ensures event { AnswersRead J.layout self.old transaction.now addr result into.new self.new }
     {
         let nothing = Fetched::empty(self.alloc, self.volatile.ledger.front());
-        // Called for its contract: how many blocks there are at least.
-        let _layout = self.volatile.tail.layout();
         if let Some(found) = self
             .volatile
             .read_verified(transaction, addr, &nothing, into)?

@@ -52,7 +52,7 @@ impl<'b, D: BlockDisk, R: MapRule, J: Naming> Model for Core<'b, D, R, J> {
 
     ghost view = { λ c. core_of c.volatile c.durable };
 
-    ghost invariant = { λ c. IsCore J.blocks c.volatile c.durable c.spare.items };
+    ghost invariant = { λ c. IsCore J.layout c.volatile c.durable c.spare.items };
 }
 
 impl<'b, D: BlockDisk, R: MapRule, J: Naming> Core<'b, D, R, J> {
@@ -94,11 +94,11 @@ impl<'b, D: BlockDisk, R: MapRule, J: Naming> Core<'b, D, R, J> {
         self.volatile.verify_tokens(rt, held);
     }
 
-    /// The whole history. It is sound, its map has the journal's number of blocks, and it is trusted where the
+    /// The whole history. It is sound, its map has the journal's layout, and it is trusted where the
     /// disk was honest and settled when it was opened.
     pub fn front(&self) -> Front<'b, J, R>
         ensures history { result ≡ self.now.history }
-        ensures size { (opened self.now.history).blocks ≡ J.blocks }
+        ensures size { (opened self.now.history).layout ≡ J.layout }
         ensures trusted { is_trusted self.now.history ≡ (disk_of self.now).honest }
         ensures sound { IsSound R.statement self.now.history }
     {
@@ -109,7 +109,7 @@ impl<'b, D: BlockDisk, R: MapRule, J: Naming> Core<'b, D, R, J> {
     /// opens as the map after a front of the history that has every marked commit.
     pub fn disk(&self) -> &D
         ensures disk { D.state result.now ≡ disk_of self.now }
-        ensures size { (disk_of self.now).past.size ≡ J.blocks }
+        ensures size { (disk_of self.now).past.size ≡ J.layout.blocks }
         ensures images { IsTrue (disk_of self.now).honest → EveryImage (disk_of self.now).past (Leaves self.now.history) }
     {
         self.durable.disk()
@@ -119,7 +119,7 @@ impl<'b, D: BlockDisk, R: MapRule, J: Naming> Core<'b, D, R, J> {
     /// leave of it opens as the map after a front of the history that has every marked commit.
     pub fn into_disk(self) -> D
         ensures disk { D.state result ≡ disk_of self.entry }
-        ensures size { (D.state result).past.size ≡ J.blocks }
+        ensures size { (D.state result).past.size ≡ J.layout.blocks }
         ensures trusted { is_trusted self.entry.history ≡ (D.state result).honest }
         ensures images { IsTrue (D.state result).honest → EveryImage (D.state result).past (Leaves self.entry.history) }
     {

@@ -31,7 +31,7 @@ impl<'b, J: Naming, R: MapRule> Model for Transaction<'b, J, R> {
 
     ghost view = { λ t. record { reads = t.reads; writes = t.writes; seen = t.front } };
 
-    ghost invariant = { λ t. IsTransaction J.blocks (record { reads = t.reads; writes = t.writes; seen = t.front }) };
+    ghost invariant = { λ t. IsTransaction J.layout (record { reads = t.reads; writes = t.writes; seen = t.front }) };
 }
 
 /// What a read found, until its transaction remembers it: the address, and the history at whose end its value was
@@ -75,8 +75,8 @@ impl<'b, J: Naming, R: MapRule> Transaction<'b, J, R> {
         ensures seen { result.now ≡ self.now.seen }
         ensures begun { self.now.seen ≢ [] }
         ensures agrees { IsTrue (is_trusted self.now.seen) → Agrees (latest self.now.seen) self.now.reads }
-        ensures reads { IsTrue (are_objects J.blocks self.now.reads) }
-        ensures writes { IsTrue (are_objects J.blocks self.now.writes) }
+        ensures reads { IsTrue (are_objects J.layout self.now.reads) }
+        ensures writes { IsTrue (are_objects J.layout self.now.writes) }
     {
         &self.front
     }
@@ -95,7 +95,7 @@ impl<'b, J: Naming, R: MapRule> Transaction<'b, J, R> {
 
     /// Gives the address this value, in place of one that it gave it before. After an `Err` all is as before.
     pub fn overwrite(&mut self, addr: Addr, value: Value) -> Result<(), AllocError>
-        requires object { IsTrue (is_object J.blocks (addr, value)) }
+        requires object { IsTrue (is_object J.layout (addr, value)) }
         ensures ok { OnOk result (Overwrites self.old addr value self.new) }
         ensures err { OnErr result (self.new ≡ self.old) }
     {
@@ -104,7 +104,7 @@ impl<'b, J: Naming, R: MapRule> Transaction<'b, J, R> {
 
     /// Remembers the value that a read found. Nothing is copied, and it takes no memory.
     pub fn remember(&mut self, found: ReadResult<'b, J, R>, value: &Value)
-        requires object { IsTrue (is_object J.blocks (found.addr, value.now)) }
+        requires object { IsTrue (is_object J.layout (found.addr, value.now)) }
         requires value { IsTrue (is_trusted found.seen) → value.now ≡ value_at (latest found.seen) found.addr }
         requires later { IsPrefix self.old.seen found.seen }
         requires unmoved { AreUnmoved found.seen self.old }

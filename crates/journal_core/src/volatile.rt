@@ -2,6 +2,7 @@
 ghost use Rattle.std.specs.Prelude.{◌≡◌, ◌<◌, ◌+◌, ◌^◌, [], false, true, IfOk, IfErr, OnOk, OnErr};
 ghost use mathlib.Core.List.{IsPrefix};
 ghost use Rattle.journal_world.specs.Histories.{opened, commits_of, is_fenced, count};
+ghost use Rattle.journal_world.specs.Files.{shape};
 ghost use Rattle.journal_wal.specs.Tails.{empty_tail};
 ghost use Rattle.journal_core.specs.Ledgers.{IsNumberRefusal};
 ghost use Rattle.journal_core.specs.SlotCounts.{AgreeWith};
@@ -11,6 +12,7 @@ ghost use Rattle.journal_core.specs.Holds.{AnswersSession, Stops};
 
 use crate::cause::Cause;
 use crate::ledger::Ledger;
+use crate::named_layout::NamedLayout;
 use crate::refusal_number::RefusalNumber;
 use journal_history::{Front, Naming, Session};
 use journal_lockmap::Held;
@@ -26,6 +28,7 @@ use std::sync::Wait;
 /// is not here says so. The caller fetches it from the durable part, and makes the call again with what was fetched.
 #[derive(Drop)]
 pub struct Volatile<'b, R: MapRule, J: Naming> {
+    pub(crate) layout: NamedLayout<J>,
     pub(crate) ledger: Ledger<'b, R, J>,
     pub(crate) tail: ObjectTail,
     // A device call failed.
@@ -39,38 +42,44 @@ impl<'b, R: MapRule, J: Naming> Model for Volatile<'b, R, J> {
 
     ghost view = { λ v. record { ledger = v.ledger; tail = v.tail; faulted = v.faulted } };
 
-    ghost invariant = { λ v. IsVolatile J.blocks (record { ledger = v.ledger; tail = v.tail; faulted = v.faulted }) };
+    ghost invariant = { λ v. IsVolatile J.layout (record { ledger = v.ledger; tail = v.tail; faulted = v.faulted }) };
 }
 
 impl<'b, R: MapRule, J: Naming> Volatile<'b, R, J> {
     /// That of a mount that begins, over a disk whose log ends at a position: no commit was made, and no block is known.
-    pub(crate) fn new(ledger: Ledger<'b, R, J>, tail: ObjectTail) -> Volatile<'b, R, J>
+    pub(crate) fn new(
+        layout: Layout,
+        ledger: Ledger<'b, R, J>,
+        tail: ObjectTail,
+    ) -> Volatile<'b, R, J>
+        requires layout { shape layout ≡ J.layout }
         requires begun { ledger.cut ≡ 0 }
         requires none { count ledger.history ≡ 0 }
-        requires blocks { (opened ledger.history).blocks ≡ J.blocks }
-        requires empty { tail ≡ empty_tail J.blocks tail.log.start tail.log.room }
+        requires on_disk { (opened ledger.history).layout ≡ J.layout }
+        requires empty { tail ≡ empty_tail J.layout.blocks tail.log.start tail.log.room }
         requires small { tail.log.start < 2 ^ 62 }
         ensures { result ≡ record { ledger = ledger.entry; tail = tail; faulted = false } }
     {
         // Called for its contract: there is an opening.
         let _len = ledger.len();
         Volatile {
+            layout: NamedLayout::new(layout),
             ledger,
             tail,
             faulted: false,
         }
     }
 
-    /// How many blocks the disk has.
+    /// Which objects the disk has.
     pub fn layout(&self) -> Layout
-        ensures { result.blocks ≡ J.blocks }
+        ensures { shape result ≡ J.layout }
     {
-        self.tail.layout()
+        *self.layout.get()
     }
 
     /// It keeps what its type keeps. Called for its contract.
     pub(crate) fn prove_invariant(&self)
-        ensures { IsVolatile J.blocks self.now }
+        ensures { IsVolatile J.layout self.now }
     {
         let _faulted = self.faulted;
     }

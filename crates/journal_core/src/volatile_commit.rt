@@ -69,7 +69,7 @@ impl<'b, R: MapRule, J: Naming> Volatile<'b, R, J> {
         spares: &mut Spares,
         fetched: &Fetched<'b, J, R>,
     ) -> Result<CommitStep<Receipt<'b, J, R>>, Refusal<Cause<'b, J, R>>>
-        requires rule { (m : Map) → m.blocks ≡ J.blocks → R.statement m → Agrees m transaction.now.reads
+        requires rule { (m : Map) → m.layout ≡ J.layout → R.statement m → Agrees m transaction.now.reads
             → R.statement (overwritten m transaction.now.writes) }
         requires under { AreUnder held.old transaction.now.seen transaction.now.reads }
         requires covered { HoldsSlots held.old transaction.now.writes }
@@ -82,8 +82,8 @@ impl<'b, R: MapRule, J: Naming> Volatile<'b, R, J> {
         ensures can { OnOk result (CanCommit (outset_of self.old) session.old transaction.now) }
         ensures agrees { OnOk result (IsTrue (is_trusted self.old.ledger.history) → Agrees (latest self.old.ledger.history) transaction.now.reads) }
         ensures missing { IfOk result (IfMissing (λ blocks.
-            blocks ≡ missing_blocks J.blocks (known_updates (usable self.old fetched.now) self.old.tail) transaction.now.writes)) }
-        ensures below { IfOk result (IfMissing (λ blocks. All (λ b. b < J.blocks) blocks)) }
+            blocks ≡ missing_blocks J.layout (known_updates (usable self.old fetched.now) self.old.tail) transaction.now.writes)) }
+        ensures below { IfOk result (IfMissing (λ blocks. All (λ b. b < J.layout.blocks) blocks)) }
         ensures some { IfOk result (IfMissing (λ blocks. blocks ≢ [])) }
         ensures waits { IfOk result (IfMissing (λ _. (self.new ≡ with_room self.old self.new.tail.log.room) × OnlyExtends session.old session.new)) }
         ensures stays { IfOk result (IfMissing (λ _. held.new ≡ held.old)) }
@@ -91,7 +91,7 @@ impl<'b, R: MapRule, J: Naming> Volatile<'b, R, J> {
         ensures same { OnErr result (self.new ≡ with_room self.old self.new.tail.log.room) }
         ensures session { OnErr result (OnlyExtends session.old session.new) }
         ensures longer { IfErr result (ShowsLonger self.old.ledger.history session.new) }
-        ensures event { AnswersCommit J.blocks self.old session.old transaction.now fetched.now result self.new session.new }
+        ensures event { AnswersCommit J.layout self.old session.old transaction.now fetched.now result self.new session.new }
     {
         self.verify_tokens(rt, held);
         let answer = self.commit_verified(rt, session, transaction, held, spares, fetched);
@@ -109,7 +109,7 @@ impl<'b, R: MapRule, J: Naming> Volatile<'b, R, J> {
         spares: &mut Spares,
         fetched: &Fetched<'b, J, R>,
     ) -> Result<CommitStep<Receipt<'b, J, R>>, Refusal<Cause<'b, J, R>>>
-        requires rule { (m : Map) → m.blocks ≡ J.blocks → R.statement m → Agrees m transaction.now.reads
+        requires rule { (m : Map) → m.layout ≡ J.layout → R.statement m → Agrees m transaction.now.reads
             → R.statement (overwritten m transaction.now.writes) }
         requires unmoved { AreUnmoved self.old.ledger.history transaction.now }
         requires covered { HoldsSlots held.old transaction.now.writes }
@@ -122,8 +122,8 @@ impl<'b, R: MapRule, J: Naming> Volatile<'b, R, J> {
         ensures can { OnOk result (CanCommit (outset_of self.old) session.old transaction.now) }
         ensures agrees { OnOk result (IsTrue (is_trusted self.old.ledger.history) → Agrees (latest self.old.ledger.history) transaction.now.reads) }
         ensures missing { IfOk result (IfMissing (λ blocks.
-            blocks ≡ missing_blocks J.blocks (known_updates (usable self.old fetched.now) self.old.tail) transaction.now.writes)) }
-        ensures below { IfOk result (IfMissing (λ blocks. All (λ b. b < J.blocks) blocks)) }
+            blocks ≡ missing_blocks J.layout (known_updates (usable self.old fetched.now) self.old.tail) transaction.now.writes)) }
+        ensures below { IfOk result (IfMissing (λ blocks. All (λ b. b < J.layout.blocks) blocks)) }
         ensures some { IfOk result (IfMissing (λ blocks. blocks ≢ [])) }
         ensures waits { IfOk result (IfMissing (λ _. (self.new ≡ with_room self.old self.new.tail.log.room) × OnlyExtends session.old session.new)) }
         ensures stays { IfOk result (IfMissing (λ _. held.new ≡ held.old)) }
@@ -131,7 +131,7 @@ impl<'b, R: MapRule, J: Naming> Volatile<'b, R, J> {
         ensures same { OnErr result (self.new ≡ with_room self.old self.new.tail.log.room) }
         ensures session { OnErr result (OnlyExtends session.old session.new) }
         ensures longer { IfErr result (ShowsLonger self.old.ledger.history session.new) }
-        ensures event { (d : DurableState) → IsPair J.blocks self.old d → IfOk result (IfDone (λ _.
+        ensures event { (d : DurableState) → IsPair J.layout self.old d → IfOk result (IfDone (λ _.
             CommitsTransaction (core_of self.old d) session.old transaction.now (core_of self.new d) session.new)) }
     {
         self.check_running()?;
@@ -183,24 +183,23 @@ impl<'b, R: MapRule, J: Naming> Volatile<'b, R, J> {
         spares: &mut Spares,
         blocks: &[Update],
     ) -> Result<Preparation, Refusal<Cause<'b, J, R>>>
-        requires objects { IsTrue (are_objects J.blocks writes.now) }
-        requires latest { IsTrue (is_trusted self.old.ledger.history) → AreObjectsOf J.blocks (latest self.old.ledger.history) (known_updates blocks.now self.old.tail) }
-        ensures ready { IfOk result (IfReady (TakesPrepared self.new.tail writes.now)) }
+        requires objects { IsTrue (are_objects J.layout writes.now) }
+        requires latest { IsTrue (is_trusted self.old.ledger.history) → AreObjectsOf J.layout (latest self.old.ledger.history) (known_updates blocks.now self.old.tail) }
+        ensures ready { IfOk result (IfReady (TakesPrepared J.layout self.new.tail writes.now)) }
         ensures prepared { IfOk result (IfReady (λ prepared.
-            IsPrepared true (tail_base blocks.now self.new.tail) (updates_with self.new.tail writes.now prepared) writes.now)) }
+            IsPrepared true (tail_base J.layout blocks.now self.new.tail) (updates_with J.layout self.new.tail writes.now prepared) writes.now)) }
         ensures written { IsTrue (is_trusted self.old.ledger.history) → IfOk result (IfReady (λ prepared.
-            AreObjectsOf J.blocks (overwritten (latest self.old.ledger.history) writes.now) (updates_with self.new.tail writes.now prepared))) }
-        ensures missing { IfOk result (IfUnready (λ missing. missing ≡ missing_blocks J.blocks (known_updates blocks.now self.old.tail) writes.now)) }
-        ensures below { IfOk result (IfUnready (λ missing. All (λ b. b < J.blocks) missing)) }
+            AreObjectsOf J.layout (overwritten (latest self.old.ledger.history) writes.now) (updates_with J.layout self.new.tail writes.now prepared))) }
+        ensures missing { IfOk result (IfUnready (λ missing. missing ≡ missing_blocks J.layout (known_updates blocks.now self.old.tail) writes.now)) }
+        ensures below { IfOk result (IfUnready (λ missing. All (λ b. b < J.layout.blocks) missing)) }
         ensures some { IfOk result (IfUnready (λ missing. missing ≢ [])) }
         ensures can { OnOk result (CanPrepare (outset_of self.old) session.now writes.now) }
         ensures room { OnOk result ((length self.old.ledger.history + 1 < 2 ^ 62) × (session.now.number < 2 ^ 62)) }
         ensures refusal { IfErr result (IsPreparingRefusal (outset_of self.old) session.now writes.now) }
         ensures same { self.new ≡ with_room self.old self.new.tail.log.room }
     {
-        // Called for its contract: how many blocks there are at least.
-        let _layout = self.tail.layout();
-        let prepared = self.tail.prepare(writes, spares, blocks);
+        let Volatile { layout, tail, .. } = self;
+        let prepared = tail.prepare(layout.get(), writes, spares, blocks);
         if is_too_large(&prepared) {
             return Err(Refusal::TooLarge);
         }
@@ -219,26 +218,26 @@ impl<'b, R: MapRule, J: Naming> Volatile<'b, R, J> {
         held: &mut [Held<J>],
         prepared: Prepared,
     ) -> Result<Receipt<'b, J, R>, Refusal<Cause<'b, J, R>>>
-        requires reads { IsTrue (are_objects J.blocks transaction.now.reads) }
-        requires writes { IsTrue (are_objects J.blocks transaction.now.writes) }
-        requires rule { (m : Map) → m.blocks ≡ J.blocks → R.statement m → Agrees m transaction.now.reads
+        requires reads { IsTrue (are_objects J.layout transaction.now.reads) }
+        requires writes { IsTrue (are_objects J.layout transaction.now.writes) }
+        requires rule { (m : Map) → m.layout ≡ J.layout → R.statement m → Agrees m transaction.now.reads
             → R.statement (overwritten m transaction.now.writes) }
         requires agrees { IsTrue (is_trusted self.old.ledger.history) → Agrees (latest self.old.ledger.history) transaction.now.reads }
         requires own { length (commits_of session.old.number self.old.ledger.history) ≡ made session.old }
         requires unfenced { is_fenced session.old.number self.old.ledger.history ≡ false }
         requires room { length self.old.ledger.history + 1 < 2 ^ 62 }
         requires small { session.old.number < 2 ^ 62 }
-        requires ready { TakesPrepared self.old.tail transaction.now.writes prepared }
-        requires named { (b : ℕ) → updates_block (updates_with self.old.tail transaction.now.writes prepared) b ≡ writes_block transaction.now.writes b }
+        requires ready { TakesPrepared J.layout self.old.tail transaction.now.writes prepared }
+        requires named { (b : ℕ) → updates_block (updates_with J.layout self.old.tail transaction.now.writes prepared) b ≡ writes_block transaction.now.writes b }
         requires written { IsTrue (is_trusted self.old.ledger.history)
-            → AreObjectsOf J.blocks (overwritten (latest self.old.ledger.history) transaction.now.writes) (updates_with self.old.tail transaction.now.writes prepared) }
+            → AreObjectsOf J.layout (overwritten (latest self.old.ledger.history) transaction.now.writes) (updates_with J.layout self.old.tail transaction.now.writes prepared) }
         requires covered { HoldsSlots held.old transaction.now.writes }
         requires apart { AreApart held.old }
         ensures agree { OnOk result (AgreeWith self.new.ledger.history held.new) }
         ensures slots { slots_of held.new ≡ slots_of held.old }
         ensures held { OnErr result (held.new ≡ held.old) }
         ensures added { OnOk result (IsAdded (next_transaction session.old transaction.now.reads transaction.now.writes)
-            (updates_with self.old.tail transaction.now.writes prepared) session.old session.new self.old self.new) }
+            (updates_with J.layout self.old.tail transaction.now.writes prepared) session.old session.new self.old self.new) }
         ensures receipt { IfOk result (IsReceiptFor (next_transaction session.old transaction.now.reads transaction.now.writes) self.new.ledger.history (length self.old.ledger.history)) }
         ensures refusal { IfErr result (IsAddingRefusal self.old.ledger.history) }
         ensures same { OnErr result (self.new ≡ self.old) }
@@ -247,7 +246,8 @@ impl<'b, R: MapRule, J: Naming> Volatile<'b, R, J> {
     {
         let receipt = self.ledger.commit(rt, session, transaction, held)?;
         // Nothing fails from here on.
-        self.tail.apply(prepared, &transaction.writes);
+        let Volatile { layout, tail, .. } = self;
+        tail.apply(layout.get(), prepared, &transaction.writes);
         Ok(receipt)
     }
 }

@@ -23,9 +23,9 @@ impl<'b, R: MapRule, J: Naming> Volatile<'b, R, J> {
     /// Answers J1 `NoMemory`, and nothing else, where memory for the copy is refused. All is then as it was.
     pub(crate) fn cut(&mut self) -> Result<Vec<Update>, Refusal<Cause<'b, J, R>>>
         ensures group { IfOk result (λ group. group.items ≡ tail_of self.old.tail.log) }
-        ensures all { IsTrue (is_trusted self.old.ledger.history) → IfOk result (λ group. HaveAllSince J.blocks self.old.ledger.history self.old.ledger.cut group.items) }
+        ensures all { IsTrue (is_trusted self.old.ledger.history) → IfOk result (λ group. HaveAllSince J.layout self.old.ledger.history self.old.ledger.cut group.items) }
         ensures few { IfOk result (λ group. length group.items ≤ MAX_TAIL) }
-        ensures homes { IfOk result (λ group. AreHomes J.blocks group.items) }
+        ensures homes { IfOk result (λ group. AreHomes J.layout.blocks group.items) }
         ensures distinct { IfOk result (λ group. HasDistinctBlocks group.items) }
         ensures ok { OnOk result (self.new ≡ record self.old {
           ledger = record self.old.ledger { cut = count self.old.ledger.history };
@@ -41,7 +41,7 @@ impl<'b, R: MapRule, J: Naming> Volatile<'b, R, J> {
 
     /// Of a hold of memory alone: makes the copy of the home block the one that was used last, where there is one.
     pub fn touch(&mut self, block: u64)
-        ensures event { KeepsCopies J.blocks self.old self.new }
+        ensures event { KeepsCopies J.layout self.old self.new }
     {
         self.touch_copy(block);
         self.prove_invariant();
@@ -57,7 +57,7 @@ impl<'b, R: MapRule, J: Naming> Volatile<'b, R, J> {
     /// unless what commits wrote after them is not in memory any more. Where there are too many
     /// copies, those go that were used least recently. One for which memory is refused is not kept.
     pub fn keep(&mut self, fetched: Fetched<'b, J, R>)
-        ensures event { KeepsCopies J.blocks self.old self.new }
+        ensures event { KeepsCopies J.layout self.old self.new }
     {
         self.keep_copies(fetched);
         self.prove_invariant();
@@ -75,7 +75,7 @@ impl<'b, R: MapRule, J: Naming> Volatile<'b, R, J> {
     // Whether what commits wrote after the fetch is in memory.
     fn can_keep(&self, fetched: &Fetched<'b, J, R>) -> bool
         ensures { IsTrue result → IsTrue (is_trusted self.now.ledger.history)
-            → AreObjectsOf J.blocks (latest self.now.ledger.history) (fetched.now.updates ++ self.now.tail.log.updates) }
+            → AreObjectsOf J.layout (latest self.now.ledger.history) (fetched.now.updates ++ self.now.tail.log.updates) }
     {
         let Ok(_front) = self.front_over(&fetched.front) else {
             return false;

@@ -35,7 +35,7 @@ impl<'b, R: MapRule, J: Naming> Volatile<'b, R, J> {
         ensures refusal { IfErr result (IsFenceRefusal target (outset_of self.old)) }
         ensures same { OnErr result (self.new ≡ self.old) }
         ensures session { OnlyExtends session.old session.new }
-        ensures event { AnswersFence J.blocks target self.old result self.new }
+        ensures event { AnswersFence J.layout target self.old result self.new }
     {
         let answer = self.set_fence(rt, session, target);
         self.prove_invariant();

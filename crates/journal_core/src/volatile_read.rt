@@ -48,19 +48,19 @@ impl<'b, R: MapRule, J: Naming> Volatile<'b, R, J> {
         fetched: &Fetched<'b, J, R>,
         into: &mut [u8],
     ) -> Result<Option<ReadResult<'b, J, R>>, Refusal<Cause<'b, J, R>>>
-        requires size { IsTrue (is_valid J.blocks addr) → length into.old ≡ size_at J.blocks addr }
+        requires size { IsTrue (is_valid J.layout addr) → length into.old ≡ size_at J.layout addr }
         requires under { AreUnder held.old transaction.now.seen transaction.now.reads }
         ensures agree { AgreeWith self.new.ledger.history held.new }
         ensures held { held.new ≡ held.old }
         ensures same { self.new ≡ self.old }
         ensures value { IsTrue (is_trusted self.old.ledger.history) → IfOk result (λ found. IsSome found → into.new ≡ value_at (latest self.old.ledger.history) addr) }
-        ensures object { IfOk result (λ found. IsSome found → IsTrue (is_object J.blocks (addr, into.new))) }
+        ensures object { IfOk result (λ found. IsSome found → IsTrue (is_object J.layout (addr, into.new))) }
         ensures found { IfOk result (λ found. IfSome found (λ found. found ≡ record { addr = addr; seen = self.old.ledger.history })) }
         ensures stays { IfOk result (λ found. found ≡ None → into.new ≡ into.old) }
-        ensures lacks { IfOk result (λ found. found ≡ None → known_at (usable self.old fetched.now) self.old.tail addr ≡ None) }
-        ensures may { OnOk result (MayRead J.blocks (outset_of self.old) transaction.now addr) }
-        ensures refusal { IfErr result (IsReadRefusal J.blocks self.old transaction.now addr fetched.now) }
-        ensures event { AnswersRead J.blocks self.old transaction.now addr fetched.now result into.new self.new }
+        ensures lacks { IfOk result (λ found. found ≡ None → known_at J.layout (usable self.old fetched.now) self.old.tail addr ≡ None) }
+        ensures may { OnOk result (MayRead J.layout (outset_of self.old) transaction.now addr) }
+        ensures refusal { IfErr result (IsReadRefusal J.layout self.old transaction.now addr fetched.now) }
+        ensures event { AnswersRead J.layout self.old transaction.now addr fetched.now result into.new self.new }
     {
         self.verify_tokens(rt, held);
         self.read_verified(transaction, addr, fetched, into)
@@ -79,8 +79,8 @@ impl<'b, R: MapRule, J: Naming> Volatile<'b, R, J> {
         ensures agree { AgreeWith self.new.ledger.history held.new }
         ensures held { held.new ≡ held.old }
         ensures same { self.new ≡ self.old }
-        ensures may { OnOk result (MayRead J.blocks (outset_of self.old) transaction.now addr) }
-        ensures refusal { IfErr result (IsCheckRefusal J.blocks (outset_of self.old) transaction.now addr) }
+        ensures may { OnOk result (MayRead J.layout (outset_of self.old) transaction.now addr) }
+        ensures refusal { IfErr result (IsCheckRefusal J.layout (outset_of self.old) transaction.now addr) }
     {
         self.verify_tokens(rt, held);
         self.check_verified(transaction, addr)
@@ -94,21 +94,22 @@ impl<'b, R: MapRule, J: Naming> Volatile<'b, R, J> {
         fetched: &Fetched<'b, J, R>,
         into: &mut [u8],
     ) -> Result<Option<ReadResult<'b, J, R>>, Refusal<Cause<'b, J, R>>>
-        requires size { IsTrue (is_valid J.blocks addr) → length into.old ≡ size_at J.blocks addr }
+        requires size { IsTrue (is_valid J.layout addr) → length into.old ≡ size_at J.layout addr }
         requires unmoved { AreUnmoved self.now.ledger.history transaction.now }
         ensures value { IsTrue (is_trusted self.now.ledger.history) → IfOk result (λ found. IsSome found → into.new ≡ value_at (latest self.now.ledger.history) addr) }
-        ensures object { IfOk result (λ found. IsSome found → IsTrue (is_object J.blocks (addr, into.new))) }
+        ensures object { IfOk result (λ found. IsSome found → IsTrue (is_object J.layout (addr, into.new))) }
         ensures found { IfOk result (λ found. IfSome found (λ found. found ≡ record { addr = addr; seen = self.now.ledger.history })) }
         ensures stays { IfOk result (λ found. found ≡ None → into.new ≡ into.old) }
-        ensures lacks { IfOk result (λ found. found ≡ None → known_at (usable self.now fetched.now) self.now.tail addr ≡ None) }
-        ensures may { OnOk result (MayRead J.blocks (outset_of self.now) transaction.now addr) }
-        ensures refusal { IfErr result (IsReadRefusal J.blocks self.now transaction.now addr fetched.now) }
-        ensures event { (d : DurableState) → IsPair J.blocks self.now d → IfOk result (λ found. IsSome found →
-            FindsValue J.blocks (core_of self.now d) transaction.now addr into.new (core_of self.now d)) }
+        ensures lacks { IfOk result (λ found. found ≡ None → known_at J.layout (usable self.now fetched.now) self.now.tail addr ≡ None) }
+        ensures may { OnOk result (MayRead J.layout (outset_of self.now) transaction.now addr) }
+        ensures refusal { IfErr result (IsReadRefusal J.layout self.now transaction.now addr fetched.now) }
+        ensures event { (d : DurableState) → IsPair J.layout self.now d → IfOk result (λ found. IsSome found →
+            FindsValue J.layout (core_of self.now d) transaction.now addr into.new (core_of self.now d)) }
     {
         self.check_verified(transaction, addr)?;
         let blocks = self.usable(fetched)?;
-        if !raise(self.tail.read(addr, blocks, into))? {
+        let layout = self.layout.get();
+        if !raise(self.tail.read(layout, addr, blocks, into))? {
             return Ok(None);
         }
         Ok(Some(ReadResult {
@@ -124,11 +125,11 @@ impl<'b, R: MapRule, J: Naming> Volatile<'b, R, J> {
         addr: Addr,
     ) -> Result<(), Refusal<Cause<'b, J, R>>>
         requires unmoved { AreUnmoved self.now.ledger.history transaction.now }
-        ensures may { OnOk result (MayRead J.blocks (outset_of self.now) transaction.now addr) }
-        ensures refusal { IfErr result (IsCheckRefusal J.blocks (outset_of self.now) transaction.now addr) }
+        ensures may { OnOk result (MayRead J.layout (outset_of self.now) transaction.now addr) }
+        ensures refusal { IfErr result (IsCheckRefusal J.layout (outset_of self.now) transaction.now addr) }
     {
         self.check_running()?;
-        if !self.tail.layout().is_valid(addr) {
+        if !self.layout.get().is_valid(addr) {
             return Err(Refusal::BadAddress);
         }
         self.ledger.check_transaction(transaction)
@@ -141,7 +142,7 @@ impl<'b, R: MapRule, J: Naming> Volatile<'b, R, J> {
     ) -> Result<&'a [Update], Refusal<Cause<'b, J, R>>>
         ensures blocks { IfOk result (λ blocks. blocks.now ≡ usable self.now fetched.now) }
         ensures latest { IsTrue (is_trusted self.now.ledger.history) → IfOk result (λ blocks.
-            AreObjectsOf J.blocks (latest self.now.ledger.history) (known_updates blocks.now self.now.tail)) }
+            AreObjectsOf J.layout (latest self.now.ledger.history) (known_updates blocks.now self.now.tail)) }
         ensures begins { OnOk result (IsPrefix fetched.now.front self.now.ledger.history) }
         ensures refusal { IfErr result (IsFrontRefusal self.now.ledger.history fetched.now.front) }
     {

@@ -15,6 +15,7 @@ mod threads;
 mod waits;
 
 ghost use Rattle.std.specs.Prelude.{◌≡◌, ◌≤◌, IsTrue};
+ghost use Rattle.journal_world.specs.Files.{files};
 ghost use Rattle.journal_disk.specs.Disks.{IsSettled};
 
 use journal_circ::{Circ, MAX_SEALED_BLOCKS};
@@ -137,7 +138,7 @@ fn try_in_book<J: Naming + Send + Sync, H: Abort + Threads + Wait + Clock + Sync
 )
     requires book { book.now ≡ J.book }
     requires cell { cell ≡ J.cell }
-    requires blocks { J.blocks ≡ 800 }
+    requires layout { J.layout ≡ files 800 }
 {
     let journal = opened::<J, _>(rt, alloc, book, cell, form);
     try_on(rt, alloc, &journal, trial);
@@ -206,7 +207,7 @@ fn opened<'b, J: Naming, H: Abort>(
 ) -> Open<'b, MemDisk, J>
     requires book { book.now ≡ J.book }
     requires cell { cell ≡ J.cell }
-    requires blocks { J.blocks ≡ 800 }
+    requires layout { J.layout ≡ files 800 }
 {
     let disk = new_disk(rt, alloc, BLOCKS, form);
     opened_on(rt, alloc, book, cell, disk)
@@ -222,7 +223,7 @@ fn opened_on<'b, D: BlockDisk + Drop, J: Naming, H: Abort>(
 ) -> Open<'b, D, J>
     requires book { book.now ≡ J.book }
     requires cell { cell ≡ J.cell }
-    requires blocks { (D.state disk).past.size ≡ J.blocks }
+    requires layout { J.layout ≡ files (D.state disk).past.size }
     requires settled { IsTrue (D.state disk).honest → IsSettled (D.state disk).past }
 {
     let journal = Journal::open(alloc, book, cell, disk, &AnyMap);
@@ -434,7 +435,7 @@ fn first_bytes<J: Naming, H: Abort + Wait>(
 ) -> [u8; 4]
     requires book { book.now ≡ J.book }
     requires cell { cell ≡ J.cell }
-    requires blocks { disk.past.size ≡ J.blocks }
+    requires layout { J.layout ≡ files disk.past.size }
     requires settled { IsSettled disk.past }
 {
     let journal: Open<MemDisk, J> = opened_on(rt, alloc, book, cell, disk);

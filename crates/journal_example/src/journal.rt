@@ -1,5 +1,6 @@
 // The journal, and the threads that use it.
 ghost use Rattle.std.specs.Prelude.{◌≡◌};
+ghost use Rattle.journal_world.specs.Files.{files};
 
 use crate::counter::{add_one, look};
 use journal_daemon::{OpenGate, start};
@@ -49,7 +50,7 @@ fn count_in_book<J: Naming + Send + Sync, R: Threads + Wait + Clock + Sync>(
 ) -> Result<(u64, u64), Refused>
     requires book { book.now ≡ J.book }
     requires cell { cell ≡ J.cell }
-    requires blocks { disk.size ≡ J.blocks }
+    requires layout { J.layout ≡ files disk.size }
 {
     let journal: Counters<J> = match Journal::open(alloc, book, cell, disk, &AnyMap) {
         Ok(journal) => journal,

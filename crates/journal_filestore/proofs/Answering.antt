@@ -1,5 +1,6 @@
 -- What an operation answers that was told what its handle names.
 use Rattle.std.proofs.Common.{ℕ, zero, suc, ◌≡◌, ◌≤◌, true, [], Some, Result, Ok, sym, ap, subst, ◌∙◌, arith}
+use Rattle.journal_world.specs.Addresses.{Shape}
 use Rattle.journal_world.specs.Maps.{Map}
 use Rattle.journal_twophase.specs.Transactions.{TxnState}
 use Rattle.journal_inode.specs.declared.version.FormatVersion.{FormatVersion}
@@ -35,52 +36,52 @@ pub no_root : {version : FormatVersion} (m : Map) (j : ℕ) (t : Time) → HasSo
 no_root {version} m j t sound number is =
     not_root j t (IsFileNumber-test j number).from (subst (IsInPlace j) is (sound.placed j (IsFileNumber-test j number).to))
 
-module _ {A : Type 0} {version : FormatVersion} (blocks : ℕ) (k : Files → FileTarget → Outcome A) (i generation : ℕ) (p : Target) (t0 t1 : TxnState) (fresh : t0.writes ≡ []) (found : LearnsThat version blocks t0 t1 (λ m. IsAt version i generation m p)) where
+module _ {A : Type 0} {version : FormatVersion} (layout : Shape) (k : Files → FileTarget → Outcome A) (i generation : ℕ) (p : Target) (t0 t1 : TxnState) (fresh : t0.writes ≡ []) (found : LearnsThat version layout t0 t1 (λ m. IsAt version i generation m p)) where
   abbrev pub case_of : Files → Result A Status → Files → Type 0
   case_of F r F2 = (r, F2) ≡ k F (file_target F i generation)
 
-  pub Does-gone : (answer : Result A Status) → p ≡ Gone → ((F : Files) → k F gone ≡ (answer, F)) → Does version blocks case_of t1.reads t1.writes answer
+  pub Does-gone : (answer : Result A Status) → p ≡ Gone → ((F : Files) → k F gone ≡ (answer, F)) → Does version layout case_of t1.reads t1.writes answer
   Does-gone answer is shows =
-      Does-told blocks case_of t0 t1 answer _ fresh found (λ m sound at. sym (case-gone version (k (files_of version m)) m i generation p is at ∙ shows (files_of version m)))
+      Does-told layout case_of t0 t1 answer _ fresh found (λ m sound at. sym (case-gone version (k (files_of version m)) m i generation p is at ∙ shows (files_of version m)))
 
-  pub Does-directory : (answer : Result A Status) (t : Time) → p ≡ Directory t → ((F : Files) → F.root ≡ t → k F root ≡ (answer, F)) → Does version blocks case_of t1.reads t1.writes answer
+  pub Does-directory : (answer : Result A Status) (t : Time) → p ≡ Directory t → ((F : Files) → F.root ≡ t → k F root ≡ (answer, F)) → Does version layout case_of t1.reads t1.writes answer
   Does-directory answer t is shows =
-      Does-told blocks case_of t0 t1 answer _ fresh found
+      Does-told layout case_of t0 t1 answer _ fresh found
       (λ m sound at. sym (case-directory version (k (files_of version m)) m i generation p t is at ∙ shows (files_of version m) (IsAt-is version m i generation p (Directory t) is at).1))
 
   pub Does-regular : (answer : Result A Status) (f : FileNode) → p ≡ Regular f
-      → ((m : Map) → IsSoundFile version m f → k (files_of version m) (file i (data_of version m f)) ≡ (answer, files_of version m)) → Does version blocks case_of t1.reads t1.writes answer
+      → ((m : Map) → IsSoundFile version m f → k (files_of version m) (file i (data_of version m f)) ≡ (answer, files_of version m)) → Does version layout case_of t1.reads t1.writes answer
   Does-regular answer f is shows =
-      Does-told blocks case_of t0 t1 answer _ fresh found
+      Does-told layout case_of t0 t1 answer _ fresh found
       (λ m sound at.
       let here : IsAt version i generation m (Regular f) = IsAt-is version m i generation p (Regular f) is at in
       sym (case-regular version (k (files_of version m)) m i generation p f is at ∙ shows m (sound.files i f (IsFileNumber-test i here.2).to here.1)))
 
   -- the file is changed, or its block read
-  pub Does-changed : (answer : Result A Status) (f : FileNode) (t2 : TxnState) (Q : Map → Map → Type 0) → p ≡ Regular f → Makes version blocks t1 t2 Q
+  pub Does-changed : (answer : Result A Status) (f : FileNode) (t2 : TxnState) (Q : Map → Map → Type 0) → p ≡ Regular f → Makes version layout t1 t2 Q
       → ((m n : Map) → HasSoundFiles version m → IsSoundFile version m f → is_file_number i ≡ true → node_at m i ≡ File f → Q m n
       → HasSoundFiles version n × ((answer, files_of version n) ≡ k (files_of version m) (file i (data_of version m f))))
-      → Does version blocks case_of t2.reads t2.writes answer
+      → Does version layout case_of t2.reads t2.writes answer
   Does-changed answer f t2 Q is made shows =
-      Does-made blocks case_of t0 t1 t2 answer _ Q found made
+      Does-made layout case_of t0 t1 t2 answer _ Q found made
       (λ m n sound at q.
       let here : IsAt version i generation m (Regular f) = IsAt-is version m i generation p (Regular f) is at in
       let both = shows m n sound (sound.files i f (IsFileNumber-test i here.2).to here.1) here.2 here.1 q in
       (both.0, both.1 ∙ sym (case-regular version (k (files_of version m)) m i generation p f is at)))
 
   -- in the root, an inode was read
-  pub Does-in_root : (answer : Result A Status) (t : Time) (j : ℕ) (n : Node) (t2 : TxnState) → p ≡ Directory t → LearnsThat version blocks t1 t2 (λ m. node_at m j ≡ n)
-      → ((m : Map) → HasSoundFiles version m → (files_of version m).root ≡ t → node_at m j ≡ n → k (files_of version m) root ≡ (answer, files_of version m)) → Does version blocks case_of t2.reads t2.writes answer
+  pub Does-in_root : (answer : Result A Status) (t : Time) (j : ℕ) (n : Node) (t2 : TxnState) → p ≡ Directory t → LearnsThat version layout t1 t2 (λ m. node_at m j ≡ n)
+      → ((m : Map) → HasSoundFiles version m → (files_of version m).root ≡ t → node_at m j ≡ n → k (files_of version m) root ≡ (answer, files_of version m)) → Does version layout case_of t2.reads t2.writes answer
   Does-in_root answer t j n t2 is read shows =
-      Does-told blocks case_of t0 t2 answer _ fresh (Tells-both blocks t0 t1 t2 _ _ found read)
+      Does-told layout case_of t0 t2 answer _ fresh (Tells-both layout t0 t1 t2 _ _ found read)
       (λ m sound told. sym (case-directory version (k (files_of version m)) m i generation p t is told.0 ∙ shows m sound (IsAt-is version m i generation p (Directory t) is told.0).1 told.1))
 
   -- in the root, an inode was read, and then something made
-  pub Does-made_in_root : (answer : Result A Status) (t : Time) (j : ℕ) (n : Node) (t2 t3 : TxnState) (Q : Map → Map → Type 0) → p ≡ Directory t → LearnsThat version blocks t1 t2 (λ m. node_at m j ≡ n) → Makes version blocks t2 t3 Q
+  pub Does-made_in_root : (answer : Result A Status) (t : Time) (j : ℕ) (n : Node) (t2 t3 : TxnState) (Q : Map → Map → Type 0) → p ≡ Directory t → LearnsThat version layout t1 t2 (λ m. node_at m j ≡ n) → Makes version layout t2 t3 Q
       → ((m after : Map) → HasSoundFiles version m → (files_of version m).root ≡ t → node_at m j ≡ n → Q m after → HasSoundFiles version after × ((answer, files_of version after) ≡ k (files_of version m) root))
-      → Does version blocks case_of t3.reads t3.writes answer
+      → Does version layout case_of t3.reads t3.writes answer
   Does-made_in_root answer t j n t2 t3 Q is read made shows =
-      Does-made blocks case_of t0 t2 t3 answer _ Q (Tells-both blocks t0 t1 t2 _ _ found read) made
+      Does-made layout case_of t0 t2 t3 answer _ Q (Tells-both layout t0 t1 t2 _ _ found read) made
       (λ m after sound told q.
       let both = shows m after sound (IsAt-is version m i generation p (Directory t) is told.0).1 told.1 q in
       (both.0, both.1 ∙ sym (case-directory version (k (files_of version m)) m i generation p t is told.0)))

@@ -38,7 +38,7 @@ module _ (version : FormatVersion) where
     pub size : g.size ≡ length p
     pub small : length p ≤ most_bytes version
     pub timed : g.mtime.nanos ≤ MAX_NANOS
-    pub on_disk : AllByRecursion (IsDataBlock n.blocks) (file_blocks version g)
+    pub on_disk : AllByRecursion (IsDataBlock n.layout.blocks) (file_blocks version g)
     pub distinct : RepeatsNoBlock version g
     pub absent : drop (extra_count version g.size) g.more ≡ replicate (MORE_BLOCKS - extra_count version g.size) 0
     pub sized : AllByRecursion (λ b. length (object n (block b)) ≡ BLOCK_BYTES) (file_blocks version g)

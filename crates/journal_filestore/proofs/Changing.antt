@@ -5,7 +5,7 @@ use Rattle.std.specs.List.{AllByRecursion}
 use Rattle.std.proofs.lemmas.Bool.{eq-eqb, ne_eqb}
 use Rattle.journal_world.specs.declared.layout.TheConstants.{BLOCK_BYTES, FIRST_DATA, BLOCK_BITS}
 use Rattle.journal_world.specs.declared.moment.TheConstants.{MAX_NANOS}
-use Rattle.journal_world.specs.Addresses.{Value}
+use Rattle.journal_world.specs.Addresses.{Value, Shape}
 use Rattle.journal_world.specs.Maps.{Map}
 use Rattle.journal_inode.specs.declared.version.FormatVersion.{FormatVersion}
 use Rattle.journal_inode.specs.declared.node.FileNode.{FileNode}
@@ -31,7 +31,7 @@ use Rattle.journal_filestore.proofs.Lasting.{last_written, last_append, Becomes,
 pub record HadBlocks (version : FormatVersion) (m : Map) (i : ℕ) (bs : List ℕ) : Type 0 where
   pub has : (b : ℕ) → HasBlock version (node_at m i) b → Among bs b
   pub its : (b : ℕ) → Among bs b → HasBlock version (node_at m i) b
-  pub on_disk : (b : ℕ) → Among bs b → IsDataBlock m.blocks b
+  pub on_disk : (b : ℕ) → Among bs b → IsDataBlock m.layout.blocks b
   pub whole : (b : ℕ) → Among bs b → length (object m (block b)) ≡ BLOCK_BYTES
   pub distinct : Distinct bs
 
@@ -47,14 +47,14 @@ clear_is_free version m b sound has clear taken =
     by_bit same (inr free) = free.1 (subst (IsTaken version m) (sym same) taken)
 
 -- so it is on the disk
-free_on_disk : (version : FormatVersion) (m : Map) (b : ℕ) → (IsTaken version m b → ⊥) → b < m.blocks
-free_on_disk version m b free = omega (arith, λ (past : m.blocks ≤ b). free (inl past))
+free_on_disk : (version : FormatVersion) (m : Map) (b : ℕ) → (IsTaken version m b → ⊥) → b < m.layout.blocks
+free_on_disk version m b free = omega (arith, λ (past : m.layout.blocks ≤ b). free (inl past))
 
 pub HadBlocks-file : (version : FormatVersion) (m : Map) (i : ℕ) (f : FileNode) → i < INODES → HasSoundFiles version m → node_at m i ≡ File f → HadBlocks version m i (file_blocks version f)
 HadBlocks-file version m i f low sound is = record {
   has = λ b has. is_among (file_blocks version f) b (subst (λ x. HasBlock version x b) is has);
   its = λ b has. subst (λ x. HasBlock version x b) (sym is) (among_is (file_blocks version f) b has);
-  on_disk = λ b has. all_among (IsDataBlock m.blocks) (file_blocks version f) b old.on_disk has;
+  on_disk = λ b has. all_among (IsDataBlock m.layout.blocks) (file_blocks version f) b old.on_disk has;
   whole = λ b has. all_among (λ c. length (object m (block c)) ≡ BLOCK_BYTES) (file_blocks version f) b old.sized has;
   distinct = distinct_pairs (file_blocks version f) (sound.distinct i f low is);
 }
@@ -90,7 +90,7 @@ module _ (version : FormatVersion) (m n : Map) (i : ℕ) (new : Node) (kept cut 
   abbrev node_last : Object → Option Value
   node_last o = last_written ((inode i, inode_bytes new) ∷ []) o
 
-  object_is : (o : Object) (a b c d : Option Value) → IsOnDisk m.blocks o → node_last o ≡ a → last_written (blocks_written bs bytes) o ≡ b → last_written (bits_written 1 fresh) o ≡ c
+  object_is : (o : Object) (a b c d : Option Value) → IsOnDisk m.layout.blocks o → node_last o ≡ a → last_written (blocks_written bs bytes) o ≡ b → last_written (bits_written 1 fresh) o ≡ c
       → last_written (bits_written 0 cut) o ≡ d → object n o ≡ unwrap_or (last_of a b c d) (object m o)
   object_is o a b c d here node_is blocks_is fresh_is cut_is =
       is.objects o here
@@ -108,16 +108,16 @@ module _ (version : FormatVersion) (m n : Map) (i : ℕ) (new : Node) (kept cut 
   pub fresh_apart : (b : ℕ) → Among fresh b → Among (kept ++ cut) b → ⊥
   fresh_apart b has old = free_fresh b has (inr (i, low, had.its b old))
 
-  pub fresh_on_disk : (b : ℕ) → Among fresh b → IsDataBlock m.blocks b
+  pub fresh_on_disk : (b : ℕ) → Among fresh b → IsDataBlock m.layout.blocks b
   fresh_on_disk b has = ((fresh_bits b has).0, free_on_disk version m b (free_fresh b has))
 
   -- a data block that is not written stays
-  pub block_stays : (b : ℕ) → IsDataBlock m.blocks b → (Among bs b → ⊥) → object n (block b) ≡ object m (block b)
+  pub block_stays : (b : ℕ) → IsDataBlock m.layout.blocks b → (Among bs b → ⊥) → object n (block b) ≡ object m (block b)
   block_stays b range lacks =
       object_is (block b) None None None None range refl (blocks_miss bs bytes b lacks) (bits_block 1 fresh b) (bits_block 0 cut b)
 
   -- one that is holds what was written last
-  pub block_last : (b : ℕ) → IsDataBlock m.blocks b → object n (block b) ≡ unwrap_or (last_written (blocks_written bs bytes) (block b)) (object m (block b))
+  pub block_last : (b : ℕ) → IsDataBlock m.layout.blocks b → object n (block b) ≡ unwrap_or (last_written (blocks_written bs bytes) (block b)) (object m (block b))
   block_last b range =
       object_is (block b) None (last_written (blocks_written bs bytes) (block b)) None None range refl refl (bits_block 1 fresh b) (bits_block 0 cut b)
       ∙ ap (λ p. unwrap_or p (object m (block b))) (plain (last_written (blocks_written bs bytes) (block b)))
@@ -155,7 +155,7 @@ module _ (version : FormatVersion) (m n : Map) (i : ℕ) (new : Node) (kept cut 
 
   pub Replaces-changed : Fits new → Replaces version m n i new
   Replaces-changed fits = record {
-    blocks = is.blocks;
+    layout = is.layout;
     begins = object_is superblock None None None None tt refl (blocks_superblock bs bytes) (bits_superblock 1 fresh) (bits_superblock 0 cut);
     here = object_is (inode i) (Some (inode_bytes new)) None None None low (ap (λ t. cond t (Some (inode_bytes new)) None) (eq-eqb i i refl)) (blocks_inode bs bytes i) (bits_inode 1 fresh i) (bits_inode 0 cut i);
     fits = fits;
@@ -211,7 +211,7 @@ Puts-changed version m n i g p kept cut fresh xs bs ys bytes number sound had ap
       size = node.size;
       small = node.small;
       timed = node.timed;
-      on_disk = subst (AllByRecursion (IsDataBlock n.blocks)) (sym blocks_are) (all_from (IsDataBlock n.blocks) (kept ++ fresh) (λ b has. subst (λ k. IsDataBlock k b) (sym is.blocks) (range b has)));
+      on_disk = subst (AllByRecursion (IsDataBlock n.layout.blocks)) (sym blocks_are) (all_from (IsDataBlock n.layout.blocks) (kept ++ fresh) (λ b has. subst (λ (s : Shape). IsDataBlock s.blocks b) (sym is.layout) (range b has)));
       distinct = pairs_distinct (file_blocks version g) (subst Distinct (sym blocks_are) all_distinct);
       absent = node.absent;
       sized = subst (AllByRecursion (λ b. length (object n (block b)) ≡ BLOCK_BYTES)) (sym blocks_are) (all_from (λ b. length (object n (block b)) ≡ BLOCK_BYTES) (kept ++ fresh) (λ b has. sized b (cases_Among bs b) has));
@@ -245,10 +245,10 @@ Puts-changed version m n i g p kept cut fresh xs bs ys bytes number sound had ap
     in_parts : Distinct (xs ++ bs ++ ys)
     in_parts = subst Distinct parts all_distinct
 
-    range : (b : ℕ) → Among (kept ++ fresh) b → IsDataBlock m.blocks b
+    range : (b : ℕ) → Among (kept ++ fresh) b → IsDataBlock m.layout.blocks b
     range b has = by_either (among_either kept fresh b has)
       where
-        by_either : Among kept b ⊎ Among fresh b → IsDataBlock m.blocks b
+        by_either : Among kept b ⊎ Among fresh b → IsDataBlock m.layout.blocks b
         by_either (inl own) = had.on_disk b (among_left kept cut b own)
         by_either (inr new_one) = fresh_on_disk version m n i (File g) kept cut fresh bs bytes low sound had fresh_bits clear_bits has_new its_new bs_new is b new_one
 

@@ -5,6 +5,7 @@ use Rattle.std.proofs.lemmas.Bool.{cond-true, cond-false, eq-eqb, ne_eqb}
 use Rattle.std.proofs.lemmas.List.{length-replicate}
 use Rattle.journal_world.specs.declared.layout.TheConstants.{BLOCK_BYTES}
 use Rattle.journal_world.specs.declared.moment.TheConstants.{MAX_NANOS}
+use Rattle.journal_world.specs.Addresses.{Shape}
 use Rattle.journal_world.specs.Maps.{Map}
 use Rattle.journal_twophase.specs.Transactions.{TxnState}
 use Rattle.journal_wal.specs.declared.limits.TheConstants.{MAX_UPDATES}
@@ -75,22 +76,22 @@ created-puts version m n i f t d generation answer root_is told same attributes_
     ∙ ap (λ x. (Ok (record { generation = x; file = attributes i d; root = of_root (files_of version m).root }), with_entry (files_of version m) i (record { generation = x; file = Some d }))) same
 
 -- what is asked for is set of the file that is there
-module _ (version : FormatVersion) (blocks : ℕ) (s : Settings) (now : Time) (j : ℕ) (f : FileNode) (t : Time) (number : is_file_number j ≡ true) (guarded : Bool) (t0 t1 : TxnState) where
+module _ (version : FormatVersion) (layout : Shape) (s : Settings) (now : Time) (j : ℕ) (f : FileNode) (t : Time) (number : is_file_number j ≡ true) (guarded : Bool) (t0 t1 : TxnState) where
   abbrev pub Sets : Result Found Status → Map → Map → Type 0
   Sets answer m n = node_at m j ≡ File f → (files_of version m).root ≡ t → (room : Bool) × Leads version n answer (create_file version room guarded s now (files_of version m) j (Some (data_of version m f)))
 
-  pub Makes-over_exists : t0.writes ≡ [] → guarded ≡ true → Makes version blocks t0 t0 (Sets (Err Exists))
+  pub Makes-over_exists : t0.writes ≡ [] → guarded ≡ true → Makes version layout t0 t0 (Sets (Err Exists))
   Makes-over_exists fresh is_guarded =
-      Makes-told blocks t0 t0 _ _ fresh (Tells-nothing blocks t0) (λ m sound nothing is root_is. (true, (sound, sym (cond-true _ _ _ is_guarded))))
+      Makes-told layout t0 t0 _ _ fresh (Tells-nothing layout t0) (λ m sound nothing is root_is. (true, (sound, sym (cond-true _ _ _ is_guarded))))
 
-  pub Makes-over_too_big : t0.writes ≡ [] → guarded ≡ false → is_too_big version s.size ≡ true → Makes version blocks t0 t0 (Sets (Err TooBig))
+  pub Makes-over_too_big : t0.writes ≡ [] → guarded ≡ false → is_too_big version s.size ≡ true → Makes version layout t0 t0 (Sets (Err TooBig))
   Makes-over_too_big fresh free big =
-      Makes-told blocks t0 t0 _ _ fresh (Tells-nothing blocks t0) (λ m sound nothing is root_is. (true, (sound, sym (cond-false _ _ _ free ∙ cond-true _ _ _ big))))
+      Makes-told layout t0 t0 _ _ fresh (Tells-nothing layout t0) (λ m sound nothing is root_is. (true, (sound, sym (cond-false _ _ _ free ∙ cond-true _ _ _ big))))
 
   -- it needs blocks that are not handed out
-  pub Makes-over_no_space : t0.writes ≡ [] → guarded ≡ false → is_too_big version s.size ≡ false → LacksBlocks version blocks t0 t1 f.size (unwrap_or s.size f.size) → Makes version blocks t0 t1 (Sets (Err NoSpace))
+  pub Makes-over_no_space : t0.writes ≡ [] → guarded ≡ false → is_too_big version s.size ≡ false → LacksBlocks version layout t0 t1 f.size (unwrap_or s.size f.size) → Makes version layout t0 t1 (Sets (Err NoSpace))
   Makes-over_no_space fresh free small short =
-      Makes-told blocks t0 t1 _ _ fresh short.told
+      Makes-told layout t0 t1 _ _ fresh short.told
       (λ m sound nothing is root_is.
       let whole : IsSoundFile version m f = sound.files j f (IsFileNumber-test j number).to is in (
         false,
@@ -102,10 +103,10 @@ module _ (version : FormatVersion) (blocks : ℕ) (s : Settings) (now : Time) (j
       ))
 
   pub Makes-over : (g : FileNode) (answer : Found) → guarded ≡ false → is_too_big version s.size ≡ false → answer ≡ found_node j g t
-      → HasChanged version blocks t0 t1 j f (unwrap_or s.size f.size) (time_after s.size s.mtime now f.mtime) (λ m. resized (content version m f) s.size) g
-      → Makes version blocks t0 t1 (Sets (Ok answer))
+      → HasChanged version layout t0 t1 j f (unwrap_or s.size f.size) (time_after s.size s.mtime now f.mtime) (λ m. resized (content version m f) s.size) g
+      → Makes version layout t0 t1 (Sets (Ok answer))
   Makes-over g answer free small told changed =
-      Makes-like blocks t0 t1 _ _
+      Makes-like layout t0 t1 _ _
       (λ m n sound puts here root_is.
       let whole : IsSoundFile version m f = sound.files j f (IsFileNumber-test j number).to here in
       let same : g.generation ≡ f.generation = changed.generation in (
@@ -128,34 +129,34 @@ time_of_new size Server now old is = refl
 time_of_new (Some n) Leave now old is = refl
 time_of_new None Leave now old is = is
 
-module _ (version : FormatVersion) (blocks : ℕ) (s : Settings) (now : Time) (j last : ℕ) (t : Time) (number : is_file_number j ≡ true) (timed : is_no_time s.mtime ≡ false) (t0 : TxnState) (fresh : t0.writes ≡ []) where
+module _ (version : FormatVersion) (layout : Shape) (s : Settings) (now : Time) (j last : ℕ) (t : Time) (number : is_file_number j ≡ true) (timed : is_no_time s.mtime ≡ false) (t0 : TxnState) (fresh : t0.writes ≡ []) where
   abbrev pub News : Result Found Status → Map → Map → Type 0
   News answer m n = node_at m j ≡ Free last → (files_of version m).root ≡ t → (room : Bool) × Leads version n answer (create_new version room s now (files_of version m) j)
 
   generation_is : (m : Map) → node_at m j ≡ Free last → ((files_of version m).at j).generation ≡ last
   generation_is m is = ap (λ e. e.generation) (entry_at version m j (Free last) number is)
 
-  pub Makes-too_big : is_too_big version s.size ≡ true → Makes version blocks t0 t0 (News (Err TooBig))
+  pub Makes-too_big : is_too_big version s.size ≡ true → Makes version layout t0 t0 (News (Err TooBig))
   Makes-too_big big =
-      Makes-told blocks t0 t0 _ _ fresh (Tells-nothing blocks t0) (λ m sound nothing is root_is. (true, (sound, sym (cond-true _ _ _ big))))
+      Makes-told layout t0 t0 _ _ fresh (Tells-nothing layout t0) (λ m sound nothing is root_is. (true, (sound, sym (cond-true _ _ _ big))))
 
-  pub Makes-worn : is_too_big version s.size ≡ false → last ≡ 4294967295 → Makes version blocks t0 t0 (News (Err NoSpace))
+  pub Makes-worn : is_too_big version s.size ≡ false → last ≡ 4294967295 → Makes version layout t0 t0 (News (Err NoSpace))
   Makes-worn small worn =
-      Makes-told blocks t0 t0 _ _ fresh (Tells-nothing blocks t0)
+      Makes-told layout t0 t0 _ _ fresh (Tells-nothing layout t0)
       (λ m sound nothing is root_is. (true, (sound, sym (cond-false _ _ _ small ∙ cond-true _ _ _ (eq-eqb _ 4294967295 (generation_is m is ∙ worn))))))
 
-  pub Makes-no_space : (t1 : TxnState) (P : Map → Type 0) → is_too_big version s.size ≡ false → LearnsThat version blocks t0 t1 P → Makes version blocks t0 t1 (News (Err NoSpace))
+  pub Makes-no_space : (t1 : TxnState) (P : Map → Type 0) → is_too_big version s.size ≡ false → LearnsThat version layout t0 t1 P → Makes version layout t0 t1 (News (Err NoSpace))
   Makes-no_space t1 P small told =
-      Makes-told blocks t0 t1 P _ fresh told (λ m sound p is root_is. (false, (sound, sym (cond-false _ _ _ small))))
+      Makes-told layout t0 t1 P _ fresh told (λ m sound p is root_is. (false, (sound, sym (cond-false _ _ _ small))))
 
   -- blocks are found free; they, their bits and the inode are overwritten
   pub Makes-new : (rest bytes : List ℕ) (f : FileNode) (answer : Found) (t1 t2 : TxnState) → is_too_big version s.size ≡ false → last ≢ 4294967295 → now.nanos ≤ MAX_NANOS
-      → LearnsThat version blocks t0 t1 (λ m. AreClear m (f.block ∷ rest)) → AreFresh (1 + extra_count version (unwrap_or s.size 0)) (f.block ∷ rest)
-      → WritesEach blocks t1 t2 (file_written j f (f.block ∷ rest) (f.block ∷ rest) bytes) → bytes ≡ replicate (BLOCK_BYTES * (1 + extra_count version (unwrap_or s.size 0))) 0
+      → LearnsThat version layout t0 t1 (λ m. AreClear m (f.block ∷ rest)) → AreFresh (1 + extra_count version (unwrap_or s.size 0)) (f.block ∷ rest)
+      → WritesEach layout t1 t2 (file_written j f (f.block ∷ rest) (f.block ∷ rest) bytes) → bytes ≡ replicate (BLOCK_BYTES * (1 + extra_count version (unwrap_or s.size 0))) 0
       → f.generation ≡ last + 1 → f.size ≡ unwrap_or s.size 0 → f.mtime ≡ time_after (Some 0) s.mtime now now → f.more ≡ extra_blocks_of rest [] → Fits (File f) → answer ≡ found_node j f t
-      → Makes version blocks t0 t2 (News (Ok answer))
+      → Makes version layout t0 t2 (News (Ok answer))
   Makes-new rest bytes f answer t1 t2 small young in_second told new_ones wrote zeros_are born_is size_is mtime_is more_is fits answered =
-      Makes-each blocks t0 t1 t2 _ _ (file_written j f (f.block ∷ rest) (f.block ∷ rest) bytes) fresh told wrote few
+      Makes-each layout t0 t1 t2 _ _ (file_written j f (f.block ∷ rest) (f.block ∷ rest) bytes) fresh told wrote few
       (λ m after sound clear becomes here root_is.
       let puts : Puts version m after j (record { generation = f.generation; file = Some (record { bytes = replicate f.size 0; mtime = f.mtime }) }) =
       Puts-created version m after j last f rest bytes number sound here more_is node new_size clear (zeros_are ∙ ap (λ k. replicate (BLOCK_BYTES * (1 + extra_count version k)) 0) (sym size_is)) becomes in (
@@ -194,15 +195,15 @@ module _ (version : FormatVersion) (blocks : ℕ) (s : Settings) (now : Time) (j
 
   -- so many were taken
   pub Makes-new_taken : (taken rest bytes : List ℕ) (f : FileNode) (answer : Found) (took : Bool) (t1 t2 : TxnState) → is_too_big version s.size ≡ false → last ≢ 4294967295 → now.nanos ≤ MAX_NANOS
-      → took ≡ true → LearnsThat version blocks t0 t1 (λ m. took ≡ true → AreClear m taken) → taken ≡ f.block ∷ rest → AreFresh (1 + extra_count version (unwrap_or s.size 0)) taken
-      → WritesEach blocks t1 t2 (file_written j f taken taken bytes) → bytes ≡ replicate (BLOCK_BYTES * (1 + extra_count version (unwrap_or s.size 0))) 0
+      → took ≡ true → LearnsThat version layout t0 t1 (λ m. took ≡ true → AreClear m taken) → taken ≡ f.block ∷ rest → AreFresh (1 + extra_count version (unwrap_or s.size 0)) taken
+      → WritesEach layout t1 t2 (file_written j f taken taken bytes) → bytes ≡ replicate (BLOCK_BYTES * (1 + extra_count version (unwrap_or s.size 0))) 0
       → f.generation ≡ last + 1 → f.size ≡ unwrap_or s.size 0 → f.mtime ≡ time_after (Some 0) s.mtime now now → f.more ≡ extra_blocks_of rest [] → Fits (File f) → answer ≡ found_node j f t
-      → Makes version blocks t0 t2 (News (Ok answer))
+      → Makes version layout t0 t2 (News (Ok answer))
   Makes-new_taken taken rest bytes f answer took t1 t2 small young in_second is_taken told taken_is new_ones wrote zeros_are born_is size_is mtime_is more_is fits answered =
       Makes-new rest bytes f answer t1 t2 small young in_second
-      (subst (λ xs. LearnsThat version blocks t0 t1 (λ m. AreClear m xs)) taken_is (Tells-like blocks t0 t1 _ _ (λ m sound clear. clear is_taken) told))
+      (subst (λ xs. LearnsThat version layout t0 t1 (λ m. AreClear m xs)) taken_is (Tells-like layout t0 t1 _ _ (λ m sound clear. clear is_taken) told))
       (subst (AreFresh (1 + extra_count version (unwrap_or s.size 0))) taken_is new_ones)
-      (subst (λ xs. WritesEach blocks t1 t2 (file_written j f xs xs bytes)) taken_is wrote)
+      (subst (λ xs. WritesEach layout t1 t2 (file_written j f xs xs bytes)) taken_is wrote)
       zeros_are born_is size_is mtime_is more_is fits answered
 
 -- The case with some room
@@ -210,22 +211,22 @@ abbrev pub CaseOf : FormatVersion → List ℕ → CreateMode → Time → ℕ �
 CaseOf version name how now i generation F r F2 = (room : Bool) × ((r, F2) ≡ create_case version room name how now F (file_target F i generation))
 
 -- what it does whatever room there is
-pub Does-room : (version : FormatVersion) (blocks : ℕ) (name : List ℕ) (how : CreateMode) (now : Time) (i generation : ℕ) (t : TxnState) (answer : Result Found Status) (room : Bool)
-    → Does version blocks (λ F r F2. (r, F2) ≡ create_case version room name how now F (file_target F i generation)) t.reads t.writes answer
-    → Does version blocks (CaseOf version name how now i generation) t.reads t.writes answer
-Does-room version blocks name how now i generation t answer room does = record {
+pub Does-room : (version : FormatVersion) (layout : Shape) (name : List ℕ) (how : CreateMode) (now : Time) (i generation : ℕ) (t : TxnState) (answer : Result Found Status) (room : Bool)
+    → Does version layout (λ F r F2. (r, F2) ≡ create_case version room name how now F (file_target F i generation)) t.reads t.writes answer
+    → Does version layout (CaseOf version name how now i generation) t.reads t.writes answer
+Does-room version layout name how now i generation t answer room does = record {
   few = does.few;
   sound = does.sound;
   answers = λ m on_disk sound agrees. (room, does.answers m on_disk sound agrees);
 }
 
 -- what it does by the inode that it read in the root
-pub Does-tail : (version : FormatVersion) (blocks : ℕ) (name : List ℕ) (how : CreateMode) (now : Time) (i generation : ℕ) (p : Target) (t : Time) (j : ℕ) (n : Node) (t0 t1 t2 t3 : TxnState) (answer : Result Found Status) (Q : Map → Map → Type 0)
-    → LearnsThat version blocks t0 t1 (λ m. IsAt version i generation m p) → p ≡ Directory t → LearnsThat version blocks t1 t2 (λ m. node_at m j ≡ n) → Makes version blocks t2 t3 Q
+pub Does-tail : (version : FormatVersion) (layout : Shape) (name : List ℕ) (how : CreateMode) (now : Time) (i generation : ℕ) (p : Target) (t : Time) (j : ℕ) (n : Node) (t0 t1 t2 t3 : TxnState) (answer : Result Found Status) (Q : Map → Map → Type 0)
+    → LearnsThat version layout t0 t1 (λ m. IsAt version i generation m p) → p ≡ Directory t → LearnsThat version layout t1 t2 (λ m. node_at m j ≡ n) → Makes version layout t2 t3 Q
     → ((m after : Map) → HasSoundFiles version m → (files_of version m).root ≡ t → node_at m j ≡ n → Q m after → HasSoundFiles version after × ((room : Bool) × ((answer, files_of version after) ≡ create_how version room name how now (files_of version m))))
-    → Does version blocks (CaseOf version name how now i generation) t3.reads t3.writes answer
-Does-tail version blocks name how now i generation p t j n t0 t1 t2 t3 answer Q found is read made shows =
-    Does-made blocks (CaseOf version name how now i generation) t0 t2 t3 answer _ Q (Tells-both blocks t0 t1 t2 _ _ found read) made
+    → Does version layout (CaseOf version name how now i generation) t3.reads t3.writes answer
+Does-tail version layout name how now i generation p t j n t0 t1 t2 t3 answer Q found is read made shows =
+    Does-made layout (CaseOf version name how now i generation) t0 t2 t3 answer _ Q (Tells-both layout t0 t1 t2 _ _ found read) made
     (λ m after sound told q.
     let both = shows m after sound (IsAt-is version m i generation p (Directory t) is told.0).1 told.1 q in (
       both.0,

@@ -5,6 +5,7 @@ use Rattle.std.proofs.lemmas.Bool.{false≢true}
 use Rattle.std.proofs.lemmas.List.{take_all, take-append-le}
 use Rattle.std.proofs.lemmas.Option.{slice_get_past, slice_get_within}
 use Rattle.journal_world.specs.declared.refusal.Refusal.{Refusal}
+use Rattle.journal_world.specs.Addresses.{Shape}
 use Rattle.journal_world.specs.Maps.{Transaction, apply, overwritten}
 use Rattle.journal_world.specs.Histories.{Entry, is_trusted, commits_of, count, floor, at, latest}
 use Rattle.journal_world.specs.Histories.Entry.{commit}
@@ -46,9 +47,9 @@ none_true : {A E : Type 0} (r : Result A E) → OnOk r (IsTrue false) → OnOk r
 none_true (Ok x) is = false≢true is
 none_true (Err e) is = tt
 
-module _ {A : Type 0} {version : FormatVersion} (blocks : ℕ) (case : Files → Result A Status → Files → Type 0) (t : TxnState) (answer : Result A Status) (old new : SessionState) (receipt : CommitPlace) (c : IsCommitted (HasSoundFiles version) blocks t.began (core_of t) old new receipt) where
+module _ {A : Type 0} {version : FormatVersion} (layout : Shape) (case : Files → Result A Status → Files → Type 0) (t : TxnState) (answer : Result A Status) (old new : SessionState) (receipt : CommitPlace) (c : IsCommitted (HasSoundFiles version) layout t.began (core_of t) old new receipt) where
   -- a transaction that does what the case says is such an operation, where its commit stands
-  pub IsMadeAt-committed : Does version blocks case t.reads t.writes answer → IsMadeAt version case old new answer (length c.found)
+  pub IsMadeAt-committed : Does version layout case t.reads t.writes answer → IsMadeAt version case old new answer (length c.found)
   IsMadeAt-committed does =
       let u : Transaction = record { session = old.number; number = length (commits_of old.number old.mine); reads = t.reads; writes = t.writes } in
       let whole : new.seen ≡ c.found ++ commit u ∷ [] = c.committed.added in
@@ -80,7 +81,7 @@ module _ {A : Type 0} {version : FormatVersion} (blocks : ℕ) (case : Files →
 
   -- it is owed where the transaction waits: where the operation does, and is answered Ok
   pub IsCommittedBy-ended : (waits waited : Bool) (wait : PendingWait CommitPlace) → (IsTrue waits → OnOk answer (IsTrue waited)) → (IsTrue waited → IsTrue waits) → wait ≡ pending_wait_for waited receipt
-      → Does version blocks case t.reads t.writes answer → IsCommittedBy version waits case old new (record { answer = answer; wait = wait })
+      → Does version layout case t.reads t.writes answer → IsCommittedBy version waits case old new (record { answer = answer; wait = wait })
   IsCommittedBy-ended waits waited wait when only owes does = record {
     place = length c.found;
     made = IsMadeAt-committed does;

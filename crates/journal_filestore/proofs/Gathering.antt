@@ -6,7 +6,7 @@ use Rattle.std.proofs.Math.Seq.{take-suc}
 use Rattle.std.proofs.lemmas.Bool.{eq-eqb, ne_eqb, false≢true}
 use Rattle.std.proofs.lemmas.List.{same_lists, places, take_all, length-take-le}
 use Rattle.journal_world.specs.declared.layout.TheConstants.{BLOCK_BYTES, FIRST_DATA}
-use Rattle.journal_world.specs.Addresses.{is_same}
+use Rattle.journal_world.specs.Addresses.{is_same, Shape}
 use Rattle.journal_world.specs.Maps.{value_among}
 use Rattle.journal_twophase.specs.Transactions.{TxnState}
 use Rattle.journal_inode.specs.declared.version.FormatVersion.{FormatVersion}
@@ -100,21 +100,21 @@ distinct_place (x ∷ xs) (suc k) each low =
     at (y ∷ ys) (suc j) low = inr (at ys j (omega (arith, low)))
 
 -- what blocks hold of which the first was read, and then one more
-pub Tells-first : {version : FormatVersion} (blocks : ℕ) (old new : TxnState) (bs : List ℕ) (v : List ℕ) → 0 < length bs → LearnsThat version blocks old new (λ m. object m (block (get_or bs 0 0)) ≡ v)
-    → LearnsThat version blocks old new (λ m. held m (take 1 bs) ≡ v)
-Tells-first blocks old new [] v some told = absurd (omega (arith, some))
-Tells-first blocks old new (x ∷ xs) v some told = told
+pub Tells-first : {version : FormatVersion} (layout : Shape) (old new : TxnState) (bs : List ℕ) (v : List ℕ) → 0 < length bs → LearnsThat version layout old new (λ m. object m (block (get_or bs 0 0)) ≡ v)
+    → LearnsThat version layout old new (λ m. held m (take 1 bs) ≡ v)
+Tells-first layout old new [] v some told = absurd (omega (arith, some))
+Tells-first layout old new (x ∷ xs) v some told = told
 
-pub Tells-next : {version : FormatVersion} (blocks : ℕ) (t0 t1 t2 : TxnState) (bs bytes v : List ℕ) (k : ℕ) → k < length bs → LearnsThat version blocks t0 t1 (λ m. held m (take k bs) ≡ bytes)
-    → LearnsThat version blocks t1 t2 (λ m. object m (block (get_or bs k 0)) ≡ v) → LearnsThat version blocks t0 t2 (λ m. held m (take (k + 1) bs) ≡ bytes ++ v)
-Tells-next blocks t0 t1 t2 bs bytes v k low before told =
-    Tells-like blocks t0 t2 _ _
+pub Tells-next : {version : FormatVersion} (layout : Shape) (t0 t1 t2 : TxnState) (bs bytes v : List ℕ) (k : ℕ) → k < length bs → LearnsThat version layout t0 t1 (λ m. held m (take k bs) ≡ bytes)
+    → LearnsThat version layout t1 t2 (λ m. object m (block (get_or bs k 0)) ≡ v) → LearnsThat version layout t0 t2 (λ m. held m (take (k + 1) bs) ≡ bytes ++ v)
+Tells-next layout t0 t1 t2 bs bytes v k low before told =
+    Tells-like layout t0 t2 _ _
     (λ m sound both.
     ap (held m) (more_taken bs k low) ∙ held_append m (take k bs) (get_or bs k 0 ∷ []) ∙ ap (λ x. x ++ object m (block (get_or bs k 0))) both.0 ∙ ap (λ x. bytes ++ x) both.1)
-    (Tells-both blocks t0 t1 t2 _ _ before told)
+    (Tells-both layout t0 t1 t2 _ _ before told)
 
-pub Tells-whole : {version : FormatVersion} (blocks : ℕ) (old new : TxnState) (bs bytes : List ℕ) (k : ℕ) → length bs ≤ k → LearnsThat version blocks old new (λ m. held m (take k bs) ≡ bytes) → LearnsThat version blocks old new (λ m. held m bs ≡ bytes)
-Tells-whole blocks old new bs bytes k all told = Tells-like blocks old new _ _ (λ m sound is. ap (held m) (sym (take_all k bs all)) ∙ is) told
+pub Tells-whole : {version : FormatVersion} (layout : Shape) (old new : TxnState) (bs bytes : List ℕ) (k : ℕ) → length bs ≤ k → LearnsThat version layout old new (λ m. held m (take k bs) ≡ bytes) → LearnsThat version layout old new (λ m. held m bs ≡ bytes)
+Tells-whole layout old new bs bytes k all told = Tells-like layout old new _ _ (λ m sound is. ap (held m) (sym (take_all k bs all)) ∙ is) told
 
 all_push : (P : ℕ → Type 0) (bs : List ℕ) (x : ℕ) → AllByRecursion P bs → P x → AllByRecursion P (bs ++ x ∷ [])
 all_push P [] x all one = (one, tt)
@@ -131,14 +131,14 @@ bits_push : (v : ℕ) (bs : List ℕ) (x : ℕ) → bits_written v (bs ++ x ∷ 
 bits_push v [] x = refl
 bits_push v (b ∷ bs) x = ap (λ ws. (bit (b - FIRST_DATA), v ∷ []) ∷ ws) (bits_push v bs x)
 
-pub bits_more : (blocks : ℕ) (old middle new : TxnState) (v : ℕ) (bs : List ℕ) (k : ℕ) → k < length bs → WritesEach blocks old middle (bits_written v (take k bs)) → WritesObject blocks middle new (bit (get_or bs k 0 - FIRST_DATA)) (v ∷ [])
-    → WritesEach blocks old new (bits_written v (take (k + 1) bs))
-bits_more blocks old middle new v bs k low before wrote =
-    subst (WritesEach blocks old new) (sym (ap (bits_written v) (more_taken bs k low) ∙ bits_push v (take k bs) (get_or bs k 0)))
-    (WritesEach-append blocks old middle new (bits_written v (take k bs)) ((bit (get_or bs k 0 - FIRST_DATA), v ∷ []) ∷ []) before (WritesEach-one blocks middle new (bit (get_or bs k 0 - FIRST_DATA)) (v ∷ []) wrote))
+pub bits_more : (layout : Shape) (old middle new : TxnState) (v : ℕ) (bs : List ℕ) (k : ℕ) → k < length bs → WritesEach layout old middle (bits_written v (take k bs)) → WritesObject layout middle new (bit (get_or bs k 0 - FIRST_DATA)) (v ∷ [])
+    → WritesEach layout old new (bits_written v (take (k + 1) bs))
+bits_more layout old middle new v bs k low before wrote =
+    subst (WritesEach layout old new) (sym (ap (bits_written v) (more_taken bs k low) ∙ bits_push v (take k bs) (get_or bs k 0)))
+    (WritesEach-append layout old middle new (bits_written v (take k bs)) ((bit (get_or bs k 0 - FIRST_DATA), v ∷ []) ∷ []) before (WritesEach-one layout middle new (bit (get_or bs k 0 - FIRST_DATA)) (v ∷ []) wrote))
 
-pub bits_whole : (blocks : ℕ) (old new : TxnState) (v : ℕ) (bs : List ℕ) (k : ℕ) → length bs ≤ k → WritesEach blocks old new (bits_written v (take k bs)) → WritesEach blocks old new (bits_written v bs)
-bits_whole blocks old new v bs k whole wrote = subst (λ cs. WritesEach blocks old new (bits_written v cs)) (take_all k bs whole) wrote
+pub bits_whole : (layout : Shape) (old new : TxnState) (v : ℕ) (bs : List ℕ) (k : ℕ) → length bs ≤ k → WritesEach layout old new (bits_written v (take k bs)) → WritesEach layout old new (bits_written v bs)
+bits_whole layout old new v bs k whole wrote = subst (λ cs. WritesEach layout old new (bits_written v cs)) (take_all k bs whole) wrote
 
 drop_twice : (a b : ℕ) (xs : List ℕ) → drop b (drop a xs) ≡ drop (a + b) xs
 drop_twice a b xs = same_lists _ _ (search (rules, places)) (λ i d h. grind (arith, places))
@@ -155,12 +155,12 @@ blocks_push (b ∷ bs) x bytes =
     ∙ ap (λ v. blocks_written bs (drop BLOCK_BYTES bytes) ++ (block x, v) ∷ [])
     (piece_behind bytes (BLOCK_BYTES * length bs) ∙ ap (λ k. take BLOCK_BYTES (drop k bytes)) (let e : BLOCK_BYTES + BLOCK_BYTES * length bs ≡ BLOCK_BYTES * suc (length bs) = omega arith in e)))
 
-pub blocks_more : (blocks : ℕ) (old middle new : TxnState) (bs bytes v : List ℕ) (k : ℕ) → k < length bs → v ≡ slice_range bytes (k * BLOCK_BYTES) (k * BLOCK_BYTES + BLOCK_BYTES)
-    → WritesEach blocks old middle (blocks_written (take k bs) bytes) → WritesObject blocks middle new (block (get_or bs k 0)) v → WritesEach blocks old new (blocks_written (take (k + 1) bs) bytes)
-blocks_more blocks old middle new bs bytes v k low is before wrote =
-    subst (WritesEach blocks old new) (sym (ap (λ cs. blocks_written cs bytes) (more_taken bs k low) ∙ blocks_push (take k bs) (get_or bs k 0) bytes))
-    (WritesEach-append blocks old middle new (blocks_written (take k bs) bytes) ((block (get_or bs k 0), piece) ∷ []) before
-    (WritesEach-one blocks middle new (block (get_or bs k 0)) piece (subst (WritesObject blocks middle new (block (get_or bs k 0))) (is ∙ same) wrote)))
+pub blocks_more : (layout : Shape) (old middle new : TxnState) (bs bytes v : List ℕ) (k : ℕ) → k < length bs → v ≡ slice_range bytes (k * BLOCK_BYTES) (k * BLOCK_BYTES + BLOCK_BYTES)
+    → WritesEach layout old middle (blocks_written (take k bs) bytes) → WritesObject layout middle new (block (get_or bs k 0)) v → WritesEach layout old new (blocks_written (take (k + 1) bs) bytes)
+blocks_more layout old middle new bs bytes v k low is before wrote =
+    subst (WritesEach layout old new) (sym (ap (λ cs. blocks_written cs bytes) (more_taken bs k low) ∙ blocks_push (take k bs) (get_or bs k 0) bytes))
+    (WritesEach-append layout old middle new (blocks_written (take k bs) bytes) ((block (get_or bs k 0), piece) ∷ []) before
+    (WritesEach-one layout middle new (block (get_or bs k 0)) piece (subst (WritesObject layout middle new (block (get_or bs k 0))) (is ∙ same) wrote)))
   where
     piece : List ℕ
     piece = take BLOCK_BYTES (drop (BLOCK_BYTES * length (take k bs)) bytes)
@@ -170,8 +170,8 @@ blocks_more blocks old middle new bs bytes v k low is before wrote =
         ap (λ n. take n (drop (k * BLOCK_BYTES) bytes)) (let e : k * BLOCK_BYTES + BLOCK_BYTES - k * BLOCK_BYTES ≡ BLOCK_BYTES = omega arith in e)
         ∙ ap (λ n. take BLOCK_BYTES (drop n bytes)) (let front : length (take k bs) ≡ k = length-take-le k bs (omega (arith, low)) in omega (arith, front))
 
-pub blocks_whole : (blocks : ℕ) (old new : TxnState) (bs bytes : List ℕ) (k : ℕ) → length bs ≤ k → WritesEach blocks old new (blocks_written (take k bs) bytes) → WritesEach blocks old new (blocks_written bs bytes)
-blocks_whole blocks old new bs bytes k whole wrote = subst (λ cs. WritesEach blocks old new (blocks_written cs bytes)) (take_all k bs whole) wrote
+pub blocks_whole : (layout : Shape) (old new : TxnState) (bs bytes : List ℕ) (k : ℕ) → length bs ≤ k → WritesEach layout old new (blocks_written (take k bs) bytes) → WritesEach layout old new (blocks_written bs bytes)
+blocks_whole layout old new bs bytes k whole wrote = subst (λ cs. WritesEach layout old new (blocks_written cs bytes)) (take_all k bs whole) wrote
 
 -- blocks that were taken
 pub AreFresh-taken : (bs : List ℕ) (n : ℕ) → length bs ≡ n → IsStrictlyIncreasing bs → AllByRecursion HasBit bs → AreFresh n bs

@@ -5,7 +5,7 @@ use Rattle.std.specs.List.{AllByRecursion}
 use Rattle.std.proofs.lemmas.Bool.{eq-eqb, ne_eqb}
 use Rattle.std.proofs.lemmas.List.{length-drop, take-append-drop, length-take-le}
 use Rattle.journal_world.specs.declared.layout.TheConstants.{BLOCK_BYTES, FIRST_DATA}
-use Rattle.journal_world.specs.Addresses.{Value}
+use Rattle.journal_world.specs.Addresses.{Value, Shape}
 use Rattle.journal_world.specs.Maps.{Map}
 use Rattle.journal_twophase.specs.Transactions.{TxnState}
 use Rattle.journal_wal.specs.declared.limits.TheConstants.{MAX_UPDATES}
@@ -65,45 +65,45 @@ length-last_first (w ∷ ws) before = let rest : length (last_first ws (w ∷ be
 
 -- the objects of n are those of m, or what the last write of them gave
 pub record Becomes (m n : Map) (ws : List Write) : Type 0 where
-  pub blocks : n.blocks ≡ m.blocks
-  pub objects : (o : Object) → IsOnDisk m.blocks o → object n o ≡ unwrap_or (last_written ws o) (object m o)
+  pub layout : n.layout ≡ m.layout
+  pub objects : (o : Object) → IsOnDisk m.layout.blocks o → object n o ≡ unwrap_or (last_written ws o) (object m o)
 
 Becomes-overwrites : (m n : Map) (ws : List Write) → Overwrites m n (last_first ws []) → Becomes m n ws
 Becomes-overwrites m n ws is = record {
-  blocks = is.blocks;
+  layout = is.layout;
   objects = λ o here. is.objects o here ∙ ap (λ p. unwrap_or p (object m o)) (written_last ws [] o ∙ or_none (last_written ws o));
 }
 
-HasWritten-each : (blocks : ℕ) (old new : TxnState) (ws before : List Write) → WritesEach blocks old new ws → HasWritten blocks old before → HasWritten blocks new (last_first ws before)
-HasWritten-each blocks old new [] before wrote had = subst (λ t. HasWritten blocks t before) (sym wrote) had
-HasWritten-each blocks old new (w ∷ ws) before wrote had =
-    HasWritten-each blocks wrote.0 new ws (w ∷ before) wrote.2 (HasWritten-more blocks old wrote.0 w.0 w.1 before wrote.1 had)
+HasWritten-each : (layout : Shape) (old new : TxnState) (ws before : List Write) → WritesEach layout old new ws → HasWritten layout old before → HasWritten layout new (last_first ws before)
+HasWritten-each layout old new [] before wrote had = subst (λ t. HasWritten layout t before) (sym wrote) had
+HasWritten-each layout old new (w ∷ ws) before wrote had =
+    HasWritten-each layout wrote.0 new ws (w ∷ before) wrote.2 (HasWritten-more layout old wrote.0 w.0 w.1 before wrote.1 had)
 
-same_reads : (blocks : ℕ) (old new : TxnState) (ws : List Write) → WritesEach blocks old new ws → new.reads ≡ old.reads
-same_reads blocks old new [] wrote = ap (λ t. t.reads) wrote
-same_reads blocks old new (w ∷ ws) wrote = same_reads blocks wrote.0 new ws wrote.2 ∙ wrote.1.reads
+same_reads : (layout : Shape) (old new : TxnState) (ws : List Write) → WritesEach layout old new ws → new.reads ≡ old.reads
+same_reads layout old new [] wrote = ap (λ t. t.reads) wrote
+same_reads layout old new (w ∷ ws) wrote = same_reads layout wrote.0 new ws wrote.2 ∙ wrote.1.reads
 
 -- one more is written, and many more are
-pub WritesEach-append : (blocks : ℕ) (old middle new : TxnState) (ws vs : List Write) → WritesEach blocks old middle ws → WritesEach blocks middle new vs → WritesEach blocks old new (ws ++ vs)
-WritesEach-append blocks old middle new [] vs first second = subst (λ t. WritesEach blocks t new vs) first second
-WritesEach-append blocks old middle new (w ∷ ws) vs first second = (first.0, first.1, WritesEach-append blocks first.0 middle new ws vs first.2 second)
+pub WritesEach-append : (layout : Shape) (old middle new : TxnState) (ws vs : List Write) → WritesEach layout old middle ws → WritesEach layout middle new vs → WritesEach layout old new (ws ++ vs)
+WritesEach-append layout old middle new [] vs first second = subst (λ t. WritesEach layout t new vs) first second
+WritesEach-append layout old middle new (w ∷ ws) vs first second = (first.0, first.1, WritesEach-append layout first.0 middle new ws vs first.2 second)
 
-pub WritesEach-one : (blocks : ℕ) (old new : TxnState) (o : Object) (v : Value) → WritesObject blocks old new o v → WritesEach blocks old new ((o, v) ∷ [])
-WritesEach-one blocks old new o v wrote = (new, wrote, refl)
+pub WritesEach-one : (layout : Shape) (old new : TxnState) (o : Object) (v : Value) → WritesObject layout old new o v → WritesEach layout old new ((o, v) ∷ [])
+WritesEach-one layout old new o v wrote = (new, wrote, refl)
 
 -- What a transaction makes that learned something, and then overwrote many objects
-pub Makes-each : {version : FormatVersion} (blocks : ℕ) (t0 t1 t2 : TxnState) (P : Map → Type 0) (Q : Map → Map → Type 0) (ws : List Write) → t0.writes ≡ []
-    → LearnsThat version blocks t0 t1 P → WritesEach blocks t1 t2 ws → length ws ≤ MAX_UPDATES
-    → ((m n : Map) → HasSoundFiles version m → P m → Becomes m n ws → Q m n) → Makes version blocks t0 t2 Q
-Makes-each {version} blocks t0 t1 t2 P Q ws none told wrote short shows =
-    Makes-written blocks t0 t2 Q (last_first ws [])
-    (HasWritten-each blocks t1 t2 ws [] wrote (HasWritten-none blocks t1 (told.writes ∙ none)))
+pub Makes-each : {version : FormatVersion} (layout : Shape) (t0 t1 t2 : TxnState) (P : Map → Type 0) (Q : Map → Map → Type 0) (ws : List Write) → t0.writes ≡ []
+    → LearnsThat version layout t0 t1 P → WritesEach layout t1 t2 ws → length ws ≤ MAX_UPDATES
+    → ((m n : Map) → HasSoundFiles version m → P m → Becomes m n ws → Q m n) → Makes version layout t0 t2 Q
+Makes-each {version} layout t0 t1 t2 P Q ws none told wrote short shows =
+    Makes-written layout t0 t2 Q (last_first ws [])
+    (HasWritten-each layout t1 t2 ws [] wrote (HasWritten-none layout t1 (told.writes ∙ none)))
     (λ m seen. told.before m (back m seen))
     (λ m n seen is. shows m n seen.sound (told.now m (back m seen)) (Becomes-overwrites m n ws is))
     (omega (arith, short, length-last_first ws []))
   where
-    back : (m : Map) → MayBeRead version blocks t2.reads m → MayBeRead version blocks t1.reads m
-    back m seen = subst (λ rs. MayBeRead version blocks rs m) (same_reads blocks t1 t2 ws wrote) seen
+    back : (m : Map) → MayBeRead version layout t2.reads m → MayBeRead version layout t1.reads m
+    back m seen = subst (λ rs. MayBeRead version layout rs m) (same_reads layout t1 t2 ws wrote) seen
 
 -- bits are written with one value
 bits_value : (v : ℕ) (bs : List ℕ) (k : ℕ) → (last_written (bits_written v bs) (bit k) ≡ None) ⊎ (last_written (bits_written v bs) (bit k) ≡ Some (v ∷ []))

@@ -71,26 +71,26 @@ pub first_is_not : (t : Bool) (x z : Value) (o : Option Value) → t ≡ false �
 first_is_not t x z o is = ap (λ b. unwrap_or (cond b (Some x) o) z) is
 
 -- what a map gives an object once some are overwritten
-pub object-overwritten : (m : Map) (ws : List Write) (o : Object) → AreOnDisk m.blocks ws → IsOnDisk m.blocks o
+pub object-overwritten : (m : Map) (ws : List Write) (o : Object) → AreOnDisk m.layout.blocks ws → IsOnDisk m.layout.blocks o
     → object (overwritten m (pairs_of ws)) o ≡ unwrap_or (written_to ws o) (object m o)
 object-overwritten m [] o are here = refl
 object-overwritten m (w ∷ ws) o are here =
     value_at-overwritten m (addr_of w.0, w.1) (pairs_of ws) (addr_of o)
-    ∙ ap (λ b. cond b w.1 (object (overwritten m (pairs_of ws)) o)) (same_addr_of m.blocks o w.0 here are.0)
+    ∙ ap (λ b. cond b w.1 (object (overwritten m (pairs_of ws)) o)) (same_addr_of m.layout.blocks o w.0 here are.0)
     ∙ ap (cond (is_same_object o w.0) w.1) (object-overwritten m ws o are.1 here)
     ∙ sym (unwrap_or-cond (is_same_object o w.0) w.1 (object m o) (written_to ws o))
 
 -- the objects of n are those of m, overwritten by the writes, the first of an object before others
 pub record Overwrites (m n : Map) (ws : List Write) : Type 0 where
-  pub blocks : n.blocks ≡ m.blocks
-  pub objects : (o : Object) → IsOnDisk m.blocks o → object n o ≡ unwrap_or (written_to ws o) (object m o)
+  pub layout : n.layout ≡ m.layout
+  pub objects : (o : Object) → IsOnDisk m.layout.blocks o → object n o ≡ unwrap_or (written_to ws o) (object m o)
 
 -- a map is overwritten by pairs that give what these writes give
-pub Overwrites-pairs : (m : Map) (ps : List Pair) (ws : List Write) → AreOnDisk m.blocks ws → SamePairs ps (pairs_of ws) → Overwrites m (overwritten m ps) ws
+pub Overwrites-pairs : (m : Map) (ps : List Pair) (ws : List Write) → AreOnDisk m.layout.blocks ws → SamePairs ps (pairs_of ws) → Overwrites m (overwritten m ps) ws
 Overwrites-pairs m ps ws are same = record {
-  blocks = refl;
+  layout = refl;
   objects = λ o here.
-      ap (λ v. unwrap_or v (zeros_at (kind_of m.blocks (addr_of o).block))) (among-append ps (pairs_of ws) m.pairs (addr_of o) (same (addr_of o)))
+      ap (λ v. unwrap_or v (zeros_at (kind_of m.layout (addr_of o).block))) (among-append ps (pairs_of ws) m.pairs (addr_of o) (same (addr_of o)))
       ∙ object-overwritten m ws o are here;
 }
   where

@@ -3,6 +3,7 @@ use Rattle.std.proofs.Common.{ℕ, ◌≡◌, ◌≢◌, ◌<◌, ◌≤◌, ◌
 use Rattle.std.specs.List.{AllByRecursion}
 use Rattle.std.proofs.lemmas.List.{same_lists, places, length-take-le, length-drop}
 use Rattle.journal_world.specs.declared.layout.TheConstants.{BLOCK_BYTES}
+use Rattle.journal_world.specs.Addresses.{Shape}
 use Rattle.journal_world.specs.Maps.{Map}
 use Rattle.journal_inode.specs.declared.version.FormatVersion.{FormatVersion}
 use Rattle.journal_inode.specs.declared.version.FormatVersion.TheVariants.{One, Two}
@@ -116,13 +117,13 @@ pub bytes-none : (version : FormatVersion) (m : Map) (f : FileNode) (offset n : 
 bytes-none version m f offset n none = sym (nothing (content version m f) offset n none)
 
 -- the blocks were read, which changes nothing
-pub Makes-read : (version : FormatVersion) (blocks i offset count : ℕ) (f : FileNode) (p : PortionState) (told : Attributes) (n first after : ℕ) (bytes : List ℕ) (t0 t1 : TxnState) → t0.writes ≡ []
-    → LearnsThat version blocks t0 t1 (λ m. held m (slice_range (f.block ∷ f.more) first after) ≡ bytes) → n ≡ portion_length version count (f.size - offset) → n ≢ 0 → offset + n ≤ f.size → length f.more ≡ MORE_BLOCKS
+pub Makes-read : (version : FormatVersion) (layout : Shape) (i offset count : ℕ) (f : FileNode) (p : PortionState) (told : Attributes) (n first after : ℕ) (bytes : List ℕ) (t0 t1 : TxnState) → t0.writes ≡ []
+    → LearnsThat version layout t0 t1 (λ m. held m (slice_range (f.block ∷ f.more) first after) ≡ bytes) → n ≡ portion_length version count (f.size - offset) → n ≢ 0 → offset + n ≤ f.size → length f.more ≡ MORE_BLOCKS
     → first ≡ offset / BLOCK_BYTES → after ≡ (offset + n - 1) / BLOCK_BYTES + 1 → told ≡ attributes_of_node i f
     → p ≡ record { file = told; bytes = slice_range bytes (offset - BLOCK_BYTES * first) (offset - BLOCK_BYTES * first + n); is_end = nat_le f.size (offset + n) }
-    → Makes version blocks t0 t1 (λ m after. IsSoundFile version m f → Leads version after (Ok p) (read_case version offset count (files_of version m) (file i (data_of version m f))))
-Makes-read version blocks i offset count f p told n first after bytes t0 t1 fresh read length_told some within many first_is after_is told_is portion_is =
-    Makes-told blocks t0 t1 _ _ fresh read
+    → Makes version layout t0 t1 (λ m after. IsSoundFile version m f → Leads version after (Ok p) (read_case version offset count (files_of version m) (file i (data_of version m f))))
+Makes-read version layout i offset count f p told n first after bytes t0 t1 fresh read length_told some within many first_is after_is told_is portion_is =
+    Makes-told layout t0 t1 _ _ fresh read
     (λ m sound here whole. (
       sound,
       sym (read-portion version m i offset count f p n whole length_told (ap (λ x. x.file) portion_is ∙ told_is)

@@ -1,20 +1,23 @@
 -- What refuses a transaction on files.
-use Rattle.std.proofs.Common.{ℕ, suc, ◌≡◌, ◌<◌, ◌≤◌, ◌+◌, Bool, true, false, cond, ◌==◌, nat_lt, ◌/◌, get_or, Fits, w8, ◌||◌, IsTrue, List, [], ◌∷◌, length, Some, None, refl, sym, ap, subst, ◌∙◌, arith}
-use Rattle.std.proofs.lemmas.Bool.{false≢true, eqb-true, eq-eqb}
+use Rattle.std.proofs.Common.{ℕ, suc, ◌≡◌, ◌<◌, ◌≤◌, ◌+◌, ◌*◌, Bool, true, false, cond, ◌==◌, nat_lt, ◌/◌, ◌%◌, get_or, Fits, w8, ◌&&◌, ◌||◌, IsTrue, List, [], ◌∷◌, length, Some, None, refl, sym, ap, subst, ◌∙◌, arith}
+use Rattle.std.specs.List.{list_all}
+use Rattle.std.proofs.lemmas.Bool.{false≢true, and_parts, eqb-true, eq-eqb}
 use Rattle.std.proofs.lemmas.Bool.Decides.{nat_tests}
 use Rattle.std.proofs.lemmas.List.{length-replicate}
 use Rattle.journal_world.specs.declared.address.Addr.{Addr}
 use Rattle.journal_world.specs.declared.refusal.Refusal.{Refusal}
 use Rattle.journal_world.specs.declared.refusal.Refusal.TheVariants.{NoMemory, BadAddress, BadSize, TooLarge, Busy, DeviceFailed, BadLog, BadSuper, Stale, Stranger, Worn, Full, Closed, Fenced}
-use Rattle.journal_world.specs.declared.address.Kind.TheVariants.{Inode, Block}
-use Rattle.journal_world.specs.declared.layout.TheConstants.{FIRST_DATA}
-use Rattle.journal_world.specs.Addresses.{Value, kind_of, is_valid, starts_object, is_same, zeros_of}
-use Rattle.journal_world.specs.Maps.{Pair, SamePairs, value_among, is_value_at}
+use Rattle.journal_world.specs.declared.address.Kind.TheVariants.{Bit, Record, Block}
+use Rattle.journal_world.specs.declared.address.RecordSize.TheVariants.{Bytes128}
+use Rattle.journal_world.specs.declared.layout.TheConstants.{MIN_BLOCKS, FIRST_DATA}
+use Rattle.journal_world.specs.Addresses.{Value, kind_of, is_valid, is_value_of, starts_object, is_same, zeros_of, Shape}
+use Rattle.journal_world.specs.Files.{files}
+use Rattle.journal_world.specs.Maps.{Pair, SamePairs, value_among, is_object, is_value_at}
 use Rattle.journal_world.proofs.Bytes.{is_value_of-bytes}
 use Rattle.journal_world.proofs.Lookups.{same_addr}
 use Rattle.journal_inode.specs.declared.place.TheConstants.{INODES}
-use Rattle.journal_inode.specs.Places.{addr_of}
-use Rattle.journal_inode.specs.Places.Object.{inode, block}
+use Rattle.journal_inode.specs.Places.{HasFiles, addr_of}
+use Rattle.journal_inode.specs.Places.Object.{bit, inode, block}
 use Rattle.journal_wal.specs.declared.limits.TheConstants.{MAX_UPDATES}
 use Rattle.journal_objlog.specs.Writes.{writes_block, written_blocks}
 use Rattle.journal_history.specs.Tokens.{SessionState}
@@ -24,63 +27,103 @@ use Rattle.journal_twophase.specs.Transactions.{TxnState, IsReadRefusal, IsOverw
 use Rattle.journal_twophase.specs.Commits.{IsCommitRefusal}
 use Rattle.journal_filestore.specs.Faults.{IsFilesRefusal, IsAttemptEnd, fault_at}
 
-pub read_given_up : (blocks : ℕ) (t : TxnState) (a : Addr) (why : Refusal CauseState) → IsReadRefusal blocks t a why → IsAttemptEnd (fault_at a why)
-read_given_up blocks t a NoMemory is = tt
-read_given_up blocks t a BadAddress is = tt
-read_given_up blocks t a BadSize is = absurd is.1
-read_given_up blocks t a TooLarge is = absurd is.1
-read_given_up blocks t a Busy is = tt
-read_given_up blocks t a (DeviceFailed cause) is = is
-read_given_up blocks t a BadLog is = absurd is.1
-read_given_up blocks t a BadSuper is = absurd is.1
-read_given_up blocks t a (Stale cause) is = (t.seen, is.1)
-read_given_up blocks t a (Stranger cause) is = absurd is.1
-read_given_up blocks t a (Worn cause) is = absurd is.1
-read_given_up blocks t a (Full cause) is = absurd is.1
-read_given_up blocks t a (Closed cause) is = is
-read_given_up blocks t a Fenced is = absurd is.1
+pub read_given_up : (layout : Shape) (t : TxnState) (a : Addr) (why : Refusal CauseState) → IsReadRefusal layout t a why → IsAttemptEnd (fault_at a why)
+read_given_up layout t a NoMemory is = tt
+read_given_up layout t a BadAddress is = tt
+read_given_up layout t a BadSize is = absurd is.1
+read_given_up layout t a TooLarge is = absurd is.1
+read_given_up layout t a Busy is = tt
+read_given_up layout t a (DeviceFailed cause) is = is
+read_given_up layout t a BadLog is = absurd is.1
+read_given_up layout t a BadSuper is = absurd is.1
+read_given_up layout t a (Stale cause) is = (t.seen, is.1)
+read_given_up layout t a (Stranger cause) is = absurd is.1
+read_given_up layout t a (Worn cause) is = absurd is.1
+read_given_up layout t a (Full cause) is = absurd is.1
+read_given_up layout t a (Closed cause) is = is
+read_given_up layout t a Fenced is = absurd is.1
 
 -- where the value is of the address's kind
-pub overwrite_given_up : (blocks : ℕ) (t : TxnState) (a : Addr) (v : Value) (why : Refusal CauseState) → (IsTrue (is_valid blocks a) → is_value_at (kind_of blocks a.block) v ≡ true) → IsOverwriteRefusal blocks t a v why → IsAttemptEnd (fault_at a why)
-overwrite_given_up blocks t a v NoMemory kind is = tt
-overwrite_given_up blocks t a v BadAddress kind is = tt
-overwrite_given_up blocks t a v BadSize kind is = absurd (let same : true ≡ false = sym (kind is.0) ∙ is.1 in cc)
-overwrite_given_up blocks t a v TooLarge kind is = absurd is.1
-overwrite_given_up blocks t a v Busy kind is = tt
-overwrite_given_up blocks t a v (DeviceFailed cause) kind is = absurd is.1
-overwrite_given_up blocks t a v BadLog kind is = absurd is.1
-overwrite_given_up blocks t a v BadSuper kind is = absurd is.1
-overwrite_given_up blocks t a v (Stale cause) kind is = absurd is.1
-overwrite_given_up blocks t a v (Stranger cause) kind is = absurd is.1
-overwrite_given_up blocks t a v (Worn cause) kind is = absurd is.1
-overwrite_given_up blocks t a v (Full cause) kind is = absurd is.1
-overwrite_given_up blocks t a v (Closed cause) kind is = absurd is.1
-overwrite_given_up blocks t a v Fenced kind is = absurd is.1
+pub overwrite_given_up : (layout : Shape) (t : TxnState) (a : Addr) (v : Value) (why : Refusal CauseState) → (IsTrue (is_valid layout a) → is_value_at (kind_of layout a.block) v ≡ true) → IsOverwriteRefusal layout t a v why → IsAttemptEnd (fault_at a why)
+overwrite_given_up layout t a v NoMemory kind is = tt
+overwrite_given_up layout t a v BadAddress kind is = tt
+overwrite_given_up layout t a v BadSize kind is = absurd (let same : true ≡ false = sym (kind is.0) ∙ is.1 in cc)
+overwrite_given_up layout t a v TooLarge kind is = absurd is.1
+overwrite_given_up layout t a v Busy kind is = tt
+overwrite_given_up layout t a v (DeviceFailed cause) kind is = absurd is.1
+overwrite_given_up layout t a v BadLog kind is = absurd is.1
+overwrite_given_up layout t a v BadSuper kind is = absurd is.1
+overwrite_given_up layout t a v (Stale cause) kind is = absurd is.1
+overwrite_given_up layout t a v (Stranger cause) kind is = absurd is.1
+overwrite_given_up layout t a v (Worn cause) kind is = absurd is.1
+overwrite_given_up layout t a v (Full cause) kind is = absurd is.1
+overwrite_given_up layout t a v (Closed cause) kind is = absurd is.1
+overwrite_given_up layout t a v Fenced kind is = absurd is.1
 
-kind_of-inode : (blocks i : ℕ) → i < INODES → kind_of blocks (515 + i / 32) ≡ Some Inode
-kind_of-inode blocks i low = grind (arith, nat_tests)
+inode_of-files : (n i : ℕ) → MIN_BLOCKS ≤ n → i < INODES → kind_of (files n) (515 + i / 32) ≡ Some (Record Bytes128)
+inode_of-files n i large low = grind (arith, nat_tests)
 
-kind_of-block : (blocks b : ℕ) → FIRST_DATA ≤ b → kind_of blocks b ≡ cond (nat_lt b blocks) (Some Block) None
-kind_of-block blocks b from = grind (arith, nat_tests)
+block_of-files : (n b : ℕ) → FIRST_DATA ≤ b → kind_of (files n) b ≡ cond (nat_lt b n) (Some Block) None
+block_of-files n b from = grind (arith, nat_tests)
+
+bit_of-files : (n : ℕ) → MIN_BLOCKS ≤ n → kind_of (files n) 514 ≡ Some Bit
+bit_of-files n large = grind (arith, nat_tests)
+
+kind_of-inode : (layout : Shape) → HasFiles layout → (i : ℕ) → i < INODES → kind_of layout (515 + i / 32) ≡ Some (Record Bytes128)
+kind_of-inode layout has i low = ap (λ (s : Shape). kind_of s (515 + i / 32)) has.0 ∙ inode_of-files layout.blocks i has.1 low
+
+kind_of-block : (layout : Shape) → HasFiles layout → (b : ℕ) → FIRST_DATA ≤ b → kind_of layout b ≡ cond (nat_lt b layout.blocks) (Some Block) None
+kind_of-block layout has b from = ap (λ (s : Shape). kind_of s b) has.0 ∙ block_of-files layout.blocks b from
+
+kind_of-bit : (layout : Shape) → HasFiles layout → kind_of layout 514 ≡ Some Bit
+kind_of-bit layout has = ap (λ (s : Shape). kind_of s 514) has.0 ∙ bit_of-files layout.blocks has.1
+
+-- one value of a bit is of the kind of its address
+pub bit_fits : (layout : Shape) → HasFiles layout → (i : ℕ) (a : Addr) (v : Value) → a ≡ addr_of (bit i) → is_value_of Bit v ≡ true → is_value_at (kind_of layout a.block) v ≡ true
+bit_fits layout has i a v at is =
+    ap (λ (x : Addr). is_value_at (kind_of layout x.block) v) at ∙ ap (λ kind. is_value_at kind v) (kind_of-bit layout has) ∙ is
 
 -- as many bytes as an inode has are of the kind of its address
-pub inode_fits : (blocks i : ℕ) (a : Addr) (v : Value) → a ≡ addr_of (inode i) → i < INODES → length v ≡ 128 → ((k : ℕ) → Fits w8 (get_or v k 0)) → is_value_at (kind_of blocks a.block) v ≡ true
-inode_fits blocks i a v at low whole bytes =
-    ap (λ (x : Addr). is_value_at (kind_of blocks x.block) v) at
-    ∙ ap (λ kind. is_value_at kind v) (kind_of-inode blocks i low)
-    ∙ is_value_of-bytes Inode v refl bytes
+pub inode_fits : (layout : Shape) → HasFiles layout → (i : ℕ) (a : Addr) (v : Value) → a ≡ addr_of (inode i) → i < INODES → length v ≡ 128 → ((k : ℕ) → Fits w8 (get_or v k 0)) → is_value_at (kind_of layout a.block) v ≡ true
+inode_fits layout has i a v at low whole bytes =
+    ap (λ (x : Addr). is_value_at (kind_of layout x.block) v) at
+    ∙ ap (λ kind. is_value_at kind v) (kind_of-inode layout has i low)
+    ∙ is_value_of-bytes (Record Bytes128) v refl bytes
     ∙ eq-eqb (length v) 128 whole
 
 -- and so many bytes as a block has, where there is such a data block
-pub block_fits : (blocks b : ℕ) (a : Addr) (v : Value) → a ≡ addr_of (block b) → FIRST_DATA ≤ b → length v ≡ 4096 → ((k : ℕ) → Fits w8 (get_or v k 0)) → IsTrue (is_valid blocks a) → is_value_at (kind_of blocks a.block) v ≡ true
-block_fits blocks b a v at from whole bytes valid =
-    ap (λ (x : Addr). is_value_at (kind_of blocks x.block) v) at
-    ∙ ap (λ kind. is_value_at kind v) (kind_of-block blocks b from)
-    ∙ there (nat_lt b blocks)
-    (sym (ap (λ kind. starts_object kind 0) (kind_of-block blocks b from)) ∙ ap (λ (x : Addr). is_valid blocks x) (sym at) ∙ valid)
+pub block_fits : (layout : Shape) → HasFiles layout → (b : ℕ) (a : Addr) (v : Value) → a ≡ addr_of (block b) → FIRST_DATA ≤ b → length v ≡ 4096 → ((k : ℕ) → Fits w8 (get_or v k 0)) → IsTrue (is_valid layout a) → is_value_at (kind_of layout a.block) v ≡ true
+block_fits layout has b a v at from whole bytes valid =
+    ap (λ (x : Addr). is_value_at (kind_of layout x.block) v) at
+    ∙ ap (λ kind. is_value_at kind v) (kind_of-block layout has b from)
+    ∙ there (nat_lt b layout.blocks)
+    (sym (ap (λ kind. starts_object kind 0) (kind_of-block layout has b from)) ∙ ap (λ (x : Addr). is_valid layout x) (sym at) ∙ valid)
   where
     there : (t : Bool) → starts_object (cond t (Some Block) None) 0 ≡ true → is_value_at (cond t (Some Block) None) v ≡ true
     there true is = is_value_of-bytes Block v refl bytes ∙ eq-eqb (length v) 4096 whole
+    there false is = absurd (false≢true is)
+
+-- what is read of a bit is one value of a bit
+pub bit_whole : (layout : Shape) → HasFiles layout → (i : ℕ) (a : Addr) (v : Value) → a ≡ addr_of (bit i) → IsTrue (is_object layout (a, v)) → IsTrue (is_value_of Bit v)
+bit_whole layout has i a v at is =
+    (and_parts (starts_object (Some Bit) i) (is_value_of Bit v)
+    (sym (ap (λ kind. starts_object kind i && is_value_at kind v) (kind_of-bit layout has)) ∙ ap (λ (x : Addr). is_object layout (x, v)) (sym at) ∙ is)).1
+
+-- of an inode, as many bytes as it has
+pub inode_whole : (layout : Shape) → HasFiles layout → (i : ℕ) (a : Addr) (v : Value) → a ≡ addr_of (inode i) → i < INODES → IsTrue (is_object layout (a, v)) → length v ≡ 128
+inode_whole layout has i a v at low is =
+    let value = (and_parts (starts_object (Some (Record Bytes128)) (i % 32 * 1024)) (is_value_of (Record Bytes128) v)
+    (sym (ap (λ kind. starts_object kind (i % 32 * 1024) && is_value_at kind v) (kind_of-inode layout has i low)) ∙ ap (λ (x : Addr). is_object layout (x, v)) (sym at) ∙ is)).1 in
+    eqb-true (length v) 128 (and_parts (length v == 128) (list_all (λ byte. nat_lt byte 256) v) value).0
+
+-- and of a data block, a whole block
+pub block_whole : (layout : Shape) → HasFiles layout → (b : ℕ) (a : Addr) (v : Value) → a ≡ addr_of (block b) → FIRST_DATA ≤ b → IsTrue (is_object layout (a, v)) → length v ≡ 4096
+block_whole layout has b a v at from is =
+    there (nat_lt b layout.blocks)
+    (sym (ap (λ kind. starts_object kind 0 && is_value_at kind v) (kind_of-block layout has b from)) ∙ ap (λ (x : Addr). is_object layout (x, v)) (sym at) ∙ is)
+  where
+    there : (t : Bool) → (starts_object (cond t (Some Block) None) 0 && is_value_at (cond t (Some Block) None) v) ≡ true → length v ≡ 4096
+    there true is = eqb-true (length v) 4096 (and_parts (length v == 4096) (list_all (λ byte. nat_lt byte 256) v) is).0
     there false is = absurd (false≢true is)
 
 pub length-zero_block : length (zeros_of Block) ≡ 4096

@@ -3,14 +3,14 @@ use Rattle.std.proofs.Common.{ℕ, zero, suc, ◌≡◌, ◌≢◌, ◌<◌, ◌
 use Rattle.std.specs.List.{AllByRecursion}
 use Rattle.std.proofs.lemmas.Bool.{cases_eq}
 use Rattle.journal_world.specs.declared.layout.TheConstants.{BLOCK_BYTES, FIRST_DATA, BLOCK_BITS}
-use Rattle.journal_world.specs.Addresses.{Value}
+use Rattle.journal_world.specs.Addresses.{Value, Shape}
 use Rattle.journal_world.specs.Maps.{Map}
 use Rattle.journal_inode.specs.declared.version.FormatVersion.{FormatVersion}
 use Rattle.journal_inode.specs.declared.node.FileNode.{FileNode}
 use Rattle.journal_inode.specs.declared.node.Node.{Node}
 use Rattle.journal_inode.specs.declared.node.Node.TheVariants.{Free, Root, File}
 use Rattle.journal_inode.specs.declared.place.TheConstants.{INODES}
-use Rattle.journal_inode.specs.Places.{object}
+use Rattle.journal_inode.specs.Places.{HasFiles, object}
 use Rattle.journal_inode.specs.Places.Object.{superblock, bit, inode, block}
 use Rattle.journal_inode.specs.Nodes.{inode_bytes, node_of, Fits}
 use Rattle.journal_inode.specs.SameFiles.{IsSoundFile-held}
@@ -63,13 +63,13 @@ sized_others m n (b ∷ c ∷ bs) same sized = (ap length (same b (inl refl)) �
 module _ (version : FormatVersion) where
   -- The map n is m with inode i replaced, by one that has some of the old one's blocks and some that were free, and with the bits of these blocks
   pub record Replaces (m n : Map) (i : ℕ) (new : Node) : Type 0 where
-    pub blocks : n.blocks ≡ m.blocks
+    pub layout : n.layout ≡ m.layout
     pub begins : object n superblock ≡ object m superblock
     pub here : object n (inode i) ≡ inode_bytes new
     pub fits : Fits new
     pub others : (j : ℕ) → j < INODES → j ≢ i → object n (inode j) ≡ object m (inode j)
     pub free_or_own : (b : ℕ) → HasBlock version new b → HasBlock version (node_at m i) b ⊎ (IsTaken version m b → ⊥)
-    pub other_blocks : (b : ℕ) → FIRST_DATA ≤ b → b < m.blocks → (HasBlock version new b → ⊥) → object n (block b) ≡ object m (block b)
+    pub other_blocks : (b : ℕ) → FIRST_DATA ≤ b → b < m.layout.blocks → (HasBlock version new b → ⊥) → object n (block b) ≡ object m (block b)
     pub bits : (k : ℕ) → k < BLOCK_BITS → BitStep (HasBlock version (node_at m i) (FIRST_DATA + k)) (HasBlock version new (FIRST_DATA + k)) (object m (bit k)) (object n (bit k))
 
   -- The new inode may stand there
@@ -108,7 +108,7 @@ module _ (version : FormatVersion) where
   block-other : (m n : Map) (i : ℕ) (new : Node) → i < INODES → HasSoundFiles version m → Replaces m n i new
       → (j : ℕ) (f : FileNode) → j < INODES → j ≢ i → node_at m j ≡ File f → (b : ℕ) → IsAmong (file_blocks version f) b → object n (block b) ≡ object m (block b)
   block-other m n i new low sound r j f below ne is_file b has =
-      let range : IsDataBlock m.blocks b = holds_among (IsDataBlock m.blocks) (file_blocks version f) b (sound.files j f below is_file).on_disk has in
+      let range : IsDataBlock m.layout.blocks b = holds_among (IsDataBlock m.layout.blocks) (file_blocks version f) b (sound.files j f below is_file).on_disk has in
       r.other_blocks b range.0 range.1
       (alone m n i new low sound r j b below ne (subst (λ x. HasBlock version x b) (sym is_file) has))
 
@@ -121,7 +121,8 @@ module _ (version : FormatVersion) where
   -- The rule is kept where one inode is replaced
   pub Sound-replaced : (m n : Map) (i : ℕ) (new : Node) → i < INODES → HasSoundFiles version m → Replaces m n i new → IsSoundNode n i new → HasSoundFiles version n
   Sound-replaced m n i new low sound r fine = record {
-    begins = r.begins ∙ sound.begins ∙ ap (superblock_of version) (sym r.blocks);
+    cut = subst HasFiles (sym r.layout) sound.cut;
+    begins = r.begins ∙ sound.begins ∙ ap (λ (s : Shape). superblock_of version s.blocks) (sym r.layout);
     written = λ j below. by_number j below (cases_eq j i)
         (λ is. ap (λ k. object n (inode k)) is ∙ r.here ∙ ap inode_bytes (sym (here j is)))
         (λ ne. r.others j below ne ∙ sound.written j below ∙ ap inode_bytes (sym (there j below ne)));
@@ -167,14 +168,14 @@ module _ (version : FormatVersion) where
 
       -- a block that the new inode does not have was taken before
       taken_before : (b : ℕ) → (HasBlock version new b → ⊥) → IsTaken version n b → IsTaken version m b
-      taken_before b lacks (inl past) = inl (subst (λ x. x ≤ b) r.blocks past)
+      taken_before b lacks (inl past) = inl (subst (λ (s : Shape). s.blocks ≤ b) r.layout past)
       taken_before b lacks (inr t) = by_number t.0 t.1 (cases_eq t.0 i)
           (λ is. absurd (lacks (has_here t.0 b is t.2)))
           (λ ne. inr (t.0, t.1, has_there t.0 b t.1 ne t.2))
 
       -- a block that the old inode does not have is still taken
       taken_still : (b : ℕ) → (HasBlock version (node_at m i) b → ⊥) → IsTaken version m b → IsTaken version n b
-      taken_still b lacks (inl past) = inl (subst (λ x. x ≤ b) (sym r.blocks) past)
+      taken_still b lacks (inl past) = inl (subst (λ (s : Shape). s.blocks ≤ b) (sym r.layout) past)
       taken_still b lacks (inr t) = by_number t.0 t.1 (cases_eq t.0 i)
           (λ is. absurd (lacks (subst (λ x. HasBlock version (node_at m x) b) is t.2)))
           (λ ne. inr (t.0, t.1, subst (λ x. HasBlock version x b) (sym (there t.0 t.1 ne)) t.2))
@@ -183,8 +184,8 @@ module _ (version : FormatVersion) where
       freed : (b : ℕ) → HasBlock version (node_at m i) b → (HasBlock version new b → ⊥) → IsTaken version n b → ⊥
       freed b had lacks (inl past) =
           let f = file_with (node_at m i) b had in
-          let range : IsDataBlock m.blocks b = holds_among (IsDataBlock m.blocks) (file_blocks version f.0) b (sound.files i f.0 low f.1).on_disk f.2 in
-          omega (arith, past, range.1, r.blocks)
+          let range : IsDataBlock m.layout.blocks b = holds_among (IsDataBlock m.layout.blocks) (file_blocks version f.0) b (sound.files i f.0 low f.1).on_disk f.2 in
+          omega (arith, past, range.1, ap (λ (s : Shape). s.blocks) r.layout)
       freed b had lacks (inr t) = by_number t.0 t.1 (cases_eq t.0 i)
           (λ is. lacks (has_here t.0 b is t.2))
           (λ ne. ne (sound.apart t.0 i b t.1 low (has_there t.0 b t.1 ne t.2) had))
@@ -204,7 +205,7 @@ module _ (version : FormatVersion) where
       old_file : (j : ℕ) (f : FileNode) → j < INODES → (j ≡ i → ⊥) → node_at m j ≡ File f → IsSoundFile version n f
       old_file j f below ne is_file =
           let old : IsSoundFile version m f = sound.files j f below is_file in
-          IsSoundFile-held version m n f (sym r.blocks) (stored-other m n i new low sound r j f below ne is_file)
+          IsSoundFile-held version m n f (sym (ap (λ (s : Shape). s.blocks) r.layout)) (stored-other m n i new low sound r j f below ne is_file)
           (sized_others m n (file_blocks version f) (block-other m n i new low sound r j f below ne is_file) old.sized) old
 
 -- a free inode or a file may stand at the number of a file

@@ -6,6 +6,7 @@ use Rattle.std.proofs.lemmas.Bool.{ltb-false}
 use Rattle.std.proofs.lemmas.List.{same_lists, places, append-nil, length-take-le, length-replicate}
 use Rattle.journal_world.specs.declared.layout.TheConstants.{BLOCK_BYTES}
 use Rattle.journal_world.specs.declared.moment.TheConstants.{MAX_NANOS}
+use Rattle.journal_world.specs.Addresses.{Shape}
 use Rattle.journal_world.specs.Maps.{Map}
 use Rattle.journal_twophase.specs.Transactions.{TxnState}
 use Rattle.journal_wal.specs.declared.limits.TheConstants.{MAX_UPDATES}
@@ -48,41 +49,41 @@ size_fits version None old is was = was
 size_fits version (Some size) old is was = ltb-false (most_bytes version) size is
 
 -- what is said of a file's bytes may be said otherwise
-pub HasChanged-like : {version : FormatVersion} (blocks : ℕ) (old new : TxnState) (i : ℕ) (f : FileNode) (size : ℕ) (mtime : Time) (p q : Map → List ℕ) (g : FileNode)
-    → ((m : Map) → IsSoundFile version m f → p m ≡ q m) → HasChanged version blocks old new i f size mtime p g → HasChanged version blocks old new i f size mtime q g
-HasChanged-like {version} blocks old new i f size mtime p q g like has = record {
+pub HasChanged-like : {version : FormatVersion} (layout : Shape) (old new : TxnState) (i : ℕ) (f : FileNode) (size : ℕ) (mtime : Time) (p q : Map → List ℕ) (g : FileNode)
+    → ((m : Map) → IsSoundFile version m f → p m ≡ q m) → HasChanged version layout old new i f size mtime p g → HasChanged version layout old new i f size mtime q g
+HasChanged-like {version} layout old new i f size mtime p q g like has = record {
   attributes = has.attributes;
   generation = has.generation;
-  makes = Makes-like blocks old new _ _
+  makes = Makes-like layout old new _ _
       (λ m n sound becomes number here.
       subst (λ x. Puts version m n i (record { generation = f.generation; file = Some (record { bytes = x; mtime = mtime }) }))
       (like m (sound.files i f (IsFileNumber-test i number).to here)) (becomes number here))
       has.makes;
 }
 
-pub ChangesFile-like : {version : FormatVersion} (blocks : ℕ) (old new : TxnState) (i : ℕ) (f : FileNode) (size : ℕ) (mtime : Time) (p q : Map → List ℕ) (g : Option FileNode)
-    → ((m : Map) → IsSoundFile version m f → p m ≡ q m) → ChangesFile version blocks old new i f size mtime p g → ChangesFile version blocks old new i f size mtime q g
-ChangesFile-like blocks old new i f size mtime p q None like lacks = lacks
-ChangesFile-like blocks old new i f size mtime p q (Some g) like has = HasChanged-like blocks old new i f size mtime p q g like has
+pub ChangesFile-like : {version : FormatVersion} (layout : Shape) (old new : TxnState) (i : ℕ) (f : FileNode) (size : ℕ) (mtime : Time) (p q : Map → List ℕ) (g : Option FileNode)
+    → ((m : Map) → IsSoundFile version m f → p m ≡ q m) → ChangesFile version layout old new i f size mtime p g → ChangesFile version layout old new i f size mtime q g
+ChangesFile-like layout old new i f size mtime p q None like lacks = lacks
+ChangesFile-like layout old new i f size mtime p q (Some g) like has = HasChanged-like layout old new i f size mtime p q g like has
 
 -- what became of it, where it is known whether blocks were handed out
-pub lacks_of : (version : FormatVersion) (blocks : ℕ) (old new : TxnState) (i : ℕ) (f : FileNode) (size : ℕ) (mtime : Time) (bytes : Map → List ℕ) (o : Option FileNode)
-    → ChangesFile version blocks old new i f size mtime bytes o → o ≡ None → LacksBlocks version blocks old new f.size size
-lacks_of version blocks old new i f size mtime bytes None changes is = changes
-lacks_of version blocks old new i f size mtime bytes (Some g) changes is = absurd (let e : Some g ≡ None = is in cc)
+pub lacks_of : (version : FormatVersion) (layout : Shape) (old new : TxnState) (i : ℕ) (f : FileNode) (size : ℕ) (mtime : Time) (bytes : Map → List ℕ) (o : Option FileNode)
+    → ChangesFile version layout old new i f size mtime bytes o → o ≡ None → LacksBlocks version layout old new f.size size
+lacks_of version layout old new i f size mtime bytes None changes is = changes
+lacks_of version layout old new i f size mtime bytes (Some g) changes is = absurd (let e : Some g ≡ None = is in cc)
 
-pub changed_of : (version : FormatVersion) (blocks : ℕ) (old new : TxnState) (i : ℕ) (f : FileNode) (size : ℕ) (mtime : Time) (bytes : Map → List ℕ) (o : Option FileNode) (g : FileNode)
-    → ChangesFile version blocks old new i f size mtime bytes o → o ≡ Some g → HasChanged version blocks old new i f size mtime bytes g
-changed_of version blocks old new i f size mtime bytes None g changes is = absurd (let e : None ≡ Some g = is in cc)
-changed_of version blocks old new i f size mtime bytes (Some h) g changes is =
-    subst (HasChanged version blocks old new i f size mtime bytes) (let e : Some h ≡ Some g = is in let same : h ≡ g = cc in same) changes
+pub changed_of : (version : FormatVersion) (layout : Shape) (old new : TxnState) (i : ℕ) (f : FileNode) (size : ℕ) (mtime : Time) (bytes : Map → List ℕ) (o : Option FileNode) (g : FileNode)
+    → ChangesFile version layout old new i f size mtime bytes o → o ≡ Some g → HasChanged version layout old new i f size mtime bytes g
+changed_of version layout old new i f size mtime bytes None g changes is = absurd (let e : None ≡ Some g = is in cc)
+changed_of version layout old new i f size mtime bytes (Some h) g changes is =
+    subst (HasChanged version layout old new i f size mtime bytes) (let e : Some h ≡ Some g = is in let same : h ≡ g = cc in same) changes
 
 -- blocks are asked for and not handed out
-pub lacks_taken : (version : FormatVersion) (blocks : ℕ) (old new : TxnState) (took : Bool) (from to count : ℕ) (P : Map → Type 0) → took ≡ false → (took ≡ false → 0 < count) → count ≡ extra_count version to - extra_count version from
-    → LearnsThat version blocks old new P → LacksBlocks version blocks old new from to
-lacks_taken version blocks old new took from to count P none short count_is told = record {
+pub lacks_taken : (version : FormatVersion) (layout : Shape) (old new : TxnState) (took : Bool) (from to count : ℕ) (P : Map → Type 0) → took ≡ false → (took ≡ false → 0 < count) → count ≡ extra_count version to - extra_count version from
+    → LearnsThat version layout old new P → LacksBlocks version layout old new from to
+lacks_taken version layout old new took from to count P none short count_is told = record {
   needed = let some : 0 < count = short none in omega (arith, some, count_is);
-  told = Tells-like blocks old new P _ (λ m sound p. tt) told;
+  told = Tells-like layout old new P _ (λ m sound p. tt) told;
 }
 
 -- A file gets zeros behind its bytes
@@ -146,15 +147,15 @@ module _ (version : FormatVersion) (m n : Map) (i : ℕ) (f : FileNode) (fresh b
           ∙ ap (λ k. (content version m f ++ replicate (size - k) 0) ++ replicate (room_of version f.size + BLOCK_BYTES * length fresh - length (content version m f ++ replicate (size - k) 0)) 0) old.whole
           ∙ ap (λ k. p ++ replicate (k - length p) 0) (omega (arith, more_size))
 
-pub Makes-grown : (version : FormatVersion) (blocks i : ℕ) (f g : FileNode) (fresh bytes : List ℕ) (size : ℕ) (mtime : Time) (t0 t1 t2 : TxnState) (took : Bool) → t0.writes ≡ [] → took ≡ true
-    → LearnsThat version blocks t0 t1 (λ m. took ≡ true → AreClear m fresh) → WritesEach blocks t1 t2 (file_written i g fresh fresh bytes)
+pub Makes-grown : (version : FormatVersion) (layout : Shape) (i : ℕ) (f g : FileNode) (fresh bytes : List ℕ) (size : ℕ) (mtime : Time) (t0 t1 t2 : TxnState) (took : Bool) → t0.writes ≡ [] → took ≡ true
+    → LearnsThat version layout t0 t1 (λ m. took ≡ true → AreClear m fresh) → WritesEach layout t1 t2 (file_written i g fresh fresh bytes)
     → g ≡ with_blocks f (extra_count version f.size) fresh size mtime → Fits (File g) → length f.more ≡ MORE_BLOCKS → f.size ≤ size → size ≤ most_bytes version → (f.mtime.nanos ≤ MAX_NANOS → mtime.nanos ≤ MAX_NANOS)
     → AreFresh (extra_count version size - extra_count version f.size) fresh → bytes ≡ replicate (BLOCK_BYTES * length fresh) 0
-    → HasChanged version blocks t0 t2 i f size mtime (λ m. content version m f ++ replicate (size - f.size) 0) g
-Makes-grown version blocks i f g fresh bytes size mtime t0 t1 t2 took none is_taken told wrote is fits many more small timed new_ones zeros_are = record {
+    → HasChanged version layout t0 t2 i f size mtime (λ m. content version m f ++ replicate (size - f.size) 0) g
+Makes-grown version layout i f g fresh bytes size mtime t0 t1 t2 took none is_taken told wrote is fits many more small timed new_ones zeros_are = record {
   attributes = ap (attributes_of_node i) is;
   generation = ap (λ x. x.generation) is;
-  makes = Makes-each blocks t0 t1 t2 _ _ (file_written i g fresh fresh bytes) none told wrote few
+  makes = Makes-each layout t0 t1 t2 _ _ (file_written i g fresh fresh bytes) none told wrote few
       (λ m n sound clear becomes number here.
       Puts-grown version m n i f fresh bytes size mtime number sound here many (subst (λ x. Fits (File x)) is fits) more small timed new_ones (clear is_taken) zeros_are
       (subst (λ x. Becomes m n (file_written i x fresh fresh bytes)) is becomes));
@@ -294,18 +295,18 @@ module _ (version : FormatVersion) (m n : Map) (i : ℕ) (f : FileNode) (b : ℕ
           before one in_block.0 in_block.1 (subst (λ k. size ≤ k) (sym old.whole) (omega (arith, less))) stored_is
           ∙ ap (λ k. p ++ replicate (k - length p) 0) (let e : BLOCK_BYTES * last + BLOCK_BYTES ≡ room_of version size = omega arith in e)
 
-pub Makes-shrunk : (version : FormatVersion) (blocks i : ℕ) (f g : FileNode) (b : ℕ) (cut v bytes : List ℕ) (size : ℕ) (mtime : Time) (t0 t1 t2 t3 : TxnState) → t0.writes ≡ []
-    → LearnsThat version blocks t0 t1 (λ m. object m (block b) ≡ v) → WritesEach blocks t1 t2 (bits_written 0 cut) → WritesEach blocks t2 t3 (file_written i g [] (b ∷ []) bytes)
+pub Makes-shrunk : (version : FormatVersion) (layout : Shape) (i : ℕ) (f g : FileNode) (b : ℕ) (cut v bytes : List ℕ) (size : ℕ) (mtime : Time) (t0 t1 t2 t3 : TxnState) → t0.writes ≡ []
+    → LearnsThat version layout t0 t1 (λ m. object m (block b) ≡ v) → WritesEach layout t1 t2 (bits_written 0 cut) → WritesEach layout t2 t3 (file_written i g [] (b ∷ []) bytes)
     → g ≡ with_blocks f (extra_count version size) [] size mtime → Fits (File g) → length f.more ≡ MORE_BLOCKS → size < f.size → f.size ≤ most_bytes version → (f.mtime.nanos ≤ MAX_NANOS → mtime.nanos ≤ MAX_NANOS)
     → get_or (f.block ∷ f.more) (extra_count version size) b ≡ b → cut ≡ slice_range (f.block ∷ f.more) (extra_count version size + 1) (extra_count version f.size + 1)
     → length cut ≤ MORE_BLOCKS
     → bytes ≡ take (size - BLOCK_BYTES * extra_count version size) v ++ replicate (length v - (size - BLOCK_BYTES * extra_count version size)) 0
-    → HasChanged version blocks t0 t3 i f size mtime (λ m. take size (content version m f)) g
-Makes-shrunk version blocks i f g b cut v bytes size mtime t0 t1 t2 t3 none told wrote_bits wrote_file is fits many less small timed b_is cut_is cut_few bytes_are = record {
+    → HasChanged version layout t0 t3 i f size mtime (λ m. take size (content version m f)) g
+Makes-shrunk version layout i f g b cut v bytes size mtime t0 t1 t2 t3 none told wrote_bits wrote_file is fits many less small timed b_is cut_is cut_few bytes_are = record {
   attributes = ap (attributes_of_node i) is;
   generation = ap (λ x. x.generation) is;
-  makes = Makes-each blocks t0 t1 t3 _ _ (bits_written 0 cut ++ file_written i g [] (b ∷ []) bytes) none told
-      (WritesEach-append blocks t1 t2 t3 (bits_written 0 cut) (file_written i g [] (b ∷ []) bytes) wrote_bits wrote_file) few
+  makes = Makes-each layout t0 t1 t3 _ _ (bits_written 0 cut ++ file_written i g [] (b ∷ []) bytes) none told
+      (WritesEach-append layout t1 t2 t3 (bits_written 0 cut) (file_written i g [] (b ∷ []) bytes) wrote_bits wrote_file) few
       (λ m n sound v_is becomes number here.
       Puts-shrunk version m n i f b cut v bytes size mtime number sound here many (subst (λ x. Fits (File x)) is fits) less timed b_is cut_is v_is bytes_are
       (subst (λ x. Becomes m n (bits_written 0 cut ++ file_written i x [] (b ∷ []) bytes)) is becomes));

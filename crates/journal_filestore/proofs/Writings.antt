@@ -4,6 +4,7 @@ use Rattle.std.proofs.lemmas.Bool.{eq-eqb, ne_eqb, lt-ltb, le-ltb, cond-true, co
 use Rattle.std.proofs.lemmas.List.{drop_all, append-nil, length-append, length-replicate, length-take-le, length-drop}
 use Rattle.journal_world.specs.declared.layout.TheConstants.{BLOCK_BYTES}
 use Rattle.journal_world.specs.declared.moment.TheConstants.{MAX_NANOS}
+use Rattle.journal_world.specs.Addresses.{Shape}
 use Rattle.journal_world.specs.Maps.{Map}
 use Rattle.journal_twophase.specs.Transactions.{TxnState}
 use Rattle.journal_wal.specs.declared.limits.TheConstants.{MAX_UPDATES}
@@ -90,12 +91,12 @@ with_data-whole old bs offset first fills =
     sym (ap (λ rest. bs ++ rest) (drop_all (0 + length bs) old (omega (arith, fills))) ∙ append-nil bs)
     ∙ ap (λ o. with_data old o bs) (sym first)
 
-module _ (version : FormatVersion) (blocks i offset : ℕ) (bs : List ℕ) (now : Time) (f g : FileNode) (fresh bytes : List ℕ) (first after : ℕ) (t0 t1 t2 : TxnState) (P : Map → Type 0) where
+module _ (version : FormatVersion) (layout : Shape) (i offset : ℕ) (bs : List ℕ) (now : Time) (f g : FileNode) (fresh bytes : List ℕ) (first after : ℕ) (t0 t1 t2 : TxnState) (P : Map → Type 0) where
   abbrev pub numbers : List ℕ
   numbers = g.block ∷ g.more
 
   -- what is made of the file
-  pub Makes-write : t0.writes ≡ [] → LearnsThat version blocks t0 t1 P → WritesEach blocks t1 t2 (file_written i g fresh (slice_range numbers first after) bytes)
+  pub Makes-write : t0.writes ≡ [] → LearnsThat version layout t0 t1 P → WritesEach layout t1 t2 (file_written i g fresh (slice_range numbers first after) bytes)
       → g ≡ written version f fresh offset bs now → Fits (File g) → length f.more ≡ MORE_BLOCKS → f.size ≤ most_bytes version → 0 < length bs → offset + length bs ≤ most_bytes version → now.nanos ≤ MAX_NANOS
       → AreFresh (extra_count version g.size - extra_count version f.size) fresh
       → first ≡ min (extra_count version f.size + 1) (offset / BLOCK_BYTES) → after ≡ (offset + length bs - 1) / BLOCK_BYTES + 1
@@ -103,9 +104,9 @@ module _ (version : FormatVersion) (blocks i offset : ℕ) (bs : List ℕ) (now 
       → ((m : Map) → P m → length (held m (slice_range numbers first (min (1 + extra_count version f.size) after))) ≡ BLOCK_BYTES * length (slice_range numbers first (min (1 + extra_count version f.size) after))
       → bytes ≡ with_data (held m (slice_range numbers first (min (1 + extra_count version f.size) after))
       ++ replicate (BLOCK_BYTES * length (slice_range numbers first after) - BLOCK_BYTES * length (slice_range numbers first (min (1 + extra_count version f.size) after))) 0) (offset - BLOCK_BYTES * first) bs)
-      → Makes version blocks t0 t2 (λ m n. AreClear m fresh → FileBecomes version m n i f (placed (content version m f) offset bs) now)
+      → Makes version layout t0 t2 (λ m n. AreClear m fresh → FileBecomes version m n i f (placed (content version m f) offset bs) now)
   Makes-write none told wrote is fits many small some ends timed new_ones first_is after_is span whole placing =
-      Makes-each blocks t0 t1 t2 P _ (file_written i g fresh (slice_range numbers first after) bytes) none told wrote
+      Makes-each layout t0 t1 t2 P _ (file_written i g fresh (slice_range numbers first after) bytes) none told wrote
       few shows
     where
       node : FileNode
@@ -155,7 +156,7 @@ length-with_data old bs offset fits =
     let rest : length (drop (offset + length bs) old) ≡ length old - (offset + length bs) = length-drop (offset + length bs) old in
     omega (arith, all, front, first, rest, fits)
 
-module _ (version : FormatVersion) (blocks i offset : ℕ) (bs : List ℕ) (now : Time) (f g : FileNode) (fresh : List ℕ) (first after : ℕ) (t0 t1 t2 : TxnState) (none : t0.writes ≡ []) (is : g ≡ written version f fresh offset bs now) (fits : Fits (File g))
+module _ (version : FormatVersion) (layout : Shape) (i offset : ℕ) (bs : List ℕ) (now : Time) (f g : FileNode) (fresh : List ℕ) (first after : ℕ) (t0 t1 t2 : TxnState) (none : t0.writes ≡ []) (is : g ≡ written version f fresh offset bs now) (fits : Fits (File g))
     (many : length f.more ≡ MORE_BLOCKS) (small : f.size ≤ most_bytes version) (some : 0 < length bs) (ends : offset + length bs ≤ most_bytes version) (timed : now.nanos ≤ MAX_NANOS)
     (new_ones : AreFresh (extra_count version g.size - extra_count version f.size) fresh) (first_is : first ≡ min (extra_count version f.size + 1) (offset / BLOCK_BYTES)) (after_is : after ≡ (offset + length bs - 1) / BLOCK_BYTES + 1) where
   after_low : after ≤ 1 + MORE_BLOCKS
@@ -174,10 +175,10 @@ module _ (version : FormatVersion) (blocks i offset : ℕ) (bs : List ℕ) (now 
   part_length = piece_length (min (1 + extra_count version f.size) after) (omega arith)
 
   -- the bytes fill all blocks that change
-  pub Makes-write_whole : WritesEach blocks t0 t2 (file_written i g fresh (slice_range (g.block ∷ g.more) first after) bs) → length bs ≡ BLOCK_BYTES * length (slice_range (g.block ∷ g.more) first after)
-      → Makes version blocks t0 t2 (λ m n. AreClear m fresh → FileBecomes version m n i f (placed (content version m f) offset bs) now)
+  pub Makes-write_whole : WritesEach layout t0 t2 (file_written i g fresh (slice_range (g.block ∷ g.more) first after) bs) → length bs ≡ BLOCK_BYTES * length (slice_range (g.block ∷ g.more) first after)
+      → Makes version layout t0 t2 (λ m n. AreClear m fresh → FileBecomes version m n i f (placed (content version m f) offset bs) now)
   Makes-write_whole wrote fills =
-      Makes-write version blocks i offset bs now f g fresh bs first after t0 t0 t2 _ none (Tells-nothing blocks t0) wrote is fits many small some ends timed new_ones first_is after_is span fills
+      Makes-write version layout i offset bs now f g fresh bs first after t0 t0 t2 _ none (Tells-nothing layout t0) wrote is fits many small some ends timed new_ones first_is after_is span fills
       (λ m nothing part_whole.
       with_data-whole _ bs (offset - BLOCK_BYTES * first) (omega (arith, fills, span, first_is, after_is, some))
       (fills ∙ sym (length-append (held m middle) (replicate {A = ℕ} zeros 0) ∙ ap (λ k. length (held m middle) + k) (length-replicate {A = ℕ} zeros 0) ∙ (omega (arith, part_whole, part_length, span)))))
@@ -190,12 +191,12 @@ module _ (version : FormatVersion) (blocks i offset : ℕ) (bs : List ℕ) (now 
 
   -- what they do not fill was read
   pub Makes-write_read : (middle buffer bytes : List ℕ) → middle ≡ slice_range (g.block ∷ g.more) first (min (1 + extra_count version f.size) after)
-      → LearnsThat version blocks t0 t1 (λ m. buffer ≡ held m middle ++ replicate (BLOCK_BYTES * length (slice_range (g.block ∷ g.more) first after) - BLOCK_BYTES * length middle) 0)
+      → LearnsThat version layout t0 t1 (λ m. buffer ≡ held m middle ++ replicate (BLOCK_BYTES * length (slice_range (g.block ∷ g.more) first after) - BLOCK_BYTES * length middle) 0)
       → length buffer ≡ BLOCK_BYTES * length (slice_range (g.block ∷ g.more) first after) → bytes ≡ with_data buffer (offset - BLOCK_BYTES * first) bs
-      → WritesEach blocks t1 t2 (file_written i g fresh (slice_range (g.block ∷ g.more) first after) bytes)
-      → Makes version blocks t0 t2 (λ m n. AreClear m fresh → FileBecomes version m n i f (placed (content version m f) offset bs) now)
+      → WritesEach layout t1 t2 (file_written i g fresh (slice_range (g.block ∷ g.more) first after) bytes)
+      → Makes version layout t0 t2 (λ m n. AreClear m fresh → FileBecomes version m n i f (placed (content version m f) offset bs) now)
   Makes-write_read middle buffer bytes middle_is told whole are wrote =
-      Makes-write version blocks i offset bs now f g fresh bytes first after t0 t1 t2 _ none told wrote is fits many small some ends timed new_ones first_is after_is span
+      Makes-write version layout i offset bs now f g fresh bytes first after t0 t1 t2 _ none told wrote is fits many small some ends timed new_ones first_is after_is span
       (ap length are ∙ length-with_data buffer bs (offset - BLOCK_BYTES * first) (omega (arith, whole, span, first_is, after_is, some)) ∙ whole)
       (λ m read part_whole.
       are ∙ ap (λ b. with_data b (offset - BLOCK_BYTES * first) bs)
@@ -210,13 +211,13 @@ attributes-written version m i offset bs now f g after sound is told =
     ∙ ap (λ x. record { number = i; size = x; mtime = now }) (sym (length-placed (content version m f) offset bs))
 
 -- the file has changed, whose new blocks were found free before
-pub HasChanged-written : (version : FormatVersion) (blocks i offset : ℕ) (bs : List ℕ) (now : Time) (f g : FileNode) (fresh : List ℕ) (took : Bool) (t0 t1 t2 : TxnState) → took ≡ true
-    → LearnsThat version blocks t0 t1 (λ m. took ≡ true → AreClear m fresh)
-    → Makes version blocks t1 t2 (λ m n. AreClear m fresh → FileBecomes version m n i f (placed (content version m f) offset bs) now)
+pub HasChanged-written : (version : FormatVersion) (layout : Shape) (i offset : ℕ) (bs : List ℕ) (now : Time) (f g : FileNode) (fresh : List ℕ) (took : Bool) (t0 t1 t2 : TxnState) → took ≡ true
+    → LearnsThat version layout t0 t1 (λ m. took ≡ true → AreClear m fresh)
+    → Makes version layout t1 t2 (λ m n. AreClear m fresh → FileBecomes version m n i f (placed (content version m f) offset bs) now)
     → g ≡ written version f fresh offset bs now
-    → HasChanged version blocks t0 t2 i f (max f.size (offset + length bs)) now (λ m. placed (content version m f) offset bs) g
-HasChanged-written version blocks i offset bs now f g fresh took t0 t1 t2 is_taken told made is = record {
+    → HasChanged version layout t0 t2 i f (max f.size (offset + length bs)) now (λ m. placed (content version m f) offset bs) g
+HasChanged-written version layout i offset bs now f g fresh took t0 t1 t2 is_taken told made is = record {
   attributes = ap (attributes_of_node i) is;
   generation = ap (λ x. x.generation) is;
-  makes = Makes-after blocks t0 t1 t2 _ _ _ told made (λ m n clear becomes. becomes (clear is_taken));
+  makes = Makes-after layout t0 t1 t2 _ _ _ told made (λ m n clear becomes. becomes (clear is_taken));
 }

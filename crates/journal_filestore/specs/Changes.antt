@@ -1,5 +1,6 @@
 -- What becomes of a file, and of the numbers of its blocks.
 use Rattle.std.specs.Prelude.{ℕ, ◌≡◌, ◌<◌, ◌+◌, ◌-◌, true, List, ◌++◌, length, take, replicate, Option, Some, None}
+use Rattle.journal_world.specs.Addresses.{Shape}
 use Rattle.journal_world.specs.Maps.{Map}
 use Rattle.journal_twophase.specs.Transactions.{TxnState}
 use Rattle.journal_inode.specs.declared.version.FormatVersion.{FormatVersion}
@@ -27,17 +28,17 @@ FileBecomes version m n i f bytes mtime =
     is_file_number i ≡ true → node_at m i ≡ File f → Puts version m n i (record { generation = f.generation; file = Some (record { bytes = bytes; mtime = mtime }) })
 
 -- Blocks are not handed out that a file of the new size has beside those of the old one: the transaction only read
-pub record LacksBlocks (version : FormatVersion) (blocks : ℕ) (old new : TxnState) (from to : ℕ) : Type 0 where
+pub record LacksBlocks (version : FormatVersion) (layout : Shape) (old new : TxnState) (from to : ℕ) : Type 0 where
   pub needed : extra_count version from < extra_count version to
-  pub told : LearnsThat version blocks old new (λ m. Unit {0})
+  pub told : LearnsThat version layout old new (λ m. Unit {0})
 
 -- The file became one of this size, time and bytes, which its inode has
-pub record HasChanged (version : FormatVersion) (blocks : ℕ) (old new : TxnState) (i : ℕ) (f : FileNode) (size : ℕ) (mtime : Time) (bytes : Map → List ℕ) (g : FileNode) : Type 0 where
+pub record HasChanged (version : FormatVersion) (layout : Shape) (old new : TxnState) (i : ℕ) (f : FileNode) (size : ℕ) (mtime : Time) (bytes : Map → List ℕ) (g : FileNode) : Type 0 where
   pub attributes : attributes_of_node i g ≡ record { number = i; size = size; mtime = mtime }
   pub generation : g.generation ≡ f.generation
-  pub makes : Makes version blocks old new (λ m n. FileBecomes version m n i f (bytes m) mtime)
+  pub makes : Makes version layout old new (λ m n. FileBecomes version m n i f (bytes m) mtime)
 
 -- What becomes of a file that is to have this size, time and bytes
-abbrev pub ChangesFile : FormatVersion → ℕ → TxnState → TxnState → ℕ → FileNode → ℕ → Time → (Map → List ℕ) → Option FileNode → Type 0
-ChangesFile version blocks old new i f size mtime bytes None = LacksBlocks version blocks old new f.size size
-ChangesFile version blocks old new i f size mtime bytes (Some g) = HasChanged version blocks old new i f size mtime bytes g
+abbrev pub ChangesFile : FormatVersion → Shape → TxnState → TxnState → ℕ → FileNode → ℕ → Time → (Map → List ℕ) → Option FileNode → Type 0
+ChangesFile version layout old new i f size mtime bytes None = LacksBlocks version layout old new f.size size
+ChangesFile version layout old new i f size mtime bytes (Some g) = HasChanged version layout old new i f size mtime bytes g

@@ -3,7 +3,7 @@ use Rattle.std.specs.Prelude.{ℕ, ◌≡◌, ◌≢◌, ◌<◌, ◌≤◌, ◌
 use Rattle.std.specs.List.{AllByRecursion}
 use Rattle.journal_world.specs.declared.layout.TheConstants.{FIRST_DATA, BLOCK_BITS, BLOCK_BYTES}
 use Rattle.journal_world.specs.declared.address.Addr.{Addr}
-use Rattle.journal_world.specs.Addresses.{Value, is_same}
+use Rattle.journal_world.specs.Addresses.{Value, is_same, Shape}
 use Rattle.journal_world.specs.Maps.{Map, Pair, Agrees, SamePairs, value_among, value_at, overwritten}
 use Rattle.journal_wal.specs.declared.limits.TheConstants.{MAX_UPDATES}
 use Rattle.journal_objlog.specs.Writes.{written_blocks}
@@ -24,8 +24,8 @@ abbrev pub GivesPairs : Map → List Pair → Type 0
 GivesPairs m ps = (a : Addr) (v : Value) → value_among ps a ≡ Some v → value_at m a ≡ v
 
 -- A map that the transaction may have read: sound, on a disk of so many blocks, and with the values that were read
-pub record MayBeRead (version : FormatVersion) (blocks : ℕ) (reads : List Pair) (m : Map) : Type 0 where
-  pub on_disk : m.blocks ≡ blocks
+pub record MayBeRead (version : FormatVersion) (layout : Shape) (reads : List Pair) (m : Map) : Type 0 where
+  pub on_disk : m.layout ≡ layout
   pub sound : HasSoundFiles version m
   pub gives : GivesPairs m reads
 
@@ -60,25 +60,25 @@ pub record AreFresh (n : ℕ) (bs : List ℕ) : Type 0 where
   pub bits : AllByRecursion HasBit bs
 
 -- The transaction only read, and P holds of each map that it may have read
-pub record LearnsThat (version : FormatVersion) (blocks : ℕ) (old new : TxnState) (P : Map → Type 0) : Type 0 where
+pub record LearnsThat (version : FormatVersion) (layout : Shape) (old new : TxnState) (P : Map → Type 0) : Type 0 where
   pub writes : new.writes ≡ old.writes
-  pub before : (m : Map) → MayBeRead version blocks new.reads m → MayBeRead version blocks old.reads m
-  pub now : (m : Map) → MayBeRead version blocks new.reads m → P m
+  pub before : (m : Map) → MayBeRead version layout new.reads m → MayBeRead version layout old.reads m
+  pub now : (m : Map) → MayBeRead version layout new.reads m → P m
 
 -- The transaction overwrote an object of the disk
-pub record WritesObject (blocks : ℕ) (old new : TxnState) (o : Object) (v : Value) : Type 0 where
+pub record WritesObject (layout : Shape) (old new : TxnState) (o : Object) (v : Value) : Type 0 where
   pub reads : new.reads ≡ old.reads
   pub pairs : SamePairs new.writes ((addr_of o, v) ∷ old.writes)
-  pub on_disk : IsOnDisk blocks o
+  pub on_disk : IsOnDisk layout.blocks o
 
 -- an object and a value of it
 abbrev pub Write : Type 0
 Write = Object × Value
 
 -- The transaction overwrote these objects of the disk, one after another
-abbrev pub WritesEach : ℕ → TxnState → TxnState → List Write → Type 0
-WritesEach blocks old new [] = new ≡ old
-WritesEach blocks old new (w ∷ ws) = (middle : TxnState) × WritesObject blocks old middle w.0 w.1 × WritesEach blocks middle new ws
+abbrev pub WritesEach : Shape → TxnState → TxnState → List Write → Type 0
+WritesEach layout old new [] = new ≡ old
+WritesEach layout old new (w ∷ ws) = (middle : TxnState) × WritesObject layout old middle w.0 w.1 × WritesEach layout middle new ws
 
 -- the bits of these blocks, each with this value
 abbrev pub bits_written : ℕ → List ℕ → List Write
@@ -104,14 +104,14 @@ abbrev pub Leads : {A : Type 0} → FormatVersion → Map → Result A Status �
 Leads version n answer outcome = HasSoundFiles version n × ((answer, files_of version n) ≡ outcome)
 
 -- P holds of each map that the transaction may have read, and what its writes make of it
-pub record Makes (version : FormatVersion) (blocks : ℕ) (old new : TxnState) (P : Map → Map → Type 0) : Type 0 where
-  pub before : (m : Map) → MayBeRead version blocks new.reads m → MayBeRead version blocks old.reads m
-  pub now : (m : Map) → MayBeRead version blocks new.reads m → P m (overwritten m new.writes)
+pub record Makes (version : FormatVersion) (layout : Shape) (old new : TxnState) (P : Map → Map → Type 0) : Type 0 where
+  pub before : (m : Map) → MayBeRead version layout new.reads m → MayBeRead version layout old.reads m
+  pub now : (m : Map) → MayBeRead version layout new.reads m → P m (overwritten m new.writes)
   pub few : written_blocks new.writes ≤ MAX_UPDATES
 
 -- Wherever a sound map gives what was read, the writes leave it sound, and the answer fits the files before and after
-pub record Does {A : Type 0} (version : FormatVersion) (blocks : ℕ) (case : Files → A → Files → Type 0) (reads writes : List Pair) (answer : A) : Type 0 where
-  pub sound : (m : Map) → m.blocks ≡ blocks → HasSoundFiles version m → Agrees m reads → HasSoundFiles version (overwritten m writes)
-  pub answers : (m : Map) → m.blocks ≡ blocks → HasSoundFiles version m → Agrees m reads → case (files_of version m) answer (files_of version (overwritten m writes))
+pub record Does {A : Type 0} (version : FormatVersion) (layout : Shape) (case : Files → A → Files → Type 0) (reads writes : List Pair) (answer : A) : Type 0 where
+  pub sound : (m : Map) → m.layout ≡ layout → HasSoundFiles version m → Agrees m reads → HasSoundFiles version (overwritten m writes)
+  pub answers : (m : Map) → m.layout ≡ layout → HasSoundFiles version m → Agrees m reads → case (files_of version m) answer (files_of version (overwritten m writes))
   -- no more blocks are written than a transaction may write
   pub few : written_blocks writes ≤ MAX_UPDATES

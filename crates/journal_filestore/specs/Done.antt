@@ -1,6 +1,7 @@
 -- What an operation is in the history, and what is left where it has no answer.
 use Rattle.std.specs.Prelude.{ℕ, ◌≡◌, ◌≤◌, ◌+◌, Bool, true, false, IsTrue, List, [], ◌∷◌, ◌++◌, length, take, Some, slice_get, Result, Ok, Err, OnOk}
 use mathlib.Core.List.{IsPrefix}
+use Rattle.journal_world.specs.Addresses.{Shape}
 use Rattle.journal_world.specs.Maps.{Transaction, apply}
 use Rattle.journal_world.specs.declared.refusal.Refusal.{Refusal}
 use Rattle.journal_world.specs.Histories.{Entry, commits_of, count, floor, is_trusted, at, latest}
@@ -92,7 +93,7 @@ pending_wait_for true receipt = Wait receipt
 pending_wait_for false receipt = Nothing
 
 -- The transaction was committed, and its receipt is to be waited for where it waits
-pub record Ends (version : FormatVersion) (blocks : ℕ) (t : TxnState) (waits : Bool) (old new : SessionState) (wait : PendingWait CommitPlace) : Type 0 where
+pub record Ends (version : FormatVersion) (layout : Shape) (t : TxnState) (waits : Bool) (old new : SessionState) (wait : PendingWait CommitPlace) : Type 0 where
   pub receipt : CommitPlace
-  pub committed : IsCommitted (HasSoundFiles version) blocks t.began (core_of t) old new receipt
+  pub committed : IsCommitted (HasSoundFiles version) layout t.began (core_of t) old new receipt
   pub owes : wait ≡ pending_wait_for waits receipt

@@ -3,6 +3,7 @@ ghost use Rattle.std.specs.Prelude.{ℕ, ◌≡◌, ◌<◌, ◌≤◌, ◌+◌,
 ghost use Rattle.std.specs.List.Sorted.{IsStrictlyIncreasing};
 ghost use Rattle.std.specs.List.{AllByRecursion};
 ghost use Rattle.journal_world.specs.declared.layout.TheConstants.{BLOCK_BYTES};
+ghost use Rattle.journal_inode.specs.Places.{HasFiles};
 ghost use Rattle.journal_inode.specs.declared.node.TheConstants.{MORE_BLOCKS};
 ghost use Rattle.journal_inode.specs.declared.node.Node.TheVariants.{File};
 ghost use Rattle.journal_inode.specs.Nodes.{Fits};
@@ -29,10 +30,11 @@ pub(crate) fn read_blocks<'j, 'b, D: BlockDisk, J: Naming, V: Version, W: Wait>(
     txn: &mut FileTxn<'j, 'b, D, J, V>,
     numbers: &[u64],
 ) -> Result<Vec<u8>, AttemptEnd<'b, J, V>>
+    requires cut { HasFiles J.layout }
     requires some { 0 < length numbers.now }
     requires unread { HasReadNoBlocks txn.old }
     requires writes { txn.old.writes ≡ [] }
-    ensures told { IfOk result (λ bytes. LearnsThat V.VERSION J.blocks txn.old txn.new (λ m. held m numbers.now ≡ bytes.items)) }
+    ensures told { IfOk result (λ bytes. LearnsThat V.VERSION J.layout txn.old txn.new (λ m. held m numbers.now ≡ bytes.items)) }
     ensures whole { IfOk result (λ bytes. length bytes.items ≡ BLOCK_BYTES * length numbers.now) }
     ensures refusal { IfErr result IsAttemptEnd }
 {
@@ -54,10 +56,11 @@ fn are_clear<'j, 'b, D: BlockDisk, J: Naming, V: Version, W: Wait>(
     txn: &mut FileTxn<'j, 'b, D, J, V>,
     numbers: &[u64],
 ) -> Result<bool, AttemptEnd<'b, J, V>>
+    requires cut { HasFiles J.layout }
     requires rising { IsStrictlyIncreasing numbers.now }
     requires unread { HasReadNoData txn.old }
     requires writes { txn.old.writes ≡ [] }
-    ensures told { IfOk result (λ clear. LearnsThat V.VERSION J.blocks txn.old txn.new (λ m. IsTrue clear → AreClear m numbers.now)) }
+    ensures told { IfOk result (λ clear. LearnsThat V.VERSION J.layout txn.old txn.new (λ m. IsTrue clear → AreClear m numbers.now)) }
     ensures bits { IfOk result (λ clear. IsTrue clear → AllByRecursion HasBit numbers.now) }
     ensures unread { OnOk result (HasReadNoBlocks txn.new) }
     ensures refusal { IfErr result IsAttemptEnd }
@@ -77,10 +80,11 @@ pub(crate) fn take_blocks<'j, 'b, D: BlockDisk, J: Naming, V: Version, W: Wait>(
     space: &mut BlockReservation,
     count: usize,
 ) -> Result<bool, AttemptEnd<'b, J, V>>
+    requires cut { HasFiles J.layout }
     requires space { space.old.taken.items ≡ [] }
     requires unread { HasReadNoData txn.old }
     requires writes { txn.old.writes ≡ [] }
-    ensures told { IfOk result (λ took. LearnsThat V.VERSION J.blocks txn.old txn.new (λ m. IsTrue took → AreClear m space.new.taken.items)) }
+    ensures told { IfOk result (λ took. LearnsThat V.VERSION J.layout txn.old txn.new (λ m. IsTrue took → AreClear m space.new.taken.items)) }
     ensures fresh { IfOk result (λ took. IsTrue took → AreFresh count space.new.taken.items) }
     ensures short { IfOk result (λ took. took ≡ false → 0 < count) }
     ensures unread { OnOk result (HasReadNoBlocks txn.new) }
@@ -102,7 +106,8 @@ pub(crate) fn write_bits<'j, 'b, D: BlockDisk, J: Naming, V: Version, W: Wait>(
     numbers: &[u64],
     is_set: bool,
 ) -> Result<(), AttemptEnd<'b, J, V>>
-    ensures writes { OnOk result (WritesEach J.blocks txn.old txn.new (bits_written (if is_set then 1 else 0) numbers.now)) }
+    requires cut { HasFiles J.layout }
+    ensures writes { OnOk result (WritesEach J.layout txn.old txn.new (bits_written (if is_set then 1 else 0) numbers.now)) }
     ensures refusal { IfErr result IsAttemptEnd }
 {
     for number in numbers {
@@ -118,8 +123,9 @@ fn write_blocks<'j, 'b, D: BlockDisk, J: Naming, V: Version, W: Wait>(
     numbers: &[u64],
     bytes: &[u8],
 ) -> Result<(), AttemptEnd<'b, J, V>>
+    requires cut { HasFiles J.layout }
     requires whole { length bytes.now ≡ BLOCK_BYTES * length numbers.now }
-    ensures writes { OnOk result (WritesEach J.blocks txn.old txn.new (blocks_written numbers.now bytes.now)) }
+    ensures writes { OnOk result (WritesEach J.layout txn.old txn.new (blocks_written numbers.now bytes.now)) }
     ensures refusal { IfErr result IsAttemptEnd }
 {
     for j in 0..numbers.len() {
@@ -139,9 +145,10 @@ pub(crate) fn write_file<'j, 'b, D: BlockDisk, J: Naming, V: Version, W: Wait>(
     numbers: &[u64],
     bytes: &[u8],
 ) -> Result<(), AttemptEnd<'b, J, V>>
+    requires cut { HasFiles J.layout }
     requires number { number < INODES }
     requires whole { length bytes.now ≡ BLOCK_BYTES * length numbers.now }
-    ensures writes { OnOk result (WritesEach J.blocks txn.old txn.new (file_written number file fresh.now numbers.now bytes.now)) }
+    ensures writes { OnOk result (WritesEach J.layout txn.old txn.new (file_written number file fresh.now numbers.now bytes.now)) }
     ensures refusal { IfErr result IsAttemptEnd }
 {
     write_bits(rt, txn, fresh, true)?;
@@ -157,11 +164,12 @@ pub(crate) fn read_span<'j, 'b, D: BlockDisk, J: Naming, V: Version, W: Wait>(
     count: usize,
     alloc: Global,
 ) -> Result<Vec<u8>, AttemptEnd<'b, J, V>>
+    requires cut { HasFiles J.layout }
     requires fits { length numbers.now ≤ count }
     requires few { count ≤ 1 + MORE_BLOCKS }
     requires unread { HasReadNoBlocks txn.old }
     requires writes { txn.old.writes ≡ [] }
-    ensures told { IfOk result (λ bytes. LearnsThat V.VERSION J.blocks txn.old txn.new
+    ensures told { IfOk result (λ bytes. LearnsThat V.VERSION J.layout txn.old txn.new
         (λ m. bytes.items ≡ held m numbers.now ++ replicate (BLOCK_BYTES * count - BLOCK_BYTES * length numbers.now) 0)) }
     ensures whole { IfOk result (λ bytes. length bytes.items ≡ BLOCK_BYTES * count) }
     ensures refusal { IfErr result IsAttemptEnd }

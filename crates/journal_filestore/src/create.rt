@@ -1,5 +1,6 @@
 // CREATE.
 ghost use Rattle.std.specs.Prelude.{ℕ, ◌≡◌, ◌<◌, ◌≤◌, Bool, Some, true, false, [], IfOk, IfErr};
+ghost use Rattle.journal_inode.specs.Places.{HasFiles};
 ghost use Rattle.journal_inode.specs.declared.node.Node.TheVariants.{Free, File};
 ghost use Rattle.journal_inode.specs.Nodes.{Fits};
 ghost use Rattle.journal_inode.specs.Versions.{most_bytes};
@@ -101,6 +102,7 @@ impl<'a> Create<'a> {
         settings: Settings,
         is_guarded: bool,
     ) -> Result<Answer<Found>, AttemptEnd<'b, J, V>>
+        requires cut { HasFiles J.layout }
         requires number { is_file_number number ≡ true }
         requires fits { Fits (File file) }
         requires whole { file.size ≤ most_bytes V.VERSION }
@@ -108,7 +110,7 @@ impl<'a> Create<'a> {
         requires space { space.old.taken.items ≡ [] }
         requires unread { HasReadNoData txn.old }
         requires writes { txn.old.writes ≡ [] }
-        ensures makes { IfOk result (λ answer. Makes V.VERSION J.blocks txn.old txn.new (λ m n. node_at m number ≡ File file → (files_of V.VERSION m).root ≡ root
+        ensures makes { IfOk result (λ answer. Makes V.VERSION J.layout txn.old txn.new (λ m n. node_at m number ≡ File file → (files_of V.VERSION m).root ≡ root
             → (room : Bool) × Leads V.VERSION n answer (create_file V.VERSION room is_guarded settings (time_of self.now.moment) (files_of V.VERSION m) number (Some (data_of V.VERSION m file))))) }
         ensures refusal { IfErr result IsAttemptEnd }
     {
@@ -135,12 +137,13 @@ impl<'a> Create<'a> {
         last: u32,
         settings: Settings,
     ) -> Result<Answer<Found>, AttemptEnd<'b, J, V>>
+        requires cut { HasFiles J.layout }
         requires number { is_file_number number ≡ true }
         requires timed { is_no_time settings.mtime ≡ false }
         requires space { space.old.taken.items ≡ [] }
         requires unread { HasReadNoData txn.old }
         requires writes { txn.old.writes ≡ [] }
-        ensures makes { IfOk result (λ answer. Makes V.VERSION J.blocks txn.old txn.new (λ m n. node_at m number ≡ Free last → (files_of V.VERSION m).root ≡ root
+        ensures makes { IfOk result (λ answer. Makes V.VERSION J.layout txn.old txn.new (λ m n. node_at m number ≡ Free last → (files_of V.VERSION m).root ≡ root
             → (room : Bool) × Leads V.VERSION n answer (create_new V.VERSION room settings (time_of self.now.moment) (files_of V.VERSION m) number))) }
         ensures refusal { IfErr result IsAttemptEnd }
     {

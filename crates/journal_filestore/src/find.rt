@@ -1,5 +1,6 @@
 // What a handle names.
 ghost use Rattle.std.specs.Prelude.{◌≡◌, [], IfOk, IfErr, OnOk};
+ghost use Rattle.journal_inode.specs.Places.{HasFiles};
 ghost use Rattle.journal_inode.specs.Places.Object.{inode};
 ghost use Rattle.journal_filestore.specs.Doing.{LearnsThat, ReadsOnly, HasReadNoData};
 ghost use Rattle.journal_filestore.specs.Faults.{IsAttemptEnd};
@@ -31,9 +32,10 @@ pub(crate) fn find<'j, 'b, D: BlockDisk, J: Naming, V: Version, W: Wait>(
     txn: &mut FileTxn<'j, 'b, D, J, V>,
     handle: Handle,
 ) -> Result<Target, AttemptEnd<'b, J, V>>
+    requires cut { HasFiles J.layout }
     requires reads { txn.old.reads ≡ [] }
     requires writes { txn.old.writes ≡ [] }
-    ensures told { IfOk result (λ place. LearnsThat V.VERSION J.blocks txn.old txn.new (λ m. IsAt V.VERSION handle.number handle.generation m place)) }
+    ensures told { IfOk result (λ place. LearnsThat V.VERSION J.layout txn.old txn.new (λ m. IsAt V.VERSION handle.number handle.generation m place)) }
     ensures reads { OnOk result (ReadsOnly txn.old txn.new (inode handle.number)) }
     ensures no_data { OnOk result (HasReadNoData txn.new) }
     ensures fits { IfOk result (IsTarget V.VERSION handle.number) }

@@ -8,7 +8,7 @@ ghost use Rattle.journal_world.specs.Maps.{is_object, is_value_at};
 ghost use Rattle.journal_twophase.specs.Transactions.{holding, ReadsValue, Overwrites};
 ghost use Rattle.journal_inode.specs.declared.place.TheConstants.{INODES};
 ghost use Rattle.journal_inode.specs.declared.node.TheConstants.{NODE_BYTES};
-ghost use Rattle.journal_inode.specs.Places.{object};
+ghost use Rattle.journal_inode.specs.Places.{object, HasFiles};
 ghost use Rattle.journal_inode.specs.Places.Object.{bit, inode, block};
 ghost use Rattle.journal_inode.specs.Nodes.{inode_bytes, Fits};
 ghost use Rattle.journal_inode.specs.Sound.{node_at};
@@ -31,7 +31,7 @@ fn read<'j, 'b, D: BlockDisk, J: Naming, V: Version, W: Wait>(
     addr: Addr,
 ) -> Result<Value, AttemptEnd<'b, J, V>>
     ensures reads { IfOk result (λ value. ReadsValue (holding txn.old addr) addr value txn.new) }
-    ensures object { IfOk result (λ value. IsTrue (is_object J.blocks (addr, value))) }
+    ensures object { IfOk result (λ value. IsTrue (is_object J.layout (addr, value))) }
     ensures refusal { IfErr result IsAttemptEnd }
 {
     match txn.read(rt, addr) {
@@ -47,9 +47,9 @@ fn overwrite<'j, 'b, D: BlockDisk, J: Naming, V: Version, W: Wait>(
     addr: Addr,
     bytes: &[u8],
 ) -> Result<(), AttemptEnd<'b, J, V>>
-    requires kind { IsTrue (is_valid J.blocks addr) → is_value_at (kind_of J.blocks addr.block) bytes.now ≡ true }
+    requires kind { IsTrue (is_valid J.layout addr) → is_value_at (kind_of J.layout addr.block) bytes.now ≡ true }
     ensures overwrites { OnOk result (Overwrites (holding txn.old addr) addr bytes.now txn.new) }
-    ensures object { OnOk result (IsTrue (is_object J.blocks (addr, bytes.now))) }
+    ensures object { OnOk result (IsTrue (is_object J.layout (addr, bytes.now))) }
     ensures refusal { IfErr result IsAttemptEnd }
 {
     match txn.overwrite(rt, addr, bytes) {
@@ -64,10 +64,11 @@ pub(crate) fn read_node<'j, 'b, D: BlockDisk, J: Naming, V: Version, W: Wait>(
     txn: &mut FileTxn<'j, 'b, D, J, V>,
     number: u32,
 ) -> Result<Node, AttemptEnd<'b, J, V>>
+    requires cut { HasFiles J.layout }
     requires number { number < INODES }
     requires unread { IsNotYetRead txn.old (inode number) }
     requires writes { txn.old.writes ≡ [] }
-    ensures told { IfOk result (λ node. LearnsThat V.VERSION J.blocks txn.old txn.new (λ m. node_at m number ≡ node)) }
+    ensures told { IfOk result (λ node. LearnsThat V.VERSION J.layout txn.old txn.new (λ m. node_at m number ≡ node)) }
     ensures reads { OnOk result (ReadsOnly txn.old txn.new (inode number)) }
     ensures no_data { OnOk result (HasReadNoData txn.old → HasReadNoData txn.new) }
     ensures fits { IfOk result Fits }
@@ -98,9 +99,10 @@ pub(crate) fn read_block<'j, 'b, D: BlockDisk, J: Naming, V: Version, W: Wait>(
     txn: &mut FileTxn<'j, 'b, D, J, V>,
     number: u64,
 ) -> Result<Value, AttemptEnd<'b, J, V>>
+    requires cut { HasFiles J.layout }
     requires unread { FIRST_DATA ≤ number → IsNotYetRead txn.old (block number) }
     requires writes { txn.old.writes ≡ [] }
-    ensures told { IfOk result (λ value. LearnsThat V.VERSION J.blocks txn.old txn.new (λ m. object m (block number) ≡ value)) }
+    ensures told { IfOk result (λ value. LearnsThat V.VERSION J.layout txn.old txn.new (λ m. object m (block number) ≡ value)) }
     ensures reads { OnOk result (ReadsOnly txn.old txn.new (block number)) }
     ensures whole { IfOk result (λ value. length value ≡ 4096) }
     ensures data_block { OnOk result (FIRST_DATA ≤ number) }
@@ -118,9 +120,10 @@ pub(crate) fn read_bit<'j, 'b, D: BlockDisk, J: Naming, V: Version, W: Wait>(
     txn: &mut FileTxn<'j, 'b, D, J, V>,
     number: u64,
 ) -> Result<bool, AttemptEnd<'b, J, V>>
+    requires cut { HasFiles J.layout }
     requires unread { HasBit number → IsNotYetRead txn.old (bit (number - FIRST_DATA)) }
     requires writes { txn.old.writes ≡ [] }
-    ensures told { IfOk result (λ is_set. LearnsThat V.VERSION J.blocks txn.old txn.new
+    ensures told { IfOk result (λ is_set. LearnsThat V.VERSION J.layout txn.old txn.new
         (λ m. object m (bit (number - FIRST_DATA)) ≡ (if is_set then 1 else 0) ∷ [])) }
     ensures reads { OnOk result (ReadsOnly txn.old txn.new (bit (number - FIRST_DATA))) }
     ensures data_block { OnOk result (HasBit number) }
@@ -140,8 +143,9 @@ pub(crate) fn write_node<'j, 'b, D: BlockDisk, J: Naming, V: Version, W: Wait>(
     number: u32,
     node: &Node,
 ) -> Result<(), AttemptEnd<'b, J, V>>
-    requires { number < INODES }
-    ensures writes { OnOk result (WritesObject J.blocks txn.old txn.new (inode number) (inode_bytes node.now)) }
+    requires cut { HasFiles J.layout }
+    requires number { number < INODES }
+    ensures writes { OnOk result (WritesObject J.layout txn.old txn.new (inode number) (inode_bytes node.now)) }
     ensures refusal { IfErr result IsAttemptEnd }
 {
     write_inode(rt, txn, number, &node.bytes())
@@ -154,9 +158,10 @@ fn write_inode<'j, 'b, D: BlockDisk, J: Naming, V: Version, W: Wait>(
     number: u32,
     bytes: &[u8],
 ) -> Result<(), AttemptEnd<'b, J, V>>
+    requires cut { HasFiles J.layout }
     requires number { number < INODES }
     requires whole { length bytes.now ≡ NODE_BYTES }
-    ensures writes { OnOk result (WritesObject J.blocks txn.old txn.new (inode number) bytes.now) }
+    ensures writes { OnOk result (WritesObject J.layout txn.old txn.new (inode number) bytes.now) }
     ensures refusal { IfErr result IsAttemptEnd }
 {
     overwrite(rt, txn, inode_addr(number), bytes)
@@ -169,8 +174,9 @@ pub(crate) fn write_block<'j, 'b, D: BlockDisk, J: Naming, V: Version, W: Wait>(
     number: u64,
     bytes: &[u8],
 ) -> Result<(), AttemptEnd<'b, J, V>>
+    requires cut { HasFiles J.layout }
     requires whole { length bytes.now ≡ BLOCK_BYTES }
-    ensures writes { OnOk result (WritesObject J.blocks txn.old txn.new (block number) bytes.now) }
+    ensures writes { OnOk result (WritesObject J.layout txn.old txn.new (block number) bytes.now) }
     ensures refusal { IfErr result IsAttemptEnd }
 {
     if number < FIRST_DATA {
@@ -186,7 +192,8 @@ pub(crate) fn write_bit<'j, 'b, D: BlockDisk, J: Naming, V: Version, W: Wait>(
     number: u64,
     is_set: bool,
 ) -> Result<(), AttemptEnd<'b, J, V>>
-    ensures writes { OnOk result (WritesObject J.blocks txn.old txn.new (bit (number - FIRST_DATA)) ((if is_set then 1 else 0) ∷ [])) }
+    requires cut { HasFiles J.layout }
+    ensures writes { OnOk result (WritesObject J.layout txn.old txn.new (bit (number - FIRST_DATA)) ((if is_set then 1 else 0) ∷ [])) }
     ensures refusal { IfErr result IsAttemptEnd }
 {
     if !has_bit(number) {

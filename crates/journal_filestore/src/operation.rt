@@ -1,5 +1,6 @@
 // An operation on files, as one transaction, and why an attempt at it is given up.
 ghost use Rattle.std.specs.Prelude.{◌≡◌, [], Bool, IfOk, IfErr, Result};
+ghost use Rattle.journal_inode.specs.Places.{HasFiles};
 ghost use Rattle.journal_filestore.specs.declared.status.Status.{Status};
 ghost use Rattle.journal_filestore.specs.Files.{Files};
 ghost use Rattle.journal_filestore.specs.Doing.{Does};
@@ -71,9 +72,10 @@ pub(crate) trait Operation<J: Naming, V: Version> {
         txn: &mut FileTxn<'j, 'b, D, J, V>,
         space: &mut BlockReservation,
     ) -> Result<Answer<Self::Reply>, AttemptEnd<'b, J, V>>
+        requires cut { HasFiles J.layout }
         requires reads { txn.old.reads ≡ [] }
         requires writes { txn.old.writes ≡ [] }
         requires space { space.old.taken.items ≡ [] }
-        ensures does { IfOk result (Does V.VERSION J.blocks (case self.now) txn.new.reads txn.new.writes) }
+        ensures does { IfOk result (Does V.VERSION J.layout (case self.now) txn.new.reads txn.new.writes) }
         ensures refusal { IfErr result IsAttemptEnd };
 }

@@ -1,5 +1,6 @@
 // What is asked for of a file is set, as SETATTR and CREATE do.
 ghost use Rattle.std.specs.Prelude.{◌≡◌, ◌<◌, ◌≤◌, ◌-◌, [], ◌++◌, unwrap_or, false, take, length, replicate, IfOk, IfErr};
+ghost use Rattle.journal_inode.specs.Places.{HasFiles};
 ghost use Rattle.journal_inode.specs.declared.node.Node.TheVariants.{File};
 ghost use Rattle.journal_inode.specs.declared.place.TheConstants.{INODES};
 ghost use Rattle.journal_inode.specs.Nodes.{IsTime, Fits};
@@ -34,6 +35,7 @@ pub(crate) fn set_file<'j, 'b, D: BlockDisk, J: Naming, V: Version, W: Wait>(
     settings: Settings,
     now: Moment,
 ) -> Result<Option<FileNode>, AttemptEnd<'b, J, V>>
+    requires cut { HasFiles J.layout }
     requires number { number < INODES }
     requires fits { Fits (File file) }
     requires whole { file.size ≤ most_bytes V.VERSION }
@@ -42,7 +44,7 @@ pub(crate) fn set_file<'j, 'b, D: BlockDisk, J: Naming, V: Version, W: Wait>(
     requires space { space.old.taken.items ≡ [] }
     requires unread { HasReadNoData txn.old }
     requires writes { txn.old.writes ≡ [] }
-    ensures changes { IfOk result (ChangesFile V.VERSION J.blocks txn.old txn.new number file
+    ensures changes { IfOk result (ChangesFile V.VERSION J.layout txn.old txn.new number file
         (unwrap_or settings.size file.size) (time_after settings.size settings.mtime (time_of now) file.mtime)
         (λ m. resized (content V.VERSION m file) settings.size)) }
     ensures refusal { IfErr result IsAttemptEnd }
@@ -64,6 +66,7 @@ fn shrink<'j, 'b, D: BlockDisk, J: Naming, V: Version, W: Wait>(
     size: u64,
     mtime: Time,
 ) -> Result<FileNode, AttemptEnd<'b, J, V>>
+    requires cut { HasFiles J.layout }
     requires number { number < INODES }
     requires fits { Fits (File file) }
     requires whole { file.size ≤ most_bytes V.VERSION }
@@ -71,7 +74,7 @@ fn shrink<'j, 'b, D: BlockDisk, J: Naming, V: Version, W: Wait>(
     requires timed { file.mtime.nanos ≤ MAX_NANOS → mtime.nanos ≤ MAX_NANOS }
     requires unread { HasReadNoData txn.old }
     requires writes { txn.old.writes ≡ [] }
-    ensures changes { IfOk result (HasChanged V.VERSION J.blocks txn.old txn.new number file size mtime (λ m. take size (content V.VERSION m file))) }
+    ensures changes { IfOk result (HasChanged V.VERSION J.layout txn.old txn.new number file size mtime (λ m. take size (content V.VERSION m file))) }
     ensures refusal { IfErr result IsAttemptEnd }
 {
     let last = V::VERSION.extra_count(size);
@@ -98,6 +101,7 @@ fn grow<'j, 'b, D: BlockDisk, J: Naming, V: Version, W: Wait>(
     size: u64,
     mtime: Time,
 ) -> Result<Option<FileNode>, AttemptEnd<'b, J, V>>
+    requires cut { HasFiles J.layout }
     requires number { number < INODES }
     requires fits { Fits (File file) }
     requires small { size ≤ most_bytes V.VERSION }
@@ -106,7 +110,7 @@ fn grow<'j, 'b, D: BlockDisk, J: Naming, V: Version, W: Wait>(
     requires space { space.old.taken.items ≡ [] }
     requires unread { HasReadNoData txn.old }
     requires writes { txn.old.writes ≡ [] }
-    ensures changes { IfOk result (ChangesFile V.VERSION J.blocks txn.old txn.new number file size mtime
+    ensures changes { IfOk result (ChangesFile V.VERSION J.layout txn.old txn.new number file size mtime
         (λ m. content V.VERSION m file ++ replicate (size - file.size) 0)) }
     ensures refusal { IfErr result IsAttemptEnd }
 {

@@ -1,5 +1,6 @@
 // The store: its journal, and the numbers of its free blocks.
 ghost use Rattle.std.specs.Prelude.{◌≡◌, ◌≤◌, IsTrue, IfOk, OnOk, IfErr, OnErr};
+ghost use Rattle.journal_world.specs.Files.{files};
 ghost use Rattle.journal_world.specs.Maps.{Map, Agrees, overwritten};
 ghost use Rattle.journal_world.specs.Histories.{is_trusted};
 ghost use Rattle.journal_disk.specs.Disks.{IsSettled};
@@ -56,11 +57,14 @@ pub struct FileStore<'b, D: BlockDisk, J: Naming, V: Version = VersionOne> {
 }
 
 impl<'b, D: BlockDisk, J: Naming, V: Version> Model for FileStore<'b, D, J, V> {
+    ghost use Rattle.journal_inode.specs.Places.{HasFiles};
     ghost use Rattle.journal_twophase.specs.Journals.{JournalState};
 
     ghost Value = { JournalState };
 
     ghost view = { λ store. store.journal };
+
+    ghost invariant = { λ store. HasFiles J.layout };
 }
 
 impl<'b, D: BlockDisk, J: Naming, V: Version> FileStore<'b, D, J, V> {
@@ -77,9 +81,9 @@ impl<'b, D: BlockDisk, J: Naming, V: Version> FileStore<'b, D, J, V> {
     ) -> Result<FileStore<'b, D, J, V>, Refused<D, Cause<'b, J, SoundFiles<V>>>>
         requires book { book.now ≡ J.book }
         requires cell { cell ≡ J.cell }
-        requires blocks { (D.state disk).past.size ≡ J.blocks }
+        requires layout { J.layout ≡ files (D.state disk).past.size }
         requires settled { IsTrue (D.state disk).honest → IsSettled (D.state disk).past }
-        ensures begun { IfOk result (λ store. BeginsWith (HasSoundFiles V.VERSION) (D.state disk) store.start) }
+        ensures begun { IfOk result (λ store. BeginsWith (HasSoundFiles V.VERSION) (files (D.state disk).past.size) (D.state disk) store.start) }
         ensures well_formed { IsTrue (D.state disk).honest → OnOk result (HasWellFormedLog (D.state disk)) }
         ensures refusal { IfErr result (λ refused. IsOpenRefusal (HasSoundFiles V.VERSION) (D.state disk) (D.state refused.disk) refused.refusal) }
         ensures left { IfErr result (λ refused. OnlyReadsDisk (D.state disk) (D.state refused.disk)) }
@@ -100,9 +104,9 @@ impl<'b, D: BlockDisk, J: Naming, V: Version> FileStore<'b, D, J, V> {
         requires most { cached ≤ MAX_CACHED_BLOCKS }
         requires book { book.now ≡ J.book }
         requires cell { cell ≡ J.cell }
-        requires blocks { (D.state disk).past.size ≡ J.blocks }
+        requires layout { J.layout ≡ files (D.state disk).past.size }
         requires settled { IsTrue (D.state disk).honest → IsSettled (D.state disk).past }
-        ensures begun { IfOk result (λ store. BeginsWith (HasSoundFiles V.VERSION) (D.state disk) store.start) }
+        ensures begun { IfOk result (λ store. BeginsWith (HasSoundFiles V.VERSION) (files (D.state disk).past.size) (D.state disk) store.start) }
         ensures well_formed { IsTrue (D.state disk).honest → OnOk result (HasWellFormedLog (D.state disk)) }
         ensures refusal { IfErr result (λ refused. IsOpenRefusal (HasSoundFiles V.VERSION) (D.state disk) (D.state refused.disk) refused.refusal) }
         ensures left { IfErr result (λ refused. OnlyReadsDisk (D.state disk) (D.state refused.disk)) }
@@ -296,9 +300,9 @@ fn end<'j, 'b, D: BlockDisk, J: Naming, V: Version, W: Wait>(
     txn: FileTxn<'j, 'b, D, J, V>,
     waits: bool,
 ) -> Result<PendingWait<Receipt<'b, J, SoundFiles<V>>>, FileRefusal<'b, J, V>>
-    requires rule { (m : Map) → m.blocks ≡ J.blocks → HasSoundFiles V.VERSION m → Agrees m txn.reads → HasSoundFiles V.VERSION (overwritten m txn.writes) }
+    requires rule { (m : Map) → m.layout ≡ J.layout → HasSoundFiles V.VERSION m → Agrees m txn.reads → HasSoundFiles V.VERSION (overwritten m txn.writes) }
     requires few { written_blocks txn.writes ≤ MAX_UPDATES }
-    ensures ended { IfOk result (Ends V.VERSION J.blocks txn.entry waits session.old session.new) }
+    ensures ended { IfOk result (Ends V.VERSION J.layout txn.entry waits session.old session.new) }
     ensures session { OnErr result (OnlyExtends session.old session.new) }
     ensures refusal { IfErr result IsFilesRefusal }
 {

@@ -1,5 +1,6 @@
 // WRITE.
 ghost use Rattle.std.specs.Prelude.{◌≡◌, ◌<◌, ◌≤◌, ◌+◌, ◌-◌, max, Bool, [], length, IfOk, IfErr, OnOk};
+ghost use Rattle.journal_inode.specs.Places.{HasFiles};
 ghost use Rattle.journal_inode.specs.declared.node.Node.TheVariants.{File};
 ghost use Rattle.journal_inode.specs.Nodes.{Fits};
 ghost use Rattle.journal_inode.specs.Sound.{content};
@@ -93,6 +94,7 @@ impl<'a> Write<'a> {
         space: &mut BlockReservation,
         file: FileNode,
     ) -> Result<Option<FileNode>, AttemptEnd<'b, J, V>>
+        requires cut { HasFiles J.layout }
         requires fits { Fits (File file) }
         requires small { file.size ≤ most_bytes V.VERSION }
         requires some { 0 < length self.now.bytes.now }
@@ -100,7 +102,7 @@ impl<'a> Write<'a> {
         requires space { space.old.taken.items ≡ [] }
         requires unread { HasReadNoData txn.old }
         requires writes { txn.old.writes ≡ [] }
-        ensures changes { IfOk result (ChangesFile V.VERSION J.blocks txn.old txn.new self.now.handle.number file
+        ensures changes { IfOk result (ChangesFile V.VERSION J.layout txn.old txn.new self.now.handle.number file
             (max file.size (self.now.offset + length self.now.bytes.now)) (time_of self.now.moment)
             (λ m. placed (content V.VERSION m file) self.now.offset self.now.bytes.now)) }
         ensures refusal { IfErr result IsAttemptEnd }
@@ -125,6 +127,7 @@ impl<'a> Write<'a> {
         written: FileNode,
         space: &BlockReservation,
     ) -> Result<(), AttemptEnd<'b, J, V>>
+        requires cut { HasFiles J.layout }
         requires written { written ≡ with_blocks file (extra_count V.VERSION file.size) space.now.taken.items
             (max file.size (self.now.offset + length self.now.bytes.now)) (time_of self.now.moment) }
         requires fits { Fits (File written) }
@@ -135,7 +138,7 @@ impl<'a> Write<'a> {
         requires end { self.now.offset + length self.now.bytes.now ≤ most_bytes V.VERSION }
         requires unread { HasReadNoBlocks txn.old }
         requires writes { txn.old.writes ≡ [] }
-        ensures makes { OnOk result (Makes V.VERSION J.blocks txn.old txn.new (λ m n. AreClear m space.now.taken.items
+        ensures makes { OnOk result (Makes V.VERSION J.layout txn.old txn.new (λ m n. AreClear m space.now.taken.items
             → FileBecomes V.VERSION m n self.now.handle.number file (placed (content V.VERSION m file) self.now.offset self.now.bytes.now) (time_of self.now.moment))) }
         ensures refusal { IfErr result IsAttemptEnd }
     {

@@ -1,6 +1,7 @@
 -- Sessions, receipts and notes, by the histories that they have seen.
 use Rattle.std.specs.Prelude.{ℕ, ◌≡◌, ◌≢◌, ◌+◌, ◌≤◌, List, [], ◌∷◌, ◌++◌, length, take, Some, slice_get}
 use mathlib.Core.List.{IsPrefix}
+use Rattle.journal_world.specs.Addresses.{Shape}
 use Rattle.journal_world.specs.Maps.{Pair, Transaction}
 use Rattle.journal_world.specs.Histories.{Entry, commits_of, count, floor, opened}
 use Rattle.journal_world.specs.Histories.Entry.{commit}
@@ -29,12 +30,12 @@ pub record OnlyExtends (old new : SessionState) : Type 0 where
 abbrev pub next_transaction : SessionState → List Pair → List Pair → Transaction
 next_transaction s reads writes = record { session = s.number; number = made s; reads = reads; writes = writes }
 
--- What each session keeps, on a disk of so many blocks, with its number of commits
-pub record IsSession (blocks commits : ℕ) (s : SessionState) : Type 0 where
+-- What each session keeps, on a disk of a layout, with its number of commits
+pub record IsSession (layout : Shape) (commits : ℕ) (s : SessionState) : Type 0 where
   pub counted : commits ≡ made s
   pub own : IsPrefix s.mine s.seen
   pub begun : s.seen ≢ []
-  pub on_disk : (opened s.seen).blocks ≡ blocks
+  pub on_disk : (opened s.seen).layout ≡ layout
 
 -- A receipt: a history, the place of a commit in it, and how many commits there are up to it
 pub record CommitPlace : Type 0 where
@@ -68,10 +69,10 @@ pub record StableCount : Type 0 where
   pub front : List Entry
   pub count : ℕ
 
--- What a writer knows of the whole history on a disk of so many blocks: how many commits it has, its greatest mark, and the mark that FLOOR has
-pub record IsWhole (blocks : ℕ) (history : List Entry) (commits mark published : ℕ) : Type 0 where
+-- What a writer knows of the whole history on a disk of a layout: how many commits it has, its greatest mark, and the mark that FLOOR has
+pub record IsWhole (layout : Shape) (history : List Entry) (commits mark published : ℕ) : Type 0 where
   pub begun : history ≢ []
-  pub on_disk : (opened history).blocks ≡ blocks
+  pub on_disk : (opened history).layout ≡ layout
   pub counted : commits ≡ count history
   pub marked : mark ≡ floor history
   pub rising : published ≤ mark

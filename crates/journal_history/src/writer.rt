@@ -42,7 +42,7 @@ impl<'b, J: Naming, R: MapRule> Model for Writer<'b, J, R> {
 
     ghost view = { λ w. w.front };
 
-    ghost invariant = { λ w. IsWhole J.blocks w.front w.commits w.mark w.published };
+    ghost invariant = { λ w. IsWhole J.layout w.front w.commits w.mark w.published };
 }
 
 impl<'b, J: Naming, R: MapRule> Writer<'b, J, R> {
@@ -54,8 +54,8 @@ impl<'b, J: Naming, R: MapRule> Writer<'b, J, R> {
         objects: &O,
     ) -> Result<Writer<'b, J, R>, Front<'b, J, R>>
         requires book { book.now ≡ J.book }
-        requires blocks { (O.map objects.now).blocks ≡ J.blocks }
-        requires objects { IsTrue (O.trusted objects.now) → IsTrue (are_objects (O.map objects.now).blocks (O.map objects.now).pairs) }
+        requires layout { (O.map objects.now).layout ≡ J.layout }
+        requires objects { IsTrue (O.trusted objects.now) → IsTrue (are_objects (O.map objects.now).layout (O.map objects.now).pairs) }
         requires rule { IsTrue (O.trusted objects.now) → R.statement (O.map objects.now) }
         ensures begun { IfOk result (λ writer. writer ≡ opening (O.map objects.now) (O.trusted objects.now) ∷ []) }
         ensures stale { IfErr result (λ front. front ≢ []) }
@@ -73,7 +73,7 @@ impl<'b, J: Naming, R: MapRule> Writer<'b, J, R> {
     pub fn len(&self) -> u64
         ensures length { result ≡ length self.now }
         ensures begun { self.now ≢ [] }
-        ensures on_disk { (opened self.now).blocks ≡ J.blocks }
+        ensures on_disk { (opened self.now).layout ≡ J.layout }
         ensures sound { IsSound R.statement self.now }
         ensures legal { IsTrue (is_trusted self.now) → IsLegal R.statement self.now }
     {
@@ -144,8 +144,8 @@ impl<'b, J: Naming, R: MapRule> Writer<'b, J, R> {
         requires room { length self.old < 2 ^ 62 }
         requires own { length (commits_of session.old.number self.old) ≡ made session.old }
         requires unfenced { is_fenced session.old.number self.old ≡ false }
-        requires read { IsTrue (are_objects J.blocks (T.reads transaction.now)) }
-        requires written { IsTrue (are_objects J.blocks (T.writes transaction.now)) }
+        requires read { IsTrue (are_objects J.layout (T.reads transaction.now)) }
+        requires written { IsTrue (are_objects J.layout (T.writes transaction.now)) }
         requires agrees { IsTrue (is_trusted self.old) → Agrees (latest self.old) (T.reads transaction.now) }
         requires rule { IsTrue (is_trusted self.old) → R.statement (overwritten (latest self.old) (T.writes transaction.now)) }
         ensures committed { OnOk result (Commits (next_transaction session.old (T.reads transaction.now) (T.writes transaction.now)) session.old session.new self.old self.new) }

@@ -1,33 +1,98 @@
 -- The rule, from its inodes and its bits.
-use Rattle.std.proofs.Common.{ℕ, zero, suc, ◌≡◌, ◌<◌, ◌≤◌, ◌+◌, ◌⊎◌, inl, inr, Bool, true, false, cond, List, [], ◌∷◌, Option, Some, None, length, refl, sym, ap, subst, ◌∙◌, arith}
+use Rattle.std.proofs.Common.{ℕ, zero, suc, ◌≡◌, ◌<◌, ◌≤◌, ◌+◌, ◌-◌, ◌==◌, ◌⊎◌, inl, inr, Bool, true, false, not, cond, List, [], ◌∷◌, Option, Some, None, length, refl, sym, ap, subst, ◌∙◌, arith}
+use mathlib.Core.Bool.{beq}
 use Rattle.journal_inode.specs.declared.version.FormatVersion.{FormatVersion}
-use Rattle.std.specs.Prelude.{◌↔◌, IsTrue, Result, Ok, Err, IfOk, IfSome, MatchOption, unwrap_or, slice_get}
-use Rattle.std.proofs.lemmas.Bool.{cases_eq}
+use Rattle.std.specs.Prelude.{◌↔◌, IsTrue, Result, Ok, Err, IfOk, IfSome, MatchOption, unwrap_or, slice_get, slice_index}
+use Rattle.std.specs.Int.{bit_at}
+use Rattle.std.proofs.lemmas.Nat.Bits.{bit_at-lt}
+use Rattle.std.proofs.lemmas.Bool.{false≢true, cases_eq, cases_lt}
 use Rattle.std.proofs.lemmas.Option.{slice_get_within, slice_get_past}
 use Rattle.journal_world.specs.declared.layout.TheConstants.{FIRST_DATA, BLOCK_BITS}
-use Rattle.journal_world.specs.Addresses.{Value}
-use Rattle.journal_world.specs.Maps.{Map}
+use Rattle.journal_world.specs.Maps.{Map, AreBitsFrom}
 use Rattle.journal_inode.specs.declared.place.TheConstants.{INODES}
-use Rattle.journal_inode.specs.Places.{object}
+use Rattle.journal_inode.specs.Places.{addr_of, HasFiles, object}
 use Rattle.journal_inode.specs.Places.Object.{superblock, bit}
 use Rattle.journal_inode.specs.Sound.{superblock_of, IsTaken, IsBit, HasSoundFiles}
-use Rattle.journal_inode.specs.Admitting.{AreSoundBelow, AreOwners, bit_asked, AreBitsBelow, AreBitsScanned}
+use Rattle.journal_inode.specs.Admitting.{AreSoundBelow, AreOwners, bit_asked, AreAsked, AreBitsBelow, AreBitsScanned}
 
--- One more bit is as the table asks
-pub bits_more : (before now after : Map) (trusted still later failed fails failing : Bool) (owners : List Bool) (k : ℕ) (v : Value)
-    → AreBitsScanned before now trusted still failed fails owners k → after ≡ now → later ≡ still → (IsTrue fails → IsTrue failing) → (IsTrue still → object now (bit k) ≡ v) → v ≡ bit_asked owners k
-    → AreBitsScanned before after trusted later failed failing owners (k + 1)
-bits_more before now after trusted still later failed fails failing owners k v scanned same_map same_trust stays read asked = record {
+-- Bits more, as a number has them, are as the table asks
+pub bits_more : (before now after : Map) (trusted still later failed fails failing : Bool) (owners : List Bool) (n bits : ℕ)
+    → AreBitsScanned before now trusted still failed fails owners n → after ≡ now → later ≡ still → (IsTrue fails → IsTrue failing)
+    → (IsTrue still → AreBitsFrom now (addr_of (bit n)) bits) → AreAsked owners n 64 bits
+    → AreBitsScanned before after trusted later failed failing owners (n + 64)
+bits_more before now after trusted still later failed fails failing owners n bits scanned same_map same_trust stays read asked = record {
   same_map = same_map ∙ scanned.same_map;
   same_trust = same_trust ∙ scanned.same_trust;
   stays_failed = λ f. stays (scanned.stays_failed f);
-  below = λ trust i low. by_place i low (cases_eq i k) trust;
+  below = λ trust k low. by_place trust k low (cases_lt k n);
 }
   where
-    by_place : (i : ℕ) → i < k + 1 → (i ≡ k) ⊎ (i ≡ k → ⊥) → IsTrue trusted → object before (bit i) ≡ bit_asked owners i
-    by_place i low (inl is) trust =
-        ap (λ x. object before (bit x)) is ∙ ap (λ m. object m (bit k)) (sym scanned.same_map) ∙ read (subst IsTrue (sym scanned.same_trust) trust) ∙ asked ∙ ap (bit_asked owners) (sym is)
-    by_place i low (inr ne) trust = scanned.below trust i (omega (arith, low, ne))
+    by_place : IsTrue trusted → (k : ℕ) → k < n + 64 → (k < n) ⊎ (n ≤ k) → object before (bit k) ≡ bit_asked owners k
+    by_place trust k low (inl first) = scanned.below trust k first
+    by_place trust k low (inr from) =
+        let here : n + (k - n) ≡ k = omega arith in
+        let within : k - n < 64 = omega arith in
+        subst (λ j. object before (bit j) ≡ bit_asked owners j) here
+        (ap (λ m. object m (bit (n + (k - n)))) (sym scanned.same_map)
+        ∙ read (subst IsTrue (sym scanned.same_trust) trust) (k - n) within
+        ∙ asked (k - n) within)
+
+-- so the loop goes on by a number
+pub words_more : (before now after : Map) (trusted still later failed fails failing : Bool) (owners : List Bool) (n bits more : ℕ) → n + 64 ≡ more
+    → AreBitsScanned before now trusted still failed fails owners n → after ≡ now → later ≡ still → (IsTrue fails → IsTrue failing)
+    → (IsTrue still → AreBitsFrom now (addr_of (bit n)) bits) → AreAsked owners n 64 bits
+    → AreBitsScanned before after trusted later failed failing owners more
+words_more before now after trusted still later failed fails failing owners n bits more next scanned same_map same_trust stays read asked =
+    subst (λ (k : ℕ). AreBitsScanned before after trusted later failed failing owners k) next
+    (bits_more before now after trusted still later failed fails failing owners n bits scanned same_map same_trust stays read asked)
+
+-- a number of which a bit is not as the table asks tells that the bitmap is not
+pub bits_differ : (before now : Map) (trusted still failed fails : Bool) (owners : List Bool) (n bits : ℕ)
+    → AreBitsScanned before now trusted still failed fails owners n → n + 64 ≤ BLOCK_BITS → (IsTrue still → AreBitsFrom now (addr_of (bit n)) bits)
+    → (AreAsked owners n 64 bits → ⊥) → IsTrue trusted → AreBitsBelow before owners BLOCK_BITS → ⊥
+bits_differ before now trusted still failed fails owners n bits scanned inside read differ trust below =
+    differ (λ i within. sym (read (subst IsTrue (sym scanned.same_trust) trust) i within)
+    ∙ ap (λ m. object m (bit (n + i))) scanned.same_map
+    ∙ below (n + i) (omega arith))
+
+-- two tests that do not differ are the same
+pub same_tests : (a b : Bool) → not (beq a b) ≡ false → a ≡ b
+same_tests true true is = refl
+same_tests true false is = absurd (false≢true (sym is))
+same_tests false true is = absurd (false≢true (sym is))
+same_tests false false is = refl
+
+-- one bit more of a number is as the table asks, or is not
+pub asked_more : (owners : List Bool) (first i bits : ℕ) (set taken : Bool) → AreAsked owners first i bits → (bit_at bits i == 1) ≡ set
+    → taken ≡ unwrap_or (slice_get owners (first + i)) true → set ≡ taken → AreAsked owners first (i + 1) bits
+asked_more owners first i bits set taken asked is told same j low = by_place (cases_eq j i)
+  where
+    value : bit_at bits i ≡ cond set 1 0
+    value = one (bit_at bits i) (bit_at-lt bits i) ∙ ap (λ (b : Bool). cond b 1 0) is
+      where
+        one : (b : ℕ) → b < 2 → b ≡ cond (b == 1) 1 0
+        one zero low = refl
+        one (suc zero) low = refl
+        one (suc (suc b)) low = absurd (omega arith)
+
+    by_place : (j ≡ i) ⊎ (j ≡ i → ⊥) → bit_at bits j ∷ [] ≡ bit_asked owners (first + j)
+    by_place (inl here) =
+        ap (λ k. bit_at bits k ∷ []) here
+        ∙ ap (λ x. x ∷ []) (value ∙ ap (λ (b : Bool). cond b 1 0) (same ∙ told))
+        ∙ ap (λ k. bit_asked owners (first + k)) (sym here)
+    by_place (inr other) = asked j (omega (arith, low, other))
+
+pub asked_not : (owners : List Bool) (first i bits : ℕ) (set taken : Bool) → i < 64 → (bit_at bits i == 1) ≡ set
+    → taken ≡ unwrap_or (slice_get owners (first + i)) true → (set ≡ taken → ⊥) → AreAsked owners first 64 bits → ⊥
+asked_not owners first i bits set taken within is told differ asked =
+    differ (sym is ∙ ap (λ n. n == 1) (head (asked i within)) ∙ back (unwrap_or (slice_get owners (first + i)) true) ∙ sym told)
+  where
+    head : {x y : ℕ} → x ∷ [] ≡ y ∷ [] → x ≡ y
+    head same = ap (λ v. slice_index v 0) same
+
+    back : (b : Bool) → (cond b 1 0 == 1) ≡ b
+    back true = refl
+    back false = refl
 
 module _ (version : FormatVersion) where
   -- what a place of the table is
@@ -45,7 +110,7 @@ module _ (version : FormatVersion) where
       by_get (Some false) is = inr (inr is)
 
   -- a block is taken where the table says so, or past its end
-  taken_by : (m : Map) (owners : List Bool) (k : ℕ) → AreOwners version m INODES owners → FIRST_DATA + length owners ≡ m.blocks
+  taken_by : (m : Map) (owners : List Bool) (k : ℕ) → AreOwners version m INODES owners → FIRST_DATA + length owners ≡ m.layout.blocks
       → (length owners ≤ k) ⊎ ((slice_get owners k ≡ Some true) ⊎ (slice_get owners k ≡ Some false))
       → ((bit_asked owners k ≡ 1 ∷ []) × IsTaken version m (FIRST_DATA + k)) ⊎ ((bit_asked owners k ≡ 0 ∷ []) × (IsTaken version m (FIRST_DATA + k) → ⊥))
   taken_by m owners k owned whole (inl past) =
@@ -60,9 +125,10 @@ module _ (version : FormatVersion) where
       free (inr owner) = let e : Some false ≡ Some true = sym is ∙ (owned k).1 owner in let b : false ≡ true = cc in absurd (cc)
 
   -- The map is sound
-  pub Sound-scanned : (m : Map) (owners : List Bool) → object m superblock ≡ superblock_of version m.blocks → AreSoundBelow version m INODES → AreOwners version m INODES owners
-      → FIRST_DATA + length owners ≡ m.blocks → AreBitsBelow m owners BLOCK_BITS → HasSoundFiles version m
-  Sound-scanned m owners begins below owned whole bits = record {
+  pub Sound-scanned : (m : Map) (owners : List Bool) → HasFiles m.layout → object m superblock ≡ superblock_of version m.layout.blocks → AreSoundBelow version m INODES → AreOwners version m INODES owners
+      → FIRST_DATA + length owners ≡ m.layout.blocks → AreBitsBelow m owners BLOCK_BITS → HasSoundFiles version m
+  Sound-scanned m owners has begins below owned whole bits = record {
+    cut = has;
     begins = begins;
     written = λ i low. (below.each i low).written;
     placed = λ i low. (below.each i low).placed;
@@ -86,7 +152,7 @@ module _ (version : FormatVersion) where
   }
 
   -- A sound map's bits are as the table asks
-  pub AreBitsBelow-Sound : (m : Map) (owners : List Bool) → HasSoundFiles version m → AreOwners version m INODES owners → FIRST_DATA + length owners ≡ m.blocks → AreBitsBelow m owners BLOCK_BITS
+  pub AreBitsBelow-Sound : (m : Map) (owners : List Bool) → HasSoundFiles version m → AreOwners version m INODES owners → FIRST_DATA + length owners ≡ m.layout.blocks → AreBitsBelow m owners BLOCK_BITS
   AreBitsBelow-Sound m owners sound owned whole = λ k low. by_both k (sound.bits k low) (taken_by m owners k owned whole (table_cases owners k))
     where
       by_both : (k : ℕ) → IsBit (object m (bit k)) (IsTaken version m (FIRST_DATA + k))
@@ -98,10 +164,10 @@ module _ (version : FormatVersion) where
       by_both k (inr is) (inr clear) = is.0 ∙ sym clear.0
 
   -- what is answered of a map whose superblock is its disk's and whose inodes are sound
-  pub admitted_by_bits : (m : Map) (owners : List Bool) (admitted : Bool) → object m superblock ≡ superblock_of version m.blocks → AreSoundBelow version m INODES → AreOwners version m INODES owners → FIRST_DATA + length owners ≡ m.blocks
+  pub admitted_by_bits : (m : Map) (owners : List Bool) (admitted : Bool) → HasFiles m.layout → object m superblock ≡ superblock_of version m.layout.blocks → AreSoundBelow version m INODES → AreOwners version m INODES owners → FIRST_DATA + length owners ≡ m.layout.blocks
       → (IsTrue admitted ↔ AreBitsBelow m owners BLOCK_BITS) → IsTrue admitted ↔ HasSoundFiles version m
-  admitted_by_bits m owners admitted begins below owned whole bits = (
-    (λ is. Sound-scanned m owners begins below owned whole (bits.0 is)),
+  admitted_by_bits m owners admitted has begins below owned whole bits = (
+    (λ is. Sound-scanned m owners has begins below owned whole (bits.0 is)),
     (λ sound. bits.1 (AreBitsBelow-Sound m owners sound owned whole)),
   )
 
@@ -115,12 +181,12 @@ module _ (version : FormatVersion) where
   -- what is answered of a map by its bits is the rule
   pub some_admitted : {X E : Type 0} (items : X → List Bool) (m0 m1 m2 : Map) (t0 t1 t2 : Bool) (has : Bool) (found : Option X) (x : X) (table : List Bool) (r : Result Bool E)
       → m1 ≡ m0 → m2 ≡ m1 → t1 ≡ t0 → t2 ≡ t1
-      → (IsTrue t0 → IsTrue has ↔ (object m0 superblock ≡ superblock_of version m0.blocks)) → has ≡ true
+      → HasFiles m0.layout → (IsTrue t0 → IsTrue has ↔ (object m0 superblock ≡ superblock_of version m0.layout.blocks)) → has ≡ true
       → (IsTrue t1 → MatchOption found (AreSoundBelow version m1 INODES → ⊥) (λ y. AreSoundBelow version m1 INODES × AreOwners version m1 INODES (items y))) → found ≡ Some x
-      → IfSome found (λ y. FIRST_DATA + length (items y) ≡ m1.blocks)
+      → IfSome found (λ y. FIRST_DATA + length (items y) ≡ m1.layout.blocks)
       → (IsTrue t2 → IfOk r (λ admitted. IsTrue admitted ↔ AreBitsBelow m2 table BLOCK_BITS)) → table ≡ items x
       → IsTrue t0 → IfOk r (λ admitted. IsTrue admitted ↔ HasSoundFiles version m0)
-  some_admitted {X} {E} items m0 m1 m2 t0 t1 t2 has found x table r same_1 same_2 trust_1 trust_2 begins yes_begins told is whole bits table_is trust =
+  some_admitted {X} {E} items m0 m1 m2 t0 t1 t2 has found x table r same_1 same_2 trust_1 trust_2 cut begins yes_begins told is whole bits table_is trust =
       by_answer r (bits (subst IsTrue (sym (trust_2 ∙ trust_1)) trust))
     where
       inodes : AreSoundBelow version m0 INODES × AreOwners version m0 INODES (items x)
@@ -128,11 +194,11 @@ module _ (version : FormatVersion) where
           subst (λ m. AreSoundBelow version m INODES × AreOwners version m INODES (items x)) same_1
           (subst (λ o. MatchOption o (AreSoundBelow version m1 INODES → ⊥) (λ y. AreSoundBelow version m1 INODES × AreOwners version m1 INODES (items y))) is (told (subst IsTrue (sym trust_1) trust)))
 
-      length_is : FIRST_DATA + length (items x) ≡ m0.blocks
-      length_is = subst (λ m. FIRST_DATA + length (items x) ≡ m.blocks) same_1 (subst (λ o. IfSome o (λ y. FIRST_DATA + length (items y) ≡ m1.blocks)) is whole)
+      length_is : FIRST_DATA + length (items x) ≡ m0.layout.blocks
+      length_is = subst (λ m. FIRST_DATA + length (items x) ≡ m.layout.blocks) same_1 (subst (λ o. IfSome o (λ y. FIRST_DATA + length (items y) ≡ m1.layout.blocks)) is whole)
 
       by_answer : (r : Result Bool E) → IfOk r (λ admitted. IsTrue admitted ↔ AreBitsBelow m2 table BLOCK_BITS) → IfOk r (λ admitted. IsTrue admitted ↔ HasSoundFiles version m0)
       by_answer (Ok admitted) asked =
-          admitted_by_bits m0 (items x) admitted ((begins trust).0 yes_begins) inodes.0 inodes.1 length_is
+          admitted_by_bits m0 (items x) admitted cut ((begins trust).0 yes_begins) inodes.0 inodes.1 length_is
           (subst (λ m. IsTrue admitted ↔ AreBitsBelow m (items x) BLOCK_BITS) (same_2 ∙ same_1) (subst (λ t. IsTrue admitted ↔ AreBitsBelow m2 t BLOCK_BITS) table_is asked))
       by_answer (Err e) asked = tt

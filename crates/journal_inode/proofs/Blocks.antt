@@ -1,22 +1,24 @@
 -- What the blocks of a file hold, block by block.
-use Rattle.std.proofs.Common.{ℕ, zero, suc, ◌≡◌, ◌<◌, ◌≤◌, ◌+◌, ◌-◌, ◌*◌, ◌⊎◌, inl, inr, Bool, List, [], ◌∷◌, ◌++◌, length, take, drop, min, refl, sym, ap, subst, ◌∙◌, length-append, add-one, arith, rules}
+use Rattle.std.proofs.Common.{ℕ, zero, suc, ◌≡◌, ◌<◌, ◌≤◌, ◌+◌, ◌-◌, ◌*◌, ◌⊎◌, inl, inr, Bool, List, [], ◌∷◌, ◌++◌, length, take, drop, refl, sym, ap, subst, ◌∙◌, length-append, add-one, arith, rules}
 use Rattle.std.specs.Prelude.{◌↔◌, IsTrue, Contains, slice_index, slice_index_or, slice_range}
 use Rattle.std.specs.List.{AllByRecursion}
 use Rattle.std.proofs.lemmas.List.{same_lists, places, length-take-le, length-drop}
 use Rattle.std.proofs.lemmas.List.Elements.{All-nil, All-cons, All-head, All-tail, All-append}
 use Rattle.journal_world.specs.declared.layout.TheConstants.{BLOCK_BYTES}
 use Rattle.journal_world.specs.declared.moment.TheConstants.{MAX_NANOS}
-use Rattle.journal_world.specs.Maps.{Map}
+use Rattle.journal_world.specs.Maps.{Map, are_objects}
+use Rattle.journal_world.proofs.ObjectsOfMaps.{value_at-object}
 use Rattle.journal_inode.specs.declared.version.FormatVersion.{FormatVersion}
 use Rattle.journal_inode.specs.declared.version.FormatVersion.TheVariants.{One, Two}
 use Rattle.journal_inode.specs.declared.node.FileNode.{FileNode}
 use Rattle.journal_inode.specs.declared.node.TheConstants.{MORE_BLOCKS}
-use Rattle.journal_inode.specs.Places.{object}
+use Rattle.journal_inode.specs.Places.{addr_of, HasFiles, object}
 use Rattle.journal_inode.specs.Places.Object.{block}
+use Rattle.journal_inode.specs.SameFiles.{IsOnDisk-is_valid}
 use Rattle.journal_inode.specs.Versions.{most_bytes, extra_count, room_of}
 use Rattle.journal_inode.specs.Sound.{file_blocks, held, stored, IsAmong, IsDataBlock, IsSoundFile}
 use Rattle.journal_inode.specs.Admitting.{AllZero, IsSoundBlock, AreSoundBlocks, AreBlocksScanned}
-use Rattle.journal_inode.proofs.Tails.{zeros, zeros-AllZero, AllZero-zeros, padded-AllZero, AllZero-padded}
+use Rattle.journal_inode.proofs.Tails.{length-block, zeros, zeros-AllZero, AllZero-zeros, padded-AllZero, AllZero-padded}
 
 -- a block is among these where the list contains it
 pub among : (bs : List ℕ) (b : ℕ) → Contains bs b → IsAmong bs b
@@ -42,12 +44,14 @@ contained (x ∷ y ∷ ys) b (inr has) = let rest = contained (y ∷ ys) b has i
 drop_append : (xs ys : List ℕ) (n k : ℕ) → length xs ≡ k → drop n (xs ++ ys) ≡ drop n xs ++ drop (n - k) ys
 drop_append xs ys n k whole = same_lists _ _ (search (rules, places)) (λ i d h. grind (arith, places))
 
-drop_min : (v : List ℕ) (n k : ℕ) → length v ≡ k → drop (min n k) v ≡ drop n v
-drop_min v n k whole = same_lists _ _ (search (rules, places)) (λ i d h. grind (arith, places))
-
 drop_none : (n : ℕ) → drop {A = ℕ} n [] ≡ []
 drop_none zero = refl
 drop_none (suc n) = refl
+
+drop_past : (v : List ℕ) (n : ℕ) → length v ≤ n → drop n v ≡ []
+drop_past [] n past = drop_none n
+drop_past (x ∷ v) zero past = absurd (omega arith)
+drop_past (x ∷ v) (suc n) past = drop_past v n (omega arith)
 
 parts : (xs ys : List ℕ) → AllZero (xs ++ ys) → AllZero xs × AllZero ys
 parts [] ys all = (All-nil (λ (y : ℕ). y ≡ 0), all)
@@ -56,7 +60,7 @@ parts (x ∷ xs) ys all =
     (All-cons (λ (y : ℕ). y ≡ 0) x xs (All-head (λ (y : ℕ). y ≡ 0) x (xs ++ ys) all) rest.0, rest.1)
 
 -- a block whose number is within bounds is sound where the bytes from a size on are zero
-pub block_decides : (m : Map) (b size : ℕ) (v tail : List ℕ) (t : Bool) → object m (block b) ≡ v → length v ≡ BLOCK_BYTES → IsDataBlock m.blocks b → tail ≡ drop (min size BLOCK_BYTES) v
+pub block_decides : (m : Map) (b size : ℕ) (v tail : List ℕ) (t : Bool) → object m (block b) ≡ v → length v ≡ BLOCK_BYTES → IsDataBlock m.layout.blocks b → tail ≡ drop size v
     → (IsTrue t ↔ AllZero tail) → IsTrue t ↔ IsSoundBlock m size b
 block_decides m b size v tail t here whole range is_tail decides = (
   (λ is. record { on_disk = range; sized = ap length here ∙ whole; padded = subst AllZero (same ∙ sym (ap (drop size) here)) (decides.0 is) }),
@@ -64,7 +68,16 @@ block_decides m b size v tail t here whole range is_tail decides = (
 )
   where
     same : tail ≡ drop size v
-    same = is_tail ∙ drop_min v size BLOCK_BYTES whole
+    same = is_tail
+
+-- a block that the file goes past has no such bytes
+pub block_full : (m : Map) (b size : ℕ) → HasFiles m.layout → IsTrue (are_objects m.layout m.pairs) → IsDataBlock m.layout.blocks b → BLOCK_BYTES ≤ size
+    → IsSoundBlock m size b
+block_full m b size has objects range past =
+    let whole : length (object m (block b)) ≡ BLOCK_BYTES =
+    length-block m.layout b (object m (block b)) has range.0 range.1
+    (value_at-object m (addr_of (block b)) (IsOnDisk-is_valid m.layout (block b) has range) objects) in
+    record { on_disk = range; sized = whole; padded = subst AllZero (sym (drop_past (object m (block b)) size (omega (arith, whole, past)))) (All-nil (λ (y : ℕ). y ≡ 0)) }
 
 abbrev AreWhole : Map → List ℕ → Type 0
 AreWhole m bs = AllByRecursion (λ b. length (object m (block b)) ≡ BLOCK_BYTES) bs
@@ -102,7 +115,7 @@ held_at m (b ∷ c ∷ bs) (suc j) whole low =
     ∙ held_at m (c ∷ bs) j whole.1 (omega (arith, low))
 
 -- what is said of each block is said of all that they hold
-blocks_to : (m : Map) (bs : List ℕ) (size : ℕ) → AreSoundBlocks m size bs → AllByRecursion (IsDataBlock m.blocks) bs × AreWhole m bs × AllZero (drop size (held m bs))
+blocks_to : (m : Map) (bs : List ℕ) (size : ℕ) → AreSoundBlocks m size bs → AllByRecursion (IsDataBlock m.layout.blocks) bs × AreWhole m bs × AllZero (drop size (held m bs))
 blocks_to m [] size sound = (tt, tt, subst AllZero (sym (drop_none size)) (All-nil (λ (y : ℕ). y ≡ 0)))
 blocks_to m (b ∷ []) size sound = ((sound.0.on_disk, tt), (sound.0.sized, tt), sound.0.padded)
 blocks_to m (b ∷ c ∷ bs) size sound =
@@ -113,7 +126,7 @@ blocks_to m (b ∷ c ∷ bs) size sound =
           (All-append (λ (y : ℕ). y ≡ 0) (drop size (object m (block b))) (drop (size - BLOCK_BYTES) (held m (c ∷ bs))) sound.0.padded rest.2),
     )
 
-blocks_from : (m : Map) (bs : List ℕ) (size : ℕ) → AllByRecursion (IsDataBlock m.blocks) bs → AreWhole m bs → AllZero (drop size (held m bs)) → AreSoundBlocks m size bs
+blocks_from : (m : Map) (bs : List ℕ) (size : ℕ) → AllByRecursion (IsDataBlock m.layout.blocks) bs → AreWhole m bs → AllZero (drop size (held m bs)) → AreSoundBlocks m size bs
 blocks_from m [] size range whole rest_is = tt
 blocks_from m (b ∷ []) size range whole rest_is = (record { on_disk = range.0; sized = whole.0; padded = rest_is }, tt)
 blocks_from m (b ∷ c ∷ bs) size range whole rest_is =
@@ -154,7 +167,7 @@ file_decides version m f t born small timed many absent decides = (
     left : length (drop (extra_count version f.size) f.more) ≡ MORE_BLOCKS - extra_count version f.size
     left = length-drop (extra_count version f.size) f.more ∙ ap (λ n. n - extra_count version f.size) many
 
-    made : AllByRecursion (IsDataBlock m.blocks) (file_blocks version f) → AreWhole m (file_blocks version f) → AllZero (drop f.size (stored version m f)) → IsSoundFile version m f
+    made : AllByRecursion (IsDataBlock m.layout.blocks) (file_blocks version f) → AreWhole m (file_blocks version f) → AllZero (drop f.size (stored version m f)) → IsSoundFile version m f
     made range whole rest_is = record {
       born = born;
       small = small;
@@ -176,13 +189,13 @@ not_absent version m f some sound = some (subst AllZero (sym sound.absent) (AllZ
 -- one more block is sound
 pub blocks_more : (before now after : Map) (trusted still later failed fails failing : Bool) (size left b : ℕ) (bs rest : List ℕ) (t : Bool)
     → AreBlocksScanned before now trusted still failed fails size left bs (b ∷ rest) → after ≡ now → later ≡ still → (IsTrue fails → IsTrue failing)
-    → (IsTrue still → IsTrue t ↔ IsSoundBlock now left b) → (IsTrue t → IsDataBlock now.blocks b) → IsTrue t
+    → (IsTrue still → IsTrue t ↔ IsSoundBlock now left b) → (IsTrue t → IsDataBlock now.layout.blocks b) → IsTrue t
     → AreBlocksScanned before after trusted later failed failing size (left - BLOCK_BYTES) bs rest
 blocks_more before now after trusted still later failed fails failing size left b bs rest t scanned same_map same_trust stays told range is = record {
   same_map = same_map ∙ scanned.same_map;
   same_trust = same_trust ∙ scanned.same_trust;
   stays_failed = λ f. stays (scanned.stays_failed f);
-  in_range = λ others. scanned.in_range (subst (λ m. IsDataBlock m.blocks b) scanned.same_map (range is), others);
+  in_range = λ others. scanned.in_range (subst (λ m. IsDataBlock m.layout.blocks b) scanned.same_map (range is), others);
   so_far = λ trust. (
     (λ others. (scanned.so_far trust).0 (here trust, others)),
     (λ all. ((scanned.so_far trust).1 all).1),

@@ -133,14 +133,14 @@ module _ (version : FormatVersion) where
       subst (λ m. (node_at m n ≡ node) × IsSoundInode version m n) same
       (subst (λ o. MatchOption o (IsSoundInode version now n → ⊥) (λ x. (node_at now n ≡ x) × IsSoundInode version now n)) is sound)
 
-  range_at : (before now : Map) (found : Option Node) (node : Node) → now ≡ before → found ≡ Some node → IfSome found (HasDataBlocks version now.blocks) → HasDataBlocks version before.blocks node
-  range_at before now found node same is range = subst (λ m. HasDataBlocks version m.blocks node) same (subst (λ o. IfSome o (HasDataBlocks version now.blocks)) is range)
+  range_at : (before now : Map) (found : Option Node) (node : Node) → now ≡ before → found ≡ Some node → IfSome found (HasDataBlocks version now.layout.blocks) → HasDataBlocks version before.layout.blocks node
+  range_at before now found node same is range = subst (λ m. HasDataBlocks version m.layout.blocks node) same (subst (λ o. IfSome o (HasDataBlocks version now.layout.blocks)) is range)
 
   -- One more inode is sound, and its block was free
   pub scanned_more : (before now after : Map) (trusted still later failed fails failing : Bool) (n : ℕ) (old new : List Bool) (found : Option Node) (node : Node)
       → IsScanned version before now trusted still failed fails n old → after ≡ now → later ≡ still → (IsTrue fails → IsTrue failing)
       → (IsTrue still → MatchOption found (IsSoundInode version now n → ⊥) (λ x. (node_at now n ≡ x) × IsSoundInode version now n)) → found ≡ Some node
-      → IfSome found (HasDataBlocks version now.blocks) → Claims version node old new true → length new ≡ length old
+      → IfSome found (HasDataBlocks version now.layout.blocks) → Claims version node old new true → length new ≡ length old
       → IsScanned version before after trusted later failed failing (n + 1) new
   scanned_more before now after trusted still later failed fails failing n old new found node scanned same_map same_trust stays sound is range claims same_length = record {
     same_map = same_map ∙ scanned.same_map;
@@ -154,17 +154,17 @@ module _ (version : FormatVersion) where
       both : IsTrue trusted → AreSoundBelow version before (n + 1) × AreOwners version before (n + 1) new
       both trust =
           let here = found_at before now n found node scanned.same_map is (sound (subst IsTrue (sym scanned.same_trust) trust)) in
-          claimed_once before n before.blocks node old new here.0 (range_at before now found node scanned.same_map is range) (scanned.below trust) here.1 (scanned.owned trust) claims
+          claimed_once before n before.layout.blocks node old new here.0 (range_at before now found node scanned.same_map is range) (scanned.below trust) here.1 (scanned.owned trust) claims
 
   -- The inode's block is another's too
   pub scanned_twice : (before now : Map) (trusted still failed fails : Bool) (n : ℕ) (old new : List Bool) (found : Option Node) (node : Node)
       → IsScanned version before now trusted still failed fails n old
       → (IsTrue still → MatchOption found (IsSoundInode version now n → ⊥) (λ x. (node_at now n ≡ x) × IsSoundInode version now n)) → found ≡ Some node
-      → IfSome found (HasDataBlocks version now.blocks) → Claims version node old new false → n < INODES
+      → IfSome found (HasDataBlocks version now.layout.blocks) → Claims version node old new false → n < INODES
       → IsTrue trusted → AreSoundBelow version before INODES → ⊥
   scanned_twice before now trusted still failed fails n old new found node scanned sound is range claims low trust =
       let here = found_at before now n found node scanned.same_map is (sound (subst IsTrue (sym scanned.same_trust) trust)) in
-      claimed_twice before n before.blocks node old new here.0 scanned.whole (range_at before now found node scanned.same_map is range) (scanned.owned trust) claims low
+      claimed_twice before n before.layout.blocks node old new here.0 scanned.whole (range_at before now found node scanned.same_map is range) (scanned.owned trust) claims low
 
   -- All inodes were looked at
   pub scanned_all : (before now : Map) (trusted still failed fails : Bool) (n : ℕ) (owners : List Bool) → IsScanned version before now trusted still failed fails n owners → n ≡ INODES

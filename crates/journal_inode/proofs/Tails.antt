@@ -5,9 +5,11 @@ use Rattle.std.proofs.lemmas.List.Elements.{All-head, All-tail, All-nil, All-con
 use Rattle.std.specs.Prelude.{◌↔◌, Bool, IsTrue}
 use Rattle.std.proofs.lemmas.Bool.Decides.{nat_tests}
 use Rattle.journal_world.specs.declared.layout.TheConstants.{BLOCK_BYTES, FIRST_DATA}
+use Rattle.journal_world.specs.Addresses.{Shape}
+use Rattle.journal_world.specs.Files.{files}
 use Rattle.journal_world.specs.Maps.{is_object}
 use Rattle.journal_inode.specs.declared.version.FormatVersion.{FormatVersion}
-use Rattle.journal_inode.specs.Places.{addr_of}
+use Rattle.journal_inode.specs.Places.{addr_of, HasFiles}
 use Rattle.journal_inode.specs.Places.Object.{block}
 use Rattle.journal_inode.specs.Sound.{superblock_head, superblock_of}
 use Rattle.journal_inode.specs.Admitting.{AllZero}
@@ -36,8 +38,13 @@ AllZero-padded v n s whole padded =
     subst AllZero (sym (ap (drop s) padded ∙ drop_at (take s v) (zeros n) s whole)) (AllZero-zeros n)
 
 -- a data block's value has 4096 bytes
-pub length-block : (blocks b : ℕ) (v : List ℕ) → FIRST_DATA ≤ b → b < blocks → IsTrue (is_object blocks (addr_of (block b), v)) → length v ≡ BLOCK_BYTES
-length-block blocks b v from to is = grind (arith, nat_tests)
+pub in_files : (blocks b : ℕ) (v : List ℕ) → FIRST_DATA ≤ b → b < blocks → IsTrue (is_object (files blocks) (addr_of (block b), v)) → length v ≡ BLOCK_BYTES
+in_files blocks b v from to is = grind (arith, nat_tests)
+
+-- a data block's value has 4096 bytes
+pub length-block : (layout : Shape) (b : ℕ) (v : List ℕ) → HasFiles layout → FIRST_DATA ≤ b → b < layout.blocks → IsTrue (is_object layout (addr_of (block b), v))
+    → length v ≡ BLOCK_BYTES
+length-block layout b v has from to is = in_files layout.blocks b v from to (subst (λ (s : Shape). IsTrue (is_object s (addr_of (block b), v))) has.0 is)
 
 length-front : (version : FormatVersion) (blocks : ℕ) → length (superblock_head version blocks) ≡ 24
 unfolding superblock_head

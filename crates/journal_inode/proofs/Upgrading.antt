@@ -3,6 +3,7 @@ use Rattle.std.proofs.Common.{ℕ, ◌≡◌, ◌<◌, ◌≤◌, ◌+◌, ◌-�
 use Rattle.std.specs.Prelude.{AllPairs, ◌≢◌}
 use Rattle.std.specs.List.{AllByRecursion}
 use Rattle.journal_world.specs.declared.layout.TheConstants.{BLOCK_BYTES, FIRST_DATA, BLOCK_BITS}
+use Rattle.journal_world.specs.Addresses.{Shape}
 use Rattle.journal_world.specs.Maps.{Map}
 use Rattle.journal_inode.specs.declared.version.FormatVersion.TheVariants.{One, Two}
 use Rattle.journal_inode.specs.declared.node.FileNode.{FileNode}
@@ -11,7 +12,7 @@ use Rattle.journal_inode.specs.declared.node.Node.TheVariants.{Free, Root, File}
 use Rattle.journal_inode.specs.declared.node.TheConstants.{MORE_BLOCKS}
 use Rattle.journal_inode.specs.declared.place.TheConstants.{INODES}
 use Rattle.journal_inode.specs.Nodes.{inode_bytes, node_of}
-use Rattle.journal_inode.specs.Places.{object}
+use Rattle.journal_inode.specs.Places.{HasFiles, object}
 use Rattle.journal_inode.specs.Places.Object.{bit, inode, block}
 use Rattle.journal_inode.specs.Sound.{superblock_of, node_at, file_blocks, held, stored, IsAmong, HasBlock, IsTaken, IsDataBlock, IsInPlace, IsSoundFile, IsBit, HasSoundFiles}
 use Rattle.journal_inode.specs.Upgrades.{IsUpgraded}
@@ -24,12 +25,16 @@ count_none size small = omega (arith, small)
 blocks_same : (f : FileNode) → f.size ≤ 4096 → file_blocks Two f ≡ file_blocks One f
 blocks_same f small = ap (λ n. f.block ∷ take n f.more) (count_none f.size small)
 
+-- the disk has as many blocks
+blocks_of : (m n : Map) → IsUpgraded m n → n.layout.blocks ≡ m.layout.blocks
+blocks_of m n up = ap (λ (s : Shape). s.blocks) up.layout
+
 -- a file stays sound
 file_upgraded : (m n : Map) (f : FileNode) → IsUpgraded m n → IsSoundFile One m f → IsSoundFile Two n f
 file_upgraded m n f up sound = record {
   born = sound.born;
   small = omega (arith, sound.small);
-  on_disk = subst (AllByRecursion (IsDataBlock n.blocks)) (sym blocks) (subst (λ k. AllByRecursion (IsDataBlock k) (f.block ∷ [])) (sym up.blocks) sound.on_disk);
+  on_disk = subst (AllByRecursion (IsDataBlock n.layout.blocks)) (sym blocks) (subst (λ k. AllByRecursion (IsDataBlock k) (f.block ∷ [])) (sym (blocks_of m n up)) sound.on_disk);
   absent = subst (λ k. drop k f.more ≡ replicate (MORE_BLOCKS - k) 0) (sym none) sound.absent;
   timed = sound.timed;
   sized = subst (AllByRecursion (λ b. length (object n (block b)) ≡ BLOCK_BYTES)) (sym blocks) (ap length same ∙ sound.sized.0, tt);
@@ -72,11 +77,11 @@ module _ (m n : Map) (sound : HasSoundFiles One m) (up : IsUpgraded m n) where
   forth i b low has = subst (λ x. HasBlock Two x b) (sym (nodes i low)) (has_still (node_at m i) i b low refl has)
 
   taken : (b : ℕ) → IsTaken One m b → IsTaken Two n b
-  taken b (inl past) = inl (subst (λ x. x ≤ b) (sym up.blocks) past)
+  taken b (inl past) = inl (subst (λ x. x ≤ b) (sym (blocks_of m n up)) past)
   taken b (inr t) = inr (t.0, t.1, forth t.0 b t.1 t.2)
 
   was_taken : (b : ℕ) → IsTaken Two n b → IsTaken One m b
-  was_taken b (inl past) = inl (subst (λ x. x ≤ b) up.blocks past)
+  was_taken b (inl past) = inl (subst (λ x. x ≤ b) (blocks_of m n up) past)
   was_taken b (inr t) = inr (t.0, t.1, back t.0 b t.1 t.2)
 
   by_bit : (k : ℕ) → k < BLOCK_BITS → IsBit (object m (bit k)) (IsTaken One m (FIRST_DATA + k)) → IsBit (object n (bit k)) (IsTaken Two n (FIRST_DATA + k))
@@ -85,7 +90,8 @@ module _ (m n : Map) (sound : HasSoundFiles One m) (up : IsUpgraded m n) where
 
   upgraded : HasSoundFiles Two n
   upgraded = record {
-    begins = up.begins ∙ ap (superblock_of Two) (sym up.blocks);
+    cut = subst HasFiles (sym up.layout) sound.cut;
+    begins = up.begins ∙ ap (superblock_of Two) (sym (blocks_of m n up));
     written = λ i low. up.others (inode i) low refl ∙ sound.written i low ∙ ap inode_bytes (sym (nodes i low));
     placed = λ i low. subst (IsInPlace i) (sym (nodes i low)) (sound.placed i low);
     files = λ i f low is. file_upgraded m n f up (sound.files i f low (sym (nodes i low) ∙ is));

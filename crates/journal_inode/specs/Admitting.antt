@@ -1,5 +1,6 @@
 -- The rule of sound files, inode by inode.
 use Rattle.std.specs.Prelude.{ℕ, ◌≡◌, ◌≢◌, ◌<◌, ◌≤◌, ◌+◌, ◌-◌, ◌↔◌, ◌⊎◌, Bool, true, false, List, [], ◌∷◌, Some, unwrap_or, if◌then◌else◌, All, AllPairs, Contains, IsTrue, length, drop, slice_get}
+use Rattle.std.specs.Int.{bit_at}
 use Rattle.std.specs.List.{AllByRecursion}
 use Rattle.journal_world.specs.declared.layout.TheConstants.{BLOCK_BYTES, FIRST_DATA}
 use Rattle.journal_world.specs.Addresses.{Value}
@@ -64,7 +65,7 @@ Claims version _ old new claimed = (claimed ≡ true) × (new ≡ old)
 
 -- The block is a data block, and its bytes from a size on are zero
 pub record IsSoundBlock (m : Map) (size b : ℕ) : Type 0 where
-  pub on_disk : IsDataBlock m.blocks b
+  pub on_disk : IsDataBlock m.layout.blocks b
   pub sized : length (object m (block b)) ≡ BLOCK_BYTES
   pub padded : AllZero (drop size (object m (block b)))
 
@@ -78,7 +79,7 @@ pub record AreBlocksScanned (before now : Map) (trusted still failed fails : Boo
   pub same_map : now ≡ before
   pub same_trust : still ≡ trusted
   pub stays_failed : IsTrue failed → IsTrue fails
-  pub in_range : AllByRecursion (IsDataBlock before.blocks) rest → AllByRecursion (IsDataBlock before.blocks) bs
+  pub in_range : AllByRecursion (IsDataBlock before.layout.blocks) rest → AllByRecursion (IsDataBlock before.layout.blocks) bs
   pub so_far : IsTrue trusted → AreSoundBlocks before left rest ↔ AreSoundBlocks before size bs
 
 -- What is known once the first inodes were looked at: the map and the trust in the reader are as before, and where it is trusted, these inodes are sound and the table says whose blocks are theirs
@@ -86,7 +87,7 @@ pub record IsScanned (version : FormatVersion) (before now : Map) (trusted still
   pub same_map : now ≡ before
   pub same_trust : still ≡ trusted
   pub stays_failed : IsTrue failed → IsTrue fails
-  pub whole : FIRST_DATA + length owners ≡ before.blocks
+  pub whole : FIRST_DATA + length owners ≡ before.layout.blocks
   pub below : IsTrue trusted → AreSoundBelow version before n
   pub owned : IsTrue trusted → AreOwners version before n owners
 
@@ -97,6 +98,10 @@ bit_asked owners k = (if unwrap_or (slice_get owners k) true then 1 else 0) ∷ 
 -- the first bits are as the table asks
 abbrev pub AreBitsBelow : Map → List Bool → ℕ → Type 0
 AreBitsBelow m owners n = (k : ℕ) → k < n → object m (bit k) ≡ bit_asked owners k
+
+-- the first n bits of a number are those that the table asks for from a place on
+abbrev pub AreAsked : List Bool → ℕ → ℕ → ℕ → Type 0
+AreAsked owners first n bits = (i : ℕ) → i < n → bit_at bits i ∷ [] ≡ bit_asked owners (first + i)
 
 -- What is known once the first bits were looked at
 pub record AreBitsScanned (before now : Map) (trusted still failed fails : Bool) (owners : List Bool) (n : ℕ) : Type 0 where

@@ -1,8 +1,9 @@
 -- The objects of a disk with files, and where each lies.
-use Rattle.std.specs.Prelude.{ℕ, ◌<◌, ◌≤◌, ◌+◌, ◌*◌, ◌/◌, ◌%◌, Bool, true, false, ◌==◌}
+use Rattle.std.specs.Prelude.{ℕ, ◌≡◌, ◌<◌, ◌≤◌, ◌+◌, ◌*◌, ◌/◌, ◌%◌, Bool, true, false, ◌==◌}
 use Rattle.journal_world.specs.declared.address.Addr.{Addr}
-use Rattle.journal_world.specs.declared.layout.TheConstants.{SUPERBLOCK, BITMAP, FIRST_INODES, FIRST_DATA, BLOCK_BITS}
-use Rattle.journal_world.specs.Addresses.{Value}
+use Rattle.journal_world.specs.declared.layout.TheConstants.{MIN_BLOCKS, SUPERBLOCK, BITMAP, FIRST_INODES, FIRST_DATA, BLOCK_BITS}
+use Rattle.journal_world.specs.Addresses.{Value, Shape}
+use Rattle.journal_world.specs.Files.{files}
 use Rattle.journal_world.specs.Maps.{Map, value_at}
 use Rattle.journal_inode.specs.declared.place.TheConstants.{INODES}
 
@@ -34,6 +35,10 @@ is_same_object (bit i) (bit j) = i == j
 is_same_object (inode i) (inode j) = i == j
 is_same_object (block a) (block b) = a == b
 is_same_object _ _ = false
+
+-- a disk of the layout has files: its blocks are cut so, and the inodes' blocks are there
+abbrev pub HasFiles : Shape → Type 0
+HasFiles layout = (layout ≡ files layout.blocks) × (MIN_BLOCKS ≤ layout.blocks)
 
 -- the value that a map gives an object
 abbrev pub object : Map → Object → Value

@@ -1,46 +1,50 @@
 -- The rule tells no equal maps apart.
 use Rattle.std.proofs.Common.{ℕ, ◌≡◌, ◌<◌, ◌≤◌, ◌+◌, ◌-◌, inl, inr, List, [], ◌∷◌, ◌++◌, length, take, replicate, refl, sym, ap, subst, ◌∙◌}
-use Rattle.journal_world.specs.declared.layout.TheConstants.{BLOCK_BYTES, FIRST_DATA, BLOCK_BITS}
+use Rattle.journal_world.specs.declared.layout.TheConstants.{MIN_BLOCKS, BLOCK_BYTES, FIRST_DATA, BLOCK_BITS}
 use Rattle.std.specs.Prelude.{IsTrue}
 use Rattle.std.specs.List.{AllByRecursion}
 use Rattle.std.proofs.Common.{arith}
 use Rattle.std.proofs.lemmas.Bool.Decides.{nat_tests}
-use Rattle.journal_world.specs.Addresses.{is_valid}
+use Rattle.journal_world.specs.Addresses.{Shape, is_valid}
+use Rattle.journal_world.specs.Files.{files}
 use Rattle.journal_world.specs.Maps.{Map, SameMap}
 use Rattle.journal_inode.specs.declared.version.FormatVersion.{FormatVersion}
 use Rattle.journal_inode.specs.declared.node.FileNode.{FileNode}
 use Rattle.journal_inode.specs.declared.place.TheConstants.{INODES}
-use Rattle.journal_inode.specs.Places.{Object, addr_of, IsOnDisk, object}
+use Rattle.journal_inode.specs.Places.{Object, addr_of, IsOnDisk, HasFiles, object}
 use Rattle.journal_inode.specs.Places.Object.{superblock, bit, inode, block}
 use Rattle.journal_inode.specs.Nodes.{inode_bytes, node_of}
 use Rattle.journal_inode.specs.Sound.{superblock_of, node_at, file_blocks, held, stored, HasBlock, IsTaken, IsDataBlock, IsInPlace, IsSoundFile, IsBit, HasSoundFiles}
 use Rattle.journal_inode.specs.Versions.{room_of}
 
 -- each object of a disk has a valid address
-pub IsOnDisk-is_valid : (blocks : ℕ) (o : Object) → IsOnDisk blocks o → IsTrue (is_valid blocks (addr_of o))
-IsOnDisk-is_valid blocks superblock here = refl
-IsOnDisk-is_valid blocks (bit i) here = grind (arith, nat_tests)
-IsOnDisk-is_valid blocks (inode i) here = grind (arith, nat_tests)
-IsOnDisk-is_valid blocks (block b) here = grind (arith, nat_tests)
+in_files : (blocks : ℕ) (o : Object) → MIN_BLOCKS ≤ blocks → IsOnDisk blocks o → IsTrue (is_valid (files blocks) (addr_of o))
+in_files blocks superblock large here = grind (arith, nat_tests)
+in_files blocks (bit i) large here = grind (arith, nat_tests)
+in_files blocks (inode i) large here = grind (arith, nat_tests)
+in_files blocks (block b) large here = grind (arith, nat_tests)
+
+pub IsOnDisk-is_valid : (layout : Shape) (o : Object) → HasFiles layout → IsOnDisk layout.blocks o → IsTrue (is_valid layout (addr_of o))
+IsOnDisk-is_valid layout o has here = subst (λ (s : Shape). IsTrue (is_valid s (addr_of o))) (sym has.0) (in_files layout.blocks o has.1 here)
 
 -- one map gives an object one value
-pub object-same : (m n : Map) (o : Object) → SameMap m n → IsOnDisk m.blocks o → object m o ≡ object n o
-object-same m n o same here = same.values (addr_of o) (IsOnDisk-is_valid m.blocks o here)
+pub object-same : (m n : Map) (o : Object) → SameMap m n → HasFiles m.layout → IsOnDisk m.layout.blocks o → object m o ≡ object n o
+object-same m n o same has here = same.values (addr_of o) (IsOnDisk-is_valid m.layout o has here)
 
 -- blocks that are on the disk hold the same
-held-same : (m n : Map) (bs : List ℕ) → SameMap m n → AllByRecursion (IsDataBlock m.blocks) bs → held n bs ≡ held m bs
-held-same m n [] same here = refl
-held-same m n (b ∷ []) same here = sym (object-same m n (block b) same here.0)
-held-same m n (b ∷ c ∷ bs) same here =
-    ap (λ v. v ++ held n (c ∷ bs)) (sym (object-same m n (block b) same here.0)) ∙ ap (λ v. object m (block b) ++ v) (held-same m n (c ∷ bs) same here.1)
+held-same : (m n : Map) (bs : List ℕ) → SameMap m n → HasFiles m.layout → AllByRecursion (IsDataBlock m.layout.blocks) bs → held n bs ≡ held m bs
+held-same m n [] same has here = refl
+held-same m n (b ∷ []) same has here = sym (object-same m n (block b) same has here.0)
+held-same m n (b ∷ c ∷ bs) same has here =
+    ap (λ v. v ++ held n (c ∷ bs)) (sym (object-same m n (block b) same has here.0)) ∙ ap (λ v. object m (block b) ++ v) (held-same m n (c ∷ bs) same has here.1)
 
-sized-same : (m n : Map) (bs : List ℕ) → SameMap m n → AllByRecursion (IsDataBlock m.blocks) bs → AllByRecursion (λ b. length (object m (block b)) ≡ BLOCK_BYTES) bs
+sized-same : (m n : Map) (bs : List ℕ) → SameMap m n → HasFiles m.layout → AllByRecursion (IsDataBlock m.layout.blocks) bs → AllByRecursion (λ b. length (object m (block b)) ≡ BLOCK_BYTES) bs
     → AllByRecursion (λ b. length (object n (block b)) ≡ BLOCK_BYTES) bs
-sized-same m n [] same here sized = tt
-sized-same m n (b ∷ bs) same here sized = (ap length (sym (object-same m n (block b) same here.0)) ∙ sized.0, sized-same m n bs same here.1 sized.1)
+sized-same m n [] same has here sized = tt
+sized-same m n (b ∷ bs) same has here sized = (ap length (sym (object-same m n (block b) same has here.0)) ∙ sized.0, sized-same m n bs same has here.1 sized.1)
 
 -- a file whose blocks hold the same is sound too
-pub IsSoundFile-held : (version : FormatVersion) (m n : Map) (f : FileNode) → m.blocks ≡ n.blocks → stored version n f ≡ stored version m f
+pub IsSoundFile-held : (version : FormatVersion) (m n : Map) (f : FileNode) → m.layout.blocks ≡ n.layout.blocks → stored version n f ≡ stored version m f
     → AllByRecursion (λ b. length (object n (block b)) ≡ BLOCK_BYTES) (file_blocks version f) → IsSoundFile version m f → IsSoundFile version n f
 IsSoundFile-held version m n f blocks same sized old = record {
   born = old.born;
@@ -56,7 +60,8 @@ IsSoundFile-held version m n f blocks same sized old = record {
 -- a map that gives the same values is sound too
 pub Sound-same : (version : FormatVersion) (m n : Map) → SameMap m n → HasSoundFiles version m → HasSoundFiles version n
 Sound-same version m n same sound = record {
-  begins = sym (objects superblock tt) ∙ sound.begins ∙ ap (superblock_of version) same.blocks;
+  cut = subst HasFiles same.layout sound.cut;
+  begins = sym (objects superblock tt) ∙ sound.begins ∙ ap (λ (s : Shape). superblock_of version s.blocks) same.layout;
   written = λ i low. sym (objects (inode i) low) ∙ sound.written i low ∙ ap inode_bytes (nodes i low);
   placed = λ i low. subst (IsInPlace i) (nodes i low) (sound.placed i low);
   files = λ i f low is. file f (sound.files i f low (nodes i low ∙ is));
@@ -65,8 +70,8 @@ Sound-same version m n same sound = record {
   bits = λ k low. by_bit k low (sound.bits k low);
 }
   where
-    objects : (o : Object) → IsOnDisk m.blocks o → object m o ≡ object n o
-    objects o here = object-same m n o same here
+    objects : (o : Object) → IsOnDisk m.layout.blocks o → object m o ≡ object n o
+    objects o here = object-same m n o same sound.cut here
 
     nodes : (i : ℕ) → i < INODES → node_at m i ≡ node_at n i
     nodes i low = ap node_of (objects (inode i) low)
@@ -75,14 +80,15 @@ Sound-same version m n same sound = record {
     back i b low = subst (λ x. HasBlock version x b) (sym (nodes i low))
 
     file : (f : FileNode) → IsSoundFile version m f → IsSoundFile version n f
-    file f old = IsSoundFile-held version m n f same.blocks (held-same m n (file_blocks version f) same old.on_disk) (sized-same m n (file_blocks version f) same old.on_disk old.sized) old
+    file f old = IsSoundFile-held version m n f (ap (λ (s : Shape). s.blocks) same.layout) (held-same m n (file_blocks version f) same sound.cut old.on_disk)
+        (sized-same m n (file_blocks version f) same sound.cut old.on_disk old.sized) old
 
     taken : (b : ℕ) → IsTaken version m b → IsTaken version n b
-    taken b (inl past) = inl (subst (λ x. x ≤ b) same.blocks past)
+    taken b (inl past) = inl (subst (λ (s : Shape). s.blocks ≤ b) same.layout past)
     taken b (inr t) = inr (t.0, t.1, subst (λ x. HasBlock version x b) (nodes t.0 t.1) t.2)
 
     was_taken : (b : ℕ) → IsTaken version n b → IsTaken version m b
-    was_taken b (inl past) = inl (subst (λ x. x ≤ b) (sym same.blocks) past)
+    was_taken b (inl past) = inl (subst (λ (s : Shape). s.blocks ≤ b) (sym same.layout) past)
     was_taken b (inr t) = inr (t.0, t.1, back t.0 b t.1 t.2)
 
     by_bit : (k : ℕ) → k < BLOCK_BITS → IsBit (object m (bit k)) (IsTaken version m (FIRST_DATA + k)) → IsBit (object n (bit k)) (IsTaken version n (FIRST_DATA + k))

@@ -12,7 +12,7 @@ use Rattle.journal_inode.specs.declared.node.Node.{Node}
 use Rattle.journal_inode.specs.declared.node.Node.TheVariants.{Free, Root, File}
 use Rattle.journal_inode.specs.declared.node.TheConstants.{MORE_BLOCKS}
 use Rattle.journal_inode.specs.declared.place.TheConstants.{INODES}
-use Rattle.journal_inode.specs.Places.{object}
+use Rattle.journal_inode.specs.Places.{HasFiles, object}
 use Rattle.journal_inode.specs.Places.Object.{superblock, bit, inode, block}
 use Rattle.journal_inode.specs.Nodes.{inode_bytes, node_of}
 use Rattle.journal_inode.specs.Versions.{number_of, most_bytes, extra_count, room_of}
@@ -61,7 +61,7 @@ HasBlock version _ b = ⊥
 
 -- the block is not there, or a file has it
 abbrev pub IsTaken : FormatVersion → Map → ℕ → Type 0
-IsTaken version m b = (m.blocks ≤ b) ⊎ ((i : ℕ) × (i < INODES) × HasBlock version (node_at m i) b)
+IsTaken version m b = (m.layout.blocks ≤ b) ⊎ ((i : ℕ) × (i < INODES) × HasBlock version (node_at m i) b)
 
 -- the block is a data block of a disk of so many blocks
 abbrev pub IsDataBlock : ℕ → ℕ → Type 0
@@ -79,7 +79,7 @@ IsInPlace _ _ = ⊥
 pub record IsSoundFile (version : FormatVersion) (m : Map) (f : FileNode) : Type 0 where
   pub born : 1 ≤ f.generation
   pub small : f.size ≤ most_bytes version
-  pub on_disk : AllByRecursion (IsDataBlock m.blocks) (file_blocks version f)
+  pub on_disk : AllByRecursion (IsDataBlock m.layout.blocks) (file_blocks version f)
   -- where a further block is not there its number is 0
   pub absent : drop (extra_count version f.size) f.more ≡ replicate (MORE_BLOCKS - extra_count version f.size) 0
   pub timed : f.mtime.nanos ≤ MAX_NANOS
@@ -98,8 +98,10 @@ IsBit v P = ((v ≡ 1 ∷ []) × P) ⊎ ((v ≡ 0 ∷ []) × (P → ⊥))
 
 -- A map of sound files of this version
 pub record HasSoundFiles (version : FormatVersion) (m : Map) : Type 0 where
+  -- the disk is cut as one with files
+  pub cut : HasFiles m.layout
   -- the superblock is that of a disk of so many blocks
-  pub begins : object m superblock ≡ superblock_of version m.blocks
+  pub begins : object m superblock ≡ superblock_of version m.layout.blocks
   -- the bytes of each inode are those of some inode, so what its kind has not is zero
   pub written : (i : ℕ) → i < INODES → object m (inode i) ≡ inode_bytes (node_at m i)
   -- each is in its place

@@ -8,6 +8,6 @@ use Rattle.journal_inode.specs.Sound.{superblock_of}
 
 -- The map n is m with the superblock of version 2
 pub record IsUpgraded (m n : Map) : Type 0 where
-  pub blocks : n.blocks ≡ m.blocks
-  pub begins : object n superblock ≡ superblock_of Two m.blocks
-  pub others : (o : Object) → IsOnDisk m.blocks o → is_same_object o superblock ≡ false → object n o ≡ object m o
+  pub layout : n.layout ≡ m.layout
+  pub begins : object n superblock ≡ superblock_of Two m.layout.blocks
+  pub others : (o : Object) → IsOnDisk m.layout.blocks o → is_same_object o superblock ≡ false → object n o ≡ object m o

@@ -2,6 +2,7 @@
 ghost use Rattle.std.specs.Prelude.{ℕ, ◌≡◌, ◌≢◌, ◌<◌, ◌≤◌, ◌+◌, ◌*◌, ◌-◌, nat_le, IsTrue, IfOk, IfErr, OnOk, IsOkUnless, slice_range};
 ghost use Rattle.journal_world.specs.declared.layout.TheConstants.{MIN_BLOCKS, MAX_BLOCKS, FIRST_DATA, BLOCK_BITS};
 ghost use Rattle.journal_world.specs.Addresses.{zeros_of};
+ghost use Rattle.journal_world.specs.Files.{files};
 ghost use Rattle.journal_block.specs.Block.{bit_of, with_bytes};
 ghost use Rattle.journal_disk.specs.Disks.{Keeps, IsSettled, read_of, past_after};
 ghost use Rattle.journal_disk.specs.Disks.{write as written, barrier};
@@ -44,7 +45,7 @@ pub fn format<D: BlockDisk>(
 
     // The map that its blocks make is one of sound files.
     ensures sound { IsTrue (D.state disk).honest → IfOk result (λ formatted. (m : Map)
-        → m.blocks ≡ (D.state disk).past.size → IsMapOf (read_of (D.state formatted).past) m → HasSoundFiles version m) }
+        → m.layout ≡ files (D.state disk).past.size → IsMapOf (read_of (D.state formatted).past) m → HasSoundFiles version m) }
 
     ensures refusal { IfErr result (λ refused.
         IsWritingRefusal (D.state disk) (D.state refused.disk) refused.refusal) }

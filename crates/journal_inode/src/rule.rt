@@ -1,11 +1,11 @@
 // Whether the files of a map are sound.
-ghost use Rattle.std.specs.Prelude.{ℕ, ◌≡◌, ◌<◌, ◌≤◌, ◌+◌, ◌↔◌, length, IsTrue, IfOk, IfErr, IfSome, MatchOption};
+ghost use Rattle.std.specs.Prelude.{ℕ, ◌≡◌, ◌<◌, ◌≤◌, ◌+◌, ◌↔◌, length, unwrap_or, slice_get, true, IsTrue, IfOk, IfErr, IfSome, MatchOption};
 ghost use Rattle.std.specs.List.{AllByRecursion};
 ghost use Rattle.journal_inode.specs.Sound.{superblock_of, node_at, IsDataBlock, IsInPlace, IsSoundFile};
 ghost use Rattle.journal_world.specs.Refusals.{IsReadingRefusal};
-ghost use Rattle.journal_inode.specs.Places.{object};
+ghost use Rattle.journal_inode.specs.Places.{HasFiles, object};
 ghost use Rattle.journal_inode.specs.Places.Object.{superblock};
-ghost use Rattle.journal_inode.specs.Admitting.{AllZero, IsSoundBlock, AreSoundBlocks, MarksOrMeets, IsSoundInode, HasDataBlocks, AreSoundBelow, AreOwners, Claims, bit_asked, AreBitsBelow};
+ghost use Rattle.journal_inode.specs.Admitting.{AllZero, IsSoundBlock, AreSoundBlocks, MarksOrMeets, IsSoundInode, HasDataBlocks, AreSoundBelow, AreOwners, Claims, AreAsked, AreBitsBelow};
 
 use crate::superblock::{are_zero, is_superblock};
 use crate::{
@@ -19,8 +19,12 @@ use std::alloc::Global;
 use std::marker::PhantomData;
 use std::sync::OnceLock;
 
-/// The rule of sound files of a version: the superblock is the disk's, each inode is in its place, each file is sound, no
-/// two files have one block, and the bitmap says which data blocks are taken.
+// How many bits are read at once.
+const WORD_BITS: u32 = 64;
+
+/// The rule of sound files of a version: the disk has the layout of files, the superblock is the
+/// disk's, each inode is in its place, each file is sound, no two files have one block, and the
+/// bitmap says which data blocks are taken.
 ///
 /// It keeps an allocator, for the table of the blocks that files have, and the first such table that it made.
 #[derive(Drop)]
@@ -67,7 +71,7 @@ impl<V: Version> MapRule for SoundFiles<V> {
 
     fn admit<O: ObjectReader>(&self, reader: &mut O) -> Result<bool, Refusal<O::Cause>> {
         let version = V::VERSION;
-        if !has_superblock(reader, version)? {
+        if !reader.layout().is_of_files() || !has_superblock(reader, version)? {
             return Ok(false);
         }
         match owners(reader, version, self.alloc)? {
@@ -86,8 +90,9 @@ fn has_superblock<O: ObjectReader>(
     reader: &mut O,
     version: FormatVersion,
 ) -> Result<bool, Refusal<O::Cause>>
+    requires { HasFiles (O.map reader.old).layout }
     ensures sound { IsTrue (O.trusted reader.old) → IfOk result (λ has.
-        IsTrue has ↔ (object (O.map reader.old) superblock ≡ superblock_of version (O.map reader.old).blocks)) }
+        IsTrue has ↔ (object (O.map reader.old) superblock ≡ superblock_of version (O.map reader.old).layout.blocks)) }
     ensures refusal { IfErr result (IsReadingRefusal (O.failed reader.new)) }
     ensures stays_failed { IsTrue (O.failed reader.old) → IsTrue (O.failed reader.new) }
     ensures same_map { O.map reader.new ≡ O.map reader.old }
@@ -119,9 +124,10 @@ fn is_file_sound<O: ObjectReader>(
     version: FormatVersion,
     file: FileNode,
 ) -> Result<bool, Refusal<O::Cause>>
+    requires { HasFiles (O.map reader.old).layout }
     ensures sound { IsTrue (O.trusted reader.old) → IfOk result (λ sound.
         IsTrue sound ↔ IsSoundFile version (O.map reader.old) file) }
-    ensures in_range { IfOk result (λ sound. IsTrue sound → HasDataBlocks version (O.map reader.old).blocks (Node.File file)) }
+    ensures in_range { IfOk result (λ sound. IsTrue sound → HasDataBlocks version (O.map reader.old).layout.blocks (Node.File file)) }
     ensures refusal { IfErr result (IsReadingRefusal (O.failed reader.new)) }
     ensures stays_failed { IsTrue (O.failed reader.old) → IsTrue (O.failed reader.new) }
     ensures same_map { O.map reader.new ≡ O.map reader.old }
@@ -151,10 +157,11 @@ fn are_blocks_sound<O: ObjectReader>(
     blocks: &[u64],
     size: u64,
 ) -> Result<bool, Refusal<O::Cause>>
+    requires { HasFiles (O.map reader.old).layout }
     ensures sound { IsTrue (O.trusted reader.old) → IfOk result (λ sound.
         IsTrue sound ↔ AreSoundBlocks (O.map reader.old) size blocks.now) }
     ensures in_range { IfOk result (λ sound. IsTrue sound
-        → AllByRecursion (IsDataBlock (O.map reader.old).blocks) blocks.now) }
+        → AllByRecursion (IsDataBlock (O.map reader.old).layout.blocks) blocks.now) }
     ensures refusal { IfErr result (IsReadingRefusal (O.failed reader.new)) }
     ensures stays_failed { IsTrue (O.failed reader.old) → IsTrue (O.failed reader.new) }
     ensures same_map { O.map reader.new ≡ O.map reader.old }
@@ -170,15 +177,17 @@ fn are_blocks_sound<O: ObjectReader>(
     Ok(true)
 }
 
-// Whether this is a data block, and its bytes from a size on are zero. The map stays.
+// Whether this is a data block, and its bytes from a size on are zero. The block is read only where
+// there are such bytes. The map stays.
 fn is_block_sound<O: ObjectReader>(
     reader: &mut O,
     block: u64,
     size: u64,
 ) -> Result<bool, Refusal<O::Cause>>
+    requires { HasFiles (O.map reader.old).layout }
     ensures sound { IsTrue (O.trusted reader.old) → IfOk result (λ sound.
         IsTrue sound ↔ IsSoundBlock (O.map reader.old) size block) }
-    ensures in_range { IfOk result (λ sound. IsTrue sound → IsDataBlock (O.map reader.old).blocks block) }
+    ensures in_range { IfOk result (λ sound. IsTrue sound → IsDataBlock (O.map reader.old).layout.blocks block) }
     ensures refusal { IfErr result (IsReadingRefusal (O.failed reader.new)) }
     ensures stays_failed { IsTrue (O.failed reader.old) → IsTrue (O.failed reader.new) }
     ensures same_map { O.map reader.new ≡ O.map reader.old }
@@ -188,9 +197,12 @@ fn is_block_sound<O: ObjectReader>(
     if block < FIRST_DATA || block >= blocks {
         return Ok(false);
     }
+    if size >= BLOCK_BYTES as u64 {
+        // The file goes on past the block, so none of its bytes has to be zero.
+        return Ok(true);
+    }
     let value = reader.read(block_addr(block))?;
-    let from = size.min(BLOCK_BYTES as u64) as usize;
-    Ok(are_zero(&value.bytes()[from..]))
+    Ok(are_zero(&value.bytes()[size as usize..]))
 }
 
 // The inode of a number, or `None` where it is not sound. The map stays.
@@ -199,11 +211,12 @@ fn sound_inode<O: ObjectReader>(
     version: FormatVersion,
     i: u32,
 ) -> Result<Option<Node>, Refusal<O::Cause>>
-    requires { i < INODES }
+    requires known { i < INODES }
+    requires cut { HasFiles (O.map reader.old).layout }
     ensures sound { IsTrue (O.trusted reader.old) → IfOk result (λ found.
         MatchOption found (IsSoundInode version (O.map reader.old) i → ⊥)
         (λ node. (node_at (O.map reader.old) i ≡ node) × IsSoundInode version (O.map reader.old) i)) }
-    ensures in_range { IfOk result (λ found. IfSome found (HasDataBlocks version (O.map reader.old).blocks)) }
+    ensures in_range { IfOk result (λ found. IfSome found (HasDataBlocks version (O.map reader.old).layout.blocks)) }
     ensures refusal { IfErr result (IsReadingRefusal (O.failed reader.new)) }
     ensures stays_failed { IsTrue (O.failed reader.old) → IsTrue (O.failed reader.new) }
     ensures same_map { O.map reader.new ≡ O.map reader.old }
@@ -229,11 +242,12 @@ fn owners<O: ObjectReader>(
     version: FormatVersion,
     alloc: Global,
 ) -> Result<Option<Vec<bool>>, Refusal<O::Cause>>
+    requires { HasFiles (O.map reader.old).layout }
     ensures sound { IsTrue (O.trusted reader.old) → IfOk result (λ found.
         MatchOption found (AreSoundBelow version (O.map reader.old) INODES → ⊥)
         (λ owners. AreSoundBelow version (O.map reader.old) INODES × AreOwners version (O.map reader.old) INODES owners.items)) }
     ensures whole { IfOk result (λ found. IfSome found (λ owners.
-        FIRST_DATA + length owners.items ≡ (O.map reader.old).blocks)) }
+        FIRST_DATA + length owners.items ≡ (O.map reader.old).layout.blocks)) }
     ensures refusal { IfErr result (IsReadingRefusal (O.failed reader.new)) }
     ensures stays_failed { IsTrue (O.failed reader.old) → IsTrue (O.failed reader.new) }
     ensures same_map { O.map reader.new ≡ O.map reader.old }
@@ -288,6 +302,7 @@ fn are_bits_sound<O: ObjectReader>(
     reader: &mut O,
     owners: &[bool],
 ) -> Result<bool, Refusal<O::Cause>>
+    requires { HasFiles (O.map reader.old).layout }
     ensures sound { IsTrue (O.trusted reader.old) → IfOk result (λ sound.
         IsTrue sound ↔ AreBitsBelow (O.map reader.old) owners.now BLOCK_BITS) }
     ensures refusal { IfErr result (IsReadingRefusal (O.failed reader.new)) }
@@ -295,19 +310,33 @@ fn are_bits_sound<O: ObjectReader>(
     ensures same_map { O.map reader.new ≡ O.map reader.old }
     ensures same_trust { O.trusted reader.new ≡ O.trusted reader.old }
 {
-    for k in 0..BLOCK_BITS {
-        let value = reader.read(bit_addr(FIRST_DATA + u64::from(k)))?;
-        if !is_bit_asked(value.bytes(), owners, k as usize) {
+    for word in 0..BLOCK_BITS / WORD_BITS {
+        let first = WORD_BITS * word;
+        let bits = reader.read_bits(bit_addr(FIRST_DATA + u64::from(first)))?;
+        if !are_bits_asked(bits, owners, first as usize) {
             return Ok(false);
         }
     }
     Ok(true)
 }
 
-// Whether a bit's value is the one that the table asks for.
-fn is_bit_asked(bytes: &[u8], owners: &[bool], k: usize) -> bool
-    ensures { IsTrue result ↔ (bytes.now ≡ bit_asked owners.now k) }
+// Whether the bits of a number are those that the table asks for, from a place of it on.
+fn are_bits_asked(bits: u64, owners: &[bool], first: usize) -> bool
+    requires { first ≤ BLOCK_BITS }
+    ensures { IsTrue result ↔ AreAsked owners.now first WORD_BITS bits }
 {
-    let is_taken = k >= owners.len() || owners[k];
-    bytes.len() == 1 && bytes[0] == u8::from(is_taken)
+    for i in 0..WORD_BITS {
+        let is_set = (bits >> i) & 1 == 1;
+        if is_set != is_taken(owners, first + i as usize) {
+            return false;
+        }
+    }
+    true
+}
+
+// Whether the bit of a place is to be set: its block has an owner, or is not there.
+fn is_taken(owners: &[bool], k: usize) -> bool
+    ensures { result ≡ unwrap_or (slice_get owners.now k) true }
+{
+    k >= owners.len() || owners[k]
 }

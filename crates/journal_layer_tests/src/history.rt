@@ -1,4 +1,5 @@
 ghost use Rattle.std.specs.Prelude.{◌≡◌, false, length, IfSome};
+ghost use Rattle.journal_world.specs.Files.{shape};
 ghost use Rattle.journal_world.specs.Histories.{commits_of, is_fenced};
 ghost use Rattle.journal_history.specs.Tokens.{made};
 
@@ -24,8 +25,9 @@ struct Zeros {
 
 impl Opened for Zeros {
     ghost use Rattle.std.specs.Prelude.{[], true};
+    ghost use Rattle.journal_world.specs.Files.{shape};
 
-    ghost map = { λ zeros. record { blocks = zeros.layout.blocks; pairs = [] } };
+    ghost map = { λ zeros. record { layout = shape zeros.layout; pairs = [] } };
 
     ghost trusted = { λ zeros. true };
 }
@@ -68,7 +70,7 @@ impl<'b, J: Naming> Author<'b, J> {
     ) -> Option<(Author<'b, J>, Session<'b, J, AnyMap>)>
         requires book { book.now ≡ J.book }
         requires cell { cell ≡ J.cell.sessions }
-        requires blocks { layout.blocks ≡ J.blocks }
+        requires layout { shape layout ≡ J.layout }
         ensures { IfSome result (λ r. length (commits_of r.1.number r.0.writer) ≡ made r.1) }
     {
         let writer = Writer::begin(book, &Zeros { layout }).ok()?;
@@ -161,7 +163,7 @@ fn told<J: Naming>(session: &Session<J, AnyMap>) -> Told {
 // How long the history is that refuses a further writer, which has then seen all of it. 0 where none does.
 fn begin_again<J: Naming>(book: &Book<AnyMap>, layout: Layout) -> u64
     requires book { book.now ≡ J.book }
-    requires blocks { layout.blocks ≡ J.blocks }
+    requires layout { shape layout ≡ J.layout }
 {
     match Writer::<J, AnyMap>::begin(book, &Zeros { layout }) {
         Ok(_) => 0,
@@ -260,7 +262,7 @@ fn run<J: Naming, W: Wait>(
 ) -> Option<(Wrong, [u64; 3])>
     requires book { book.now ≡ J.book }
     requires cell { cell ≡ J.cell.sessions }
-    requires blocks { layout.blocks ≡ J.blocks }
+    requires layout { shape layout ≡ J.layout }
 {
     let (mut author, mut other) = Author::<J>::begin(rt, book, cell, layout)?;
     let before = begin_again::<J>(book, layout);
@@ -361,7 +363,7 @@ fn meets<J: Naming + Send + Sync, H: Threads + Wait + Sync>(
 ) -> Option<([Told; 3], bool)>
     requires book { book.now ≡ J.book }
     requires cell { cell ≡ J.cell.sessions }
-    requires blocks { layout.blocks ≡ J.blocks }
+    requires layout { shape layout ≡ J.layout }
 {
     let (author, reader) = Author::<J>::begin(rt, book, cell, layout)?;
     let (mut author, mut reader) = join(

@@ -1,6 +1,7 @@
 // Values by hand: where numbers, bits and objects lie in a block, and what is refused.
 use crate::asserts::wants;
 use crate::runs::{BAD_ADDRESS, BAD_SIZE, Run, Wrong, told};
+use crate::world::regions::{FIVE, MOST, regions};
 use journal_block::Block;
 use journal_object::{load, store};
 use journal_world::{Addr, Layout};
@@ -148,5 +149,82 @@ static REFUSED: [(Object, usize, u64); 9] = [
 fn bad_addresses_and_sizes_are_refused(rt: HostRuntime) -> Result<(), Fail> {
     let layout = Layout::new(600).ok_or("a disk may have 600 blocks")?;
     wants(&rt, &wrong_object(rt.alloc(), &layout, &REFUSED), &None);
+    Ok(())
+}
+
+// Numbers of 64 bits, from the bit at which each begins, the lowest bit first.
+#[test]
+fn bits_are_read_64_at_a_time(rt: HostRuntime) -> Result<(), Fail> {
+    let block = written(rt.alloc())?;
+    let bits = [
+        block.bits_from(0),
+        block.bits_from(8),
+        block.bits_from(64),
+        block.bits_from(72),
+        block.bits_from(32704),
+    ];
+    let bits_are = [
+        0x0200,
+        0x0800_0000_0000_0002,
+        0x0102_0304_0506_0708,
+        0x0001_0203_0405_0607,
+        0xaa55_8000_0000_0000,
+    ];
+    wants(&rt, &bits, &bits_are);
+    Ok(())
+}
+
+static LIE_BY_REGIONS: [(Object, usize, u64); 16] = [
+    (Object(513, 64, 8, 7), 7, 7_000),
+    (Object(513, 64, 8, 7), 8, 7_007),
+    (Object(513, 64, 8, 7), 16, 7_000),
+    (Object(599, 32704, 8, 7), 4095, 7_007),
+    (Object(600, 512, 64, 7), 63, 7_000),
+    (Object(600, 512, 64, 7), 64, 7_007),
+    (Object(600, 512, 64, 7), 127, 7_007),
+    (Object(600, 512, 64, 7), 128, 7_000),
+    (Object(700, 9, 1, 1), 1, 1_002),
+    (Object(701, 16384, 2048, 7), 2047, 7_000),
+    (Object(701, 16384, 2048, 7), 2048, 7_007),
+    (Object(999, 0, 2048, 7), 2047, 7_007),
+    (Object(999, 0, 2048, 7), 2048, 7_000),
+    (Object(1000, 0, 4096, 7), 0, 7_007),
+    (Object(1000, 0, 4096, 7), 4095, 7_007),
+    (Object(MOST - 1, 0, 4096, 7), 4095, 7_007),
+];
+
+// A bad address is refused whatever the size is.
+static REFUSED_BY_REGIONS: [(Object, usize, u64); 22] = [
+    (Object(512, 0, 8, 7), 0, BAD_ADDRESS),
+    (Object(513, 32, 8, 7), 0, BAD_ADDRESS),
+    (Object(513, 32768, 8, 7), 0, BAD_ADDRESS),
+    (Object(600, 64, 64, 7), 0, BAD_ADDRESS),
+    (Object(600, 256, 64, 7), 0, BAD_ADDRESS),
+    (Object(700, 32768, 1, 1), 0, BAD_ADDRESS),
+    (Object(701, 8192, 2048, 7), 0, BAD_ADDRESS),
+    (Object(1000, 16384, 4096, 7), 0, BAD_ADDRESS),
+    (Object(MOST, 0, 4096, 7), 0, BAD_ADDRESS),
+    (Object(MOST, 0, 7, 7), 0, BAD_ADDRESS),
+    (Object(513, 0, 0, 7), 0, BAD_SIZE),
+    (Object(513, 0, 7, 7), 0, BAD_SIZE),
+    (Object(513, 0, 9, 7), 0, BAD_SIZE),
+    (Object(600, 0, 63, 7), 0, BAD_SIZE),
+    (Object(600, 0, 128, 7), 0, BAD_SIZE),
+    (Object(700, 0, 0, 1), 0, BAD_SIZE),
+    (Object(700, 0, 2, 1), 0, BAD_SIZE),
+    (Object(700, 0, 1, 2), 0, BAD_SIZE),
+    (Object(701, 0, 2047, 7), 0, BAD_SIZE),
+    (Object(701, 0, 4096, 7), 0, BAD_SIZE),
+    (Object(1000, 0, 2048, 7), 0, BAD_SIZE),
+    (Object(1000, 0, 4097, 7), 0, BAD_SIZE),
+];
+
+#[test]
+fn objects_lie_by_the_regions_of_a_layout(rt: HostRuntime) -> Result<(), Fail> {
+    let alloc = rt.alloc();
+    let layout = Layout::with_regions(MOST, regions(FIVE)).ok_or("regions that rise")?;
+    let lie = wrong_object(alloc, &layout, &LIE_BY_REGIONS);
+    let refused = wrong_object(alloc, &layout, &REFUSED_BY_REGIONS);
+    wants(&rt, &(lie, refused), &(None, None));
     Ok(())
 }

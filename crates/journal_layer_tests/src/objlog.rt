@@ -4,17 +4,19 @@
 ghost use Rattle.std.specs.Prelude.{◌≡◌, length, IfOk};
 ghost use Rattle.journal_disk.specs.Disks.{IsSettled};
 ghost use Rattle.journal_object.specs.Objects.{size_at};
+ghost use Rattle.journal_world.specs.Files.{shape};
 
 use crate::asserts::wants;
 use crate::runs::{
     BAD_ADDRESS, BAD_SIZE, DEVICE_FAILED, FULL, Run, TOO_LARGE, Wrong, is_refused, number, told,
 };
-use crate::world::FirstBitIsClear;
+use crate::world::regions::{FILES, InUse, WHOLE, regions};
+use crate::world::{Bit127IsSet, FirstBitIsClear};
 use journal_block::{Block, Update};
 use journal_disk::{BlockDisk, MemDisk};
 use journal_objlog::{ObjectLog, ObjectTail, Preparation, Spares};
 use journal_wal::{GroupStep, InstallStep};
-use journal_world::{Addr, Layout, Objects, Refusal, Value};
+use journal_world::{Addr, Layout, MapRule, Objects, Refusal, Value};
 use std::alloc::Global;
 use std::marker::Model;
 use std::process::Abort;
@@ -22,9 +24,11 @@ use std::process::Abort;
 mod crashes;
 mod tails;
 
-/// The objects in memory, which know no disk, and the log on the disk, which takes what they cut.
+/// The objects in memory, which know no disk, and the log on the disk, which takes what they cut. Neither knows the
+/// layout that both are read by.
 #[derive(Drop)]
 struct Pair {
+    layout: Layout,
     tail: ObjectTail,
     log: ObjectLog<MemDisk>,
 }
@@ -38,8 +42,8 @@ impl Model for Pair {
 
     ghost view = { λ _. tt };
 
-    // The log has no tail of its own, and both are of one disk.
-    ghost invariant = { λ p. (tail_length p.log ≡ 0) × (blocks_of p.tail ≡ size_of p.log) };
+    // The log has no tail of its own, and all are of one disk.
+    ghost invariant = { λ p. (tail_length p.log ≡ 0) × (blocks_of p.tail ≡ size_of p.log) × (p.layout.blocks ≡ size_of p.log) };
 }
 
 // An object: its block, its first bit there, and what each of its bytes is or becomes.
@@ -92,14 +96,14 @@ fn open(rt: &impl Abort, alloc: Global, disk: MemDisk) -> Run<Pair>
     requires { IsSettled disk.past }
 {
     let layout = Layout::new(disk.size()).expect(rt, "a disk of this size has a layout");
-    let log = match ObjectLog::open(alloc, layout, disk) {
+    let log = match ObjectLog::open(alloc, disk) {
         Ok(log) => log,
         Err(refused) => return Err(refused.refusal),
     };
     let end = log.log_range().1;
     assert!(rt; end < 1 << 62);
-    let tail = ObjectTail::new(alloc, layout, end, COPIES)?;
-    Ok(Pair { tail, log })
+    let tail = ObjectTail::new(alloc, layout.blocks, end, COPIES)?;
+    Ok(Pair { layout, tail, log })
 }
 
 // Refuses each call on a disk that has failed.
@@ -110,11 +114,14 @@ fn usable(log: &ObjectLog<MemDisk>) -> Run<()> {
     Ok(())
 }
 
-// How many bytes an object of the block has.
+// How many bytes an object of the block has, by the layout of files, and by the one with four regions more behind it.
 fn bytes_in(block: u64) -> usize {
     match block {
-        514 => 1,
+        514 | 820..=829 => 1,
+        800..=809 => 8,
+        810..=819 => 64,
         515..=530 => 128,
+        830..=839 => 2048,
         _ => 4096,
     }
 }
@@ -125,7 +132,7 @@ fn filled(alloc: Global, bytes: usize, byte: u8) -> Run<Value> {
 
 // As many bytes as the address's object has.
 fn room_for(alloc: Global, layout: Layout, addr: Addr) -> Run<Vec<u8>>
-    ensures { IfOk result (λ room. length room.items ≡ size_at layout.blocks addr) }
+    ensures { IfOk result (λ room. length room.items ≡ size_at (shape layout) addr) }
 {
     let size = match layout.kind(addr.block) {
         Some(kind) => kind.bytes(),
@@ -136,9 +143,13 @@ fn room_for(alloc: Global, layout: Layout, addr: Addr) -> Run<Vec<u8>>
 
 // A block as it is logged.
 fn fetch(rt: &impl Abort, alloc: Global, pair: &mut Pair, block: u64) -> Run<Block> {
-    let Pair { tail, log } = pair;
+    let Pair {
+        layout,
+        tail: _,
+        log,
+    } = pair;
     let mut bytes = Block::try_new(alloc)?;
-    assert!(rt; block < tail.layout().blocks);
+    assert!(rt; block < layout.blocks);
     log.read_logged(block, &mut bytes)?;
     Ok(bytes)
 }
@@ -161,19 +172,24 @@ fn keep(pair: &mut Pair, fetched: Vec<Update>) {
 }
 
 // The bytes of an object in memory, or of one of a fetched block, or none where it is in neither.
-fn look(alloc: Global, tail: &ObjectTail, fetched: &[Update], addr: Addr) -> Run<Option<Vec<u8>>> {
-    let mut room = room_for(alloc, tail.layout(), addr)?;
-    let is_known = tail.read(addr, fetched, &mut room)?;
+fn look(alloc: Global, pair: &mut Pair, fetched: &[Update], addr: Addr) -> Run<Option<Vec<u8>>> {
+    let Pair {
+        layout,
+        tail,
+        log: _,
+    } = pair;
+    let mut room = room_for(alloc, *layout, addr)?;
+    let is_known = tail.read(layout, addr, fetched, &mut room)?;
     Ok(if is_known { Some(room) } else { None })
 }
 
 fn read(rt: &impl Abort, alloc: Global, pair: &mut Pair, addr: Addr) -> Run<Option<Vec<u8>>> {
     usable(&pair.log)?;
-    if let Some(bytes) = look(alloc, &pair.tail, &[], addr)? {
+    if let Some(bytes) = look(alloc, pair, &[], addr)? {
         return Ok(Some(bytes));
     }
     let fetched = fetch_all(rt, alloc, pair, &[addr.block])?;
-    let found = look(alloc, &pair.tail, &fetched, addr);
+    let found = look(alloc, pair, &fetched, addr);
     keep(pair, fetched);
     found
 }
@@ -202,11 +218,15 @@ fn writes(alloc: Global, fills: &[Fill]) -> Run<Objects> {
 
 // Overwrites objects with these blocks fetched, or tells which of them are missing.
 fn prepare(alloc: Global, pair: &mut Pair, writes: &Objects, fetched: &[Update]) -> Run<Vec<u64>> {
-    let Pair { tail, log: _ } = pair;
+    let Pair {
+        layout,
+        tail,
+        log: _,
+    } = pair;
     let mut spares = Spares::for_writes(alloc, writes);
-    match tail.prepare(writes, &mut spares, fetched)? {
+    match tail.prepare(layout, writes, &mut spares, fetched)? {
         Preparation::Ready(prepared) => {
-            tail.apply(prepared, writes);
+            tail.apply(layout, prepared, writes);
             Ok(Vec::new(alloc))
         }
         Preparation::Missing(missing) => Ok(missing),
@@ -257,7 +277,11 @@ fn overwrite_blocks(
 
 // Takes the whole tail as the group in flight, where none is and the log has a place for it.
 fn cut(pair: &mut Pair) -> Run<bool> {
-    let Pair { tail, log } = pair;
+    let Pair {
+        layout: _,
+        tail,
+        log,
+    } = pair;
     if !log.reserve_group(tail.tail_len() as usize)? {
         return Ok(false);
     }
@@ -274,7 +298,11 @@ fn logger(pair: &mut Pair) -> Run<u64> {
 }
 
 fn installer(pair: &mut Pair) -> Run<u64> {
-    let Pair { tail, log } = pair;
+    let Pair {
+        layout: _,
+        tail,
+        log,
+    } = pair;
     // Called for its contract: nothing is logged that was not cut.
     let _logging = log.is_logging();
     let step = log.install_step()?;
@@ -308,7 +336,7 @@ fn answer(rt: &impl Abort, alloc: Global, pair: &mut Pair, call: Call) -> Run<u6
         End => Ok(pair.log.log_range().1),
         IsLogging => Ok(number(pair.log.is_logging())),
         IsFaulted => Ok(number(pair.log.is_faulted())),
-        Blocks => Ok(pair.log.layout().blocks),
+        Blocks => Ok(pair.log.disk().size()),
         Home(position) => home(rt, alloc, pair.log.disk(), position),
         Failures => Ok(pair.log.disk().failures()),
         FailIn(call) => fail_in(pair, call),
@@ -329,7 +357,11 @@ fn walk(rt: &impl Abort, alloc: Global, pair: &mut Pair, rows: &[Row]) -> Wrong 
 
 // Gives the disk up.
 fn close(pair: Pair) {
-    let Pair { tail: _, log } = pair;
+    let Pair {
+        layout: _,
+        tail: _,
+        log,
+    } = pair;
     let _ = log.into_disk();
 }
 
@@ -425,14 +457,23 @@ fn take(rt: &impl Abort, alloc: Global, pair: &mut Pair, fill: Fill) -> Run<u64>
     logger(pair)
 }
 
-// Whether a rule admits the map after an overwrite, where a device call is to fail. Beside it, whether the group with it
-// is in flight then, and whether the log has failed.
-fn admitted(rt: &impl Abort, alloc: Global, fill: Fill, fail_in: u64) -> Run<[u64; 3]> {
+// A layout of 600 blocks, an overwrite, the device call that fails after it, and whether a rule then admits the map. Beside
+// that, whether the group with the overwrite is in flight, and whether the log has failed.
+type Asked = (InUse, Fill, u64, [u64; 3]);
+
+fn admitted<R: MapRule>(rt: &impl Abort, alloc: Global, rule: &R, asked: &Asked) -> Run<[u64; 3]> {
+    let (in_use, fill, fail_in, _want) = asked;
+    let asked_by = Layout::with_regions(600, regions(in_use)).expect(rt, "regions that rise");
     let mut pair = open(rt, alloc, MemDisk::new(alloc, 600)?)?;
-    let taken = take(rt, alloc, &mut pair, fill);
-    let Pair { tail: _, mut log } = pair;
-    log.fail_in(fail_in);
-    let (log, admitted) = log.admitted_by(&FirstBitIsClear);
+    let taken = take(rt, alloc, &mut pair, *fill);
+    let Pair {
+        layout,
+        tail: _,
+        mut log,
+    } = pair;
+    log.fail_in(*fail_in);
+    assert!(rt; asked_by.blocks == layout.blocks);
+    let (log, admitted) = log.admitted_by(asked_by, rule);
     let found = [
         told(admitted.map(number)),
         number(log.is_logging()),
@@ -443,20 +484,33 @@ fn admitted(rt: &impl Abort, alloc: Global, fill: Fill, fail_in: u64) -> Run<[u6
     Ok(found)
 }
 
-static RULED: [(Fill, u64, [u64; 3]); 3] = [
-    ((514, 1, 1), 0, [1, 1, 0]),
-    ((514, 0, 1), 0, [0, 1, 0]),
-    ((531, 0, 1), 1, [DEVICE_FAILED, 1, 1]),
+static FIRST_BIT: [Asked; 4] = [
+    (FILES, (514, 1, 1), 0, [1, 1, 0]),
+    (FILES, (514, 0, 1), 0, [0, 1, 0]),
+    (FILES, (531, 0, 1), 1, [DEVICE_FAILED, 1, 1]),
+    (WHOLE, (514, 1, 1), 0, [0, 1, 0]),
+];
+
+// Bit 71 is the last of the second eight bytes where these are read from the other end.
+static BIT_127: [Asked; 8] = [
+    (FILES, (514, 127, 1), 0, [1, 1, 0]),
+    (FILES, (514, 126, 1), 0, [0, 1, 0]),
+    (FILES, (514, 128, 1), 0, [0, 1, 0]),
+    (FILES, (514, 63, 1), 0, [0, 1, 0]),
+    (FILES, (514, 71, 1), 0, [0, 1, 0]),
+    (FILES, (514, 191, 1), 0, [0, 1, 0]),
+    (FILES, (531, 0, 1), 1, [DEVICE_FAILED, 1, 1]),
+    (WHOLE, (514, 127, 1), 0, [0, 1, 0]),
 ];
 
 // The first of these that is answered otherwise.
-fn wrong_rule(rt: &impl Abort, alloc: Global) -> Wrong {
-    for (number, (fill, fail_in, want)) in RULED.iter().enumerate() {
-        let got = match admitted(rt, alloc, *fill, *fail_in) {
+fn wrong_rule<R: MapRule>(rt: &impl Abort, alloc: Global, rule: &R, rows: &[Asked]) -> Wrong {
+    for (number, asked) in rows.iter().enumerate() {
+        let got = match admitted(rt, alloc, rule, asked) {
             Ok(got) => got,
             Err(refusal) => [told(Err(refusal)), 0, 0],
         };
-        if got != *want {
+        if got != asked.3 {
             return Some((number + 1, got[0]));
         }
     }
@@ -465,9 +519,18 @@ fn wrong_rule(rt: &impl Abort, alloc: Global) -> Wrong {
 
 #[test]
 fn a_rule_is_asked(rt: HostRuntime) {
-    let mut wrong = wrong_rule(&rt, rt.alloc());
+    let mut wrong = wrong_rule(&rt, rt.alloc(), &FirstBitIsClear, &FIRST_BIT);
     if is_refused(wrong) {
-        wrong = wrong_rule(&rt, rt.alloc());
+        wrong = wrong_rule(&rt, rt.alloc(), &FirstBitIsClear, &FIRST_BIT);
+    }
+    wants(&rt, &wrong, &None);
+}
+
+#[test]
+fn a_rule_reads_64_bits_at_once(rt: HostRuntime) {
+    let mut wrong = wrong_rule(&rt, rt.alloc(), &Bit127IsSet, &BIT_127);
+    if is_refused(wrong) {
+        wrong = wrong_rule(&rt, rt.alloc(), &Bit127IsSet, &BIT_127);
     }
     wants(&rt, &wrong, &None);
 }

@@ -1,4 +1,4 @@
-// A write-ahead log over a disk in memory of 600 blocks, beside the updates in memory that it takes, call by call.
+// A write-ahead log over a disk in memory, beside the updates in memory that it takes, call by call.
 //
 // Any one request for memory may be refused in a run. A refused run is made again, from its disk on.
 ghost use Rattle.std.specs.Prelude.{◌≡◌, ◌≤◌, ◌<◌, ◌^◌, length, IfOk};
@@ -258,8 +258,8 @@ fn read_from(rt: &impl Abort, alloc: Global, wal: &mut Wal<MemDisk>, block: u64)
 }
 
 // The number at the front of a block, where it is in memory.
-fn known(tail: &Tail, block: u64) -> Option<u64> {
-    match tail.known(block) {
+fn number_in_memory(tail: &Tail, block: u64) -> Option<u64> {
+    match tail.get(block) {
         Some(bytes) => Some(bytes.get_u64(0)),
         None => None,
     }
@@ -268,7 +268,7 @@ fn known(tail: &Tail, block: u64) -> Option<u64> {
 fn read(rt: &impl Abort, alloc: Global, pair: &mut Pair, block: u64) -> Run<u64> {
     let Pair { tail, wal } = pair;
     usable(wal)?;
-    match known(tail, block) {
+    match number_in_memory(tail, block) {
         Some(number) => Ok(number),
         None => read_from(rt, alloc, wal, block),
     }
@@ -301,7 +301,7 @@ fn answer(rt: &impl Abort, alloc: Global, pair: &mut Pair, call: Call) -> Run<u6
         Log => log(pair),
         Install => install(pair),
         Read(block) => read(rt, alloc, pair, block),
-        Latest(block) => Ok(known(&pair.tail, block).unwrap_or(0)),
+        Latest(block) => Ok(number_in_memory(&pair.tail, block).unwrap_or(0)),
         Stands(block) => Ok(number(pair.tail.is_in_tail(block))),
         Start => Ok(pair.wal.log_range().0),
         End => Ok(pair.wal.log_range().1),
@@ -326,8 +326,16 @@ fn walk(rt: &impl Abort, alloc: Global, pair: &mut Pair, rows: &[Row]) -> Wrong 
     None
 }
 
-fn run(rt: &impl Abort, alloc: Global, start: u64, end: u64, rows: &[Row]) -> Run<Wrong> {
-    let wal = open(rt, alloc, disk_with_log(rt, alloc, start, end)?)?;
+fn run(
+    rt: &impl Abort,
+    alloc: Global,
+    blocks: u64,
+    start: u64,
+    end: u64,
+    rows: &[Row],
+) -> Run<Wrong> {
+    let disk = sized_disk_with_log(rt, alloc, blocks, start, end)?;
+    let wal = open(rt, alloc, disk)?;
     let mut pair = paired(rt, alloc, wal)?;
     let wrong = walk(rt, alloc, &mut pair, rows);
     let Pair { tail: _, wal } = pair;
@@ -335,14 +343,22 @@ fn run(rt: &impl Abort, alloc: Global, start: u64, end: u64, rows: &[Row]) -> Ru
     Ok(wrong)
 }
 
-fn run_once(rt: &impl Abort, alloc: Global, start: u64, end: u64, rows: &[Row]) -> Wrong {
-    match run(rt, alloc, start, end, rows) {
+fn run_once(
+    rt: &impl Abort,
+    alloc: Global,
+    blocks: u64,
+    start: u64,
+    end: u64,
+    rows: &[Row],
+) -> Wrong {
+    match run(rt, alloc, blocks, start, end, rows) {
         Ok(wrong) => wrong,
         Err(refusal) => Some((0, told(Err(refusal)))),
     }
 }
 
-/// The first row that is answered otherwise by the log of a disk with these numbers in front of blocks 1 and 0.
+/// The first row that is answered otherwise by the log of a disk of 600 blocks with these numbers in front of blocks 1
+/// and 0.
 pub(crate) fn wrong_row(
     rt: &impl Abort,
     alloc: Global,
@@ -350,9 +366,21 @@ pub(crate) fn wrong_row(
     end: u64,
     rows: &[Row],
 ) -> Wrong {
-    let wrong = run_once(rt, alloc, start, end, rows);
+    sized_wrong_row(rt, alloc, 600, start, end, rows)
+}
+
+/// The same of a disk of so many blocks.
+pub(crate) fn sized_wrong_row(
+    rt: &impl Abort,
+    alloc: Global,
+    blocks: u64,
+    start: u64,
+    end: u64,
+    rows: &[Row],
+) -> Wrong {
+    let wrong = run_once(rt, alloc, blocks, start, end, rows);
     if is_refused(wrong) {
-        return run_once(rt, alloc, start, end, rows);
+        return run_once(rt, alloc, blocks, start, end, rows);
     }
     wrong
 }

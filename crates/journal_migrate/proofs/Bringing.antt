@@ -1,5 +1,6 @@
 -- What is left where a mount is brought to version 2, and where that is refused.
 use Rattle.std.proofs.Common.{◌≡◌, inl, inr, IsTrue, [], ◌∷◌, ◌++◌, sym, ap, subst, ◌∙◌, arith}
+use Rattle.journal_world.specs.Addresses.{Shape}
 use Rattle.journal_world.specs.Maps.{Transaction, overwritten}
 use Rattle.journal_world.specs.Histories.{opened, is_trusted, latest, count}
 use Rattle.journal_world.specs.Histories.Entry.{opening, commit, stable}
@@ -26,7 +27,7 @@ Keeps-trans a b c first second = record {
   failures = omega (arith, first.failures, second.failures);
 }
 
-module _ (disk : DiskState) (first : CoreState) (begins : Begins HasEitherFiles disk first) where
+module _ (layout : Shape) (disk : DiskState) (first : CoreState) (begins : Begins HasEitherFiles layout disk first) where
   -- the history is trusted where the disk is honest
   pub trusted_honest : IsTrue (is_trusted first.history) → IsTrue (disk_of first).honest
   trusted_honest trusted = subst IsTrue (ap is_trusted begins.history ∙ sym begins.keeps.honest) trusted

@@ -2,6 +2,8 @@
 use Rattle.std.proofs.Common.{ℕ, ◌≡◌, inl, inr, IsTrue, length, sym, ap, subst, ◌∙◌, arith}
 use Rattle.journal_world.specs.declared.refusal.Refusal.{Refusal}
 use Rattle.journal_world.specs.declared.refusal.Refusal.TheVariants.{NoMemory, BadAddress, BadSize, TooLarge, Busy, DeviceFailed, BadLog, BadSuper, Stale, Stranger, Worn, Full, Closed, Fenced}
+use Rattle.journal_world.specs.Addresses.{Shape}
+use Rattle.journal_world.specs.Files.{files}
 use Rattle.journal_world.specs.Histories.{opened, is_trusted}
 use Rattle.journal_disk.specs.Disks.{DiskState, Keeps, HasFailed}
 use Rattle.journal_disk.specs.Images.{EveryImage}
@@ -9,16 +11,20 @@ use Rattle.journal_inode.specs.declared.version.FormatVersion.TheVariants.{Two}
 use Rattle.journal_inode.specs.Sound.{HasSoundFiles}
 use Rattle.journal_core.specs.Causes.{CauseState}
 use Rattle.journal_core.specs.Cores.{CoreState, Leaves, disk_of, next_of}
-use Rattle.journal_core.specs.Openings.{Begins, HasBoundsOf}
+use Rattle.journal_core.specs.Openings.{Begins, IsInRange, HasBoundsOf}
 use Rattle.journal_filestore.specs.Files.{Files}
 use Rattle.journal_migrate.specs.Either.{HasEitherFiles}
 use Rattle.journal_migrate.specs.Holding.{HasFiles, HasFilesOfEither, HoldsFilesOf, HoldsFiles, LeavesMaps}
 use Rattle.journal_migrate.specs.Migrations.{IsMigrated, KeepsFiles, KeepsVersionTwo, IsUpgradeRefusal, IsMigrateRefusal}
 use Rattle.journal_migrate.proofs.FilesOfMaps.{HasFiles-same, Either-files-same}
 use Rattle.journal_migrate.proofs.Leaving.{images_open}
-use Rattle.journal_migrate.proofs.Disks.{map_has, holds_some}
+use Rattle.journal_migrate.proofs.Disks.{map_has, holds_some, either_cut}
 
-module _ (disk : DiskState) (first after : CoreState) (last : DiskState) (begins : Begins HasEitherFiles disk first) (keeps : Keeps (disk_of first) (disk_of after))
+-- a layout that is that of files
+pub laid_files : (layout : Shape) (n : ℕ) → layout ≡ files n → layout ≡ files layout.blocks
+laid_files layout n is = is ∙ ap files (sym (ap (λ (s : Shape). s.blocks) is))
+
+module _ (layout : Shape) (disk : DiskState) (first after : CoreState) (last : DiskState) (laid : layout ≡ files layout.blocks) (begins : Begins HasEitherFiles layout disk first) (keeps : Keeps (disk_of first) (disk_of after))
     (given : last ≡ disk_of after) where
   module _ (honest : IsTrue disk.honest) where
     trusted : IsTrue (is_trusted first.history)
@@ -27,29 +33,32 @@ module _ (disk : DiskState) (first after : CoreState) (last : DiskState) (begins
     still : IsTrue last.honest
     still = subst IsTrue (sym (ap (λ (d : DiskState). d.honest) given ∙ keeps.honest ∙ begins.keeps.honest)) honest
 
-    has_either : (files : Files) → HoldsFiles files disk → HasFilesOfEither files (opened first.history)
-    has_either files held = subst (HasFilesOfEither files) (sym (ap opened begins.history))
-        (map_has (HasFilesOfEither files) disk begins.map (Either-files-same files) begins.range.0 (begins.holds honest) held)
+    map_cut : begins.map.layout ≡ files begins.map.layout.blocks
+    map_cut = subst (λ (s : Shape). s ≡ files s.blocks) (sym begins.on_disk) laid
 
-    has_two : (files : Files) → HoldsFilesOf Two files disk → HasSoundFiles Two (opened first.history)
-    has_two files held = subst (HasSoundFiles Two) (sym (ap opened begins.history))
-        (map_has (HasFiles Two files) disk begins.map (HasFiles-same Two files) begins.range.0 (begins.holds honest) held).sound
+    has_either : (fs : Files) → HoldsFiles fs disk → HasFilesOfEither fs (opened first.history)
+    has_either fs held = subst (HasFilesOfEither fs) (sym (ap opened begins.history))
+        (map_has (HasFilesOfEither fs) disk begins.map (Either-files-same fs) (either_cut fs) map_cut (begins.holds honest) held)
+
+    has_two : (fs : Files) → HoldsFilesOf Two fs disk → HasSoundFiles Two (opened first.history)
+    has_two fs held = subst (HasSoundFiles Two) (sym (ap opened begins.history))
+        (map_has (HasFiles Two fs) disk begins.map (HasFiles-same Two fs) (λ k has. has.sound.cut.0) map_cut (begins.holds honest) held).sound
 
     module _ (images : IsTrue last.honest → EveryImage last.past (Leaves after.history)) where
-      pub migrated : (IsTrue (is_trusted first.history) → (files : Files) → HasFilesOfEither files (opened first.history) → LeavesMaps (HasFiles Two files) after.history)
+      pub migrated : (IsTrue (is_trusted first.history) → (fs : Files) → HasFilesOfEither fs (opened first.history) → LeavesMaps (HasFiles Two fs) after.history)
           → IsMigrated disk last
       migrated upgraded = record {
         sound = holds_some disk begins.map (begins.holds honest) (begins.ruled honest);
-        same = λ files held. images_open (HasFiles Two files) after.history last.past (HasFiles-same Two files) (upgraded trusted files (has_either files held)) (images still);
+        same = λ fs held. images_open (HasFiles Two fs) after.history last.past (HasFiles-same Two fs) (upgraded trusted fs (has_either fs held)) (images still);
       }
 
-      pub keeps_files : (IsTrue (is_trusted first.history) → (files : Files) → HasFilesOfEither files (opened first.history) → LeavesMaps (HasFilesOfEither files) after.history)
+      pub keeps_files : (IsTrue (is_trusted first.history) → (fs : Files) → HasFilesOfEither fs (opened first.history) → LeavesMaps (HasFilesOfEither fs) after.history)
           → KeepsFiles disk last
-      keeps_files left files held =
-          images_open (HasFilesOfEither files) after.history last.past (Either-files-same files) (left trusted files (has_either files held)) (images still)
+      keeps_files left fs held =
+          images_open (HasFilesOfEither fs) after.history last.past (Either-files-same fs) (left trusted fs (has_either fs held)) (images still)
 
     pub keeps_two : (IsTrue (is_trusted first.history) → HasSoundFiles Two (opened first.history) → (disk_of after).past ≡ (disk_of first).past) → KeepsVersionTwo disk last
-    keeps_two unchanged files held = ap (λ (d : DiskState). d.past) given ∙ unchanged trusted (has_two files held) ∙ begins.past honest
+    keeps_two unchanged fs held = ap (λ (d : DiskState). d.past) given ∙ unchanged trusted (has_two fs held) ∙ begins.past honest
 
   since : HasFailed (disk_of first) (disk_of after) → HasFailed disk last
   since (inl more) = inl (omega (arith, more, begins.keeps.failures, ap (λ (d : DiskState). d.failures) given))
@@ -72,12 +81,12 @@ module _ (disk : DiskState) (first after : CoreState) (last : DiskState) (begins
   refused end Fenced is = is
 
   -- it was opened, and then refused
-  pub migrate_refused : (why : Refusal CauseState) → (IsTrue disk.honest → HasBoundsOf disk first) → IsUpgradeRefusal (next_of first.objects) (disk_of first) (disk_of after) why
+  pub migrate_refused : (why : Refusal CauseState) → IsInRange disk → (IsTrue disk.honest → HasBoundsOf disk first) → IsUpgradeRefusal (next_of first.objects) (disk_of first) (disk_of after) why
       → IsMigrateRefusal disk last why
-  migrate_refused why bounds is = inr (
+  migrate_refused why range bounds is = inr (
     next_of first.objects,
     record {
-      range = begins.range;
+      range = range;
       sound = λ honest. holds_some disk begins.map (begins.holds honest) (begins.ruled honest);
       ends = λ honest. omega (arith, begins.rest.next, begins.rest.cut, (bounds honest).end, ap length begins.tail);
     },

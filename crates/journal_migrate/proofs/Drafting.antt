@@ -3,7 +3,7 @@ use Rattle.std.proofs.Common.{ℕ, zero, suc, ◌≡◌, ◌≢◌, ◌⊎◌, i
 use Rattle.std.proofs.lemmas.Bool.{false≢true}
 use Rattle.std.proofs.lemmas.List.Elements.{All-nil, All-head}
 use Rattle.journal_world.specs.declared.address.Addr.{Addr}
-use Rattle.journal_world.specs.Addresses.{slot_of, is_valid}
+use Rattle.journal_world.specs.Addresses.{slot_of, is_valid, Shape}
 use Rattle.journal_world.specs.Maps.{Pair, Map, Agrees, overwritten}
 use Rattle.journal_world.specs.Histories.{Entry, opened, is_trusted, latest, count, floor, touched, commits_of, is_fenced}
 use Rattle.journal_world.specs.Histories.Entry.{opening, commit}
@@ -119,8 +119,8 @@ pub record IsAtOutset (first now : CoreState) : Type 0 where
   pub keeps : Keeps (disk_of first) (disk_of now)
   pub past : IsTrue (disk_of first).honest → (disk_of now).past ≡ (disk_of first).past
 
-pub begun_at : (disk : DiskState) (first : CoreState) → Begins HasEitherFiles disk first → IsAtOutset first first
-begun_at disk first begins = record {
+pub begun_at : (layout : Shape) (disk : DiskState) (first : CoreState) → Begins HasEitherFiles layout disk first → IsAtOutset first first
+begun_at layout disk first begins = record {
   history = refl;
   tail = begins.tail;
   rest = begins.rest.logging;
@@ -158,11 +158,11 @@ at_read first old new at reads others = record {
 }
 
 -- so it is where the superblock is drafted
-pub at_draft : (disk : DiskState) (first mid old : CoreState) (session : SessionState) (t : TransactionState) → Begins HasEitherFiles disk first
+pub at_draft : (layout : Shape) (disk : DiskState) (first mid old : CoreState) (session : SessionState) (t : TransactionState) → Begins HasEitherFiles layout disk first
     → BeginsSession first session mid → OnlyReads mid.objects old.objects → old ≡ record mid { objects = old.objects } → DraftsUpgrade mid.history t
     → IsAtOutset first old × DraftsUpgrade old.history t
-at_draft disk first mid old session t begins begun reads others drafts =
-    let at = at_session first first mid session (begun_at disk first begins) begun in
+at_draft layout disk first mid old session t begins begun reads others drafts =
+    let at = at_session first first mid session (begun_at layout disk first begins) begun in
     let later = at_read first mid old at reads others in
     (later, subst (λ h. DraftsUpgrade h t) (at.history ∙ sym later.history) drafts)
 
@@ -294,23 +294,23 @@ behind : (history : List Entry) (t : TransactionState) (cause : CauseState) → 
 behind history t cause is = is.1.1
 
 -- a read of a transaction that begins now is refused by the device alone
-pub read_refused : (blocks : ℕ) (old new : CoreState) (t : TransactionState) (a : Addr) (why : Refusal CauseState) → IsRunning old → t.seen ≡ old.history → IsTrue (is_valid blocks a)
-    → IsReadRefusal blocks old t a new why → IsRunningRefusal old new why
-read_refused blocks old new t a NoMemory running seen valid is = tt
-read_refused blocks old new t a BadAddress running seen valid is = absurd (false≢true (sym (sym valid ∙ is.1)))
-read_refused blocks old new t a BadSize running seen valid is = is
-read_refused blocks old new t a TooLarge running seen valid is = is
-read_refused blocks old new t a Busy running seen valid is = is
-read_refused blocks old new t a (DeviceFailed cause) running seen valid is = (by is.fault, is.unexplained)
+pub read_refused : (layout : Shape) (old new : CoreState) (t : TransactionState) (a : Addr) (why : Refusal CauseState) → IsRunning old → t.seen ≡ old.history → IsTrue (is_valid layout a)
+    → IsReadRefusal layout old t a new why → IsRunningRefusal old new why
+read_refused layout old new t a NoMemory running seen valid is = tt
+read_refused layout old new t a BadAddress running seen valid is = absurd (false≢true (sym (sym valid ∙ is.1)))
+read_refused layout old new t a BadSize running seen valid is = is
+read_refused layout old new t a TooLarge running seen valid is = is
+read_refused layout old new t a Busy running seen valid is = is
+read_refused layout old new t a (DeviceFailed cause) running seen valid is = (by is.fault, is.unexplained)
   where
-    by : IsTrue (is_faulted old) ⊎ (MayRead blocks old t a × HasFailed (disk_of old) (disk_of new)) → HasFailed (disk_of old) (disk_of new)
+    by : IsTrue (is_faulted old) ⊎ (MayRead layout old t a × HasFailed (disk_of old) (disk_of new)) → HasFailed (disk_of old) (disk_of new)
     by (inl before) = absurd (false≢true (sym (sym before ∙ running.1)))
     by (inr now) = now.1
-read_refused blocks old new t a BadLog running seen valid is = is
-read_refused blocks old new t a BadSuper running seen valid is = is
-read_refused blocks old new t a (Stale cause) running seen valid is = absurd (omega (arith, behind old.history t cause is.2, ap length seen))
-read_refused blocks old new t a (Stranger cause) running seen valid is = is
-read_refused blocks old new t a (Worn cause) running seen valid is = is
-read_refused blocks old new t a (Full cause) running seen valid is = is
-read_refused blocks old new t a (Closed cause) running seen valid is = absurd (false≢true (sym (sym is.closed ∙ running.0)))
-read_refused blocks old new t a Fenced running seen valid is = is
+read_refused layout old new t a BadLog running seen valid is = is
+read_refused layout old new t a BadSuper running seen valid is = is
+read_refused layout old new t a (Stale cause) running seen valid is = absurd (omega (arith, behind old.history t cause is.2, ap length seen))
+read_refused layout old new t a (Stranger cause) running seen valid is = is
+read_refused layout old new t a (Worn cause) running seen valid is = is
+read_refused layout old new t a (Full cause) running seen valid is = is
+read_refused layout old new t a (Closed cause) running seen valid is = absurd (false≢true (sym (sym is.closed ∙ running.0)))
+read_refused layout old new t a Fenced running seen valid is = is

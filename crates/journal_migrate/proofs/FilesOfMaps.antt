@@ -10,7 +10,7 @@ use Rattle.journal_inode.specs.declared.node.Node.{Node}
 use Rattle.journal_inode.specs.declared.node.Node.TheVariants.{Free, Root, File}
 use Rattle.journal_inode.specs.declared.place.TheConstants.{INODES}
 use Rattle.journal_inode.specs.Nodes.{node_of}
-use Rattle.journal_inode.specs.Places.{object}
+use Rattle.journal_inode.specs.Places.{HasFiles as IsCut, object}
 use Rattle.journal_inode.specs.Places.Object.{inode, block}
 use Rattle.journal_inode.specs.Sound.{node_at, file_blocks, held, stored, IsDataBlock}
 use Rattle.journal_inode.specs.SameFiles.{object-same, Sound-same}
@@ -40,19 +40,19 @@ files_of-same v w m n nodes blocks =
         ap (entry_of w n) (nodes j low) ∙ entry_of-same v w m n (node_at m j) (λ f is_file. blocks j f low is_file)
 
 -- blocks that are on the disk hold the same
-held-same : (m n : Map) (bs : List ℕ) → SameMap m n → AllByRecursion (IsDataBlock m.blocks) bs → held n bs ≡ held m bs
-held-same m n [] same here = refl
-held-same m n (b ∷ []) same here = sym (object-same m n (block b) same here.0)
-held-same m n (b ∷ c ∷ bs) same here =
-    ap (λ v. v ++ held n (c ∷ bs)) (sym (object-same m n (block b) same here.0)) ∙ ap (λ v. object m (block b) ++ v) (held-same m n (c ∷ bs) same here.1)
+held-same : (m n : Map) (bs : List ℕ) → SameMap m n → IsCut m.layout → AllByRecursion (IsDataBlock m.layout.blocks) bs → held n bs ≡ held m bs
+held-same m n [] same cut here = refl
+held-same m n (b ∷ []) same cut here = sym (object-same m n (block b) same cut here.0)
+held-same m n (b ∷ c ∷ bs) same cut here =
+    ap (λ v. v ++ held n (c ∷ bs)) (sym (object-same m n (block b) same cut here.0)) ∙ ap (λ v. object m (block b) ++ v) (held-same m n (c ∷ bs) same cut here.1)
 
 -- one map has one set of files
 pub HasFiles-same : (version : FormatVersion) (files : Files) (m n : Map) → SameMap m n → HasFiles version files m → HasFiles version files n
 HasFiles-same version files m n same has = record {
   sound = Sound-same version m n same has.sound;
   same = files_of-same version version m n
-      (λ i low. ap node_of (sym (object-same m n (inode i) same low)))
-      (λ i f low is. held-same m n (file_blocks version f) same (has.sound.files i f low is).on_disk)
+      (λ i low. ap node_of (sym (object-same m n (inode i) same has.sound.cut low)))
+      (λ i f low is. held-same m n (file_blocks version f) same has.sound.cut (has.sound.files i f low is).on_disk)
       ∙ has.same;
 }
 

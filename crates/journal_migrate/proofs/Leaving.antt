@@ -39,8 +39,8 @@ leaves_marked P m trusted t history is after = subst (LeavesMaps P) (sym is) at_
 
 SameMap-sym : (m n : Map) → SameMap m n → SameMap n m
 SameMap-sym m n same = record {
-  blocks = sym same.blocks;
-  values = λ a valid. sym (same.values a (subst (λ k. IsTrue (is_valid k a)) (sym same.blocks) valid));
+  layout = sym same.layout;
+  values = λ a valid. sym (same.values a (subst (λ k. IsTrue (is_valid k a)) (sym same.layout) valid));
 }
 
 -- so does each image of the disk

@@ -1,10 +1,12 @@
 // A disk becomes one of version 2.
 ghost use Rattle.std.specs.Prelude.{ℕ, ◌≡◌, ◌⊎◌, [], ◌∷◌, IsTrue, false, IfOk, IfErr, OnOk, OnErr};
 ghost use Rattle.journal_world.specs.Addresses.{slot_of as slot_number};
+ghost use Rattle.journal_world.specs.Addresses.{Shape};
+ghost use Rattle.journal_world.specs.Files.{files};
 ghost use Rattle.journal_world.specs.Histories.{opened, is_trusted, latest};
 ghost use Rattle.journal_world.specs.Maps.{is_object};
 ghost use Rattle.journal_disk.specs.Disks.{DiskState, Keeps, IsSettled};
-ghost use Rattle.journal_inode.specs.Places.{addr_of, object};
+ghost use Rattle.journal_inode.specs.Places.{addr_of, object, HasFiles as IsCut};
 ghost use Rattle.journal_inode.specs.Places.Object.{superblock};
 ghost use Rattle.journal_inode.specs.declared.version.FormatVersion.TheVariants.{One, Two};
 ghost use Rattle.journal_inode.specs.Sound.{HasSoundFiles};
@@ -56,7 +58,7 @@ pub fn migrate<'b, D: BlockDisk, J: Naming, W: Wait>(
 ) -> Result<D, Refused<D, Cause<'b, J, EitherVersion>>>
     requires book { book.now ≡ J.book }
     requires cell { cell ≡ J.cell }
-    requires blocks { (D.state disk).past.size ≡ J.blocks }
+    requires layout { J.layout ≡ files (D.state disk).past.size }
     requires settled { IsTrue (D.state disk).honest → IsSettled (D.state disk).past }
     ensures migrated { IsTrue (D.state disk).honest → IfOk result (λ migrated. IsMigrated (D.state disk) (D.state migrated)) }
     ensures unchanged { IsTrue (D.state disk).honest → IfOk result (λ migrated. KeepsVersionTwo (D.state disk) (D.state migrated)) }
@@ -67,19 +69,19 @@ pub fn migrate<'b, D: BlockDisk, J: Naming, W: Wait>(
     ensures handed_back { IfErr result (λ refused. Keeps (D.state disk) (D.state refused.disk)) }
 {
     let rule = EitherVersion::new(alloc);
-    if Layout::new(disk.size()).is_none() {
+    let Some(layout) = Layout::new(disk.size()) else {
         return Err(Refused {
             refusal: Refusal::BadSuper,
             disk,
         });
-    }
+    };
     let Ok(slot_locks) = SlotLocks::new(alloc) else {
         return Err(Refused {
             refusal: Refusal::NoMemory,
             disk,
         });
     };
-    let (mut core, slots) = Core::open_step(alloc, book, cell, disk, &rule, COPIES)?;
+    let (mut core, slots) = Core::open_step(alloc, book, cell, layout, disk, &rule, COPIES)?;
     let slots = LockMap::new(slot_locks, slots);
     // Nobody else takes one of these slots, so this waits for nobody.
     let mut held = slots.acquire(rt, slot_of(SUPERBLOCK_ADDR));
@@ -101,7 +103,8 @@ fn upgrade<'b, D: BlockDisk, J: Naming, W: Wait>(
     core: &mut Core<'b, D, EitherVersion, J>,
     held: &mut [Held<J>],
 ) -> Result<(), MigrationRefusal<'b, J>>
-    requires begins { (disk : DiskState) × Begins HasEitherFiles disk core.old }
+    requires cut { IsCut J.layout }
+    requires begins { (layout : Shape) × (disk : DiskState) × Begins HasEitherFiles layout disk core.old }
     requires held { slots_of held.old ≡ slot_number (addr_of superblock) ∷ [] }
     ensures upgraded { IsTrue (is_trusted core.old.history) → OnOk result ((files : Files)
         → HasFilesOfEither files (opened core.old.history) → LeavesMaps (HasFiles Two files) core.new.history) }
@@ -130,6 +133,7 @@ fn draft<'b, D: BlockDisk, J: Naming, W: Wait>(
     transaction: &mut Transaction<'b, J, EitherVersion>,
     held: &mut [Held<J>],
 ) -> Result<bool, MigrationRefusal<'b, J>>
+    requires cut { IsCut J.layout }
     requires begun { transaction.old ≡ begun core.old.history }
     requires running { IsRunning core.old }
     ensures drafted { IfOk result (λ of_one. IsTrue of_one → DraftsUpgrade core.old.history transaction.new) }
@@ -158,9 +162,10 @@ fn overwrite<'b, J: Naming>(
     found: ReadResult<'b, J, EitherVersion>,
     bytes: Vec<u8>,
 ) -> Result<(), AllocError>
+    requires cut { IsCut J.layout }
     requires begun { transaction.old ≡ begun found.seen }
     requires addr { found.addr ≡ addr_of superblock }
-    requires object { IsTrue (is_object J.blocks (addr_of superblock, bytes.items)) }
+    requires object { IsTrue (is_object J.layout (addr_of superblock, bytes.items)) }
     requires value { IsTrue (is_trusted found.seen) → bytes.items ≡ object (latest found.seen) superblock }
     requires of_version_one { version_byte bytes.items ≡ 1 }
     ensures { OnOk result (DraftsUpgrade found.entry.seen transaction.new) }

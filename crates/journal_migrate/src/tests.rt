@@ -1,6 +1,7 @@
 // Disks that are migrated: as they were left in several ways, and with each device call failing in turn. What is mounted then
 // has the file's old bytes.
 ghost use Rattle.std.specs.Prelude.{◌≡◌, IfSome};
+ghost use Rattle.journal_world.specs.Files.{files};
 ghost use Rattle.journal_disk.specs.Disks.{IsSettled};
 
 use crate::{EitherVersion, migrate};
@@ -172,7 +173,7 @@ fn used<J: Naming, W: Wait>(
 ) -> Option<MemDisk>
     requires book { book.now ≡ J.book }
     requires cell { cell ≡ J.cell }
-    requires blocks { disk.past.size ≡ J.blocks }
+    requires layout { J.layout ≡ files disk.past.size }
     requires settled { IsSettled disk.past }
     ensures { IfSome result (λ disk. IsSettled disk.past) }
 {
@@ -201,7 +202,7 @@ fn holds<V: Version, J: Naming, W: Wait>(
 ) -> bool
     requires book { book.now ≡ J.book }
     requires cell { cell ≡ J.cell }
-    requires blocks { disk.past.size ≡ J.blocks }
+    requires layout { J.layout ≡ files disk.past.size }
     requires settled { IsSettled disk.past }
 {
     let mounted: Result<FileStore<MemDisk, J, V>, _> = FileStore::mount(alloc, book, cell, disk);
@@ -277,7 +278,7 @@ fn migrated<J: Naming, W: Wait>(
 ) -> (bool, MemDisk)
     requires book { book.now ≡ J.book }
     requires cell { cell ≡ J.cell }
-    requires blocks { disk.past.size ≡ J.blocks }
+    requires layout { J.layout ≡ files disk.past.size }
     requires settled { IsSettled disk.past }
 {
     match migrate::<MemDisk, J, W>(rt, alloc, book, cell, disk) {

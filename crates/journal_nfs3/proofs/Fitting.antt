@@ -10,7 +10,7 @@ use Rattle.journal_inode.specs.declared.version.FormatVersion.TheVariants.{One, 
 use Rattle.journal_filestore.specs.declared.reply.Attributes.{Attributes}
 use Rattle.journal_nfs3.specs.Arguments.{time}
 use Rattle.journal_nfs3.specs.declared.results.NfsError.{NfsError}
-use Rattle.journal_nfs3.specs.declared.results.NfsError.TheVariants.{NoEntry, Io, Exists, NotDirectory, Invalid, TooBig, NoSpace, Stale, BadHandle, NotSync, NotSupported, ServerFault, Jukebox}
+use Rattle.journal_nfs3.specs.declared.results.NfsError.TheVariants.{NoEntry, Io, Exists, NotDirectory, Invalid, TooBig, NoSpace, Stale, BadHandle, NotSync, NotSupported, TooSmall, ServerFault, Jukebox}
 use Rattle.journal_nfs3.specs.Handles.{FileHandle, file_handle}
 use Rattle.journal_nfs3.specs.Results.{status, outcome, given_handle, Fattr, fattr, Before, before, change}
 use Rattle.journal_nfs3.specs.Profile.{used_bytes, fattr_of, before_of, no_change}
@@ -103,6 +103,7 @@ status_has (Some Stale) = (omega arith, refl)
 status_has (Some BadHandle) = (omega arith, refl)
 status_has (Some NotSync) = (omega arith, refl)
 status_has (Some NotSupported) = (omega arith, refl)
+status_has (Some TooSmall) = (omega arith, refl)
 status_has (Some ServerFault) = (omega arith, refl)
 status_has (Some Jukebox) = (omega arith, refl)
 

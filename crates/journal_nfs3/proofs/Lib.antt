@@ -4,6 +4,7 @@ pub mod WholeLaws
 pub mod ResultLaws
 pub mod Calling
 pub mod Fitting
+pub mod Fronts
 pub mod ResultFacts
 pub mod Marked
 pub mod Standings

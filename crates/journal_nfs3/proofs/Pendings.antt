@@ -72,7 +72,7 @@ told_alike Fenced = (NoMemory, refl)
 
 -- ---- what is told of a call
 
-call_paid : (version : FormatVersion) (verifier : List ℕ) (now : Time) (asked : Result Operation CallRefused) (old new then : SessionState) (wait : PendingWait CommitPlace) (outcome : Result Results CallRefused) → IsWaitOver wait then
+pub call_paid : (version : FormatVersion) (verifier : List ℕ) (now : Time) (asked : Result Operation CallRefused) (old new then : SessionState) (wait : PendingWait CommitPlace) (outcome : Result Results CallRefused) → IsWaitOver wait then
     → ServesCall version (awaiting wait) verifier now asked old outcome new → ServesCall version (marked then.seen) verifier now asked old outcome new
 call_paid version verifier now (Err why) old new then wait outcome paid h = (h.0, h.1, tt)
 call_paid version verifier now (Ok operation) old new then wait outcome paid h = (h.0, h.1, serves_paid version verifier now operation old new then wait h.0 paid h.2, h.3, h.4)
@@ -82,7 +82,7 @@ pub answers_paid : (version : FormatVersion) (verifier : List ℕ) (now : Time) 
 answers_paid version verifier now xid asked old new then wait text a paid =
     record { outcome = a.outcome; comes = call_paid version verifier now asked old new then wait a.outcome paid a.comes; is_sent = a.is_sent }
 
-call_stays : (version : FormatVersion) (verifier : List ℕ) (now : Time) (asked : Result Operation CallRefused) (old new : SessionState) (history longer : List Entry) (outcome : Result Results CallRefused) → floor history ≤ floor longer
+pub call_stays : (version : FormatVersion) (verifier : List ℕ) (now : Time) (asked : Result Operation CallRefused) (old new : SessionState) (history longer : List Entry) (outcome : Result Results CallRefused) → floor history ≤ floor longer
     → ServesCall version (marked history) verifier now asked old outcome new → ServesCall version (marked longer) verifier now asked old outcome new
 call_stays version verifier now (Err why) old new history longer outcome grows h = (h.0, h.1, tt)
 call_stays version verifier now (Ok operation) old new history longer outcome grows h = (h.0, h.1, serves_stays version verifier now operation old new history longer h.0 grows h.2, h.3, h.4)
@@ -96,7 +96,7 @@ answers_stay version verifier now xid asked old new history longer text a grows 
 owes_none : (receipt : CommitPlace) → HasNoWait (awaiting (Wait receipt)) → ⊥
 owes_none receipt e = absurd cc
 
-call_takes_place : (version : FormatVersion) (verifier : List ℕ) (now : Time) (asked : Result Operation CallRefused) (old new : SessionState) (receipt : CommitPlace) (history : List Entry) (p : Procedure) (why : Refusal CauseState) (outcome : Result Results CallRefused)
+pub call_takes_place : (version : FormatVersion) (verifier : List ℕ) (now : Time) (asked : Result Operation CallRefused) (old new : SessionState) (receipt : CommitPlace) (history : List Entry) (p : Procedure) (why : Refusal CauseState) (outcome : Result Results CallRefused)
     → IsCallOf p asked → ServesCall version (awaiting (Wait receipt)) verifier now asked old outcome new → ServesCall version (marked history) verifier now asked old (Ok (refused_results p (refusal_error why))) new
 call_takes_place version verifier now (Err other) old new receipt history p why outcome is h = absurd is
 call_takes_place version verifier now (Ok operation) old new receipt history p why outcome is h =

@@ -7,7 +7,7 @@ use Rattle.journal_nfs3.specs.declared.arguments.StableHow.{StableHow}
 use Rattle.journal_nfs3.specs.declared.procedure.Procedure.{Procedure}
 use Rattle.journal_nfs3.specs.declared.procedure.Procedure.TheVariants as procedure
 use Rattle.journal_nfs3.specs.declared.results.NfsError.{NfsError}
-use Rattle.journal_nfs3.specs.declared.results.NfsError.TheVariants.{NoEntry, Io, Exists, NotDirectory, Invalid, TooBig, NoSpace, Stale, BadHandle, NotSync, NotSupported, ServerFault, Jukebox}
+use Rattle.journal_nfs3.specs.declared.results.NfsError.TheVariants.{NoEntry, Io, Exists, NotDirectory, Invalid, TooBig, NoSpace, Stale, BadHandle, NotSync, NotSupported, TooSmall, ServerFault, Jukebox}
 use Rattle.journal_nfs3.specs.Arguments.{time, stable_how}
 use Rattle.journal_nfs3.specs.Whole.{whole}
 use Rattle.journal_nfs3.specs.Handles.{FileHandle, file_handle}
@@ -18,7 +18,7 @@ use Rattle.journal_nfs3.specs.Handles.{FileHandle, file_handle}
 abbrev pub statuses : List (ℕ × Option NfsError)
 statuses =
     (0, None) ∷ (2, Some NoEntry) ∷ (5, Some Io) ∷ (17, Some Exists) ∷ (20, Some NotDirectory) ∷ (22, Some Invalid) ∷ (27, Some TooBig) ∷ (28, Some NoSpace) ∷ (70, Some Stale)
-    ∷ (10001, Some BadHandle) ∷ (10002, Some NotSync) ∷ (10004, Some NotSupported) ∷ (10006, Some ServerFault) ∷ (10008, Some Jukebox) ∷ []
+    ∷ (10001, Some BadHandle) ∷ (10002, Some NotSync) ∷ (10004, Some NotSupported) ∷ (10005, Some TooSmall) ∷ (10006, Some ServerFault) ∷ (10008, Some Jukebox) ∷ []
 
 abbrev pub error_number : NfsError → ℕ
 error_number NoEntry = 2
@@ -32,6 +32,7 @@ error_number Stale = 70
 error_number BadHandle = 10001
 error_number NotSync = 10002
 error_number NotSupported = 10004
+error_number TooSmall = 10005
 error_number ServerFault = 10006
 error_number Jukebox = 10008
 

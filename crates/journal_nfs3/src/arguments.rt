@@ -6,35 +6,35 @@ use journal_filestore::NewTime;
 use journal_inode::Time;
 use journal_xdr::Enumeration;
 
-// The attributes that are to be set (RFC 1813, section 2.5, sattr3). `None` leaves one as it is.
+/// The attributes that are to be set (RFC 1813, section 2.5, sattr3). `None` leaves one as it is.
 #[derive(Clone, Copy, Debug)]
-pub(crate) struct NewAttributes {
-    pub(crate) mode: Option<u32>,
-    pub(crate) uid: Option<u32>,
-    pub(crate) gid: Option<u32>,
-    pub(crate) size: Option<u64>,
-    pub(crate) atime: NewTime,
-    pub(crate) mtime: NewTime,
+pub struct NewAttributes {
+    pub mode: Option<u32>,
+    pub uid: Option<u32>,
+    pub gid: Option<u32>,
+    pub size: Option<u64>,
+    pub atime: NewTime,
+    pub mtime: NewTime,
 }
 
-// A directory's handle and a name in it (RFC 1813, section 2.5, diropargs3).
+/// A directory's handle and a name in it (RFC 1813, section 2.5, diropargs3).
 #[derive(Clone, Copy, Debug)]
-pub(crate) struct DirectoryEntry<'a> {
-    pub(crate) directory: &'a [u8],
-    pub(crate) name: &'a [u8],
+pub struct DirectoryEntry<'a> {
+    pub directory: &'a [u8],
+    pub name: &'a [u8],
 }
 
-// How stable what is written has to be before the reply (RFC 1813, section 3.3.7, stable_how).
+/// How stable what is written has to be before the reply (RFC 1813, section 3.3.7, stable_how).
 #[derive(Clone, Copy, Debug, PartialEq, Eq)]
-pub(crate) enum StableHow {
+pub enum StableHow {
     Unstable,
     DataSync,
     FileSync,
 }
 
 impl StableHow {
-    // How stable what was written is, once it is answered: what waits is stable with all its attributes.
-    pub(crate) fn committed(self) -> StableHow
+    /// How stable what was written is, once it is answered: what waits is stable with all its attributes.
+    pub fn committed(self) -> StableHow
         ensures { result ≡ stability_told self }
     {
         match self {
@@ -73,53 +73,53 @@ impl Enumeration for StableHow {
     }
 }
 
-// How a file is to be made (RFC 1813, section 3.3.8, createhow3).
+/// How a file is to be made (RFC 1813, section 3.3.8, createhow3).
 #[derive(Clone, Copy, Debug)]
-pub(crate) enum CreateHow<'a> {
+pub enum CreateHow<'a> {
     Unchecked(NewAttributes),
     Guarded(NewAttributes),
     // With a verifier of 8 bytes.
     Exclusive(&'a [u8]),
 }
 
-// What SETATTR is asked (RFC 1813, section 3.3.2).
+/// What SETATTR is asked (RFC 1813, section 3.3.2).
 #[derive(Clone, Copy, Debug)]
-pub(crate) struct SetArguments<'a> {
-    pub(crate) handle: &'a [u8],
-    pub(crate) attributes: NewAttributes,
+pub struct SetArguments<'a> {
+    pub handle: &'a [u8],
+    pub attributes: NewAttributes,
     // The time of the last change that the caller knows.
-    pub(crate) guard: Option<Time>,
+    pub guard: Option<Time>,
 }
 
-// A part of a file, which READ and COMMIT are asked for (RFC 1813, sections 3.3.6 and 3.3.21).
+/// A part of a file, which READ and COMMIT are asked for (RFC 1813, sections 3.3.6 and 3.3.21).
 #[derive(Clone, Copy, Debug)]
-pub(crate) struct FileRange<'a> {
-    pub(crate) handle: &'a [u8],
-    pub(crate) offset: u64,
-    pub(crate) count: u32,
+pub struct FileRange<'a> {
+    pub handle: &'a [u8],
+    pub offset: u64,
+    pub count: u32,
 }
 
-// What WRITE is asked (RFC 1813, section 3.3.7).
+/// What WRITE is asked (RFC 1813, section 3.3.7).
 #[derive(Clone, Copy, Debug)]
-pub(crate) struct WriteArguments<'a> {
-    pub(crate) handle: &'a [u8],
-    pub(crate) offset: u64,
-    pub(crate) count: u32,
-    pub(crate) how: StableHow,
-    pub(crate) bytes: &'a [u8],
+pub struct WriteArguments<'a> {
+    pub handle: &'a [u8],
+    pub offset: u64,
+    pub count: u32,
+    pub how: StableHow,
+    pub bytes: &'a [u8],
 }
 
-// What CREATE is asked (RFC 1813, section 3.3.8).
+/// What CREATE is asked (RFC 1813, section 3.3.8).
 #[derive(Clone, Copy, Debug)]
-pub(crate) struct CreateArguments<'a> {
-    pub(crate) entry: DirectoryEntry<'a>,
-    pub(crate) how: CreateHow<'a>,
+pub struct CreateArguments<'a> {
+    pub entry: DirectoryEntry<'a>,
+    pub how: CreateHow<'a>,
 }
 
-// A procedure with its arguments (RFC 1813, section 3.3). Handles are as the caller sent them, of at most 64
-// bytes.
+/// A procedure with its arguments (RFC 1813, section 3.3). Handles are as the caller sent them, of at most 64
+/// bytes.
 #[derive(Clone, Copy, Debug)]
-pub(crate) enum Operation<'a> {
+pub enum Operation<'a> {
     Null,
     GetAttributes(&'a [u8]),
     SetAttributes(SetArguments<'a>),

@@ -28,8 +28,10 @@ pub(crate) fn decide<'a>(call: &Call<'a>) -> Result<Operation<'a>, CallRefused>
     decide_procedure(request.procedure, request.arguments)
 }
 
+/// The operation that is asked for by the number of a procedure and its arguments, or why it is refused: the procedure is
+/// not served, or its arguments cannot be read.
 #[tactic(auto, unfolding(crate::specs::Calls::called))]
-fn decide_procedure(number: u32, arguments: &[u8]) -> Result<Operation<'_>, CallRefused>
+pub fn decide_procedure(number: u32, arguments: &[u8]) -> Result<Operation<'_>, CallRefused>
     ensures { decided result ≡ called (procedure_of number) arguments.now }
 {
     let Some(procedure) = Procedure::from_number(number) else {

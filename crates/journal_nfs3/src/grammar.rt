@@ -10,9 +10,9 @@ use journal_filestore::{Attributes, Changed, Found, Portion};
 use journal_inode::FormatVersion;
 
 impl FormatResults {
-    // The results are in the grammar of their procedure's, and short.
+    /// The results are in the grammar of their procedure's, and short.
     #[tactic(auto, using(crate::proofs::ResultFacts::null_result))]
-    pub(crate) fn prove_grammar(&self)
+    pub fn prove_grammar(&self)
         ensures { IsResult (results_of self.now.version self.now.results) }
     {
         let version = self.version;

@@ -26,12 +26,18 @@ mod results;
 mod serving;
 mod writing;
 
-pub use decision::{PROGRAM, VERSION};
+pub use arguments::{
+    CreateArguments, CreateHow, DirectoryEntry, FileRange, NewAttributes, Operation, SetArguments,
+    StableHow, WriteArguments,
+};
+pub use decision::{PROGRAM, VERSION, decide_procedure};
 pub use laws::{
     answers_that_wait_are_stable, arguments_are_spellings, files_use_their_blocks,
     handles_are_spellings, pending_replies_hold_once_stable, results_are_spellings,
 };
-pub use pending::{PendingReply, ReplyWait};
+pub use pending::{Pending, PendingReply, ReplyWait};
 pub use procedure::Procedure;
 pub use replying::{answer, answer_no_wait, refused_reply};
-pub use results::Verifier;
+pub use results::{FormatResults, NfsError, Results, Verifier};
+pub use serving::{PendingReceipt, get_attributes, look_up, serve_no_wait};
+pub use writing::{Untold, used_bytes, write_after, write_handle, write_status, write_time};

@@ -5,15 +5,15 @@ ghost use Rattle.journal_filestore.specs.declared.pending_wait.PendingWait.TheVa
 use crate::procedure::Procedure;
 use journal_filestore::PendingWait;
 
-// The answer to an operation that is not waited for, and the wait before it.
+/// The answer to an operation that is not waited for, and the wait before it.
 #[derive(Drop)]
-pub(crate) struct Pending<T, P> {
+pub struct Pending<T, P> {
     pub value: T,
     pub wait: PendingWait<P>,
 }
 
 impl<T, P> Pending<T, P> {
-    // An answer that may be sent at once.
+    /// An answer that may be sent at once.
     pub fn ready(value: T) -> Pending<T, P>
         ensures value { result.value ≡ value }
         ensures wait { result.wait ≡ Nothing }

@@ -20,9 +20,9 @@ use std::alloc::AllocError;
 #[derive(Clone, Copy, Debug, PartialEq, Eq)]
 pub struct Verifier(pub [u8; 8]);
 
-// Why a procedure is refused, with its number (RFC 1813, section 2.6, nfsstat3).
+/// Why a procedure is refused, with its number (RFC 1813, section 2.6, nfsstat3).
 #[derive(Clone, Copy, Debug, PartialEq, Eq)]
-pub(crate) enum NfsError {
+pub enum NfsError {
     NoEntry = 2,
     Io = 5,
     Exists = 17,
@@ -34,13 +34,14 @@ pub(crate) enum NfsError {
     BadHandle = 10001,
     NotSync = 10002,
     NotSupported = 10004,
+    TooSmall = 10005,
     ServerFault = 10006,
     Jukebox = 10008,
 }
 
-// What a procedure answers, each in the order of RFC 1813, section 3.3.
+/// What a procedure answers, each in the order of RFC 1813, section 3.3.
 #[derive(Debug, Drop)]
-pub(crate) enum Results {
+pub enum Results {
     Null,
     GetAttributes(Result<Attributes, NfsError>),
     SetAttributes(Result<Changed, NfsError>),
@@ -61,8 +62,8 @@ pub(crate) enum Results {
 }
 
 impl Results {
-    // What a procedure answers that is refused so: nothing is told of any file, and nothing of what was asked.
-    pub(crate) fn refused(procedure: Procedure, why: NfsError) -> Results
+    /// What a procedure answers that is refused so: nothing is told of any file, and nothing of what was asked.
+    pub fn refused(procedure: Procedure, why: NfsError) -> Results
         ensures { (version : FormatVersion) → results_of version result ≡ refused_results procedure why }
     {
         match procedure {
@@ -87,16 +88,16 @@ impl Results {
     }
 }
 
-// The same of files of a version of the format, which says how many bytes they use.
+/// The same of files of a version of the format, which says how many bytes they use.
 #[derive(Debug, Drop)]
-pub(crate) struct FormatResults {
+pub struct FormatResults {
     pub version: FormatVersion,
     pub results: Results,
 }
 
 impl FormatResults {
-    // The procedure that answers so.
-    pub(crate) fn procedure(&self) -> Procedure
+    /// The procedure that answers so.
+    pub fn procedure(&self) -> Procedure
         ensures { result ≡ procedure_of_results (results_of self.now.version self.now.results) }
     {
         match &self.results {

@@ -29,10 +29,10 @@ use journal_world::Moment;
 use std::sync::Wait;
 
 // What a procedure answers whose operation is committed, and the receipt that is owed for it.
-type PendingReceipt<'b, J, V, T> = Pending<T, Receipt<'b, J, SoundFiles<V>>>;
+pub type PendingReceipt<'b, J, V, T> = Pending<T, Receipt<'b, J, SoundFiles<V>>>;
 
-// Runs an operation at a moment, up to its commit.
-pub(crate) fn serve_no_wait<'b, D: BlockDisk, J: Naming, V: Version, W: Wait>(
+/// Runs an operation at a moment, up to its commit.
+pub fn serve_no_wait<'b, D: BlockDisk, J: Naming, V: Version, W: Wait>(
     rt: &W,
     session: &mut Session<'b, J, SoundFiles<V>>,
     files: &FileStore<'b, D, J, V>,
@@ -142,9 +142,9 @@ fn commit_results<P>(
     Pending { value, wait }
 }
 
-// GETATTR (RFC 1813, section 3.3.1).
+/// GETATTR (RFC 1813, section 3.3.1).
 #[tactic(auto, using(crate::proofs::Standings::unwaited))]
-fn get_attributes<'b, D: BlockDisk, J: Naming, V: Version, W: Wait>(
+pub fn get_attributes<'b, D: BlockDisk, J: Naming, V: Version, W: Wait>(
     rt: &W,
     session: &mut Session<'b, J, SoundFiles<V>>,
     files: &FileStore<'b, D, J, V>,
@@ -180,9 +180,9 @@ fn set_attributes<'b, D: BlockDisk, J: Naming, V: Version, W: Wait>(
     to_nfs_no_wait(files.set_size_no_wait(rt, session, handle, settings, arguments.guard, moment))
 }
 
-// LOOKUP (RFC 1813, section 3.3.3).
+/// LOOKUP (RFC 1813, section 3.3.3).
 #[tactic(auto, using(crate::proofs::Standings::unwaited))]
-fn look_up<'b, D: BlockDisk, J: Naming, V: Version, W: Wait>(
+pub fn look_up<'b, D: BlockDisk, J: Naming, V: Version, W: Wait>(
     rt: &W,
     session: &mut Session<'b, J, SoundFiles<V>>,
     files: &FileStore<'b, D, J, V>,

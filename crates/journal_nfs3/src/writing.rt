@@ -1,5 +1,5 @@
 // Writing the results of the procedures.
-ghost use Rattle.std.specs.Prelude.{◌≡◌, ◌++◌, OnOk, Some, None};
+ghost use Rattle.std.specs.Prelude.{◌≡◌, ◌++◌, List, ℕ, OnOk, OnErr, Some, None};
 ghost use Rattle.journal_xdr.specs.Items.{Writes};
 ghost use Rattle.journal_nfs3.specs.Arguments.{time};
 ghost use Rattle.journal_nfs3.specs.Results.{given_handle, fattr, post_op_attributes, before, change, lookup_results, read_results, write_results, create_results, commit_results, outcome, nothing};
@@ -47,24 +47,25 @@ const ROOT_SHAPE: Shape = Shape {
     links: 2,
 };
 
-// What else a procedure tells of files, and does not where it refuses.
+/// What else a procedure tells of files, and does not where it refuses.
 #[derive(Clone, Copy)]
-enum Untold {
+pub enum Untold {
     Nothing,
     Attributes,
     Change,
 }
 
 #[tactic(auto, unfolding(crate::specs::Arguments::time))]
-fn write_time(writer: &mut Writer, value: Time) -> Result<(), AllocError>
-    ensures { OnOk result (Writes time value writer.old writer.new) }
+pub fn write_time(writer: &mut Writer, value: Time) -> Result<(), AllocError>
+    ensures ok { OnOk result (Writes time value writer.old writer.new) }
+    ensures err { OnErr result ((front : List ℕ) × (writer.new ≡ writer.old ++ front)) }
 {
     writer.word(value.secs)?;
     writer.word(value.nanos)
 }
 
-// How many bytes the blocks of a file of this size have. No file has more bytes than its version's most.
-fn used_bytes(version: FormatVersion, size: u64) -> u64
+/// How many bytes the blocks of a file of this size have. No file has more bytes than its version's most.
+pub fn used_bytes(version: FormatVersion, size: u64) -> u64
     ensures { result ≡ used_bytes version size }
 {
     let more = version.extra_count(size.min(version.most_bytes()));
@@ -78,7 +79,8 @@ fn write_attributes(
     version: FormatVersion,
     attributes: &Attributes,
 ) -> Result<(), AllocError>
-    ensures { OnOk result (Writes fattr (fattr_of version attributes.now) writer.old writer.new) }
+    ensures ok { OnOk result (Writes fattr (fattr_of version attributes.now) writer.old writer.new) }
+    ensures err { OnErr result ((front : List ℕ) × (writer.new ≡ writer.old ++ front)) }
 {
     let (shape, used) = if attributes.number == ROOT {
         (ROOT_SHAPE, 0)
@@ -103,13 +105,14 @@ fn write_attributes(
     write_time(writer, attributes.mtime)
 }
 
-// Writes attributes that are told (RFC 1813, section 2.5, post_op_attr).
-fn write_after(
+/// Writes attributes that are told (RFC 1813, section 2.5, post_op_attr).
+pub fn write_after(
     writer: &mut Writer,
     version: FormatVersion,
     attributes: &Attributes,
 ) -> Result<(), AllocError>
-    ensures { OnOk result (Writes post_op_attributes (Some (fattr_of version attributes.now)) writer.old writer.new) }
+    ensures ok { OnOk result (Writes post_op_attributes (Some (fattr_of version attributes.now)) writer.old writer.new) }
+    ensures err { OnErr result ((front : List ℕ) × (writer.new ≡ writer.old ++ front)) }
 {
     writer.boolean(true)?;
     write_attributes(writer, version, attributes)
@@ -139,9 +142,10 @@ fn write_change(
     write_after(writer, version, &changed.after)
 }
 
-// Writes a handle (RFC 1813, section 2.4, nfs_fh3).
-fn write_handle(writer: &mut Writer, number: u32, generation: u32) -> Result<(), AllocError>
-    ensures { OnOk result (Writes given_handle (record { number = number; generation = generation }) writer.old writer.new) }
+/// Writes a handle (RFC 1813, section 2.4, nfs_fh3).
+pub fn write_handle(writer: &mut Writer, number: u32, generation: u32) -> Result<(), AllocError>
+    ensures ok { OnOk result (Writes given_handle (record { number = number; generation = generation }) writer.old writer.new) }
+    ensures err { OnErr result ((front : List ℕ) × (writer.new ≡ writer.old ++ front)) }
 {
     writer.word(HANDLE_LENGTH)?;
     writer.word(HANDLE_MARK)?;
@@ -167,9 +171,9 @@ fn write_no_change(
     )
 }
 
-// Writes the status of an outcome, and that nothing is told behind one that refuses.
+/// Writes the status of an outcome, and that nothing is told behind one that refuses.
 #[tactic(auto, unfolding(crate::specs::Results::change))]
-fn write_status<T>(
+pub fn write_status<T>(
     writer: &mut Writer,
     outcome: &Result<T, NfsError>,
     untold: Untold,

@@ -1,23 +1,23 @@
 // The map that a disk's blocks make.
-ghost use Rattle.std.specs.Prelude.{ℕ, ◌≤◌, ◌<◌, IsTrue, []};
-ghost use Rattle.journal_world.specs.Addresses.{is_value_of, zeros_of};
+ghost use Rattle.std.specs.Prelude.{ℕ, ◌<◌, IsTrue, []};
+ghost use Rattle.journal_world.specs.Addresses.{Shape, is_value_of, zeros_of};
 ghost use Rattle.journal_world.specs.Maps.{are_objects};
 ghost use Rattle.journal_block.specs.Block.{Bytes};
 ghost use Rattle.journal_object.specs.Objects.{IsMapOf, map_of_blocks};
 
-use journal_world::{Kind, MIN_BLOCKS};
+use journal_world::Kind;
 
 /// Does nothing: its contract is the law of the map that a disk's blocks make.
 pub fn prove_objects_law()
-    ensures map { (blocks : ℕ) (content : ℕ → Bytes)
-        → MIN_BLOCKS ≤ blocks → IsMapOf content (map_of_blocks blocks content) }
+    ensures map { (layout : Shape) (content : ℕ → Bytes)
+        → IsMapOf content (map_of_blocks layout content) }
 
     // Where each block of the disk has 4096 bytes, the map's pairs are objects.
-    ensures objects { (blocks : ℕ) (content : ℕ → Bytes)
-        → ((b : ℕ) → b < blocks → IsTrue (is_value_of Kind.Block (content b)))
-        → IsTrue (are_objects blocks (map_of_blocks blocks content).pairs) }
+    ensures objects { (layout : Shape) (content : ℕ → Bytes)
+        → ((b : ℕ) → b < layout.blocks → IsTrue (is_value_of Kind.Block (content b)))
+        → IsTrue (are_objects layout (map_of_blocks layout content).pairs) }
 
     // Blocks of zeros make the map of zeros.
-    ensures zeros { (blocks : ℕ)
-        → IsMapOf (λ _. zeros_of Kind.Block) (record { blocks = blocks; pairs = [] }) }
+    ensures zeros { (layout : Shape)
+        → IsMapOf (λ _. zeros_of Kind.Block) (record { layout = layout; pairs = [] }) }
 {}

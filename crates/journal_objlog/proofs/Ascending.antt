@@ -3,6 +3,7 @@ use Rattle.std.proofs.Common.{◌≡◌, ⊎_elim, ◌<◌, ◌≤◌, ◌+◌, 
 use Rattle.std.specs.List.{AllByRecursion}
 use Rattle.std.proofs.lemmas.Bool.{eq-eqb, eqb-true, false≢true, and_parts, cases_eq}
 use Rattle.std.proofs.lemmas.List.Folds.{list_all-append}
+use Rattle.journal_world.specs.Addresses.{Shape}
 use Rattle.journal_world.specs.Maps.{Pair, is_object, are_objects}
 use Rattle.journal_world.specs.Orders.{HasAscendingBlocks}
 use Rattle.journal_objlog.specs.Writes.{writes_block, written_blocks}
@@ -47,7 +48,7 @@ pub ascending_later : (left : List Pair) (p : Pair) (done : List Pair) → HasAs
 ascending_later [] p done ascending = (ascending.0, ascending.1)
 ascending_later (q ∷ left) p done ascending = ascending_later left p done ascending.1
 
-pub objects_split : (n : ℕ) (left : List Pair) (p : Pair) → IsTrue (are_objects n (left ++ p ∷ []))
+pub objects_split : (n : Shape) (left : List Pair) (p : Pair) → IsTrue (are_objects n (left ++ p ∷ []))
     → IsTrue (are_objects n left) × IsTrue (is_object n p)
 objects_split n left p objects =
     let parts = and_parts (are_objects n left) (are_objects n (p ∷ [])) (sym (list_all-append (is_object n) left (p ∷ [])) ∙ objects) in

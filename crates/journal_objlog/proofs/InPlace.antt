@@ -7,7 +7,7 @@ use Rattle.std.proofs.lemmas.List.Elements.{All-nil, All-cons, All-tail}
 use Rattle.std.proofs.lemmas.Simd.{map-map}
 use Rattle.journal_world.specs.declared.address.Addr.{Addr}
 use Rattle.journal_world.specs.Maps.{Pair, is_object, are_objects, is_value_at}
-use Rattle.journal_world.specs.Addresses.{Value, is_valid, kind_of}
+use Rattle.journal_world.specs.Addresses.{Value, Shape, is_valid, kind_of}
 use Rattle.journal_world.specs.Orders.{HasAscendingBlocks}
 use Rattle.journal_block.specs.declared.update.Update.{Update}
 use Rattle.journal_block.specs.Block.{Bytes}
@@ -178,16 +178,16 @@ module _ (tail : List Update) (f : ℕ → Bytes) where
       by true false stands rest = (stands, rest)
       by false w stands rest = rest
 
-  pub made_homes : (n : ℕ) (ws : List Pair) → 532 ≤ n → IsTrue (are_objects n ws) → AreHomes n (made ws)
-  made_homes n [] low objects = All-nil (λ (u : Update). (513 ≤ u.block) × (u.block < n))
-  made_homes n (p ∷ ws) low objects = by (updates_block tail p.0.block && not (writes_block ws p.0.block)) (made_homes n ws low (parts.1))
+  pub made_homes : (n : Shape) (ws : List Pair) → IsTrue (are_objects n ws) → AreHomes n.blocks (made ws)
+  made_homes n [] objects = All-nil (λ (u : Update). (513 ≤ u.block) × (u.block < n.blocks))
+  made_homes n (p ∷ ws) objects = by (updates_block tail p.0.block && not (writes_block ws p.0.block)) (made_homes n ws (parts.1))
     where
       parts : IsTrue (is_object n p) × IsTrue (are_objects n ws)
       parts = and_parts (is_object n p) (are_objects n ws) objects
 
-      by : (t : Bool) → AreHomes n (made ws) → AreHomes n (map made_of (cond t (p.0.block ∷ standing_blocks tail ws) (standing_blocks tail ws)))
-      by true rest = All-cons (λ (u : Update). (513 ≤ u.block) × (u.block < n)) (made_of p.0.block) (made ws)
-          (valid_block n p.0 low (and_parts (is_valid n p.0) (is_value_at (kind_of n p.0.block) p.1) parts.0).0) rest
+      by : (t : Bool) → AreHomes n.blocks (made ws) → AreHomes n.blocks (map made_of (cond t (p.0.block ∷ standing_blocks tail ws) (standing_blocks tail ws)))
+      by true rest = All-cons (λ (u : Update). (513 ≤ u.block) × (u.block < n.blocks)) (made_of p.0.block) (made ws)
+          (valid_block n p.0 (and_parts (is_valid n p.0) (is_value_at (kind_of n p.0.block) p.1) parts.0).0) rest
       by false rest = rest
 
 -- none takes a place
@@ -252,7 +252,7 @@ absorbed_standing tail (u ∷ us) all =
 -- ---- writes stored in the tail
 
 -- a block that is not written stays
-pub stored_unwritten : (n : ℕ) (ws : List Pair) (b : ℕ) (bytes : Bytes) → writes_block ws b ≡ false → stored_in n ws b bytes ≡ bytes
+pub stored_unwritten : (n : Shape) (ws : List Pair) (b : ℕ) (bytes : Bytes) → writes_block ws b ≡ false → stored_in n ws b bytes ≡ bytes
 stored_unwritten n [] b bytes none = refl
 stored_unwritten n (p ∷ ws) b bytes none = by (p.0.block == b) refl none (stored_unwritten n ws b bytes)
   where
@@ -261,7 +261,7 @@ stored_unwritten n (p ∷ ws) b bytes none = by (p.0.block == b) refl none (stor
     by true here is rest = absurd (false≢true (sym is))
     by false here is rest = cond-false _ (with_object_at n (stored_in n ws b bytes) p.0 p.1) (stored_in n ws b bytes) here ∙ rest is
 
-module _ (n : ℕ) (tail : List Update) (distinct : HasDistinctBlocks tail) where
+module _ (n : Shape) (tail : List Update) (distinct : HasDistinctBlocks tail) where
   -- each update of the tail is the last of its block
   pub last_there : (k : ℕ) (d : Update) (x : Bytes) → k < length tail → updated tail (get_or tail k d).block x ≡ (get_or tail k d).bytes
   last_there k d x lt =
@@ -304,7 +304,7 @@ module _ (n : ℕ) (tail : List Update) (distinct : HasDistinctBlocks tail) wher
 
 -- ---- the log
 
-module _ (n : ℕ) (log : LogState) (sound : IsMemLog log) (ws : List Pair) where
+module _ (n : Shape) (log : LogState) (sound : IsMemLog log) (ws : List Pair) where
   width : length (head_of log) ≡ log.cut - log.start
   width = length-take-le (log.cut - log.start) log.updates (omega (arith, sound.bounds.start_to_logged, sound.bounds.logged_to_cut, sound.bounds.cut_to_next))
 
@@ -331,7 +331,7 @@ module _ (n : ℕ) (log : LogState) (sound : IsMemLog log) (ws : List Pair) wher
 
 -- One write more
 
-map_kept : (n : ℕ) (a : Addr) (v : Value) (ts : List Update) → updates_block ts a.block ≡ false → map (stored_update n ((a, v) ∷ [])) ts ≡ ts
+map_kept : (n : Shape) (a : Addr) (v : Value) (ts : List Update) → updates_block ts a.block ≡ false → map (stored_update n ((a, v) ∷ [])) ts ≡ ts
 map_kept n a v [] none = refl
 map_kept n a v (t ∷ ts) none =
     let parts = or_parts (t.block == a.block) (updates_block ts a.block) none in
@@ -345,27 +345,27 @@ map_kept n a v (t ∷ ts) none =
     or_parts false y is = (refl, is)
 
 -- no writes change nothing
-map_none : (n : ℕ) (ts : List Update) → map (stored_update n []) ts ≡ ts
+map_none : (n : Shape) (ts : List Update) → map (stored_update n []) ts ≡ ts
 map_none n [] = refl
 map_none n (t ∷ ts) = ap (λ (us : List Update). t ∷ us) (map_none n ts)
 
-pub stored_none : (n : ℕ) (log : LogState) → stored_log n [] log ≡ log
+pub stored_none : (n : Shape) (log : LogState) → stored_log n [] log ≡ log
 stored_none n log = ap (λ (ts : List Update). record log { updates = head_of log ++ ts }) (map_none n (tail_of log))
     ∙ ap (λ (us : List Update). record log { updates = us }) (take-append-drop (log.cut - log.start) log.updates)
 
 -- nor does one in a block that does not stand in the tail
-pub stored_away : (n : ℕ) (log : LogState) (a : Addr) (v : Value) → updates_block (tail_of log) a.block ≡ false → stored_log n ((a, v) ∷ []) log ≡ log
+pub stored_away : (n : Shape) (log : LogState) (a : Addr) (v : Value) → updates_block (tail_of log) a.block ≡ false → stored_log n ((a, v) ∷ []) log ≡ log
 stored_away n log a v none = ap (λ (ts : List Update). record log { updates = head_of log ++ ts }) (map_kept n a v (tail_of log) none)
     ∙ ap (λ (us : List Update). record log { updates = us }) (take-append-drop (log.cut - log.start) log.updates)
 
 -- one that comes before others is stored after them
-pub stored_more : (n : ℕ) (log : LogState) → IsMemLog log → (p : Pair) (ws : List Pair) → stored_log n (p ∷ []) (stored_log n ws log) ≡ stored_log n (p ∷ ws) log
+pub stored_more : (n : Shape) (log : LogState) → IsMemLog log → (p : Pair) (ws : List Pair) → stored_log n (p ∷ []) (stored_log n ws log) ≡ stored_log n (p ∷ ws) log
 stored_more n log sound p ws =
     (λ i. record log { updates = stored_head n log sound ws i ++ map (stored_update n (p ∷ [])) (stored_tail n log sound ws i) })
     ∙ ap (λ (ts : List Update). record log { updates = head_of log ++ ts }) (map-map (stored_update n (p ∷ [])) (stored_update n ws) (tail_of log))
 
 -- one in a block that stands in the tail changes its content there
-module _ (n : ℕ) (log : LogState) (sound : IsMemLog log) (a : Addr) (v : Value) (position : ℕ) (last : IsLastOf log a.block log.cut position)
+module _ (n : Shape) (log : LogState) (sound : IsMemLog log) (a : Addr) (v : Value) (position : ℕ) (last : IsLastOf log a.block log.cut position)
     (old new : Bytes) (was : old ≡ (update_at log.updates (position - log.start)).bytes) (is : new ≡ with_object_at n old a v) where
   abbrev tail : List Update
   tail = tail_of log
@@ -424,30 +424,29 @@ module _ (n : ℕ) (log : LogState) (sound : IsMemLog log) (a : Addr) (v : Value
 
 -- Storing all of them, from the last on
 
-pub record IsStoring (old now : TailState) (writes left done : List Pair) : Type 0 where
+pub record IsStoring (n : Shape) (old now : TailState) (writes left done : List Pair) : Type 0 where
   pub split : writes ≡ left ++ done
-  pub objects : IsTrue (are_objects (blocks_of old) left)
-  pub stored : now ≡ record old { log = stored_log (blocks_of old) done old.log }
+  pub objects : IsTrue (are_objects n left)
+  pub stored : now ≡ record old { log = stored_log n done old.log }
 
-pub storing_begins : (old now : TailState) (writes left : List Pair) → now ≡ old → left ≡ writes → IsTrue (are_objects (blocks_of old) writes) → IsStoring old now writes left []
-storing_begins old now writes left is whole objects = record {
+pub storing_begins : (n : Shape) (old now : TailState) (writes left : List Pair) → now ≡ old → left ≡ writes → IsTrue (are_objects n writes) → IsStoring n old now writes left []
+storing_begins n old now writes left is whole objects = record {
   split = sym whole ∙ sym (append-nil left);
-  objects = subst (λ (ws : List Pair). IsTrue (are_objects (blocks_of old) ws)) (sym whole) objects;
-  stored = is ∙ ap (λ (l : LogState). record old { log = l }) (sym (stored_none (blocks_of old) old.log));
+  objects = subst (λ (ws : List Pair). IsTrue (are_objects n ws)) (sym whole) objects;
+  stored = is ∙ ap (λ (l : LogState). record old { log = l }) (sym (stored_none n old.log));
 }
 
-module _ (old now : TailState) (writes left rest done : List Pair) (p : Pair) (took : left ≡ rest ++ p ∷ []) (so : IsStoring old now writes left done) where
-  pub storing_object : IsTrue (is_object (blocks_of now) p)
-  storing_object = subst (λ (t : TailState). IsTrue (is_object (blocks_of t) p)) (sym so.stored)
-      (objects_split (blocks_of old) rest p (subst (λ (ws : List Pair). IsTrue (are_objects (blocks_of old) ws)) took so.objects)).1
+module _ (n : Shape) (old now : TailState) (writes left rest done : List Pair) (p : Pair) (took : left ≡ rest ++ p ∷ []) (so : IsStoring n old now writes left done) where
+  pub storing_object : IsTrue (is_object n p)
+  storing_object = (objects_split n rest p (subst (λ (ws : List Pair). IsTrue (are_objects n ws)) took so.objects)).1
 
-  pub storing_more : IsMemLog old.log → (after : TailState) → after ≡ record now { log = stored_log (blocks_of now) (p ∷ []) now.log } → IsStoring old after writes rest (p ∷ done)
+  pub storing_more : IsMemLog old.log → (after : TailState) → after ≡ record now { log = stored_log n (p ∷ []) now.log } → IsStoring n old after writes rest (p ∷ done)
   storing_more sound after is = record {
     split = so.split ∙ ap (λ (ws : List Pair). ws ++ done) took ∙ append_assoc rest (p ∷ []) done;
-    objects = (objects_split (blocks_of old) rest p (subst (λ (ws : List Pair). IsTrue (are_objects (blocks_of old) ws)) took so.objects)).0;
+    objects = (objects_split n rest p (subst (λ (ws : List Pair). IsTrue (are_objects n ws)) took so.objects)).0;
     stored = is
-        ∙ ap (λ (t : TailState). record t { log = stored_log (blocks_of t) (p ∷ []) t.log }) so.stored
-        ∙ ap (λ (l : LogState). record old { log = l }) (stored_more (blocks_of old) old.log sound p done);
+        ∙ ap (λ (t : TailState). record t { log = stored_log n (p ∷ []) t.log }) so.stored
+        ∙ ap (λ (l : LogState). record old { log = l }) (stored_more n old.log sound p done);
   }
 
 -- Once they are stored, the others can be appended
@@ -456,15 +455,12 @@ all_behind : (P : Update → Type 0) (us vs : List Update) → All P (us ++ vs) 
 all_behind P [] vs all = all
 all_behind P (u ∷ us) vs all = all_behind P us vs (All-tail P u (us ++ vs) all)
 
-module _ (t : TailState) (sound : IsMemLog t.log) (writes : List Pair) (fresh : List Update) (takes : TakesPrepared t writes fresh) where
-  abbrev n : ℕ
-  n = blocks_of t
-
+module _ (n : Shape) (t : TailState) (sound : IsMemLog t.log) (writes : List Pair) (fresh : List Update) (takes : TakesPrepared n t writes fresh) where
   abbrev later : LogState
   later = stored_log n writes t.log
 
-  pub fresh_homes : AreHomes n fresh
-  fresh_homes = all_behind (λ (u : Update). (513 ≤ u.block) × (u.block < n)) (standing_updates n (tail_of t.log) writes) fresh takes.homes
+  pub fresh_homes : AreHomes (blocks_of t) fresh
+  fresh_homes = all_behind (λ (u : Update). (513 ≤ u.block) × (u.block < blocks_of t)) (standing_updates n (tail_of t.log) writes) fresh takes.homes
 
   same_tail : absorbed (tail_of later) fresh ≡ absorbed (tail_of t.log) (all_updates n t.log writes fresh)
   same_tail = ap (λ (ts : List Update). absorbed ts fresh) (stored_tail n t.log sound writes)
@@ -477,7 +473,7 @@ module _ (t : TailState) (sound : IsMemLog t.log) (writes : List Pair) (fresh : 
   pub fresh_room : TakesUpdates later fresh
   fresh_room = record {
     can = record {
-      on_disk = all_behind (λ (u : Update). u.block < n) (standing_updates n (tail_of t.log) writes) fresh takes.room.can.on_disk;
+      on_disk = all_behind (λ (u : Update). u.block < blocks_of t) (standing_updates n (tail_of t.log) writes) fresh takes.room.can.on_disk;
       room = omega (arith, takes.room.can.room, same_length, ap (λ (ts : List Update). length ts) same_tail);
       below = subst (λ (l : LogState). next_position l < 2 ^ 62) (sym (stored_appended n t.log sound writes fresh)) takes.room.can.below;
     };

@@ -5,8 +5,8 @@ use Rattle.std.proofs.lemmas.Cmp.{nat_eq_equiv}
 use Rattle.std.proofs.lemmas.List.{append-nil, take-append-drop}
 use Rattle.journal_world.specs.declared.address.Addr.{Addr}
 use Rattle.journal_world.specs.declared.address.Kind.{Kind}
-use Rattle.journal_world.specs.declared.address.Kind.TheVariants.{Bit, Inode, Block}
-use Rattle.journal_world.specs.Addresses.{Value, kind_of, is_valid, is_same}
+use Rattle.journal_world.specs.declared.address.Kind.TheVariants.{Bit, Record, Block}
+use Rattle.journal_world.specs.Addresses.{Value, Shape, kind_of, is_valid, is_same}
 use Rattle.journal_world.specs.Maps.{Pair, Map, value_at, is_value_at, is_object, are_objects, overwritten}
 use Rattle.journal_world.proofs.SameMaps.{value_at-overwritten}
 use Rattle.journal_block.specs.declared.update.Update.{Update}
@@ -53,7 +53,7 @@ after_overwritten m (w ∷ ws) a =
     ∙ ap Some (sym (value_at-overwritten m w ws a))
 
 -- where a block is one object and is written, what it had is not asked for
-after_whole : (n : ℕ) (ws : List Pair) (o u : Option Value) (a : Addr) → kind_of n a.block ≡ Some Block → IsTrue (is_valid n a)
+after_whole : (n : Shape) (ws : List Pair) (o u : Option Value) (a : Addr) → kind_of n a.block ≡ Some Block → IsTrue (is_valid n a)
     → IsTrue (are_objects n ws) → writes_block ws a.block ≡ true → after_writes ws o a ≡ after_writes ws u a
 after_whole n [] o u a whole valid objects written = absurd (false≢true written)
 after_whole n (p ∷ ws) o u a whole valid objects written =
@@ -79,11 +79,11 @@ after_whole n (p ∷ ws) o u a whole valid objects written =
 
 -- ---- what memory knows of it
 
-object_of_known : (n : ℕ) (us : List Update) (a : Addr) → updates_block us a.block ≡ true → known_object n us a ≡ Some (object_or_zeros n (updated us a.block []) a)
+object_of_known : (n : Shape) (us : List Update) (a : Addr) → updates_block us a.block ≡ true → known_object n us a ≡ Some (object_or_zeros n (updated us a.block []) a)
 object_of_known n us a known = ap (λ (t : Bool). cond t (Some (object_or_zeros n (updated us a.block []) a)) None) known
 
 -- updates that make the same of each block give the same object
-known_alike : (n : ℕ) (fetched us vs : List Update) (a : Addr) → MakeTheSame us vs → known_object n (fetched ++ us) a ≡ known_object n (fetched ++ vs) a
+known_alike : (n : Shape) (fetched us vs : List Update) (a : Addr) → MakeTheSame us vs → known_object n (fetched ++ us) a ≡ known_object n (fetched ++ vs) a
 known_alike n fetched us vs a same =
     ap (λ (t : Bool). cond t (Some (object_or_zeros n (updated (fetched ++ us) a.block []) a)) None)
     (updates_block-append fetched us a.block ∙ ap (λ (t : Bool). updates_block fetched a.block || t) (same.blocks a.block) ∙ sym (updates_block-append fetched vs a.block))
@@ -109,14 +109,14 @@ named_appended log updates b =
     ∙ ap (λ (us : List Update). updates_block (us ++ updates) b) (take-append-drop (log.cut - log.start) log.updates)
 
 -- so memory knows of each address what it does with these behind
-pub known_appended : (n : ℕ) (fetched : List Update) (log : LogState) (updates : List Update) (a : Addr)
+pub known_appended : (n : Shape) (fetched : List Update) (log : LogState) (updates : List Update) (a : Addr)
     → known_object n (fetched ++ (appended log updates).updates) a ≡ known_object n ((fetched ++ log.updates) ++ updates) a
 known_appended n fetched log updates a =
     known_alike n fetched (appended log updates).updates (log.updates ++ updates) a
     (record { blocks = named_appended log updates; content = updated-appended log updates })
     ∙ ap (λ (us : List Update). known_object n us a) (sym (append_assoc fetched log.updates updates))
 
-module _ (n : ℕ) (law : Law n) (known prepared : List Update) (writes : List Pair) where
+module _ (n : Shape) (law : Law n) (known prepared : List Update) (writes : List Pair) where
   abbrev pub content : Content
   content = with_updates (λ b. []) known
 
@@ -158,7 +158,7 @@ module _ (n : ℕ) (law : Law n) (known prepared : List Update) (writes : List P
             → after_writes writes older a ≡ after_writes writes (known_object n known a) a
         by_kind None is none = absurd (unknown none (λ whole. let wrong : None ≡ Some Block = sym is ∙ whole in let impossible : ⊥ = cc in impossible))
         by_kind (Some Bit) is none = absurd (unknown none (λ whole. let wrong : Some Bit ≡ Some Block = sym is ∙ whole in let impossible : ⊥ = cc in impossible))
-        by_kind (Some Inode) is none = absurd (unknown none (λ whole. let wrong : Some Inode ≡ Some Block = sym is ∙ whole in let impossible : ⊥ = cc in impossible))
+        by_kind (Some (Record size)) is none = absurd (unknown none (λ whole. let wrong : Some (Record size) ≡ Some Block = sym is ∙ whole in let impossible : ⊥ = cc in impossible))
         by_kind (Some Block) is none = after_whole n writes older (known_object n known a) a is valid objects is_written
 
         by : (t : Bool) → updates_block known a.block ≡ t → after_writes writes older a ≡ after_writes writes (known_object n known a) a

@@ -1,22 +1,26 @@
 -- The map that blocks make has their objects, and equal blocks make the same map.
-use Rattle.std.proofs.Common.{◌≡◌, ◌≤◌, ◌&&◌, ◌*◌, ℕ, zero, suc, Bool, true, false, cond, List, [], ◌∷◌, IsTrue, Option, Some, None, refl, sym, ap, subst, ◌∙◌}
+use Rattle.std.proofs.Common.{◌≡◌, ◌&&◌, ◌*◌, ℕ, zero, suc, Bool, true, false, cond, List, [], ◌∷◌, IsTrue, Option, Some, None, refl, sym, ap, subst, ◌∙◌}
 use Rattle.std.specs.Prelude.{unwrap_or}
 use Rattle.std.specs.List.{AllByRecursion, filter}
 use Rattle.std.proofs.lemmas.Bool.{false≢true}
 use Rattle.journal_world.specs.declared.address.Addr.{Addr}
-use Rattle.journal_world.specs.Addresses.{Value, kind_of, is_valid, is_same}
+use Rattle.journal_world.specs.Addresses.{Value, Shape, kind_of, is_valid, is_same}
 use Rattle.journal_world.specs.Maps.{Pair, Map, value_among, zeros_at, SameMap, is_value_at, is_object}
 use Rattle.journal_world.proofs.Lookups.{same_addr}
 use Rattle.journal_world.proofs.SameMaps.{SameMap-refl}
 use Rattle.journal_block.specs.Updates.{Content}
 use Rattle.journal_object.specs.Objects.{object_at, nth_addr, objects_below, map_of_blocks, IsMapOf}
-use Rattle.journal_object.proofs.MapOfBlocks.{valid_block}
+use Rattle.journal_object.proofs.MapOfBlocks.{valid_block, IsMapOf-map_of_blocks}
 use Rattle.journal_wal.specs.Wal.{SameBlocks}
 use Rattle.journal_objlog.specs.Maps.{object_or_zeros, HasObjects, map_of}
 
--- the law of the map that blocks make, at one size
-abbrev pub Law : ℕ → Type 0
+-- the law of the map that blocks make, by one layout
+abbrev pub Law : Shape → Type 0
 Law n = (content : Content) → IsMapOf content (map_of_blocks n content)
+
+-- it holds of each
+pub law_of : (n : Shape) → Law n
+law_of n content = IsMapOf-map_of_blocks n content
 
 same_cond : (b : Bool) (o : Option Value) → o ≡ cond b o o
 same_cond true o = refl
@@ -45,7 +49,7 @@ kept_value test f a (p ∷ ps) all = by (is_same a p.0) (test p) (test (a, f a))
     by false false whole same kept is rest = rest ∙ ap (λ b. cond b (value_among ps a) None) is
 
 -- the pairs of blocks' objects are these
-pairs_are : (n : ℕ) (content : Content) (k : ℕ) → AllByRecursion (λ p. p.1 ≡ object_at n (content p.0.block) p.0) (objects_below n content k)
+pairs_are : (n : Shape) (content : Content) (k : ℕ) → AllByRecursion (λ p. p.1 ≡ object_at n (content p.0.block) p.0) (objects_below n content k)
 unfolding objects_below
 pairs_are n content zero = tt
 pairs_are n content (suc k) = by (is_valid n (nth_addr k)) (pairs_are n content k)
@@ -64,7 +68,7 @@ and_true : (b c : Bool) → b ≡ true → (b && c) ≡ c
 and_true true c is = refl
 and_true false c is = absurd (false≢true is)
 
-pub HasObjects-map_of : (n : ℕ) → Law n → (content : Content) → HasObjects content (map_of n content)
+pub HasObjects-map_of : (n : Shape) → Law n → (content : Content) → HasObjects content (map_of n content)
 unfolding map_of map_of_blocks
 HasObjects-map_of n law content = record {
   values = λ a valid.
@@ -72,7 +76,7 @@ HasObjects-map_of n law content = record {
       let value = object_at n (content a.block) a in
       let pairs = (map_of_blocks n content).pairs in
       let found : unwrap_or (value_among pairs a) (zeros_at kind) ≡ value = (law content).values a valid in
-      ap (λ o. unwrap_or o (zeros_at kind)) (kept_value (is_object n) (λ b. object_at n (content b.block) b) a pairs (pairs_are n content (n * 32768)))
+      ap (λ o. unwrap_or o (zeros_at kind)) (kept_value (is_object n) (λ b. object_at n (content b.block) b) a pairs (pairs_are n content (n.blocks * 32768)))
       ∙ unwrap_kept (is_object n (a, value)) (value_among pairs a) (zeros_at kind)
       ∙ ap (λ v. cond (is_object n (a, value)) v (zeros_at kind)) found
       ∙ ap (λ b. cond b value (zeros_at kind)) (and_true (is_valid n a) (is_value_at kind value) valid);
@@ -82,25 +86,25 @@ pub SameMap-path : {m k : Map} → m ≡ k → SameMap m k
 SameMap-path {m} {k} is = subst (λ (x : Map). SameMap m x) is (SameMap-refl m)
 
 -- two maps that have the objects of the same blocks are the same
-pub same_objects : (f g : Content) (m k : Map) → HasObjects f m → HasObjects g k → m.blocks ≡ k.blocks → 532 ≤ m.blocks
-    → SameBlocks m.blocks f g → SameMap m k
-same_objects f g m k first second blocks low same = record {
-  blocks = blocks;
+pub same_objects : (f g : Content) (m k : Map) → HasObjects f m → HasObjects g k → m.layout ≡ k.layout
+    → SameBlocks m.layout.blocks f g → SameMap m k
+same_objects f g m k first second layout same = record {
+  layout = layout;
   values = λ a valid.
-      let at = valid_block m.blocks a low valid in
+      let at = valid_block m.layout a valid in
       first.values a valid
-      ∙ ap (λ bytes. object_or_zeros m.blocks bytes a) (same a.block at.0 at.1)
-      ∙ ap (λ n. object_or_zeros n (g a.block) a) blocks
-      ∙ sym (second.values a (subst (λ (n : ℕ). IsTrue (is_valid n a)) blocks valid));
+      ∙ ap (λ bytes. object_or_zeros m.layout bytes a) (same a.block at.0 at.1)
+      ∙ ap (λ n. object_or_zeros n (g a.block) a) layout
+      ∙ sym (second.values a (subst (λ (n : Shape). IsTrue (is_valid n a)) layout valid));
 }
 
-pub map_of-same : (n : ℕ) → Law n → 532 ≤ n → (f g : Content) → SameBlocks n f g → SameMap (map_of n f) (map_of n g)
+pub map_of-same : (n : Shape) → Law n → (f g : Content) → SameBlocks n.blocks f g → SameMap (map_of n f) (map_of n g)
 unfolding map_of
-map_of-same n law low f g same =
-    same_objects f g (map_of n f) (map_of n g) (HasObjects-map_of n law f) (HasObjects-map_of n law g) refl low same
+map_of-same n law f g same =
+    same_objects f g (map_of n f) (map_of n g) (HasObjects-map_of n law f) (HasObjects-map_of n law g) refl same
 
 -- the map that blocks make is any that has their objects
-pub map_of-is : (n : ℕ) → Law n → 532 ≤ n → (f : Content) (m : Map) → m.blocks ≡ n → HasObjects f m → SameMap (map_of n f) m
+pub map_of-is : (n : Shape) → Law n → (f : Content) (m : Map) → m.layout ≡ n → HasObjects f m → SameMap (map_of n f) m
 unfolding map_of
-map_of-is n law low f m blocks has =
-    same_objects f f (map_of n f) m (HasObjects-map_of n law f) has (sym blocks) low (λ b home lt. refl)
+map_of-is n law f m layout has =
+    same_objects f f (map_of n f) m (HasObjects-map_of n law f) has (sym layout) (λ b home lt. refl)

@@ -3,8 +3,8 @@ use Rattle.std.proofs.Common.{◌≡◌, ◌==◌, ◌&&◌, ◌||◌, not, ℕ,
 use Rattle.std.proofs.lemmas.Bool.{eq-eqb, eqb-true, false≢true}
 use Rattle.std.proofs.lemmas.List.{reverse-append}
 use Rattle.journal_world.specs.declared.address.Kind.{Kind}
-use Rattle.journal_world.specs.declared.address.Kind.TheVariants.{Bit, Inode, Block}
-use Rattle.journal_world.specs.Addresses.{kind_of}
+use Rattle.journal_world.specs.declared.address.Kind.TheVariants.{Bit, Record, Block}
+use Rattle.journal_world.specs.Addresses.{Shape, kind_of}
 use Rattle.journal_world.specs.Maps.{Pair}
 use Rattle.journal_world.specs.Orders.{HasAscendingBlocks}
 use Rattle.journal_block.specs.declared.update.Update.{Update}
@@ -17,20 +17,20 @@ use Rattle.journal_objlog.proofs.Fetched.{or_right}
 
 -- Of one block
 
-pub missing_parts : (n : ℕ) (known : List Update) (b : ℕ) → (kind_of n b ≡ Some Block → ⊥) → is_missing n known b ≡ not (updates_block known b)
+pub missing_parts : (n : Shape) (known : List Update) (b : ℕ) → (kind_of n b ≡ Some Block → ⊥) → is_missing n known b ≡ not (updates_block known b)
 missing_parts n known b other = ap (λ (t : Bool). t && not (updates_block known b)) (by (kind_of n b) other)
   where
     by : (k : Option Kind) → (k ≡ Some Block → ⊥) → not (is_one_object k) ≡ true
     by None other = refl
     by (Some Bit) other = refl
-    by (Some Inode) other = refl
+    by (Some (Record size)) other = refl
     by (Some Block) other = absurd (other refl)
 
 not_false : (t : Bool) → not t ≡ false → t ≡ true
 not_false true is = refl
 not_false false is = absurd (false≢true (sym is))
 
-pub present_named : (n : ℕ) (known : List Update) (b : ℕ) → is_missing n known b ≡ false → (kind_of n b ≡ Some Block → ⊥) → updates_block known b ≡ true
+pub present_named : (n : Shape) (known : List Update) (b : ℕ) → is_missing n known b ≡ false → (kind_of n b ≡ Some Block → ⊥) → updates_block known b ≡ true
 present_named n known b here other = not_false (updates_block known b) (sym (missing_parts n known b other) ∙ here)
 
 -- Of all that are written
@@ -55,7 +55,7 @@ none_here true true b bs none later = later refl
 none_here true false b bs none later = let impossible : ⊥ = cc in absurd impossible
 none_here false t b bs none later = refl
 
-none_at : (n : ℕ) (known : List Update) (p : Pair) (ws : List Pair) → missing_blocks n known (p ∷ ws) ≡ [] → HasBlocks n known ws → HasBlocks n known (p ∷ ws)
+none_at : (n : Shape) (known : List Update) (p : Pair) (ws : List Pair) → missing_blocks n known (p ∷ ws) ≡ [] → HasBlocks n known ws → HasBlocks n known (p ∷ ws)
 none_at n known p ws none rest b named = by (p.0.block == b) refl named
   where
     first : is_missing n known p.0.block ≡ false
@@ -66,7 +66,7 @@ none_at n known p ws none rest b named = by (p.0.block == b) refl named
     by false same is = rest b is
 
 -- where none is missing, memory knows what each write needs
-pub none_missing : (n : ℕ) (known : List Update) (ws : List Pair) → missing_blocks n known ws ≡ [] → HasBlocks n known ws
+pub none_missing : (n : Shape) (known : List Update) (ws : List Pair) → missing_blocks n known ws ≡ [] → HasBlocks n known ws
 none_missing n known [] none = λ b named. absurd (false≢true named)
 none_missing n known (p ∷ ws) none = none_at n known p ws none
     (none_missing n known ws (none_later (is_missing n known p.0.block) (writes_block ws p.0.block) p.0.block (missing_blocks n known ws) none))
@@ -77,12 +77,12 @@ written_there (q ∷ left) p done = or_right (q.0.block == p.0.block) (writes_bl
 
 -- Listing them, from the last write on
 
-pub record IsListed (n : ℕ) (known : List Update) (writes left done : List Pair) (last : Option ℕ) (blocks : List ℕ) : Type 0 where
+pub record IsListed (n : Shape) (known : List Update) (writes left done : List Pair) (last : Option ℕ) (blocks : List ℕ) : Type 0 where
   pub split : writes ≡ left ++ done
   pub newest : last ≡ first_block done
   pub listed : reverse blocks ≡ missing_blocks n known done
 
-module _ (n : ℕ) (known : List Update) (writes left rest done : List Pair) (p : Pair) (last : Option ℕ) (blocks : List ℕ)
+module _ (n : Shape) (known : List Update) (writes left rest done : List Pair) (p : Pair) (last : Option ℕ) (blocks : List ℕ)
     (ascending : HasAscendingBlocks writes) (took : left ≡ rest ++ p ∷ []) (so : IsListed n known writes left done last blocks) where
   split : writes ≡ rest ++ p ∷ done
   split = so.split ∙ ap (λ (ws : List Pair). ws ++ done) took ∙ append_assoc rest (p ∷ []) done

@@ -1,6 +1,7 @@
 -- What an image opens as, by what it stands for.
 use Rattle.std.proofs.Common.{◌≡◌, inl, inr, ⊎_elim, ◌<◌, ◌≤◌, ℕ, IsTrue, List, refl, sym, ap, subst, ◌∙◌, arith}
 use Rattle.std.proofs.lemmas.Bool.{cases_lt}
+use Rattle.journal_world.specs.Addresses.{Shape}
 use Rattle.journal_world.specs.Maps.{Map, SameMap}
 use Rattle.journal_block.specs.Block.{Bytes}
 use Rattle.journal_block.specs.Updates.{Content}
@@ -9,75 +10,71 @@ use Rattle.journal_disk.specs.Images.{EveryImage}
 use Rattle.journal_disk.specs.Moments.{LeavesOnly}
 use Rattle.journal_disk.specs.Laws.{leaves_none, leaves_also}
 use Rattle.journal_circ.specs.StandsFor.{StandsFor}
-use Rattle.journal_wal.specs.Wal.{WalState, size_of, blocks_now, blocks_cut, blocks_logged, MayStandFor, Crashes, KeepsBlocks, OnlyReads as LogOnlyReads}
+use Rattle.journal_wal.specs.Wal.{WalState, size_of, blocks_now, blocks_cut, blocks_logged, SameBlocks, MayStandFor, Crashes, KeepsBlocks, OnlyReads as LogOnlyReads}
 use Rattle.journal_objlog.specs.Maps.{map_of, OpensAs}
-use Rattle.journal_objlog.specs.ObjectLogs.{map_cut, map_logged, MayOpenAs, KeepsMaps, Crashes as MapCrashes, OnlyReads, disk_of}
+use Rattle.journal_objlog.specs.ObjectLogs.{EachLayout, map_cut, map_logged, MayOpenAs, KeepsMaps, Crashes as MapCrashes, OnlyReads, disk_of}
 use Rattle.journal_objlog.specs.ReadLaws.{now_read}
 use Rattle.journal_objlog.specs.Soundness.{IsObjectLog}
-use Rattle.journal_objlog.proofs.MapsOfBlocks.{Law, HasObjects-map_of, map_of-same, SameMap-path}
+use Rattle.journal_objlog.proofs.MapsOfBlocks.{law_of, HasObjects-map_of, map_of-same, SameMap-path}
 
 -- what stands for blocks opens as their map
-pub opens : (n : ℕ) → Law n → (content : Content) (image : List Bytes) → StandsFor n content image → OpensAs (map_of n content) image
+pub opens : (layout : Shape) → (content : Content) (image : List Bytes) → StandsFor layout.blocks content image → OpensAs (map_of layout content) image
 unfolding map_of
-opens n law content image stands = record { content = content; stands = stands; objects = HasObjects-map_of n law content }
-
-module _ (n : ℕ) (w : WalState) (sound : IsObjectLog n w) where
-  pub law_of : Law (size_of w)
-  law_of = subst Law sound.size sound.law
-
-  pub low_of : 532 ≤ size_of w
-  low_of = subst (λ (k : ℕ). 532 ≤ k) sound.size sound.low
+opens layout content image stands = record { content = content; stands = stands; objects = HasObjects-map_of layout (law_of layout) content }
 
 -- a crash leaves what opens as one of the two maps
-pub opens_crash : (w : WalState) → Law (size_of w) → (image : List Bytes) → MayStandFor w image → MayOpenAs w image
-opens_crash w law image crash = ⊎_elim
-    (λ logged. inl (opens (size_of w) law (blocks_logged w) image logged))
-    (λ cut. inr (opens (size_of w) law (blocks_cut w) image cut))
+pub opens_crash : (w : WalState) (layout : Shape) → layout.blocks ≡ size_of w → (image : List Bytes) → MayStandFor w image → MayOpenAs layout w image
+opens_crash w layout size image crash = ⊎_elim
+    (λ logged. inl (opens layout (blocks_logged w) image (subst (λ (k : ℕ). StandsFor k (blocks_logged w) image) (sym size) logged)))
+    (λ cut. inr (opens layout (blocks_cut w) image (subst (λ (k : ℕ). StandsFor k (blocks_cut w) image) (sym size) cut)))
     crash
 
 -- blocks that are as before make maps that are
-pub keeps_maps : (n : ℕ) (old new : WalState) → IsObjectLog n old → size_of new ≡ size_of old → KeepsBlocks old new → KeepsMaps old new
-keeps_maps n old new sound size keeps = record {
-  now = at (blocks_now new) (blocks_now old) keeps.now;
-  cut = at (blocks_cut new) (blocks_cut old) keeps.cut;
-  logged = at (blocks_logged new) (blocks_logged old) keeps.logged;
-}
-  where
-    at : (f g : Content) → ((b : ℕ) → 513 ≤ b → b < size_of old → f b ≡ g b) → SameMap (map_of (size_of new) f) (map_of (size_of old) g)
-    at f g same = subst (λ (k : ℕ). SameMap (map_of k f) (map_of (size_of old) g)) (sym size)
-        (map_of-same (size_of old) (law_of n old sound) (low_of n old sound) f g same)
+pub same_maps : (size : ℕ) (f g : Content) → SameBlocks size f g → EachLayout size (λ layout. SameMap (map_of layout f) (map_of layout g))
+same_maps size f g same layout is = map_of-same layout (law_of layout) f g (subst (λ (k : ℕ). SameBlocks k f g) (sym is) same)
 
-pub may_crash : (n : ℕ) (old new : WalState) → IsObjectLog n old → Crashes old new → MapCrashes old new
-may_crash n old new sound crash = record {
+pub keeps_maps : (old new : WalState) → KeepsBlocks old new → KeepsMaps old new
+keeps_maps old new keeps = record {
+  now = same_maps (size_of old) (blocks_now new) (blocks_now old) keeps.now;
+  cut = same_maps (size_of old) (blocks_cut new) (blocks_cut old) keeps.cut;
+  logged = same_maps (size_of old) (blocks_logged new) (blocks_logged old) keeps.logged;
+}
+
+pub may_crash : (old new : WalState) → Crashes old new → MapCrashes old new
+may_crash old new crash = record {
   keeps = crash.keeps;
-  moments = λ honest. leaves_also (disk_of old).past (disk_of new).past (MayStandFor old) (MayOpenAs old) (crash.moments honest)
-      (λ image. opens_crash old (law_of n old sound) image);
-  images = λ honest image is. opens_crash new (subst Law (sym crash.keeps.size) (law_of n old sound)) image (crash.images honest image is);
+  moments = λ honest layout size. leaves_also (disk_of old).past (disk_of new).past (MayStandFor old) (MayOpenAs layout old) (crash.moments honest)
+      (λ image. opens_crash old layout size image);
+  images = λ honest layout size image is. opens_crash new layout size image (crash.images honest image is);
 }
 
 -- nothing changed but what no map shows
 module _ (old new : WalState) (reads : OnlyReads old new) (honest : IsTrue (disk_of old).honest) where
-  pub cut_read : map_cut new ≡ map_cut old
-  cut_read = ap map_cut reads.same
-      ∙ ap (λ (past : Past). map_cut (record old { ring = record old.ring { disk = record old.ring.disk { past = past } } })) (reads.past honest)
+  pub cut_read : (layout : Shape) → map_cut layout new ≡ map_cut layout old
+  cut_read layout = ap (map_cut layout) reads.same
+      ∙ ap (λ (past : Past). map_cut layout (record old { ring = record old.ring { disk = record old.ring.disk { past = past } } })) (reads.past honest)
 
-  pub logged_read : map_logged new ≡ map_logged old
-  logged_read = ap map_logged reads.same
-      ∙ ap (λ (past : Past). map_logged (record old { ring = record old.ring { disk = record old.ring.disk { past = past } } })) (reads.past honest)
+  pub logged_read : (layout : Shape) → map_logged layout new ≡ map_logged layout old
+  logged_read layout = ap (map_logged layout) reads.same
+      ∙ ap (λ (past : Past). map_logged layout (record old { ring = record old.ring { disk = record old.ring.disk { past = past } } })) (reads.past honest)
 
   pub maps_read : KeepsMaps old new
-  maps_read = record { now = SameMap-path (now_read old new reads honest); cut = SameMap-path cut_read; logged = SameMap-path logged_read }
+  maps_read = record {
+    now = λ layout size. SameMap-path (now_read old new reads honest layout);
+    cut = λ layout size. SameMap-path (cut_read layout);
+    logged = λ layout size. SameMap-path (logged_read layout);
+  }
 
-  pub opens_read : (image : List Bytes) → MayOpenAs new image → MayOpenAs old image
-  opens_read image opens = ⊎_elim
-      (λ is. inl (subst (λ (m : Map). OpensAs m image) logged_read is))
-      (λ is. inr (subst (λ (m : Map). OpensAs m image) cut_read is))
+  pub opens_read : (layout : Shape) (image : List Bytes) → MayOpenAs layout new image → MayOpenAs layout old image
+  opens_read layout image opens = ⊎_elim
+      (λ is. inl (subst (λ (m : Map). OpensAs m image) (logged_read layout) is))
+      (λ is. inr (subst (λ (m : Map). OpensAs m image) (cut_read layout) is))
       opens
 
-  pub opens_as_read : (image : List Bytes) → MayOpenAs old image → MayOpenAs new image
-  opens_as_read image opens = ⊎_elim
-      (λ is. inl (subst (λ (m : Map). OpensAs m image) (sym logged_read) is))
-      (λ is. inr (subst (λ (m : Map). OpensAs m image) (sym cut_read) is))
+  pub opens_as_read : (layout : Shape) (image : List Bytes) → MayOpenAs layout old image → MayOpenAs layout new image
+  opens_as_read layout image opens = ⊎_elim
+      (λ is. inl (subst (λ (m : Map). OpensAs m image) (sym (logged_read layout)) is))
+      (λ is. inr (subst (λ (m : Map). OpensAs m image) (sym (cut_read layout)) is))
       opens
 
 pub OnlyReads-refl : (w : WalState) → OnlyReads w w
@@ -123,17 +120,19 @@ OnlyReads-trans a b c first second = record {
 }
 
 -- reads leave what a crash left before
-pub crash_read : (n : ℕ) (old new : WalState) → IsObjectLog n old → OnlyReads old new → MapCrashes old new
-crash_read n old new sound reads = record {
+pub crash_read : (old new : WalState) → IsObjectLog old → OnlyReads old new → MapCrashes old new
+crash_read old new sound reads = record {
   keeps = reads.keeps;
-  moments = λ honest. leaves_none (disk_of old).past (disk_of new).past (MayOpenAs old) (reads.past honest) (images honest);
-  images = λ honest image is.
+  moments = λ honest layout size.
+      leaves_none (disk_of old).past (disk_of new).past (MayOpenAs layout old) (reads.past honest) (images honest layout size);
+  images = λ honest layout size image is.
       let was : IsTrue (disk_of old).honest = subst IsTrue reads.keeps.honest honest in
-      opens_as_read old new reads was image (subst (λ (past : Past). EveryImage past (MayOpenAs old)) (sym (reads.past was)) (images was) image is);
+      opens_as_read old new reads was layout image
+      (subst (λ (past : Past). EveryImage past (MayOpenAs layout old)) (sym (reads.past was)) (images was layout (size ∙ reads.keeps.size)) image is);
 }
   where
-    images : IsTrue (disk_of old).honest → EveryImage (disk_of old).past (MayOpenAs old)
-    images honest image is = opens_crash old (law_of n old sound) image (sound.images honest image is)
+    images : IsTrue (disk_of old).honest → EachLayout (size_of old) (λ layout. EveryImage (disk_of old).past (MayOpenAs layout old))
+    images honest layout size image is = opens_crash old layout size image (sound.images honest image is)
 
 -- what a call says of images after reads
 pub crash_after : (a b c : WalState) → OnlyReads a b → MapCrashes b c → MapCrashes a c
@@ -143,10 +142,11 @@ crash_after a b c reads crash = record {
     honest = crash.keeps.honest ∙ reads.keeps.honest;
     failures = omega (arith, reads.keeps.failures, crash.keeps.failures);
   };
-  moments = λ honest.
-      subst (λ (past : Past). LeavesOnly past (disk_of c).past (MayOpenAs a)) (reads.past honest)
-      (leaves_also (disk_of b).past (disk_of c).past (MayOpenAs b) (MayOpenAs a) (crash.moments (subst IsTrue (sym reads.keeps.honest) honest))
-      (opens_read a b reads honest));
+  moments = λ honest layout size.
+      subst (λ (past : Past). LeavesOnly past (disk_of c).past (MayOpenAs layout a)) (reads.past honest)
+      (leaves_also (disk_of b).past (disk_of c).past (MayOpenAs layout b) (MayOpenAs layout a)
+      (crash.moments (subst IsTrue (sym reads.keeps.honest) honest) layout (size ∙ sym reads.keeps.size))
+      (opens_read a b reads honest layout));
   images = crash.images;
 }
 

@@ -2,7 +2,7 @@
 use Rattle.std.proofs.Common.{◌≡◌, ◌⊎◌, inl, inr, ⊎_elim, ◌≤◌, ◌+◌, ◌==◌, ◌||◌, ℕ, Bool, true, false, List, [], ◌∷◌, length, IsTrue, refl, sym, subst, arith}
 use Rattle.std.proofs.lemmas.Bool.{eqb-true, false≢true, and_from}
 use Rattle.journal_world.specs.declared.address.Kind.TheVariants.{Block}
-use Rattle.journal_world.specs.Addresses.{is_value_of}
+use Rattle.journal_world.specs.Addresses.{Shape, is_value_of}
 use Rattle.journal_world.specs.Maps.{Pair, is_object, are_objects}
 use Rattle.journal_block.specs.declared.update.Update.{Update}
 use Rattle.journal_block.specs.Updates.{updated, updates_block}
@@ -14,13 +14,13 @@ abbrev pub IsWholeThere : List Update → ℕ → Type 0
 IsWholeThere tail b = (updates_block tail b ≡ true) × IsTrue (is_value_of Block (updated tail b []))
 
 -- those that are not left are objects in such blocks
-pub record IsPassing (n : ℕ) (tail : List Update) (writes left : List Pair) (passed : ℕ) : Type 0 where
+pub record IsPassing (n : Shape) (tail : List Update) (writes left : List Pair) (passed : ℕ) : Type 0 where
   pub objects : IsTrue (are_objects n left) → IsTrue (are_objects n writes)
   pub number : passed + length left ≡ length writes
   pub few : passed ≤ 128
   pub blocks : (b : ℕ) → writes_block writes b ≡ true → IsWholeThere tail b ⊎ (writes_block left b ≡ true)
 
-module _ (n : ℕ) (tail : List Update) (writes : List Pair) where
+module _ (n : Shape) (tail : List Update) (writes : List Pair) where
   pub passing_begins : (left : List Pair) → left ≡ writes → IsPassing n tail writes left 0
   passing_begins left whole = subst (λ (ws : List Pair). IsPassing n tail writes ws 0) (sym whole)
       (record { objects = λ are. are; number = omega arith; few = omega arith; blocks = λ b named. inr named })

@@ -1,16 +1,16 @@
 -- What refusals are, and leave.
-use Rattle.std.proofs.Common.{◌≡◌, ℕ, Result, Ok, Err, IfErr, IsErrAnd, subst}
-use Rattle.journal_wal.specs.Wal.{WalState}
+use Rattle.std.proofs.Common.{◌≡◌, ◌∙◌, sym, Result, Ok, Err, IfErr, IsErrAnd, subst}
+use Rattle.journal_wal.specs.Wal.{WalState, size_of}
 use Rattle.journal_objlog.specs.ObjectLogs.{map_now, map_cut, map_logged, KeepsMaps, Crashes as MapCrashes}
 use Rattle.journal_objlog.specs.Soundness.{IsObjectLog}
 use Rattle.journal_world.proofs.SameMaps.{SameMap-trans}
 use Rattle.journal_objlog.proofs.Openings.{crash_read, OnlyReads-refl}
 
-pub keeps_trans : (a b c : WalState) → KeepsMaps a b → KeepsMaps b c → KeepsMaps a c
-keeps_trans a b c first second = record {
-  now = SameMap-trans (map_now c) (map_now b) (map_now a) second.now first.now;
-  cut = SameMap-trans (map_cut c) (map_cut b) (map_cut a) second.cut first.cut;
-  logged = SameMap-trans (map_logged c) (map_logged b) (map_logged a) second.logged first.logged;
+pub keeps_trans : (a b c : WalState) → size_of b ≡ size_of a → KeepsMaps a b → KeepsMaps b c → KeepsMaps a c
+keeps_trans a b c size first second = record {
+  now = λ n is. SameMap-trans (map_now n c) (map_now n b) (map_now n a) (second.now n (is ∙ sym size)) (first.now n is);
+  cut = λ n is. SameMap-trans (map_cut n c) (map_cut n b) (map_cut n a) (second.cut n (is ∙ sym size)) (first.cut n is);
+  logged = λ n is. SameMap-trans (map_logged n c) (map_logged n b) (map_logged n a) (second.logged n (is ∙ sym size)) (first.logged n is);
 }
 
 -- what the exit of a `?` returns
@@ -19,5 +19,5 @@ if_err (Ok x) Q P and go = tt
 if_err (Err e) Q P and go = go e and
 
 -- nothing was done
-pub still : (n : ℕ) (inside now : WalState) → IsObjectLog n inside → inside ≡ now → MapCrashes now now
-still n inside now sound is = subst (λ (w : WalState). MapCrashes w w) is (crash_read n inside inside sound (OnlyReads-refl inside))
+pub still : (inside now : WalState) → IsObjectLog inside → inside ≡ now → MapCrashes now now
+still inside now sound is = subst (λ (w : WalState). MapCrashes w w) is (crash_read inside inside sound (OnlyReads-refl inside))

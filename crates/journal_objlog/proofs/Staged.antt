@@ -24,7 +24,7 @@ use Rattle.journal_objlog.proofs.Covering.{apart_first, covers_first, covers_mor
 pub open_first : (b : Base) (ws : List Pair) (us : List Update) (a : Addr) → IsStaged b ws us → first_update us ≡ Some a.block
     → IsOpen b ws a us
 open_first b ws us a staged first = record {
-  blocks = covers_first b.size b.tail ws us staged.blocks a first;
+  blocks = covers_first b.layout.blocks b.tail ws us staged.blocks a first;
   bytes = record {
     content = with_updates b.content us;
     objects = staged.objects;
@@ -33,7 +33,7 @@ open_first b ws us a staged first = record {
   };
 }
   where
-    bytes : (vs : List Update) → CoversBlocks b.size b.tail ws vs → first_update vs ≡ Some a.block
+    bytes : (vs : List Update) → CoversBlocks b.layout.blocks b.tail ws vs → first_update vs ≡ Some a.block
         → first_bytes vs ≡ with_updates b.content vs a.block
     bytes [] covers is = let impossible : ⊥ = cc in absurd impossible
     bytes (u ∷ vs) covers is =
@@ -42,12 +42,12 @@ open_first b ws us a staged first = record {
         ∙ ap (with_updates b.content (u ∷ vs)) same
 
 -- it is put before the others
-pub open_more : (b : Base) (ws : List Pair) (us : List Update) (a : Addr) (bytes : Bytes) → 532 ≤ b.size → IsTrue (is_valid b.size a)
+pub open_more : (b : Base) (ws : List Pair) (us : List Update) (a : Addr) (bytes : Bytes) → IsTrue (is_valid b.layout a)
     → IsStaged b ws us → HasAscendingBlocks ws → IsAboveNone a.block ws → (first_update us ≡ Some a.block → ⊥)
-    → (kind_of b.size a.block ≡ Some Block) ⊎ (bytes ≡ b.content a.block)
+    → (kind_of b.layout a.block ≡ Some Block) ⊎ (bytes ≡ b.content a.block)
     → IsOpen b ws a (record { block = a.block; bytes = bytes } ∷ us)
-open_more b ws us a bytes low valid staged ascending below other read = record {
-  blocks = covers_more b.size b.tail ws us staged.blocks a bytes unnamed at.0 at.1;
+open_more b ws us a bytes valid staged ascending below other read = record {
+  blocks = covers_more b.layout.blocks b.tail ws us staged.blocks a bytes unnamed at.0 at.1;
   bytes = record {
     content = with_updates b.content us;
     objects = staged.objects;
@@ -56,8 +56,8 @@ open_more b ws us a bytes low valid staged ascending below other read = record {
   };
 }
   where
-    at : (513 ≤ a.block) × (a.block < b.size)
-    at = valid_block b.size a low valid
+    at : (513 ≤ a.block) × (a.block < b.layout.blocks)
+    at = valid_block b.layout a valid
 
     unnamed : writes_block ws a.block ≡ false
     unnamed = not_first a.block ws ascending below (λ first. other (staged.blocks.first ∙ first))
@@ -67,8 +67,8 @@ open_more b ws us a bytes low valid staged ascending below other read = record {
 
 -- the write is stored in it
 pub stored : (b : Base) (ws : List Pair) (a : Addr) (value : List ℕ) (us vs : List Update) → IsOpen b ws a us
-    → vs ≡ with_first us (first_bytes vs) → ChangesOnly b.size (first_bytes us) (first_bytes vs) a value
-    → IsTrue (is_object b.size (a, value)) → IsStaged b ((a, value) ∷ ws) vs
+    → vs ≡ with_first us (first_bytes vs) → ChangesOnly b.layout (first_bytes us) (first_bytes vs) a value
+    → IsTrue (is_object b.layout (a, value)) → IsStaged b ((a, value) ∷ ws) vs
 unfolding map_of
 stored b ws a value [] vs opened is changes object = let first = opened.blocks.first in let impossible : ⊥ = cc in absurd impossible
 stored b ws a value (u ∷ us) vs opened is changes object = subst (λ (xs : List Update). IsStaged b ((a, value) ∷ ws) xs) (sym is) staged
@@ -98,4 +98,4 @@ stored b ws a value (u ∷ us) vs opened is changes object = subst (λ (xs : Lis
         ∙ open_in.others c other)
 
     staged : IsStaged b ((a, value) ∷ ws) later
-    staged = record { blocks = covers_stored b.size b.tail ws a value u us bytes opened.blocks; objects = has }
+    staged = record { blocks = covers_stored b.layout.blocks b.tail ws a value u us bytes opened.blocks; objects = has }

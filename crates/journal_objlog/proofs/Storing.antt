@@ -7,14 +7,14 @@ use Rattle.std.proofs.lemmas.Nat.{one_shl, pow_below}
 use Rattle.std.proofs.lemmas.List.{get_or_default, get_or-set_same, get_or-set_other, take_at, drop_at, length-take-le}
 use Rattle.journal_world.specs.declared.address.Addr.{Addr}
 use Rattle.journal_world.specs.declared.address.Kind.{Kind}
-use Rattle.journal_world.specs.declared.address.Kind.TheVariants.{Bit, Inode, Block}
-use Rattle.journal_world.specs.Addresses.{Value, kind_of, starts_object, is_valid, is_value_of, bits_of}
+use Rattle.journal_world.specs.declared.address.Kind.TheVariants.{Bit, Record, Block}
+use Rattle.journal_world.specs.Addresses.{Value, Shape, kind_of, starts_object, is_valid, is_value_of, bits_of, record_bytes}
 use Rattle.journal_world.specs.Maps.{is_value_at, is_object}
 use Rattle.journal_block.specs.Block.{Bytes, bit_of, byte_with_bit, with_bit, with_bytes}
 use Rattle.journal_block.proofs.Bits.{byte_with_bit-set, bit_of-set, bit_of-set_other}
 use Rattle.journal_block.proofs.Pieces.{before-with_bytes, after-with_bytes}
 use Rattle.journal_object.specs.Objects.{object_of, with_object_of, with_object_at, ChangesOnly}
-use Rattle.journal_object.proofs.Cuts.{value_size, bit_value, inodes_apart, starts_inside}
+use Rattle.journal_object.proofs.Cuts.{value_size, bit_value, records_apart, record_inside, starts_inside}
 use Rattle.journal_objlog.proofs.Stored.{whole_off}
 
 -- the bytes of a block
@@ -85,7 +85,7 @@ module _ (bytes : Bytes) (off : ℕ) (bit : Bool) (is : IsBlock bytes) (inside :
         (cases_eq i at);
   }
 
--- An inode
+-- A record
 
 fits_append : (xs ys : Bytes) → ((i : ℕ) → slice_index xs i < 256) → ((i : ℕ) → slice_index ys i < 256) → (i : ℕ) → slice_index (xs ++ ys) i < 256
 fits_append [] ys first later i = later i
@@ -144,17 +144,17 @@ replaces (Some Bit) bytes off value is starts ok =
       others = λ j there other. ap (λ (b : Bool). cond b 1 0 ∷ []) (bit_other bytes off bit is inside j other);
       block = bit_block bytes off bit is inside;
     }
-replaces (Some Inode) bytes off value is starts ok =
-    let inside = starts_inside (Some Inode) off starts in
-    let multiple = starts_multiple Inode off starts in
-    let size = value_size Inode value ok in
-    let fits = all_fit value (and_parts (length value == 128) (list_all (λ byte. nat_lt byte 256) value) ok).1 in
-    let room : off / 8 + length value ≤ length bytes = omega (arith, size, is.size) in record {
+replaces (Some (Record r)) bytes off value is starts ok =
+    let multiple = starts_multiple (Record r) off starts in
+    let ends = record_inside r off (starts_inside (Some (Record r)) off starts) multiple in
+    let size = value_size (Record r) value ok in
+    let fits = all_fit value (and_parts (length value == record_bytes r) (list_all (λ byte. nat_lt byte 256) value) ok).1 in
+    let room : off / 8 + length value ≤ length bytes = omega (arith, ends, size, is.size) in record {
       changed = piece_there bytes value (off / 8) is fits room _ (omega (arith, size));
       others = λ j there other. ⊎_elim
-          (λ (before : j / 8 + 128 ≤ off / 8). before-with_bytes bytes value (off / 8) room (j / 8) (j / 8 + 128) before)
-          (λ (after : off / 8 + 128 ≤ j / 8). after-with_bytes bytes value (off / 8) room (j / 8) (j / 8 + 128) (omega (arith, after, size)))
-          (inodes_apart j off (starts_multiple Inode j there) multiple other);
+          (λ (before : j / 8 + record_bytes r ≤ off / 8). before-with_bytes bytes value (off / 8) room (j / 8) (j / 8 + record_bytes r) before)
+          (λ (after : off / 8 + record_bytes r ≤ j / 8). after-with_bytes bytes value (off / 8) room (j / 8) (j / 8 + record_bytes r) (omega (arith, after, size)))
+          (records_apart r j off (starts_multiple (Record r) j there) multiple other);
       block = piece_block bytes value (off / 8) is fits room;
     }
 replaces (Some Block) bytes off value is starts ok = record {
@@ -165,7 +165,7 @@ replaces (Some Block) bytes off value is starts ok = record {
 
 -- Of each object
 
-module _ (n : ℕ) (bytes : Bytes) (a : Addr) (value : Value) (is : IsBlock bytes) (object : IsTrue (is_object n (a, value))) where
+module _ (n : Shape) (bytes : Bytes) (a : Addr) (value : Value) (is : IsBlock bytes) (object : IsTrue (is_object n (a, value))) where
   parts : IsTrue (is_valid n a) × IsTrue (is_value_at (kind_of n a.block) value)
   parts = and_parts (is_valid n a) (is_value_at (kind_of n a.block) value) object
 

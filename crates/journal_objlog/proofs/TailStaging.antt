@@ -4,7 +4,7 @@ use Rattle.std.proofs.lemmas.Bool.{or_right, eq-eqb, eqb-true, false≢true, con
 use Rattle.std.proofs.lemmas.List.{append-nil, take-append-drop}
 use Rattle.std.proofs.lemmas.List.Elements.{All-nil}
 use Rattle.journal_world.specs.declared.address.Kind.TheVariants.{Block}
-use Rattle.journal_world.specs.Addresses.{kind_of, is_value_of}
+use Rattle.journal_world.specs.Addresses.{Shape, kind_of, is_value_of}
 use Rattle.journal_world.specs.Maps.{Pair, is_object, are_objects, overwritten}
 use Rattle.journal_world.specs.Orders.{HasAscendingBlocks}
 use Rattle.journal_block.specs.declared.update.Update.{Update}
@@ -16,13 +16,13 @@ use Rattle.journal_wal.specs.Wal.{AreHomes}
 use Rattle.journal_wal.specs.Tails.{TailState, TakesFresh}
 use Rattle.journal_objlog.specs.Maps.{map_of}
 use Rattle.journal_objlog.specs.ObjectLogs.{Base, map_in}
-use Rattle.journal_objlog.specs.ObjectTails.{IsObjectTail, blocks_of, known_updates, tail_base, is_one_object, is_missing, HasBlocks, OverwritesKnown, TakesPrepared, with_tail_room, updates_with}
+use Rattle.journal_objlog.specs.ObjectTails.{blocks_of, known_updates, tail_base, is_one_object, is_missing, HasBlocks, OverwritesKnown, TakesPrepared, with_tail_room, updates_with}
 use Rattle.journal_objlog.specs.Staging.{IsAboveNone, first_update, first_bytes, with_first, IsStaged, IsOpen, StandsWhole, AreInTail}
 use Rattle.journal_objlog.specs.Applying.{fresh_writes}
 use Rattle.journal_objlog.specs.Writes.{writes_block, written_blocks, fresh_among, fresh_blocks, CanPrepare, IsPrepared}
 use Rattle.journal_objlog.proofs.Ascending.{ascending_later, objects_split}
 use Rattle.journal_objlog.proofs.KnownObjects.{overwrites_known}
-use Rattle.journal_objlog.proofs.MapsOfBlocks.{Law, HasObjects-map_of, map_of-is}
+use Rattle.journal_objlog.proofs.MapsOfBlocks.{law_of, HasObjects-map_of, map_of-is}
 use Rattle.journal_objlog.proofs.Missing.{written_there}
 use Rattle.journal_objlog.proofs.InPlace.{fresh_below, fresh_places}
 use Rattle.journal_objlog.proofs.Whole.{IsWhole, whole, tail_shows}
@@ -32,16 +32,9 @@ pub some_first : (us : List Update) (b : ℕ) → first_update us ≡ Some b →
 some_first [] b is = let impossible : ⊥ = cc in absurd impossible
 some_first (u ∷ us) b is = omega arith
 
-module _ (n : ℕ) (t : TailState) (sound : IsObjectTail n t) where
-  pub tail_law : Law (blocks_of t)
-  tail_law = subst Law sound.size sound.law
-
-  pub tail_low : 532 ≤ blocks_of t
-  tail_low = subst (λ (k : ℕ). 532 ≤ k) sound.size sound.low
-
 pub record IsTailStaging (b : Base) (writes left done : List Pair) (updates : List Update) : Type 0 where
   pub split : writes ≡ left ++ done
-  pub objects : IsTrue (are_objects b.size left)
+  pub objects : IsTrue (are_objects b.layout left)
   pub staged : IsStaged b (fresh_writes b.tail done) updates
   pub sizes : StandsWhole b.tail done
 
@@ -53,24 +46,22 @@ module _ (b : Base) (writes left rest done : List Pair) (p : Pair) (updates : Li
   pub tail_below : IsAboveNone p.0.block (fresh_writes b.tail done) × HasAscendingBlocks (fresh_writes b.tail done)
   tail_below = fresh_below b.tail p.0.block done (ascending_later rest p done (subst HasAscendingBlocks split ascending))
 
-  parts : IsTrue (are_objects b.size rest) × IsTrue (is_object b.size p)
-  parts = objects_split b.size rest p (subst (λ (ws : List Pair). IsTrue (are_objects b.size ws)) took staging.objects)
+  parts : IsTrue (are_objects b.layout rest) × IsTrue (is_object b.layout p)
+  parts = objects_split b.layout rest p (subst (λ (ws : List Pair). IsTrue (are_objects b.layout ws)) took staging.objects)
 
-  pub tail_present : (known : List Update) → HasBlocks b.size known writes → is_missing b.size known p.0.block ≡ false
+  pub tail_present : (known : List Update) → HasBlocks b.layout known writes → is_missing b.layout known p.0.block ≡ false
   tail_present known has = has p.0.block (ap (λ (ws : List Pair). writes_block ws p.0.block) split ∙ written_there rest p done)
 
   -- a write in a block that does not stand in the tail is stored
   pub tail_staged_on : updates_block b.tail p.0.block ≡ false → (opened later : List Update) → IsOpen b (fresh_writes b.tail done) p.0 opened
       → later ≡ with_first opened (first_bytes later)
-      → (n : ℕ) → n ≡ b.size → ChangesOnly n (first_bytes opened) (first_bytes later) p.0 p.1
+      → ChangesOnly b.layout (first_bytes opened) (first_bytes later) p.0 p.1
       → IsTailStaging b writes rest (p ∷ done) later
-  tail_staged_on away opened later first is n size changes = record {
+  tail_staged_on away opened later first is changes = record {
     split = split;
     objects = parts.0;
     staged = subst (λ (ws : List Pair). IsStaged b ws later) (sym (cond-false _ (fresh_writes b.tail done) (p ∷ fresh_writes b.tail done) away))
-        (stored b (fresh_writes b.tail done) p.0 p.1 opened later first is
-        (subst (λ (k : ℕ). ChangesOnly k (first_bytes opened) (first_bytes later) p.0 p.1) size changes)
-        parts.1);
+        (stored b (fresh_writes b.tail done) p.0 p.1 opened later first is changes parts.1);
     sizes = λ k named stands. staging.sizes k (by k named stands (p.0.block == k) refl) stands;
   }
     where
@@ -94,72 +85,65 @@ module _ (b : Base) (writes left rest done : List Pair) (p : Pair) (updates : Li
       by k named there false here = staging.sizes k (sym (ap (λ (t : Bool). t || writes_block done k) here) ∙ named) there
 
 -- where nothing is to be stored
-nothing_staged : (b : Base) → Law b.size → IsStaged b [] []
-nothing_staged b law = record {
+nothing_staged : (b : Base) → IsStaged b [] []
+nothing_staged b = record {
   blocks = record {
-    homes = All-nil (λ (u : Update). (513 ≤ u.block) × (u.block < b.size));
+    homes = All-nil (λ (u : Update). (513 ≤ u.block) × (u.block < b.layout.blocks));
     distinct = λ i j d lt inside_list. absurd (omega (arith, inside_list));
     first = refl;
     named = λ k. refl;
     number = refl;
     fresh = refl;
   };
-  objects = HasObjects-map_of b.size law b.content;
+  objects = HasObjects-map_of b.layout (law_of b.layout) b.content;
 }
 
 -- before the first
-pub tail_staging_begins : (n : ℕ) (inside start : TailState) (fetched : List Update) (writes left : List Pair) (updates : List Update)
-    → IsObjectTail n inside → inside ≡ start → left ≡ writes → updates ≡ [] → IsTrue (are_objects (blocks_of start) writes)
-    → IsTailStaging (tail_base fetched start) writes left [] updates
-tail_staging_begins n inside start fetched writes left updates sound is whole empty objects = record {
+pub tail_staging_begins : (n : Shape) (start : TailState) (fetched : List Update) (writes left : List Pair) (updates : List Update)
+    → left ≡ writes → updates ≡ [] → IsTrue (are_objects n writes) → IsTailStaging (tail_base n fetched start) writes left [] updates
+tail_staging_begins n start fetched writes left updates whole empty objects = record {
   split = sym whole ∙ sym (append-nil left);
-  objects = subst (λ (ws : List Pair). IsTrue (are_objects (blocks_of start) ws)) (sym whole) objects;
-  staged = subst (λ (us : List Update). IsStaged (tail_base fetched start) [] us) (sym empty)
-      (nothing_staged (tail_base fetched start) (subst (λ (t : TailState). Law (blocks_of t)) is (tail_law n inside sound)));
+  objects = subst (λ (ws : List Pair). IsTrue (are_objects n ws)) (sym whole) objects;
+  staged = subst (λ (us : List Update). IsStaged (tail_base n fetched start) [] us) (sym empty) (nothing_staged (tail_base n fetched start));
   sizes = λ b named stands. absurd (false≢true named);
 }
 
-module _ (mid old new : TailState) (fetched : List Update) (writes : List Pair) (fresh : List Update) (n : ℕ) (sound : IsObjectTail n mid) (was : mid ≡ old)
-    (staged : IsStaged (tail_base fetched old) (fresh_writes (tail_of old.log) writes) fresh) (sizes : StandsWhole (tail_of old.log) writes)
-    (objects : IsTrue (are_objects (blocks_of old) writes)) (is : new ≡ with_tail_room mid new.log.room) where
+module _ (n : Shape) (old new : TailState) (fetched : List Update) (writes : List Pair) (fresh : List Update) (size : n.blocks ≡ blocks_of old)
+    (staged : IsStaged (tail_base n fetched old) (fresh_writes (tail_of old.log) writes) fresh) (sizes : StandsWhole (tail_of old.log) writes)
+    (objects : IsTrue (are_objects n writes)) (is : new ≡ with_tail_room old new.log.room) where
   abbrev b : Base
-  b = tail_base fetched old
+  b = tail_base n fetched old
 
-  same : IsObjectTail n old
-  same = subst (λ (t : TailState). IsObjectTail n t) was sound
-
-  other_room : new ≡ with_tail_room old new.log.room
-  other_room = subst (λ (t : TailState). new ≡ with_tail_room t new.log.room) was is
-
-  all_of : IsWhole b writes (updates_with old writes fresh)
-  all_of = whole b writes fresh (tail_law n old same) (tail_low n old same) (tail_shows fetched old) objects staged sizes
+  all_of : IsWhole b writes (updates_with n old writes fresh)
+  all_of = whole b writes fresh (tail_shows n fetched old) objects staged sizes
 
   -- what is staged, and has room, is ready
-  pub tail_ready : (places : ℕ) → places ≡ fresh_blocks b writes → TakesFresh new.log places → TakesPrepared new writes fresh
+  pub tail_ready : (places : ℕ) → places ≡ fresh_blocks b writes → TakesFresh new.log places → TakesPrepared n new writes fresh
   tail_ready places number takes = record {
-    objects = subst (λ (t : TailState). IsTrue (are_objects (blocks_of t) writes)) (sym other_room) objects;
+    objects = objects;
     homes = homes;
-    room = takes (updates_with new writes fresh) homes
-        (ap (λ (t : TailState). fresh_count (tail_of t.log) (updates_with t writes fresh)) other_room ∙ all_of.fresh ∙ sym number);
+    room = takes (updates_with n new writes fresh) homes
+        (ap (λ (t : TailState). fresh_count (tail_of t.log) (updates_with n t writes fresh)) is ∙ all_of.fresh ∙ sym number);
   }
     where
-      homes : AreHomes (blocks_of new) (updates_with new writes fresh)
-      homes = subst (λ (t : TailState). AreHomes (blocks_of t) (updates_with t writes fresh)) (sym other_room) all_of.homes
+      homes : AreHomes (blocks_of new) (updates_with n new writes fresh)
+      homes = subst (λ (t : TailState). AreHomes (blocks_of t) (updates_with n t writes fresh)) (sym is)
+          (subst (λ (k : ℕ). AreHomes k (updates_with n old writes fresh)) size all_of.homes)
 
   -- and overwrites what memory knows
-  pub tail_overwrites : HasBlocks (blocks_of old) (known_updates fetched old) writes
-      → OverwritesKnown (blocks_of new) (known_updates fetched new) (updates_with new writes fresh) writes
+  pub tail_overwrites : HasBlocks n (known_updates fetched old) writes
+      → OverwritesKnown n (known_updates fetched new) (updates_with n new writes fresh) writes
   tail_overwrites present =
-      subst (λ (t : TailState). OverwritesKnown (blocks_of t) (known_updates fetched t) (updates_with t writes fresh) writes) (sym other_room)
-      (overwrites_known (blocks_of old) (tail_law n old same) (known_updates fetched old) (updates_with old writes fresh) writes
+      subst (λ (t : TailState). OverwritesKnown n (known_updates fetched t) (updates_with n t writes fresh) writes) (sym is)
+      (overwrites_known n (law_of n) (known_updates fetched old) (updates_with n old writes fresh) writes
       all_of.objects all_of.named objects present)
 
   -- and prepared
-  pub tail_prepared : IsPrepared true (tail_base fetched new) (updates_with new writes fresh) writes
+  pub tail_prepared : IsPrepared true (tail_base n fetched new) (updates_with n new writes fresh) writes
   unfolding map_of
   tail_prepared =
-      subst (λ (t : TailState). IsPrepared true (tail_base fetched t) (updates_with t writes fresh) writes) (sym other_room) (record {
-        map = λ honest. map_of-is (blocks_of old) (tail_law n old same) (tail_low n old same) (with_updates b.content (updates_with old writes fresh))
+      subst (λ (t : TailState). IsPrepared true (tail_base n fetched t) (updates_with n t writes fresh) writes) (sym is) (record {
+        map = λ honest. map_of-is n (law_of n) (with_updates b.content (updates_with n old writes fresh))
             (overwritten (map_in b) writes) refl all_of.objects;
         named = all_of.named;
         number = all_of.number;
@@ -181,15 +165,15 @@ written_le (p ∷ ws) = by (writes_block ws p.0.block) (written_le ws)
     by true rest = omega (arith, rest)
     by false rest = omega (arith, rest)
 
-module _ (t : TailState) (fetched : List Update) (writes : List Pair) (in_tail : AreInTail (blocks_of t) (tail_of t.log) writes) where
-  no_places : fresh_blocks (tail_base fetched t) writes ≡ 0
+module _ (n : Shape) (t : TailState) (fetched : List Update) (writes : List Pair) (in_tail : AreInTail n (tail_of t.log) writes) where
+  no_places : fresh_blocks (tail_base n fetched t) writes ≡ 0
   no_places = sym (fresh_places (tail_of t.log) writes) ∙ ap (fresh_among (tail_of t.log)) (fresh_none (tail_of t.log) writes in_tail.stand)
 
-  pub stand_places : 0 ≡ fresh_blocks (tail_base fetched t) writes
+  pub stand_places : 0 ≡ fresh_blocks (tail_base n fetched t) writes
   stand_places = sym no_places
 
   -- they can be prepared
-  pub stand_can : IsMemLog t.log → length (tail_of t.log) ≤ 255 → CanPrepare (tail_base fetched t) writes
+  pub stand_can : IsMemLog t.log → length (tail_of t.log) ≤ 255 → CanPrepare (tail_base n fetched t) writes
   stand_can sound few = record {
     objects = in_tail.objects;
     few = omega (arith, in_tail.few, written_le writes);
@@ -198,15 +182,15 @@ module _ (t : TailState) (fetched : List Update) (writes : List Pair) (in_tail :
   }
 
   -- with nothing staged
-  pub stand_staged : (n : ℕ) (updates : List Update) → updates ≡ [] → IsObjectTail n t → IsStaged (tail_base fetched t) (fresh_writes (tail_of t.log) writes) updates
-  stand_staged n updates empty sound = subst (λ (us : List Update). IsStaged (tail_base fetched t) (fresh_writes (tail_of t.log) writes) us) (sym empty)
-      (subst (λ (ws : List Pair). IsStaged (tail_base fetched t) ws []) (sym (fresh_none (tail_of t.log) writes in_tail.stand))
-      (nothing_staged (tail_base fetched t) (tail_law n t sound)))
+  pub stand_staged : (updates : List Update) → updates ≡ [] → IsStaged (tail_base n fetched t) (fresh_writes (tail_of t.log) writes) updates
+  stand_staged updates empty = subst (λ (us : List Update). IsStaged (tail_base n fetched t) (fresh_writes (tail_of t.log) writes) us) (sym empty)
+      (subst (λ (ws : List Pair). IsStaged (tail_base n fetched t) ws []) (sym (fresh_none (tail_of t.log) writes in_tail.stand))
+      (nothing_staged (tail_base n fetched t)))
 
   -- and no block is missing
-  pub stand_present : HasBlocks (blocks_of t) (known_updates fetched t) writes
+  pub stand_present : HasBlocks n (known_updates fetched t) writes
   stand_present b named =
-      ap (λ (v : Bool). not (is_one_object (kind_of (blocks_of t) b)) && not v) known ∙ nothing (not (is_one_object (kind_of (blocks_of t) b)))
+      ap (λ (v : Bool). not (is_one_object (kind_of n b)) && not v) known ∙ nothing (not (is_one_object (kind_of n b)))
     where
       nothing : (v : Bool) → (v && false) ≡ false
       nothing true = refl

@@ -4,7 +4,7 @@ use Rattle.std.proofs.lemmas.Bool.{eq-eqb, eqb-true, ne_eqb, false≢true, cond-
 use Rattle.std.proofs.lemmas.List.{take-append-drop}
 use Rattle.std.proofs.lemmas.List.Elements.{All-append}
 use Rattle.journal_world.specs.declared.address.Addr.{Addr}
-use Rattle.journal_world.specs.Addresses.{Value, kind_of, is_valid, is_same}
+use Rattle.journal_world.specs.Addresses.{Value, Shape, kind_of, is_valid, is_same}
 use Rattle.journal_world.specs.Maps.{Pair, Map, value_at, zeros_at, is_value_at, is_object, are_objects, overwritten}
 use Rattle.journal_world.proofs.Lookups.{same_addr}
 use Rattle.journal_block.specs.declared.update.Update.{Update}
@@ -22,7 +22,7 @@ use Rattle.journal_objlog.specs.ObjectTails.{tail_base}
 use Rattle.journal_objlog.specs.Writes.{writes_block, written_blocks, fresh_among}
 use Rattle.journal_objlog.specs.Staging.{IsStaged, StandsWhole}
 use Rattle.journal_objlog.specs.Applying.{stored_in, fresh_writes, standing_updates}
-use Rattle.journal_objlog.proofs.MapsOfBlocks.{Law, HasObjects-map_of}
+use Rattle.journal_objlog.proofs.MapsOfBlocks.{law_of, HasObjects-map_of}
 use Rattle.journal_objlog.proofs.Stored.{value_at-first}
 use Rattle.journal_objlog.proofs.Storing.{IsBlock, is_block, stores_only, stores_block}
 use Rattle.journal_objlog.proofs.InPlace.{fresh_standing, fresh_other, fresh_places, made_named, made_updated, made_number, made_standing, made_homes, standing_fresh}
@@ -41,7 +41,7 @@ module _ (m : Map) (a : Addr) where
       by : (here : Bool) → (p.0.block == a.block) ≡ here → (here || writes_block ws a.block) ≡ false
           → (writes_block ws a.block ≡ false → value_at (overwritten m ws) a ≡ value_at m a) → value_at (overwritten m (p ∷ ws)) a ≡ value_at m a
       by true here is rest = absurd (false≢true (sym is))
-      by false here is rest = value_at-first m.blocks p (ws ++ m.pairs) a
+      by false here is rest = value_at-first m.layout p (ws ++ m.pairs) a
           ∙ cond-false _ p.1 (value_at (overwritten m ws) a) (other_addr a p (λ same. false≢true (sym here ∙ eq-eqb p.0.block a.block same)))
           ∙ rest is
 
@@ -54,14 +54,14 @@ module _ (m : Map) (a : Addr) where
       by : (t : Bool) → updates_block tail p.0.block ≡ t → value_at (overwritten m (fresh_writes tail ws)) a ≡ value_at (overwritten m ws) a
           → value_at (overwritten m (cond t (fresh_writes tail ws) (p ∷ fresh_writes tail ws))) a ≡ value_at (overwritten m (p ∷ ws)) a
       by true is rest = rest
-          ∙ sym (value_at-first m.blocks p (ws ++ m.pairs) a
+          ∙ sym (value_at-first m.layout p (ws ++ m.pairs) a
           ∙ cond-false _ p.1 (value_at (overwritten m ws) a) (other_addr a p (λ same. false≢true (sym other ∙ ap (updates_block tail) (sym same) ∙ is))))
-      by false is rest = value_at-first m.blocks p (fresh_writes tail ws ++ m.pairs) a
+      by false is rest = value_at-first m.layout p (fresh_writes tail ws ++ m.pairs) a
           ∙ ap (cond (is_same a p.0) p.1) rest
-          ∙ sym (value_at-first m.blocks p (ws ++ m.pairs) a)
+          ∙ sym (value_at-first m.layout p (ws ++ m.pairs) a)
 
   -- of any block of 4096 bytes: what it holds there once they are stored
-  module _ (n : ℕ) (valid : IsTrue (is_valid n a)) (bytes : Bytes) (had : value_at m a ≡ object_or_zeros n bytes a) where
+  module _ (n : Shape) (valid : IsTrue (is_valid n a)) (bytes : Bytes) (had : value_at m a ≡ object_or_zeros n bytes a) where
     pub record Has (ws : List Pair) (now : Bytes) : Type 0 where
       pub block : IsBlock now
       pub value : value_at (overwritten m ws) a ≡ object_or_zeros n now a
@@ -93,7 +93,7 @@ module _ (m : Map) (a : Addr) where
       more : Has (p ∷ ws) new
       more = record {
         block = stores_block n now p.0 p.1 has.block object;
-        value = value_at-first m.blocks p (ws ++ m.pairs) a ∙ by (is_same a p.0) refl;
+        value = value_at-first m.layout p (ws ++ m.pairs) a ∙ by (is_same a p.0) refl;
       }
 
     pub value_stored : (ws : List Pair) → IsTrue (are_objects n ws) → IsBlock bytes → Has ws (stored_in n ws a.block bytes)
@@ -108,7 +108,7 @@ module _ (m : Map) (a : Addr) where
         by_block true here rest = more p ws (stored_in n ws a.block bytes) rest (eqb-true p.0.block a.block here) parts.0
         by_block false here rest = record {
           block = rest.block;
-          value = value_at-first m.blocks p (ws ++ m.pairs) a
+          value = value_at-first m.layout p (ws ++ m.pairs) a
               ∙ cond-false _ p.1 (value_at (overwritten m ws) a) (other_addr a p (λ same. false≢true (sym here ∙ eq-eqb p.0.block a.block same)))
               ∙ rest.value;
         }
@@ -117,7 +117,7 @@ module _ (m : Map) (a : Addr) where
 
 -- There is one of each written block, with the writes stored
 pub record IsWhole (b : Base) (writes : List Pair) (updates : List Update) : Type 0 where
-  pub homes : AreHomes b.size updates
+  pub homes : AreHomes b.layout.blocks updates
   pub named : (k : ℕ) → updates_block updates k ≡ writes_block writes k
   pub number : length updates ≡ written_blocks writes
   pub fresh : fresh_count b.tail updates ≡ fresh_among b.tail writes
@@ -127,13 +127,13 @@ pub record IsWhole (b : Base) (writes : List Pair) (updates : List Update) : Typ
 abbrev pub ShowsTail : Base → Type 0
 ShowsTail b = (k : ℕ) → updates_block b.tail k ≡ true → b.content k ≡ updated b.tail k []
 
-module _ (b : Base) (ws : List Pair) (fresh : List Update) (law : Law b.size) (low : 532 ≤ b.size) (shows : ShowsTail b)
-    (objects : IsTrue (are_objects b.size ws)) (staged : IsStaged b (fresh_writes b.tail ws) fresh) (sizes : StandsWhole b.tail ws) where
+module _ (b : Base) (ws : List Pair) (fresh : List Update) (shows : ShowsTail b)
+    (objects : IsTrue (are_objects b.layout ws)) (staged : IsStaged b (fresh_writes b.tail ws) fresh) (sizes : StandsWhole b.tail ws) where
   abbrev f : ℕ → Bytes
-  f k = stored_in b.size ws k (updated b.tail k [])
+  f k = stored_in b.layout ws k (updated b.tail k [])
 
   abbrev S : List Update
-  S = standing_updates b.size b.tail ws
+  S = standing_updates b.layout b.tail ws
 
   abbrev all : List Update
   all = S ++ fresh
@@ -166,32 +166,32 @@ module _ (b : Base) (ws : List Pair) (fresh : List Update) (law : Law b.size) (l
   content_is k = updated-append S fresh k (b.content k) ∙ ap (updated fresh k) (made_updated b.tail f ws k (b.content k))
 
   -- a block that stands in the tail has the writes stored
-  standing : (a : Addr) → IsTrue (is_valid b.size a) → updates_block b.tail a.block ≡ true
-      → value_at (overwritten m ws) a ≡ object_or_zeros b.size (with_updates b.content all a.block) a
+  standing : (a : Addr) → IsTrue (is_valid b.layout a) → updates_block b.tail a.block ≡ true
+      → value_at (overwritten m ws) a ≡ object_or_zeros b.layout (with_updates b.content all a.block) a
   unfolding map_of
   standing a valid stands = by (writes_block ws a.block) refl
-      ∙ ap (λ (bytes : Bytes). object_or_zeros b.size bytes a)
+      ∙ ap (λ (bytes : Bytes). object_or_zeros b.layout bytes a)
       (sym (content_is a.block
       ∙ ap (λ (t : Bool). updated fresh a.block (cond (writes_block ws a.block && t) (f a.block) (b.content a.block))) stands
       ∙ updated-unnamed fresh a.block _ (fresh_named a.block ∙ fresh_standing b.tail ws a.block stands)))
     where
-      had : value_at m a ≡ object_or_zeros b.size (b.content a.block) a
-      had = (HasObjects-map_of b.size law b.content).values a valid
+      had : value_at m a ≡ object_or_zeros b.layout (b.content a.block) a
+      had = (HasObjects-map_of b.layout (law_of b.layout) b.content).values a valid
 
       by : (w : Bool) → writes_block ws a.block ≡ w
-          → value_at (overwritten m ws) a ≡ object_or_zeros b.size (cond (w && true) (f a.block) (b.content a.block)) a
-      by true is = (value_stored m a b.size valid (updated b.tail a.block [])
-          (had ∙ ap (λ (bytes : Bytes). object_or_zeros b.size bytes a) (shows a.block stands)) ws objects
+          → value_at (overwritten m ws) a ≡ object_or_zeros b.layout (cond (w && true) (f a.block) (b.content a.block)) a
+      by true is = (value_stored m a b.layout valid (updated b.tail a.block [])
+          (had ∙ ap (λ (bytes : Bytes). object_or_zeros b.layout bytes a) (shows a.block stands)) ws objects
           (is_block (updated b.tail a.block []) (sizes a.block is stands))).value
       by false is = value_unwritten m a ws is ∙ had
 
   -- another block has those that are staged
-  other : (a : Addr) → IsTrue (is_valid b.size a) → updates_block b.tail a.block ≡ false
-      → value_at (overwritten m ws) a ≡ object_or_zeros b.size (with_updates b.content all a.block) a
+  other : (a : Addr) → IsTrue (is_valid b.layout a) → updates_block b.tail a.block ≡ false
+      → value_at (overwritten m ws) a ≡ object_or_zeros b.layout (with_updates b.content all a.block) a
   unfolding map_of
   other a valid away = sym (value_fresh m a b.tail ws away)
       ∙ staged.objects.values a valid
-      ∙ ap (λ (bytes : Bytes). object_or_zeros b.size bytes a)
+      ∙ ap (λ (bytes : Bytes). object_or_zeros b.layout bytes a)
       (sym (content_is a.block ∙ ap (updated fresh a.block) (none (writes_block ws a.block) (updates_block b.tail a.block) away)))
     where
       none : (w t : Bool) → t ≡ false → cond (w && t) (f a.block) (b.content a.block) ≡ b.content a.block
@@ -202,21 +202,21 @@ module _ (b : Base) (ws : List Pair) (fresh : List Update) (law : Law b.size) (l
   pub whole : IsWhole b ws all
   unfolding map_of
   whole = record {
-    homes = All-append (λ (u : Update). (513 ≤ u.block) × (u.block < b.size)) S fresh (made_homes b.tail f b.size ws low objects) staged.blocks.homes;
+    homes = All-append (λ (u : Update). (513 ≤ u.block) × (u.block < b.layout.blocks)) S fresh (made_homes b.tail f b.layout ws objects) staged.blocks.homes;
     named = named;
     number = omega (arith, length-append S fresh, staged.blocks.number, made_number b.tail f ws);
     fresh = standing_fresh b.tail S fresh (made_standing b.tail f ws) ∙ staged.blocks.fresh ∙ fresh_places b.tail ws;
     objects = record { values = λ a valid. by a valid (updates_block b.tail a.block) refl };
   }
     where
-      by : (a : Addr) → IsTrue (is_valid b.size a) → (t : Bool) → updates_block b.tail a.block ≡ t
-          → value_at (overwritten m ws) a ≡ object_or_zeros b.size (with_updates b.content all a.block) a
+      by : (a : Addr) → IsTrue (is_valid b.layout a) → (t : Bool) → updates_block b.tail a.block ≡ t
+          → value_at (overwritten m ws) a ≡ object_or_zeros b.layout (with_updates b.content all a.block) a
       by a valid true is = standing a valid is
       by a valid false is = other a valid is
 
 -- what memory knows of a block that stands in the tail is what the tail has
-pub tail_shows : (fetched : List Update) (t : TailState) → ShowsTail (tail_base fetched t)
-tail_shows fetched t k stands =
+pub tail_shows : (n : Shape) (fetched : List Update) (t : TailState) → ShowsTail (tail_base n fetched t)
+tail_shows n fetched t k stands =
     updated-append fetched (t.cache ++ t.log.updates) k []
     ∙ updated-append t.cache t.log.updates k (updated fetched k [])
     ∙ ap (λ (us : List Update). updated us k (updated t.cache k (updated fetched k []))) (sym (take-append-drop (t.log.cut - t.log.start) t.log.updates))

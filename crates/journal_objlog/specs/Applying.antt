@@ -1,5 +1,6 @@
 -- What applying writes makes of a tail: the blocks that stand in it are overwritten there, and the others are appended.
 use Rattle.std.specs.Prelude.{ℕ, ◌==◌, ◌&&◌, not, if◌then◌else◌, List, [], ◌∷◌, ◌++◌, map}
+use Rattle.journal_world.specs.Addresses.{Shape}
 use Rattle.journal_world.specs.Maps.{Pair}
 use Rattle.journal_block.specs.declared.update.Update.{Update}
 use Rattle.journal_block.specs.Block.{Bytes}
@@ -8,19 +9,19 @@ use Rattle.journal_memlog.specs.Logs.{LogState, head_of, tail_of}
 use Rattle.journal_object.specs.Objects.{with_object_at}
 use Rattle.journal_objlog.specs.Writes.{writes_block}
 
--- On a disk of n blocks: what block b holds once the writes that are in it are stored. Of two of one address the first stands
-abbrev pub stored_in : ℕ → List Pair → ℕ → Bytes → Bytes
-stored_in n [] b bytes = bytes
-stored_in n (p ∷ later) b bytes =
-    if p.0.block == b then with_object_at n (stored_in n later b bytes) p.0 p.1 else stored_in n later b bytes
+-- On a disk of a layout: what block b holds once the writes that are in it are stored. Of two of one address the first stands
+abbrev pub stored_in : Shape → List Pair → ℕ → Bytes → Bytes
+stored_in layout [] b bytes = bytes
+stored_in layout (p ∷ later) b bytes =
+    if p.0.block == b then with_object_at layout (stored_in layout later b bytes) p.0 p.1 else stored_in layout later b bytes
 
 -- an update with the writes stored in its block
-abbrev pub stored_update : ℕ → List Pair → Update → Update
-stored_update n writes u = record u { bytes = stored_in n writes u.block u.bytes }
+abbrev pub stored_update : Shape → List Pair → Update → Update
+stored_update layout writes u = record u { bytes = stored_in layout writes u.block u.bytes }
 
 -- the log with the writes stored in the blocks of its tail
-abbrev pub stored_log : ℕ → List Pair → LogState → LogState
-stored_log n writes log = record log { updates = head_of log ++ map (stored_update n writes) (tail_of log) }
+abbrev pub stored_log : Shape → List Pair → LogState → LogState
+stored_log layout writes log = record log { updates = head_of log ++ map (stored_update layout writes) (tail_of log) }
 
 -- the writes in blocks that do not stand in the tail
 abbrev pub fresh_writes : List Update → List Pair → List Pair
@@ -36,13 +37,13 @@ standing_blocks tail (p ∷ later) =
     else standing_blocks tail later
 
 -- an update of a block of the tail: what the tail has of it, with the writes stored
-abbrev pub standing_update : ℕ → List Update → List Pair → ℕ → Update
-standing_update n tail writes b = record { block = b; bytes = stored_in n writes b (updated tail b []) }
+abbrev pub standing_update : Shape → List Update → List Pair → ℕ → Update
+standing_update layout tail writes b = record { block = b; bytes = stored_in layout writes b (updated tail b []) }
 
 -- one of each of these blocks
-abbrev pub standing_updates : ℕ → List Update → List Pair → List Update
-standing_updates n tail writes = map (standing_update n tail writes) (standing_blocks tail writes)
+abbrev pub standing_updates : Shape → List Update → List Pair → List Update
+standing_updates layout tail writes = map (standing_update layout tail writes) (standing_blocks tail writes)
 
 -- one update of each written block: those of the blocks that stand in the tail, and these of the others
-abbrev pub all_updates : ℕ → LogState → List Pair → List Update → List Update
-all_updates n log writes fresh = standing_updates n (tail_of log) writes ++ fresh
+abbrev pub all_updates : Shape → LogState → List Pair → List Update → List Update
+all_updates layout log writes fresh = standing_updates layout (tail_of log) writes ++ fresh

@@ -5,10 +5,10 @@ use Rattle.journal_block.specs.declared.update.Update.{Update}
 use Rattle.journal_block.specs.Updates.{with_updates}
 use Rattle.journal_wal.specs.Wal.{WalState, size_of, blocks_now}
 use Rattle.journal_objlog.specs.Maps.{map_of}
-use Rattle.journal_objlog.specs.ObjectLogs.{map_now, map_cut, map_logged}
+use Rattle.journal_objlog.specs.ObjectLogs.{EachLayout, map_now, map_cut, map_logged}
 
 -- The map at the cut, which is the map now, is the map with the group's blocks. What is logged stays
 pub record TakesMap (old : WalState) (group : List Update) (new : WalState) : Type 0 where
-  pub now : SameMap (map_now new) (map_of (size_of old) (with_updates (blocks_now old) group))
-  pub cut : SameMap (map_cut new) (map_of (size_of old) (with_updates (blocks_now old) group))
-  pub logged : SameMap (map_logged new) (map_logged old)
+  pub now : EachLayout (size_of old) (λ layout. SameMap (map_now layout new) (map_of layout (with_updates (blocks_now old) group)))
+  pub cut : EachLayout (size_of old) (λ layout. SameMap (map_cut layout new) (map_of layout (with_updates (blocks_now old) group)))
+  pub logged : EachLayout (size_of old) (λ layout. SameMap (map_logged layout new) (map_logged layout old))

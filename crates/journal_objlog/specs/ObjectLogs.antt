@@ -2,6 +2,7 @@
 use Rattle.std.specs.Prelude.{ℕ, ◌≡◌, ◌⊎◌, Bool, true, false, IsTrue, List}
 use Rattle.journal_world.specs.declared.refusal.Refusal.{Refusal}
 use Rattle.journal_world.specs.declared.refusal.Refusal.TheVariants.{DeviceFailed}
+use Rattle.journal_world.specs.Addresses.{Shape}
 use Rattle.journal_world.specs.Maps.{Map, SameMap}
 use Rattle.journal_block.specs.declared.update.Update.{Update}
 use Rattle.journal_block.specs.Block.{Bytes}
@@ -33,45 +34,50 @@ end_of w = w.log.logged
 abbrev pub IsCutLogged : WalState → Type 0
 IsCutLogged w = w.log.logged ≡ w.log.cut
 
--- the map with all overwrites
-abbrev pub map_now : WalState → Map
-map_now w = map_of (size_of w) (blocks_now w)
+-- What holds for each layout of a disk of so many blocks. A log has blocks, and knows no layout: what it says of maps it
+-- says for each by which its blocks may be read
+abbrev pub EachLayout : ℕ → (Shape → Type 0) → Type 0
+EachLayout blocks holds = (layout : Shape) → layout.blocks ≡ blocks → holds layout
+
+-- by a layout, the map with all overwrites
+abbrev pub map_now : Shape → WalState → Map
+map_now layout w = map_of layout (blocks_now w)
 
 -- the map at the last cut
-abbrev pub map_cut : WalState → Map
-map_cut w = map_of (size_of w) (blocks_cut w)
+abbrev pub map_cut : Shape → WalState → Map
+map_cut layout w = map_of layout (blocks_cut w)
 
 -- the map at the cut of the last group whose cycle ended
-abbrev pub map_logged : WalState → Map
-map_logged w = map_of (size_of w) (blocks_logged w)
+abbrev pub map_logged : Shape → WalState → Map
+map_logged layout w = map_of layout (blocks_logged w)
 
--- What overwrites look at: how many blocks there are, what they hold with all updates, the tail, and the position after it
+-- What overwrites look at: the layout, what the blocks hold with all updates, the tail, and the position after it
 pub record Base : Type 0 where
-  pub size : ℕ
+  pub layout : Shape
   pub content : Content
   pub tail : List Update
   pub next : ℕ
 
 -- the map that its blocks make
 abbrev pub map_in : Base → Map
-map_in b = map_of b.size b.content
+map_in b = map_of b.layout b.content
 
 -- What a crash may leave opens as the map of the last group whose cycle ended, or as that of the last cut
-abbrev pub MayOpenAs : WalState → List Bytes → Type 0
-MayOpenAs w image = OpensAs (map_logged w) image ⊎ OpensAs (map_cut w) image
+abbrev pub MayOpenAs : Shape → WalState → List Bytes → Type 0
+MayOpenAs layout w image = OpensAs (map_logged layout w) image ⊎ OpensAs (map_cut layout w) image
 
 -- The map now, and the two that a crash may leave, are as before
 pub record KeepsMaps (old new : WalState) : Type 0 where
-  pub now : SameMap (map_now new) (map_now old)
-  pub cut : SameMap (map_cut new) (map_cut old)
-  pub logged : SameMap (map_logged new) (map_logged old)
+  pub now : EachLayout (size_of old) (λ layout. SameMap (map_now layout new) (map_now layout old))
+  pub cut : EachLayout (size_of old) (λ layout. SameMap (map_cut layout new) (map_cut layout old))
+  pub logged : EachLayout (size_of old) (λ layout. SameMap (map_logged layout new) (map_logged layout old))
 
 -- What each call says of the disk: at every moment of it an image opens as one of the two maps that a crash might have
 -- left before, and at its end as one of those that it may leave now
 pub record Crashes (old new : WalState) : Type 0 where
   pub keeps : Keeps (disk_of old) (disk_of new)
-  pub moments : IsTrue (disk_of old).honest → LeavesOnly (disk_of old).past (disk_of new).past (MayOpenAs old)
-  pub images : IsTrue (disk_of new).honest → EveryImage (disk_of new).past (MayOpenAs new)
+  pub moments : IsTrue (disk_of old).honest → EachLayout (size_of old) (λ layout. LeavesOnly (disk_of old).past (disk_of new).past (MayOpenAs layout old))
+  pub images : IsTrue (disk_of new).honest → EachLayout (size_of new) (λ layout. EveryImage (disk_of new).past (MayOpenAs layout new))
 
 -- The disk was read, with or without a fault, and there may be other room in memory: all else is as before, and it is
 -- faulted only where it was or the device failed
@@ -93,15 +99,15 @@ IsLeft new other = is_faulted new ≡ false
 
 -- The tail was cut: what a crash may leave from now on is the map now
 pub record CutsMap (old new : WalState) : Type 0 where
-  pub now : SameMap (map_now new) (map_now old)
-  pub cut : SameMap (map_cut new) (map_now old)
-  pub logged : SameMap (map_logged new) (map_logged old)
+  pub now : EachLayout (size_of old) (λ layout. SameMap (map_now layout new) (map_now layout old))
+  pub cut : EachLayout (size_of old) (λ layout. SameMap (map_cut layout new) (map_now layout old))
+  pub logged : EachLayout (size_of old) (λ layout. SameMap (map_logged layout new) (map_logged layout old))
 
 -- The cycle of the group in flight ended: only the map at its cut is left by a crash
 pub record EndsMap (old new : WalState) : Type 0 where
-  pub now : SameMap (map_now new) (map_now old)
-  pub cut : SameMap (map_cut new) (map_cut old)
-  pub logged : SameMap (map_logged new) (map_cut old)
+  pub now : EachLayout (size_of old) (λ layout. SameMap (map_now layout new) (map_now layout old))
+  pub cut : EachLayout (size_of old) (λ layout. SameMap (map_cut layout new) (map_cut layout old))
+  pub logged : EachLayout (size_of old) (λ layout. SameMap (map_logged layout new) (map_cut layout old))
 
 -- what a step of the logger makes of the maps
 abbrev pub LogsMaps : WalState → GroupStep → WalState → Type 0

@@ -1,17 +1,15 @@
 -- What contracts see of an object tail: what memory knows of a block and of an address, from its updates and what was fetched.
-use Rattle.std.specs.Prelude.{ℕ, ◌≡◌, ◌≤◌, ◌⊎◌, Bool, true, false, not, ◌&&◌, IsTrue, if◌then◌else◌, List, [], ◌∷◌, ◌++◌, Option, Some, None}
+use Rattle.std.specs.Prelude.{ℕ, ◌≡◌, ◌⊎◌, Bool, true, false, not, ◌&&◌, IsTrue, if◌then◌else◌, List, [], ◌∷◌, ◌++◌, Option, Some, None}
 use Rattle.journal_world.specs.declared.address.Addr.{Addr}
-use Rattle.journal_world.specs.declared.layout.TheConstants.{MIN_BLOCKS}
 use Rattle.journal_world.specs.declared.address.Kind.{Kind}
 use Rattle.journal_world.specs.declared.address.Kind.TheVariants.{Block}
 use Rattle.journal_world.specs.declared.refusal.Refusal.{Refusal}
 use Rattle.journal_world.specs.declared.refusal.Refusal.TheVariants.{NoMemory}
-use Rattle.journal_world.specs.Addresses.{Value, kind_of, is_valid, is_same}
+use Rattle.journal_world.specs.Addresses.{Value, Shape, kind_of, is_valid, is_same}
 use Rattle.journal_world.specs.Maps.{Pair, are_objects}
 use Rattle.journal_block.specs.declared.update.Update.{Update}
-use Rattle.journal_block.specs.Updates.{Content, updated, with_updates, updates_block}
+use Rattle.journal_block.specs.Updates.{updated, with_updates, updates_block}
 use Rattle.journal_memlog.specs.Logs.{next_position, tail_of}
-use Rattle.journal_object.specs.Objects.{IsMapOf, map_of_blocks}
 use Rattle.journal_wal.specs.Wal.{AreHomes}
 use Rattle.journal_wal.specs.Tails.{TailState, TakesUpdates, known_blocks}
 use Rattle.journal_objlog.specs.Maps.{object_or_zeros}
@@ -30,26 +28,19 @@ blocks_of t = t.log.blocks
 abbrev pub known_updates : List Update → TailState → List Update
 known_updates fetched t = fetched ++ known_blocks t
 
--- On a disk of n blocks: the object that the last update of its block has at the address, or nothing where no update is of it
-abbrev pub known_object : ℕ → List Update → Addr → Option Value
-known_object n updates a =
-    if updates_block updates a.block then Some (object_or_zeros n (updated updates a.block []) a) else None
+-- On a disk of a layout: the object that the last update of its block has at the address, or nothing where no update is of it
+abbrev pub known_object : Shape → List Update → Addr → Option Value
+known_object layout updates a =
+    if updates_block updates a.block then Some (object_or_zeros layout (updated updates a.block []) a) else None
 
 -- what memory knows of an address, with these blocks fetched
-abbrev pub known_at : List Update → TailState → Addr → Option Value
-known_at fetched t a = known_object (blocks_of t) (known_updates fetched t) a
-
--- What holds of every object tail: the layout is the disk's
-pub record IsObjectTail (blocks : ℕ) (t : TailState) : Type 0 where
-  pub size : blocks ≡ blocks_of t
-  pub low : MIN_BLOCKS ≤ blocks
-  -- the law of the map that blocks make, at this size
-  pub law : (content : Content) → IsMapOf content (map_of_blocks blocks content)
+abbrev pub known_at : Shape → List Update → TailState → Addr → Option Value
+known_at layout fetched t a = known_object layout (known_updates fetched t) a
 
 -- What overwriting looks at, with these blocks fetched. A block that memory does not know has no bytes
-abbrev pub tail_base : List Update → TailState → Base
-tail_base fetched t = record {
-  size = blocks_of t;
+abbrev pub tail_base : Shape → List Update → TailState → Base
+tail_base layout fetched t = record {
+  layout = layout;
   content = with_updates (λ b. []) (known_updates fetched t);
   tail = tail_of t.log;
   next = next_position t.log;
@@ -61,19 +52,19 @@ is_one_object (Some Block) = true
 is_one_object other = false
 
 -- whether a write of block b needs the block's other objects, and no update has them
-abbrev pub is_missing : ℕ → List Update → ℕ → Bool
-is_missing n known b = not (is_one_object (kind_of n b)) && not (updates_block known b)
+abbrev pub is_missing : Shape → List Update → ℕ → Bool
+is_missing layout known b = not (is_one_object (kind_of layout b)) && not (updates_block known b)
 
 -- the blocks that have to be fetched before the writes can be prepared: each once, in the order of the writes
-abbrev pub missing_blocks : ℕ → List Update → List Pair → List ℕ
-missing_blocks n known [] = []
-missing_blocks n known (p ∷ later) =
-    if is_missing n known p.0.block && not (writes_block later p.0.block) then p.0.block ∷ missing_blocks n known later
-    else missing_blocks n known later
+abbrev pub missing_blocks : Shape → List Update → List Pair → List ℕ
+missing_blocks layout known [] = []
+missing_blocks layout known (p ∷ later) =
+    if is_missing layout known p.0.block && not (writes_block later p.0.block) then p.0.block ∷ missing_blocks layout known later
+    else missing_blocks layout known later
 
 -- No block has to be fetched for the writes
-abbrev pub HasBlocks : ℕ → List Update → List Pair → Type 0
-HasBlocks n known writes = (b : ℕ) → writes_block writes b ≡ true → is_missing n known b ≡ false
+abbrev pub HasBlocks : Shape → List Update → List Pair → Type 0
+HasBlocks layout known writes = (b : ℕ) → writes_block writes b ≡ true → is_missing layout known b ≡ false
 
 -- what an address has after the writes: what the first of it writes, or where none is of it, what it had
 abbrev pub after_writes : List Pair → Option Value → Addr → Option Value
@@ -81,18 +72,19 @@ after_writes [] before a = before
 after_writes (p ∷ later) before a = if is_same a p.0 then Some p.1 else after_writes later before a
 
 -- With what is prepared behind what memory knows, each address has what the writes make of what it had
-pub record OverwritesKnown (n : ℕ) (known prepared : List Update) (writes : List Pair) : Type 0 where
-  pub values : (a : Addr) → IsTrue (is_valid n a) → known_object n (known ++ prepared) a ≡ after_writes writes (known_object n known a) a
+pub record OverwritesKnown (layout : Shape) (known prepared : List Update) (writes : List Pair) : Type 0 where
+  pub values : (a : Addr) → IsTrue (is_valid layout a)
+      → known_object layout (known ++ prepared) a ≡ after_writes writes (known_object layout known a) a
 
 -- one update of each written block, where these are prepared for those that do not stand in the tail
-abbrev pub updates_with : TailState → List Pair → List Update → List Update
-updates_with t writes prepared = all_updates (blocks_of t) t.log writes prepared
+abbrev pub updates_with : Shape → TailState → List Pair → List Update → List Update
+updates_with layout t writes prepared = all_updates layout t.log writes prepared
 
 -- What is prepared can be applied here with the writes, without memory and without a refusal
-pub record TakesPrepared (t : TailState) (writes : List Pair) (prepared : List Update) : Type 0 where
-  pub objects : IsTrue (are_objects (blocks_of t) writes)
-  pub homes : AreHomes (blocks_of t) (updates_with t writes prepared)
-  pub room : TakesUpdates t.log (updates_with t writes prepared)
+pub record TakesPrepared (layout : Shape) (t : TailState) (writes : List Pair) (prepared : List Update) : Type 0 where
+  pub objects : IsTrue (are_objects layout writes)
+  pub homes : AreHomes (blocks_of t) (updates_with layout t writes prepared)
+  pub room : TakesUpdates t.log (updates_with layout t writes prepared)
 
 -- Why writes are not prepared: the first of the refusals that need no memory, or memory alone is refused
 abbrev pub IsTailWriteRefusal : Base → List Pair → Refusal Unit → Type 0

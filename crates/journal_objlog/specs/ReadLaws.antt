@@ -1,5 +1,6 @@
 -- What follows where an object log was only read.
 use Rattle.std.proofs.Common.{◌≡◌, ℕ, IsTrue, ap, subst, sym, ◌∙◌}
+use Rattle.journal_world.specs.Addresses.{Shape}
 use Rattle.journal_world.specs.Maps.{Map}
 use Rattle.journal_block.specs.Updates.{with_updates}
 use Rattle.journal_disk.specs.Disks.{Past, read_of}
@@ -10,9 +11,9 @@ use Rattle.journal_objlog.specs.ObjectLogs.{map_now, OnlyReads, disk_of}
 
 module _ (old new : WalState) (reads : OnlyReads old new) (honest : IsTrue (disk_of old).honest) where
   -- the map now is the same
-  pub now_read : map_now new ≡ map_now old
-  now_read = ap map_now reads.same
-      ∙ ap (λ (past : Past). map_of past.size (with_updates (read_of past) old.log.updates)) (reads.past honest)
+  pub now_read : (layout : Shape) → map_now layout new ≡ map_now layout old
+  now_read layout = ap (map_now layout) reads.same
+      ∙ ap (λ (past : Past). map_of layout (with_updates (read_of past) old.log.updates)) (reads.past honest)
 
   -- and so is each block
   pub block_read : (block : ℕ) → blocks_now new block ≡ blocks_now old block
@@ -20,7 +21,7 @@ module _ (old new : WalState) (reads : OnlyReads old new) (honest : IsTrue (disk
       ∙ ap (λ (past : Past). with_updates (read_of past) old.log.updates block) (reads.past honest)
 
   -- where each image opened as the map now, it does so still
-  pub images_read : EveryImage (disk_of old).past (OpensAs (map_now old)) → EveryImage (disk_of new).past (OpensAs (map_now new))
-  images_read images =
-      subst (λ (past : Past). EveryImage past (OpensAs (map_now new))) (sym (reads.past honest))
-      (subst (λ (m : Map). EveryImage (disk_of old).past (OpensAs m)) (sym now_read) images)
+  pub images_read : (layout : Shape) → EveryImage (disk_of old).past (OpensAs (map_now layout old)) → EveryImage (disk_of new).past (OpensAs (map_now layout new))
+  images_read layout images =
+      subst (λ (past : Past). EveryImage past (OpensAs (map_now layout new))) (sym (reads.past honest))
+      (subst (λ (m : Map). EveryImage (disk_of old).past (OpensAs m)) (sym (now_read layout)) images)

@@ -3,7 +3,7 @@ use Rattle.std.specs.Prelude.{ℕ, ◌≡◌, ◌⊎◌, ◌≤◌, true, IsTrue
 use Rattle.std.specs.List.{AllByRecursion}
 use Rattle.journal_world.specs.declared.address.Addr.{Addr}
 use Rattle.journal_world.specs.declared.address.Kind.TheVariants.{Block}
-use Rattle.journal_world.specs.Addresses.{kind_of, is_value_of}
+use Rattle.journal_world.specs.Addresses.{Shape, kind_of, is_value_of}
 use Rattle.journal_world.specs.Maps.{Pair, are_objects, overwritten}
 use Rattle.journal_block.specs.declared.update.Update.{Update}
 use Rattle.journal_block.specs.Block.{Bytes}
@@ -48,7 +48,7 @@ pub record CoversBlocks (n : ℕ) (tail : List Update) (writes : List Pair) (upd
 
 -- These writes are stored
 pub record IsStaged (b : Base) (writes : List Pair) (updates : List Update) : Type 0 where
-  pub blocks : CoversBlocks b.size b.tail writes updates
+  pub blocks : CoversBlocks b.layout.blocks b.tail writes updates
   pub objects : HasObjects (with_updates b.content updates) (overwritten (map_in b) writes)
 
 -- What is written and stands in the tail has the bytes of a block
@@ -56,9 +56,9 @@ abbrev pub StandsWhole : List Update → List Pair → Type 0
 StandsWhole tail writes =
     (b : ℕ) → writes_block writes b ≡ true → updates_block tail b ≡ true → IsTrue (is_value_of Block (updated tail b []))
 
--- On a disk of n blocks: the writes are objects, no more than a commit may have blocks, and all of their blocks stand in the tail
-pub record AreInTail (n : ℕ) (tail : List Update) (writes : List Pair) : Type 0 where
-  pub objects : IsTrue (are_objects n writes)
+-- On a disk of this layout: the writes are objects, no more than a commit may have blocks, and all of their blocks stand in the tail
+pub record AreInTail (layout : Shape) (tail : List Update) (writes : List Pair) : Type 0 where
+  pub objects : IsTrue (are_objects layout writes)
   pub few : length writes ≤ MAX_UPDATES
   pub stand : (b : ℕ) → writes_block writes b ≡ true → updates_block tail b ≡ true
   pub whole : StandsWhole tail writes
@@ -67,10 +67,10 @@ pub record AreInTail (n : ℕ) (tail : List Update) (writes : List Pair) : Type 
 pub record IsOpenIn (b : Base) (writes : List Pair) (a : Addr) (updates : List Update) : Type 0 where
   pub content : Content
   pub objects : HasObjects content (overwritten (map_in b) writes)
-  pub here : (kind_of b.size a.block ≡ Some Block) ⊎ (first_bytes updates ≡ content a.block)
+  pub here : (kind_of b.layout a.block ≡ Some Block) ⊎ (first_bytes updates ≡ content a.block)
   pub others : (c : ℕ) → (c ≡ a.block → ⊥) → with_updates b.content updates c ≡ content c
 
 -- These writes are stored, and one of the address may be next
 pub record IsOpen (b : Base) (writes : List Pair) (a : Addr) (updates : List Update) : Type 0 where
-  pub blocks : CoversBlocks b.size b.tail ((a, []) ∷ writes) updates
+  pub blocks : CoversBlocks b.layout.blocks b.tail ((a, []) ∷ writes) updates
   pub bytes : IsOpenIn b writes a updates

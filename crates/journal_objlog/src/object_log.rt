@@ -1,25 +1,25 @@
 // An object log, how it is opened, and what it tells without a step.
-ghost use Rattle.std.specs.Prelude.{ℕ, ◌≡◌, ◌<◌, ◌↔◌, ◌⊎◌, false, IsTrue, IfOk, IfErr, MatchResult};
+ghost use Rattle.std.specs.Prelude.{ℕ, ◌≡◌, ◌<◌, ◌≤◌, ◌↔◌, ◌⊎◌, false, IsTrue, IfOk, IfErr, MatchResult};
+ghost use Rattle.journal_world.specs.declared.layout.TheConstants.{MIN_BLOCKS};
 ghost use Rattle.journal_disk.specs.Disks.{Keeps, IsSettled, read_of};
 ghost use Rattle.journal_disk.specs.Images.{EveryImage, reading};
 ghost use Rattle.journal_circ.specs.Log.{is_sealed, IsWellFormed};
 ghost use Rattle.journal_circ.specs.Ring.{IsOpenRefusal};
-ghost use Rattle.journal_wal.specs.Wal.{IsAtRest, HasBoundsIn, log_steps};
+ghost use Rattle.journal_wal.specs.Wal.{IsAtRest, HasBoundsIn, log_steps, size_of};
 ghost use Rattle.journal_objlog.specs.Maps.{OpensAs};
-ghost use Rattle.journal_objlog.specs.ObjectLogs.{map_now, IsCutLogged, disk_of, is_faulted};
+ghost use Rattle.journal_objlog.specs.ObjectLogs.{EachLayout, map_now, IsCutLogged, disk_of, is_faulted};
 
 use journal_disk::{BlockDisk, MemDisk};
-use journal_object::prove_objects_law;
 use journal_wal::Wal;
-use journal_world::{Layout, Refused};
+use journal_world::Refused;
 use std::alloc::Global;
 use std::marker::Model;
 
-/// The map of objects of a disk, over the write-ahead log.
+/// The maps of objects of a disk, over the write-ahead log. It knows blocks and no layout: what it says of maps it
+/// says for each layout by which the disk may be read.
 #[derive(Drop)]
 pub struct ObjectLog<D: BlockDisk> {
     pub(crate) alloc: Global,
-    pub(crate) layout: Layout,
     pub(crate) wal: Wal<D>,
 }
 
@@ -31,18 +31,18 @@ impl<D: BlockDisk> Model for ObjectLog<D> {
 
     ghost view = { λ o. o.wal };
 
-    ghost invariant = { λ o. IsObjectLog o.layout.blocks o.wal };
+    ghost invariant = { λ o. IsObjectLog o.wal };
 }
 
 impl<D: BlockDisk> ObjectLog<D> {
-    /// Opens the map of a disk, on which nothing is pending: what lies in its log is read into memory, and
+    /// Opens the maps of a disk, on which nothing is pending: what lies in its log is read into memory, and
     /// nothing is written.
     ///
     /// Answers J1 `NoMemory` where memory is refused, J6 `DeviceFailed` where the device fails in this call,
     /// and J7 `BadLog` where the disk's log is not well formed, and no other refusal. A refusal hands the disk
     /// back, with nothing written.
-    pub fn open(alloc: Global, layout: Layout, disk: D) -> Result<ObjectLog<D>, Refused<D, ()>>
-        requires size { (D.state disk).past.size ≡ layout.blocks }
+    pub fn open(alloc: Global, disk: D) -> Result<ObjectLog<D>, Refused<D, ()>>
+        requires size { MIN_BLOCKS ≤ (D.state disk).past.size }
         requires settled { IsTrue (D.state disk).honest → IsSettled (D.state disk).past }
         ensures refusal { IfErr result (λ refused.
             IsOpenRefusal (D.state disk) (D.state refused.disk) refused.refusal) }
@@ -57,21 +57,12 @@ impl<D: BlockDisk> ObjectLog<D> {
         // The bounds and the form are those that the disk tells.
         ensures bounds { IsTrue (D.state disk).honest → IfOk result (HasBoundsIn (reading (D.state disk).past)) }
         ensures form { IsTrue (D.state disk).honest → IfOk result (λ log. log.ring.sealed ≡ is_sealed (read_of (D.state disk).past 0)) }
-        ensures blocks { IfOk result (λ log. (map_now log).blocks ≡ layout.blocks) }
         // Each image opens as the map now.
         ensures images { IsTrue (D.state disk).honest → IfOk result (λ log.
-            EveryImage (disk_of log).past (OpensAs (map_now log))) }
+            EachLayout (size_of log) (λ layout. EveryImage (disk_of log).past (OpensAs (map_now layout log)))) }
     {
-        prove_objects_law();
         let wal = Wal::open(alloc, disk)?;
-        Ok(ObjectLog { alloc, layout, wal })
-    }
-
-    /// Which addresses the map has.
-    pub fn layout(&self) -> Layout
-        ensures { result.blocks ≡ (map_now self.now).blocks }
-    {
-        self.layout
+        Ok(ObjectLog { alloc, wal })
     }
 
     /// Where the log on the disk starts and ends, as last synced: positions, of which there are at most 511.
@@ -115,11 +106,7 @@ impl<D: BlockDisk> ObjectLog<D> {
     pub fn into_disk(self) -> D
         ensures { D.state result ≡ disk_of self }
     {
-        let ObjectLog {
-            alloc: _,
-            layout: _,
-            wal,
-        } = self;
+        let ObjectLog { alloc: _, wal } = self;
         wal.into_disk()
     }
 }

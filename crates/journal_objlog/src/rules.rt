@@ -1,11 +1,13 @@
 // Asking a rule about the map now.
-ghost use Rattle.std.specs.Prelude.{◌≡◌, ◌↔◌, false, length, IsTrue, IsErr, OnOk, IfOk, IfErr, IsOkUnless};
+ghost use Rattle.std.specs.Prelude.{◌≡◌, ◌<◌, ◌↔◌, false, length, IfSome, IsTrue, IsErr, OnOk, IfOk, IfErr, IsOkUnless};
 ghost use Rattle.journal_world.specs.Refusals.{IsReadingRefusal};
 ghost use Rattle.journal_world.specs.Addresses.{is_valid};
+ghost use Rattle.journal_world.specs.Files.{shape};
 ghost use Rattle.journal_world.specs.Maps.{value_at, is_object};
 ghost use Rattle.journal_object.specs.Objects.{size_at};
-ghost use Rattle.journal_wal.specs.Wal.{size_of};
+ghost use Rattle.journal_wal.specs.Wal.{size_of, blocks_now};
 ghost use Rattle.journal_objlog.specs.ObjectLogs.{map_now, KeepsMaps, Crashes, OnlyReads, IsLeft, disk_of, is_faulted};
+ghost use Rattle.journal_objlog.specs.MapLaws.{map_of-objects};
 ghost use Rattle.journal_objlog.specs.Reading.{OnlyReadSince, IsBlockOf};
 
 use crate::object_log::ObjectLog;
@@ -16,15 +18,22 @@ use journal_world::{Addr, Kind, Layout, MapRule, ObjectReader, Refusal, Value};
 use std::alloc::Global;
 use std::marker::{Brand, Model, PhantomData};
 
-// The log before its map was read. It stands in proofs alone, and is picked where the reading begins.
+// The log before its map was read, and the layout that it is read by. They stand in proofs alone,
+// and are picked where the reading begins.
 trait Opening {
+    ghost use Rattle.journal_world.specs.Addresses.{Shape};
     ghost use Rattle.journal_wal.specs.Wal.{WalState};
+
+    ghost layout: { Shape };
 
     ghost log: { WalState };
 }
 
 impl Opening for Brand {
+    ghost use Rattle.journal_world.specs.Files.{files};
     ghost use Rattle.journal_objlog.specs.Reading.{no_log};
+
+    ghost layout = { files 0 };
 
     ghost log = { no_log };
 }
@@ -33,6 +42,7 @@ impl Opening for Brand {
 // only read. Of blocks with many objects it keeps the one that it read last, so that a rule that goes through such a
 // block reads it once. A block that is one object is read beside it.
 struct MapReader<D: BlockDisk, O: Opening> {
+    layout: Layout,
     log: ObjectLog<D>,
     kept: Option<u64>,
     block: Block,
@@ -41,53 +51,104 @@ struct MapReader<D: BlockDisk, O: Opening> {
 }
 
 impl<D: BlockDisk, O: Opening> Model for MapReader<D, O> {
-    ghost use Rattle.std.specs.Prelude.{IfSome};
-    ghost use Rattle.journal_wal.specs.Wal.{WalState};
+    ghost use Rattle.std.specs.Prelude.{◌≡◌, IfSome};
+    ghost use Rattle.journal_world.specs.Files.{shape};
+    ghost use Rattle.journal_wal.specs.Wal.{WalState, size_of};
     ghost use Rattle.journal_objlog.specs.Reading.{OnlyReadSince, IsBlockOf};
 
     ghost Value = { WalState };
 
     ghost view = { λ r. r.log };
 
-    ghost invariant = { λ r. OnlyReadSince O.log r.log × IfSome r.kept (IsBlockOf r.log r.block) };
+    ghost invariant = { λ r. (shape r.layout ≡ O.layout) × (O.layout.blocks ≡ size_of O.log)
+        × OnlyReadSince O.log r.log × IfSome r.kept (IsBlockOf r.log r.block) };
 }
 
 impl<D: BlockDisk, O: Opening> ObjectReader for MapReader<D, O> {
     type Cause = ();
 
-    ghost map = { λ _. map_now O.log };
+    ghost map = { λ _. map_now O.layout O.log };
 
     ghost trusted = { λ _. (disk_of O.log).honest };
 
     ghost failed = { λ r. is_faulted r };
 
+    ghost objects = { λ _. map_of-objects O.layout (blocks_now O.log) };
+
     fn layout(&self) -> Layout {
-        self.log.layout()
+        self.layout
     }
 
     fn read(&mut self, addr: Addr) -> Result<Value, Refusal<()>> {
-        if let Some(Kind::Block) = self.log.layout().kind(addr.block) {
-            self.log.read_block(addr, &mut self.whole)?;
-            return self.log.value_in(&self.whole, addr);
+        let MapReader {
+            layout,
+            log,
+            kept,
+            block,
+            whole,
+            ..
+        } = self;
+        if let Some(Kind::Block) = layout.kind(addr.block) {
+            log.read_block(addr.block, whole)?;
+            return log.value_in(layout, whole, addr);
         }
-        if self.kept != Some(addr.block) {
-            self.kept = None;
-            self.log.read_block(addr, &mut self.block)?;
-            self.kept = Some(addr.block);
-        }
-        self.log.value_in(&self.block, addr)
+        keep_block::<O, D>(log, kept, block, addr.block)?;
+        log.value_in(layout, block, addr)
+    }
+
+    fn read_bits(&mut self, addr: Addr) -> Result<u64, Refusal<()>> {
+        let MapReader {
+            log,
+            kept,
+            block,
+            ..
+        } = self;
+        keep_block::<O, D>(log, kept, block, addr.block)?;
+        Ok(block.bits_from(addr.off as usize))
     }
 }
 
+// Reads a block into the one that is kept, unless it is that one already. What the block holds after a
+// refusal is not said, so none is kept then.
+fn keep_block<O: Opening, D: BlockDisk>(
+    log: &mut ObjectLog<D>,
+    kept: &mut Option<u64>,
+    block: &mut Block,
+    number: u64,
+) -> Result<(), Refusal<()>>
+    requires read { OnlyReadSince O.log log.old }
+    requires held { IfSome kept.old (IsBlockOf log.old block.old) }
+    requires inside { number < size_of log.old }
+    ensures read { OnlyReadSince O.log log.new }
+    ensures held { IfSome kept.new (IsBlockOf log.new block.new) }
+    ensures block { OnOk result (IsBlockOf log.new block.new number) }
+    ensures refusal { IfErr result (IsReadingRefusal (is_faulted log.new)) }
+    ensures stays_faulted { IsTrue (is_faulted log.old) → IsTrue (is_faulted log.new) }
+{
+    if *kept == Some(number) {
+        return Ok(());
+    }
+    *kept = None;
+    log.read_block(number, block)?;
+    *kept = Some(number);
+    Ok(())
+}
+
 impl<D: BlockDisk> ObjectLog<D> {
-    /// Asks the rule whether its statement holds of the map now. The log was only read, and is handed back.
+    /// Asks the rule whether its statement holds of the map now, by a layout of the disk. The log was only read, and is
+    /// handed back.
     ///
     /// Answers J6 `DeviceFailed` where the device failed before or in this call, whatever the rule answered, and
     /// nowhere else. It is refused otherwise where the rule refuses for want of memory (J1). The maps and what
     /// lies on the disk are as they were, whatever it answers.
-    pub fn admitted_by<R: MapRule>(self, rule: &R) -> (ObjectLog<D>, Result<bool, Refusal<()>>)
+    pub fn admitted_by<R: MapRule>(
+        self,
+        layout: Layout,
+        rule: &R,
+    ) -> (ObjectLog<D>, Result<bool, Refusal<()>>)
+        requires { layout.blocks ≡ size_of self }
         ensures admitted { IsTrue (disk_of self).honest →
-            IfOk result.1 (λ admitted. IsTrue admitted ↔ R.statement (map_now self)) }
+            IfOk result.1 (λ admitted. IsTrue admitted ↔ R.statement (map_now (shape layout) self)) }
         ensures refusal { IfErr result.1 (IsReadingRefusal (is_faulted result.0)) }
         ensures faulted { IsTrue (is_faulted self) → IsErr result.1 × (result.0 ≡ self) }
         ensures fine { OnOk result.1 ((is_faulted self ≡ false) × (is_faulted result.0 ≡ false)) }
@@ -99,59 +160,48 @@ impl<D: BlockDisk> ObjectLog<D> {
         if self.wal.is_faulted() {
             return (self, Err(Refusal::DeviceFailed(())));
         }
-        let (log, admitted) = read_by::<Brand, D, R>(self, rule);
+        let (log, admitted) = read_by::<Brand, D, R>(self, layout, rule);
         if log.is_faulted() {
             return (log, Err(Refusal::DeviceFailed(())));
         }
         (log, admitted)
     }
 
-    // Reads the address's block, with all overwrites. What it holds after a refusal is not said.
-    fn read_block(&mut self, addr: Addr, into: &mut Block) -> Result<(), Refusal<()>>
-        requires { IsTrue (is_valid (size_of self.old) addr) }
-        ensures block { OnOk result (IsBlockOf self.new into.new addr.block) }
+    // Reads the block, with all overwrites. What it holds after a refusal is not said.
+    fn read_block(&mut self, number: u64, into: &mut Block) -> Result<(), Refusal<()>>
+        requires { number < size_of self.old }
+        ensures block { OnOk result (IsBlockOf self.new into.new number) }
         ensures refusal { IfErr result (IsReadingRefusal (is_faulted self.new)) }
         ensures reads { OnlyReads self.old self.new }
         ensures maps { IsTrue (disk_of self.old).honest → KeepsMaps self.old self.new }
         ensures crash { Crashes self.old self.new }
     {
-        self.wal.read(addr.block, into)
+        self.wal.read(number, into)
     }
 
     // The value that a block of the log has at the address. No device is asked. Refuses by J1 alone.
-    fn value_in(&self, block: &Block, addr: Addr) -> Result<Value, Refusal<()>>
-        requires { IsTrue (is_valid (size_of self.now) addr) }
+    fn value_in(&self, layout: &Layout, block: &Block, addr: Addr) -> Result<Value, Refusal<()>>
+        requires { IsTrue (is_valid (shape layout.now) addr) }
         ensures value { IsTrue (disk_of self.now).honest → IsBlockOf self.now block.now addr.block
-            → IfOk result (λ value. value ≡ value_at (map_now self.now) addr) }
-        ensures object { IfOk result (λ value. IsTrue (is_object (map_now self.now).blocks (addr, value))) }
+            → IfOk result (λ value. value ≡ value_at (map_now (shape layout.now) self.now) addr) }
+        ensures object { IfOk result (λ value. IsTrue (is_object (shape layout.now) (addr, value))) }
         ensures refusal { IsOkUnless result Refusal.NoMemory }
     {
-        let mut bytes = self.room_for(addr)?;
-        self.object_in(block, addr, &mut bytes);
+        let mut bytes = room_for(self.alloc, layout, addr)?;
+        self.object_in(layout, block, addr, &mut bytes);
         Ok(Value::new(bytes))
     }
 
-    // Zeros in the number of bytes that the address's object has. Refuses by J1 alone.
-    fn room_for(&self, addr: Addr) -> Result<Vec<u8>, Refusal<()>>
-        ensures size { IfOk result (λ bytes. length bytes.items ≡ size_at (size_of self.now) addr) }
-        ensures refusal { IsOkUnless result Refusal.NoMemory }
-    {
-        let size = match self.layout.kind(addr.block) {
-            Some(kind) => kind.bytes(),
-            None => 0,
-        };
-        Ok(vec![in self.alloc; 0u8; size]?)
-    }
-
     // Reads the object that a block of the log has at the address.
-    fn object_in(&self, block: &Block, addr: Addr, into: &mut [u8])
-        requires valid { IsTrue (is_valid (size_of self.now) addr) }
-        requires size { length into.old ≡ size_at (size_of self.now) addr }
+    fn object_in(&self, layout: &Layout, block: &Block, addr: Addr, into: &mut [u8])
+        requires valid { IsTrue (is_valid (shape layout.now) addr) }
+        requires size { length into.old ≡ size_at (shape layout.now) addr }
         ensures value { IsTrue (disk_of self.now).honest → IsBlockOf self.now block.now addr.block
-            → into.new ≡ value_at (map_now self.now) addr }
-        ensures object { IsTrue (is_object (map_now self.now).blocks (addr, into.new)) }
+            → into.new ≡ value_at (map_now (shape layout.now) self.now) addr }
+        ensures object { IsTrue (is_object (shape layout.now) (addr, into.new)) }
     {
-        load_object(&self.layout, block, addr, into);
+        let _ = &self.wal;
+        load_object(layout, block, addr, into);
     }
 
     // A log that was not read since.
@@ -165,11 +215,14 @@ impl<D: BlockDisk> ObjectLog<D> {
 // Lets the rule read the map of the log as it was picked.
 fn read_by<O: Opening, D: BlockDisk, R: MapRule>(
     log: ObjectLog<D>,
+    layout: Layout,
     rule: &R,
 ) -> (ObjectLog<D>, Result<bool, Refusal<()>>)
-    requires { log ≡ O.log }
+    requires log { log ≡ O.log }
+    requires layout { shape layout ≡ O.layout }
+    requires blocks { O.layout.blocks ≡ size_of O.log }
     ensures admitted { IsTrue (disk_of O.log).honest →
-        IfOk result.1 (λ admitted. IsTrue admitted ↔ R.statement (map_now O.log)) }
+        IfOk result.1 (λ admitted. IsTrue admitted ↔ R.statement (map_now O.layout O.log)) }
     ensures refusal { IfErr result.1 (IsReadingRefusal (is_faulted result.0)) }
     ensures read { OnlyReadSince O.log result.0 }
 {
@@ -179,6 +232,7 @@ fn read_by<O: Opening, D: BlockDisk, R: MapRule>(
         Err(refusal) => return (log, Err(refusal)),
     };
     let mut reader = MapReader::<D, O> {
+        layout,
         log,
         kept: None,
         block,
@@ -187,6 +241,7 @@ fn read_by<O: Opening, D: BlockDisk, R: MapRule>(
     };
     let admitted = rule.admit(&mut reader);
     let MapReader {
+        layout: _,
         log,
         kept: _,
         block: _,
@@ -194,6 +249,18 @@ fn read_by<O: Opening, D: BlockDisk, R: MapRule>(
         opening: _,
     } = reader;
     (log, admitted)
+}
+
+// Zeros in the number of bytes that the address's object has. Refuses by J1 alone.
+fn room_for(alloc: Global, layout: &Layout, addr: Addr) -> Result<Vec<u8>, Refusal<()>>
+    ensures size { IfOk result (λ bytes. length bytes.items ≡ size_at (shape layout.now) addr) }
+    ensures refusal { IsOkUnless result Refusal.NoMemory }
+{
+    let size = match layout.kind(addr.block) {
+        Some(kind) => kind.bytes(),
+        None => 0,
+    };
+    Ok(vec![in alloc; 0u8; size]?)
 }
 
 // Two blocks to read into.

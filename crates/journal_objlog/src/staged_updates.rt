@@ -1,5 +1,6 @@
 // Updates of the blocks that are written, made from the last on.
 ghost use Rattle.std.specs.Prelude.{ℕ, ◌≡◌, ◌<◌, ◌↔◌, [], ◌∷◌, IsTrue, OnOk, Some, length};
+ghost use Rattle.journal_world.specs.Files.{shape};
 ghost use Rattle.journal_world.specs.Maps.{is_object};
 ghost use Rattle.journal_object.specs.Objects.{ChangesOnly};
 ghost use Rattle.journal_objlog.specs.Staging.{first_update, first_bytes, with_first};
@@ -59,9 +60,9 @@ impl StagedUpdates {
     /// Overwrites an object of the first update's block.
     pub(crate) fn store_first(&mut self, layout: &Layout, addr: Addr, value: &Value)
         requires some { 0 < length self.old }
-        requires object { IsTrue (is_object layout.now.blocks (addr, value.now)) }
+        requires object { IsTrue (is_object (shape layout.now) (addr, value.now)) }
         ensures stored { self.new ≡ with_first self.old (first_bytes self.new) }
-        ensures only { ChangesOnly layout.now.blocks (first_bytes self.old) (first_bytes self.new) addr value.now }
+        ensures only { ChangesOnly (shape layout.now) (first_bytes self.old) (first_bytes self.new) addr value.now }
     {
         let last = self.updates.len() - 1;
         let first = &mut self.updates[last];

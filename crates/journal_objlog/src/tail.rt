@@ -1,16 +1,16 @@
 // The objects in memory, apart from the log on the disk.
 ghost use Rattle.std.specs.Prelude.{◌≡◌, ◌<◌, ◌^◌, [], Some, None, false, is_some, length, IsTrue, IsOkUnless, OnOk, IfOk, IfErr, IfSome};
 ghost use Rattle.journal_world.specs.Addresses.{is_valid};
+ghost use Rattle.journal_world.specs.Files.{shape};
 ghost use Rattle.journal_world.specs.Maps.{is_object};
 ghost use Rattle.journal_block.specs.Updates.{updated, updates_block};
 ghost use Rattle.journal_memlog.specs.Logs.{bounds_of};
 ghost use Rattle.journal_object.specs.Objects.{size_at};
 ghost use Rattle.journal_wal.specs.Tails.{empty_tail};
-ghost use Rattle.journal_objlog.specs.ObjectTails.{blocks_of, known_updates, known_at};
+ghost use Rattle.journal_objlog.specs.ObjectTails.{known_updates, known_at};
 
 use crate::read::load_object;
 use journal_block::{Block, Update};
-use journal_object::prove_objects_law;
 use journal_wal::Tail;
 use journal_world::{Addr, Layout, Refusal};
 use std::alloc::Global;
@@ -22,54 +22,40 @@ use std::marker::Model;
 /// It has what was overwritten since a cut that is at home, and copies of blocks that are at home. A call that needs
 /// another block says so. The caller fetches it, and makes the call again with the block beside. What was fetched may be
 /// kept as a copy.
+///
+/// It has blocks, and knows no layout: each call that cuts them is told it.
 #[derive(Drop)]
 pub struct ObjectTail {
     pub(crate) alloc: Global,
-    pub(crate) layout: Layout,
     pub(crate) tail: Tail,
 }
 
 impl Model for ObjectTail {
     ghost use Rattle.journal_wal.specs.Tails.{TailState};
-    ghost use Rattle.journal_objlog.specs.ObjectTails.{IsObjectTail};
 
     ghost Value = { TailState };
 
     ghost view = { λ o. o.tail };
-
-    ghost invariant = { λ o. IsObjectTail o.layout.blocks o.tail };
 }
 
 impl ObjectTail {
-    /// The objects in memory over a disk whose log ends at a position: none yet, and no commit was made. It will keep
-    /// no more than `copies` blocks that are at home.
+    /// The objects in memory over a disk of so many blocks whose log ends at a position: none yet,
+    /// and no commit was made. It will keep no more than `copies` blocks that are at home.
     ///
     /// Answers J1 `NoMemory`, and nothing else, where memory for an index is refused.
     pub fn new<C>(
         alloc: Global,
-        layout: Layout,
+        blocks: u64,
         end: u64,
         copies: usize,
     ) -> Result<ObjectTail, Refusal<C>>
         requires end { end < 2 ^ 62 }
         requires some { 0 < copies }
-        ensures tail { IfOk result (λ tail. tail ≡ empty_tail layout.blocks end tail.log.room) }
+        ensures tail { IfOk result (λ tail. tail ≡ empty_tail blocks end tail.log.room) }
         ensures refusal { IsOkUnless result Refusal.NoMemory }
     {
-        prove_objects_law();
-        let tail = Tail::new(alloc, layout.blocks, end, copies)?;
-        Ok(ObjectTail {
-            alloc,
-            layout,
-            tail,
-        })
-    }
-
-    /// Which addresses there are.
-    pub fn layout(&self) -> Layout
-        ensures { result.blocks ≡ blocks_of self.now }
-    {
-        self.layout
+        let tail = Tail::new(alloc, blocks, end, copies)?;
+        Ok(ObjectTail { alloc, tail })
     }
 
     /// Reads the object of the address into bytes that are as many as it has: as memory has it, or where memory
@@ -77,22 +63,28 @@ impl ObjectTail {
     /// bytes are then as they were. It takes no memory.
     ///
     /// Answers J2 `BadAddress`, and nothing else, where the address is not valid.
-    pub fn read(&self, addr: Addr, fetched: &[Update], into: &mut [u8]) -> Result<bool, Refusal<()>>
-        requires size { IsTrue (is_valid (blocks_of self.now) addr) → length into.old ≡ size_at (blocks_of self.now) addr }
-        ensures found { IfOk result (λ found. IsTrue found → known_at fetched.now self.now addr ≡ Some into.new) }
-        ensures missing { IfOk result (λ found. found ≡ false → known_at fetched.now self.now addr ≡ None) }
+    pub fn read(
+        &self,
+        layout: &Layout,
+        addr: Addr,
+        fetched: &[Update],
+        into: &mut [u8],
+    ) -> Result<bool, Refusal<()>>
+        requires size { IsTrue (is_valid (shape layout.now) addr) → length into.old ≡ size_at (shape layout.now) addr }
+        ensures found { IfOk result (λ found. IsTrue found → known_at (shape layout.now) fetched.now self.now addr ≡ Some into.new) }
+        ensures missing { IfOk result (λ found. found ≡ false → known_at (shape layout.now) fetched.now self.now addr ≡ None) }
         ensures stays { IfOk result (λ found. found ≡ false → into.new ≡ into.old) }
-        ensures object { IfOk result (λ found. IsTrue found → IsTrue (is_object (blocks_of self.now) (addr, into.new))) }
-        ensures valid { OnOk result (IsTrue (is_valid (blocks_of self.now) addr)) }
-        ensures refusal { IfErr result (λ refusal. (refusal ≡ Refusal.BadAddress) × (is_valid (blocks_of self.now) addr ≡ false)) }
+        ensures object { IfOk result (λ found. IsTrue found → IsTrue (is_object (shape layout.now) (addr, into.new))) }
+        ensures valid { OnOk result (IsTrue (is_valid (shape layout.now) addr)) }
+        ensures refusal { IfErr result (λ refusal. (refusal ≡ Refusal.BadAddress) × (is_valid (shape layout.now) addr ≡ false)) }
     {
-        if !self.layout.is_valid(addr) {
+        if !layout.is_valid(addr) {
             return Err(Refusal::BadAddress);
         }
         let Some(block) = self.get(fetched, addr.block) else {
             return Ok(false);
         };
-        load_object(&self.layout, block, addr, into);
+        load_object(layout, block, addr, into);
         Ok(true)
     }
 

@@ -1,21 +1,23 @@
 // Overwriting objects in memory: all that may fail comes first, and then nothing can.
 ghost use Rattle.std.specs.Prelude.{ℕ, ◌≡◌, ◌≢◌, ◌≤◌, List, [], ◌∷◌, ◌++◌, false, true, IsTrue, OnOk, IfOk, IfErr};
 ghost use Rattle.journal_world.specs.declared.address.Addr.{Addr};
+ghost use Rattle.journal_world.specs.declared.layout.TheConstants.{MAX_LAYOUT_BLOCKS};
+ghost use Rattle.journal_world.specs.Files.{shape};
 ghost use Rattle.journal_world.specs.Maps.{is_object, are_objects};
 ghost use Rattle.journal_block.specs.declared.update.Update.{Update};
-ghost use Rattle.journal_memlog.specs.Logs.{IsMemLog, appended};
+ghost use Rattle.journal_memlog.specs.Logs.{IsMemLog, appended, tail_of};
 ghost use Rattle.journal_wal.specs.Tails.{MakeTheSame, updates_from};
 ghost use Rattle.journal_objlog.specs.ObjectTails.{blocks_of, known_updates, known_at, known_object, tail_base, missing_blocks, with_tail_room, updates_with, OverwritesKnown, TakesPrepared, IsTailWriteRefusal, IfReady, IfMissing};
 ghost use Rattle.journal_objlog.specs.Applying.{stored_log};
 ghost use Rattle.journal_objlog.specs.Places.{places_of};
-ghost use Rattle.journal_objlog.specs.Writes.{written_blocks, fresh_blocks, CanPrepare, IsPrepared, IsWriteRefusal};
+ghost use Rattle.journal_objlog.specs.Writes.{written_blocks, fresh_among, AreBelow, CanPrepare, IsPrepared, IsWriteRefusal};
 
 use crate::spares::Spares;
 use crate::tail::ObjectTail;
 use crate::writes::{Places, check_writes, is_block};
 use journal_block::Update;
 use journal_object::store;
-use journal_world::{Addr, Objects, Refusal, Value};
+use journal_world::{Addr, Layout, Objects, Refusal, Value};
 use std::marker::Model;
 
 /// Overwrites that are ready to be applied, made by [`ObjectTail::prepare`].
@@ -56,25 +58,27 @@ impl ObjectTail {
     /// answers.
     pub fn prepare(
         &mut self,
+        layout: &Layout,
         writes: &Objects,
         spares: &mut Spares,
         fetched: &[Update],
     ) -> Result<Preparation, Refusal<()>>
-        ensures ready { IfOk result (IfReady (TakesPrepared self.new writes.now)) }
+        requires { layout.now.blocks ≡ blocks_of self.old }
+        ensures ready { IfOk result (IfReady (TakesPrepared (shape layout.now) self.new writes.now)) }
         ensures prepared { IfOk result (IfReady (λ prepared.
-            IsPrepared true (tail_base fetched.now self.new) (updates_with self.new writes.now prepared) writes.now)) }
+            IsPrepared true (tail_base (shape layout.now) fetched.now self.new) (updates_with (shape layout.now) self.new writes.now prepared) writes.now)) }
         // Each address that is written then has its value, and each other what it had.
         ensures overwrites { IfOk result (IfReady (λ prepared.
-            OverwritesKnown (blocks_of self.new) (known_updates fetched.now self.new) (updates_with self.new writes.now prepared) writes.now)) }
+            OverwritesKnown (shape layout.now) (known_updates fetched.now self.new) (updates_with (shape layout.now) self.new writes.now prepared) writes.now)) }
         ensures missing { IfOk result (IfMissing (λ blocks.
-            blocks ≡ missing_blocks (blocks_of self.old) (known_updates fetched.now self.old) writes.now)) }
+            blocks ≡ missing_blocks (shape layout.now) (known_updates fetched.now self.old) writes.now)) }
         ensures some { IfOk result (IfMissing (λ blocks. blocks ≢ [])) }
-        ensures ok { OnOk result (CanPrepare (tail_base fetched.now self.old) writes.now) }
-        ensures refusal { IfErr result (IsTailWriteRefusal (tail_base fetched.now self.old) writes.now) }
+        ensures ok { OnOk result (CanPrepare (tail_base (shape layout.now) fetched.now self.old) writes.now) }
+        ensures refusal { IfErr result (IsTailWriteRefusal (tail_base (shape layout.now) fetched.now self.old) writes.now) }
         ensures same { self.new ≡ with_tail_room self.old self.new.log.room }
     {
-        if !self.are_in_tail(writes) {
-            return self.make_ready(writes, spares, fetched);
+        if !self.are_in_tail(layout, writes) {
+            return self.make_ready(layout, writes, spares, fetched);
         }
         self.tail.reserve(0)?;
         Ok(Preparation::Ready(Prepared {
@@ -85,81 +89,84 @@ impl ObjectTail {
     // Makes copies of the blocks that do not stand in the tail, and stores the writes there.
     fn make_ready(
         &mut self,
+        layout: &Layout,
         writes: &Objects,
         spares: &mut Spares,
         fetched: &[Update],
     ) -> Result<Preparation, Refusal<()>>
-        ensures ready { IfOk result (IfReady (TakesPrepared self.new writes.now)) }
+        requires { layout.now.blocks ≡ blocks_of self.old }
+        ensures ready { IfOk result (IfReady (TakesPrepared (shape layout.now) self.new writes.now)) }
         ensures prepared { IfOk result (IfReady (λ prepared.
-            IsPrepared true (tail_base fetched.now self.new) (updates_with self.new writes.now prepared) writes.now)) }
+            IsPrepared true (tail_base (shape layout.now) fetched.now self.new) (updates_with (shape layout.now) self.new writes.now prepared) writes.now)) }
         // Each address that is written then has its value, and each other what it had.
         ensures overwrites { IfOk result (IfReady (λ prepared.
-            OverwritesKnown (blocks_of self.new) (known_updates fetched.now self.new) (updates_with self.new writes.now prepared) writes.now)) }
+            OverwritesKnown (shape layout.now) (known_updates fetched.now self.new) (updates_with (shape layout.now) self.new writes.now prepared) writes.now)) }
         ensures missing { IfOk result (IfMissing (λ blocks.
-            blocks ≡ missing_blocks (blocks_of self.old) (known_updates fetched.now self.old) writes.now)) }
+            blocks ≡ missing_blocks (shape layout.now) (known_updates fetched.now self.old) writes.now)) }
         ensures some { IfOk result (IfMissing (λ blocks. blocks ≢ [])) }
-        ensures ok { OnOk result (CanPrepare (tail_base fetched.now self.old) writes.now) }
-        ensures refusal { IfErr result (IsTailWriteRefusal (tail_base fetched.now self.old) writes.now) }
+        ensures ok { OnOk result (CanPrepare (tail_base (shape layout.now) fetched.now self.old) writes.now) }
+        ensures refusal { IfErr result (IsTailWriteRefusal (tail_base (shape layout.now) fetched.now self.old) writes.now) }
         ensures same { self.new ≡ with_tail_room self.old self.new.log.room }
     {
-        let places = self.check(writes)?;
-        let missing = self.missing(writes, fetched)?;
+        let places = self.check(layout, writes)?;
+        let missing = self.missing(layout, writes, fetched)?;
         if !missing.is_empty() {
             return Ok(Preparation::Missing(missing));
         }
-        let updates = self.stage(writes, spares, fetched)?;
+        let updates = self.stage(layout, writes, spares, fetched)?;
         self.tail.reserve(places.fresh)?;
         Ok(Preparation::Ready(Prepared { updates }))
     }
 
-    /// Overwrites the objects by these writes, which `prepare` made ready, where no call came between that changes
-    /// them: in place those whose blocks stand in the tail, and the others by appending their blocks. It takes no
-    /// memory, copies no block, and moves the prepared ones.
-    pub fn apply(&mut self, prepared: Prepared, writes: &Objects)
-        requires { TakesPrepared self.old writes.now prepared }
-        ensures log { self.new ≡ record self.old { log = appended self.old.log (updates_with self.old writes.now prepared) } }
+    /// Overwrites the objects by these writes, which `prepare` made ready by the same layout, where no
+    /// call came between that changes them: in place those whose blocks stand in the tail, and the
+    /// others by appending their blocks. It takes no memory, copies no block, and moves the prepared
+    /// ones.
+    pub fn apply(&mut self, layout: &Layout, prepared: Prepared, writes: &Objects)
+        requires { TakesPrepared (shape layout.now) self.old writes.now prepared }
+        ensures log { self.new ≡ record self.old { log = appended self.old.log (updates_with (shape layout.now) self.old writes.now prepared) } }
         // What was updated since any cut is what was, and then these.
         ensures since { (from : ℕ) → self.old.log.start ≤ from → from ≤ self.old.log.cut →
-            MakeTheSame (updates_from self.new.log from) (updates_from self.old.log from ++ updates_with self.old writes.now prepared) }
+            MakeTheSame (updates_from self.new.log from) (updates_from self.old.log from ++ updates_with (shape layout.now) self.old writes.now prepared) }
         // What memory knows of an address is what it knew, with these behind.
-        ensures known { (fetched : List Update) (a : Addr) → known_at fetched self.new a
-            ≡ known_object (blocks_of self.old) (known_updates fetched self.old ++ updates_with self.old writes.now prepared) a }
+        ensures known { (fetched : List Update) (a : Addr) → known_at (shape layout.now) fetched self.new a
+            ≡ known_object (shape layout.now) (known_updates fetched self.old ++ updates_with (shape layout.now) self.old writes.now prepared) a }
     {
-        self.store_standing(writes);
+        self.store_standing(layout, writes);
         self.tail.append_reserved(prepared.updates);
     }
 
     // Overwrites those objects whose blocks stand in the tail. Of two values of one address the first would stand.
-    fn store_standing(&mut self, writes: &Objects)
-        requires { IsTrue (are_objects (blocks_of self.old) writes.now) }
-        ensures stored { self.new ≡ record self.old { log = stored_log (blocks_of self.old) writes.now self.old.log } }
+    fn store_standing(&mut self, layout: &Layout, writes: &Objects)
+        requires { IsTrue (are_objects (shape layout.now) writes.now) }
+        ensures stored { self.new ≡ record self.old { log = stored_log (shape layout.now) writes.now self.old.log } }
         ensures sound { IsMemLog self.old.log }
     {
         // Called for its contract: the log is sound.
         let _bounds = self.tail.bounds();
         for (addr, value) in writes.iter().rev() {
-            self.store_in_tail(*addr, value);
+            self.store_in_tail(layout, *addr, value);
         }
     }
 
     // Overwrites the object in its block, where that stands in the tail.
-    fn store_in_tail(&mut self, addr: Addr, value: &Value)
-        requires { IsTrue (is_object (blocks_of self.old) (addr, value.now)) }
-        ensures { self.new ≡ record self.old { log = stored_log (blocks_of self.old) ((addr, value.now) ∷ []) self.old.log } }
+    fn store_in_tail(&mut self, layout: &Layout, addr: Addr, value: &Value)
+        requires { IsTrue (is_object (shape layout.now) (addr, value.now)) }
+        ensures { self.new ≡ record self.old { log = stored_log (shape layout.now) ((addr, value.now) ∷ []) self.old.log } }
     {
         if let Some(position) = self.tail.place_in_tail(addr.block) {
             let block = self.tail.tail_block(position);
-            store::<()>(&self.layout, block, addr, value.bytes()).unwrap();
+            store::<()>(layout, block, addr, value.bytes()).unwrap();
         }
     }
 
     // Refuses what needs no memory: J2, J3, J4, J11 and J12. Tells how many places the writes take.
-    fn check(&self, writes: &Objects) -> Result<Places, Refusal<()>>
-        ensures ok { OnOk result ((fetched : List Update) → CanPrepare (tail_base fetched self.now) writes.now) }
-        ensures places { IfOk result (λ places. (fetched : List Update) → places ≡ places_of (tail_base fetched self.now) writes.now) }
-        ensures refusal { IfErr result (λ refusal. (fetched : List Update) → IsWriteRefusal false (tail_base fetched self.now) writes.now refusal) }
+    fn check(&self, layout: &Layout, writes: &Objects) -> Result<Places, Refusal<()>>
+        ensures ok { OnOk result ((fetched : List Update) → CanPrepare (tail_base (shape layout.now) fetched self.now) writes.now) }
+        ensures places { IfOk result (λ places. (fetched : List Update) → places ≡ places_of (tail_base (shape layout.now) fetched self.now) writes.now) }
+        ensures refusal { IfErr result (λ refusal. (fetched : List Update) → IsWriteRefusal false (tail_base (shape layout.now) fetched self.now) writes.now refusal) }
     {
-        let (valid, objects) = check_writes(&self.layout, writes);
+        let (valid, objects) = check_writes(layout, writes);
         if !valid {
             return Err(Refusal::BadAddress);
         }
@@ -173,9 +180,9 @@ impl ObjectTail {
 
     // How many distinct blocks are written, and how many of these do not stand in the tail.
     fn count_blocks(&self, writes: &Objects) -> Places
-        requires { IsTrue (are_objects (blocks_of self.now) writes.now) }
+        requires { AreBelow MAX_LAYOUT_BLOCKS writes.now }
         ensures blocks { result.blocks ≡ written_blocks writes.now }
-        ensures fresh { result.fresh ≡ fresh_blocks (tail_base [] self.now) writes.now }
+        ensures fresh { result.fresh ≡ fresh_among (tail_of self.now.log) writes.now }
         ensures fewer { result.fresh ≤ result.blocks }
     {
         let mut blocks = 0;

@@ -1,6 +1,7 @@
 // What writes are: their addresses, their values and their blocks.
 ghost use Rattle.std.specs.Prelude.{◌≡◌, ◌↔◌, IsTrue, Some};
 ghost use Rattle.journal_world.specs.Addresses.{is_valid};
+ghost use Rattle.journal_world.specs.Files.{shape};
 ghost use Rattle.journal_world.specs.Maps.{is_object, are_objects};
 ghost use Rattle.journal_objlog.specs.Writes.{are_valid};
 
@@ -15,8 +16,8 @@ pub(crate) struct Places {
 
 /// Whether each write's address is valid, and where so, whether each value is of its address's kind.
 pub(crate) fn check_writes(layout: &Layout, writes: &Objects) -> (bool, bool)
-    ensures valid { result.0 ≡ are_valid layout.now.blocks writes.now }
-    ensures objects { IsTrue result.0 → result.1 ≡ are_objects layout.now.blocks writes.now }
+    ensures valid { result.0 ≡ are_valid (shape layout.now) writes.now }
+    ensures objects { IsTrue result.0 → result.1 ≡ are_objects (shape layout.now) writes.now }
 {
     let mut objects = true;
     for (addr, value) in writes.iter() {
@@ -30,8 +31,8 @@ pub(crate) fn check_writes(layout: &Layout, writes: &Objects) -> (bool, bool)
 
 // Whether the value is of the kind of the address, which is valid.
 pub(crate) fn is_admitted(layout: &Layout, addr: Addr, value: &Value) -> bool
-    requires { IsTrue (is_valid layout.now.blocks addr) }
-    ensures { result ≡ is_object layout.now.blocks (addr, value.now) }
+    requires { IsTrue (is_valid (shape layout.now) addr) }
+    ensures { result ≡ is_object (shape layout.now) (addr, value.now) }
 {
     match layout.kind(addr.block) {
         Some(kind) => kind.admits(value.bytes()),

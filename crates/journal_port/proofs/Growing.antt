@@ -1,6 +1,7 @@
 -- What a session had seen before an answer it has seen after it.
 use Rattle.std.proofs.Common.{ℕ, ◌≡◌, Bool, inl, inr, Result, Ok, Err, List, ◌∷◌, [], sym, subst}
 use mathlib.Core.List.{IsPrefix}
+use Rattle.journal_world.specs.Addresses.{Shape}
 use Rattle.journal_world.proofs.Prefixes.{IsPrefix-refl, IsPrefix-trans}
 use Rattle.journal_world.specs.Histories.{Entry}
 use Rattle.journal_history.specs.Tokens.{SessionState}
@@ -19,21 +20,21 @@ Grows old new = IsPrefix old.seen new.seen
 same_grows : (old new : SessionState) → new ≡ old → Grows old new
 same_grows old new same = subst (λ (s : SessionState). Grows old s) (sym same) (IsPrefix-refl old.seen)
 
-parts_grow : (blocks : ℕ) (parts : List Part) (old new : SessionState) (place count : ℕ) → CommitsParts blocks parts old new place count → Grows old new
-parts_grow blocks parts old new place count made =
+parts_grow : (layout : Shape) (parts : List Part) (old new : SessionState) (place count : ℕ) → CommitsParts layout parts old new place count → Grows old new
+parts_grow layout parts old new place count made =
     let commits = made.ends.committed.committed in
     IsPrefix-trans old.seen made.begun.seen new.seen made.began.seen
     (IsPrefix-trans made.begun.seen made.ends.committed.found new.seen commits.later (_, sym commits.added))
 
-commit_grows : (blocks : ℕ) (parts : List Part) (waits : Bool) (marks : List Entry) (old new : SessionState) (told : Answer) → IsCommitAnswer blocks parts waits marks old new told → Grows old new
-commit_grows blocks parts waits marks old new (Committed place count) is = parts_grow blocks parts old new place count is.0
-commit_grows blocks parts waits marks old new (Unsure place count) is = parts_grow blocks parts old new place count is.1
-commit_grows blocks parts waits marks old new (Refused n) is = is.0.seen
-commit_grows blocks parts waits marks old new (Values values) is = absurd is
-commit_grows blocks parts waits marks old new (Hello version size) is = absurd is
-commit_grows blocks parts waits marks old new (Flushed stable) is = absurd is
-commit_grows blocks parts waits marks old new (Stat commits stable) is = absurd is
-commit_grows blocks parts waits marks old new Stopping is = absurd is
+commit_grows : (layout : Shape) (parts : List Part) (waits : Bool) (marks : List Entry) (old new : SessionState) (told : Answer) → IsCommitAnswer layout parts waits marks old new told → Grows old new
+commit_grows layout parts waits marks old new (Committed place count) is = parts_grow layout parts old new place count is.0
+commit_grows layout parts waits marks old new (Unsure place count) is = parts_grow layout parts old new place count is.1
+commit_grows layout parts waits marks old new (Refused n) is = is.0.seen
+commit_grows layout parts waits marks old new (Values values) is = absurd is
+commit_grows layout parts waits marks old new (Hello version size) is = absurd is
+commit_grows layout parts waits marks old new (Flushed stable) is = absurd is
+commit_grows layout parts waits marks old new (Stat commits stable) is = absurd is
+commit_grows layout parts waits marks old new Stopping is = absurd is
 
 hello_grows : (blocks version : ℕ) (old new : SessionState) (told : Answer) → IsHelloAnswer blocks version old new told → Grows old new
 hello_grows blocks version old new (Hello spoken size) is = same_grows old new is.0
@@ -45,15 +46,15 @@ hello_grows blocks version old new (Flushed stable) is = absurd is
 hello_grows blocks version old new (Stat commits stable) is = absurd is
 hello_grows blocks version old new Stopping is = absurd is
 
-read_grows : (blocks : ℕ) (addrs : _) (old new : SessionState) (told : Answer) → IsReadAnswer blocks addrs old new told → Grows old new
-read_grows blocks addrs old new (Values values) is = is.0.seen
-read_grows blocks addrs old new (Refused n) is = is.0.seen
-read_grows blocks addrs old new (Committed place count) is = absurd is
-read_grows blocks addrs old new (Unsure place count) is = absurd is
-read_grows blocks addrs old new (Hello version size) is = absurd is
-read_grows blocks addrs old new (Flushed stable) is = absurd is
-read_grows blocks addrs old new (Stat commits stable) is = absurd is
-read_grows blocks addrs old new Stopping is = absurd is
+read_grows : (layout : Shape) (addrs : _) (old new : SessionState) (told : Answer) → IsReadAnswer layout addrs old new told → Grows old new
+read_grows layout addrs old new (Values values) is = is.0.seen
+read_grows layout addrs old new (Refused n) is = is.0.seen
+read_grows layout addrs old new (Committed place count) is = absurd is
+read_grows layout addrs old new (Unsure place count) is = absurd is
+read_grows layout addrs old new (Hello version size) is = absurd is
+read_grows layout addrs old new (Flushed stable) is = absurd is
+read_grows layout addrs old new (Stat commits stable) is = absurd is
+read_grows layout addrs old new Stopping is = absurd is
 
 flush_grows : (old new : SessionState) (told : Answer) → IsFlushAnswer old new told → Grows old new
 flush_grows old new (Flushed stable) is = is.0.seen
@@ -86,23 +87,23 @@ stop_grows may_stop old new (Values values) is = absurd is
 stop_grows may_stop old new (Flushed stable) is = absurd is
 stop_grows may_stop old new (Stat commits stable) is = absurd is
 
-answer_grows : (blocks : ℕ) (may_stop : Bool) (marks : List Entry) (request : Request) (old new : SessionState) (told : Answer) → IsAnswerTo blocks may_stop marks request old new told → Grows old new
-answer_grows blocks may_stop marks (asked.Hello version) old new told is = hello_grows blocks version old new told is
-answer_grows blocks may_stop marks (asked.Commit parts waits) old new told is = commit_grows blocks parts.items waits marks old new told is
-answer_grows blocks may_stop marks (asked.Read addrs) old new told is = read_grows blocks addrs.items old new told is
-answer_grows blocks may_stop marks asked.Flush old new told is = flush_grows old new told is
-answer_grows blocks may_stop marks asked.Stat old new told is = stat_grows old new told is
-answer_grows blocks may_stop marks asked.Stop old new told is = stop_grows may_stop old new told is
+answer_grows : (layout : Shape) (may_stop : Bool) (marks : List Entry) (request : Request) (old new : SessionState) (told : Answer) → IsAnswerTo layout may_stop marks request old new told → Grows old new
+answer_grows layout may_stop marks (asked.Hello version) old new told is = hello_grows layout.blocks version old new told is
+answer_grows layout may_stop marks (asked.Commit parts waits) old new told is = commit_grows layout parts.items waits marks old new told is
+answer_grows layout may_stop marks (asked.Read addrs) old new told is = read_grows layout addrs.items old new told is
+answer_grows layout may_stop marks asked.Flush old new told is = flush_grows old new told is
+answer_grows layout may_stop marks asked.Stat old new told is = stat_grows old new told is
+answer_grows layout may_stop marks asked.Stop old new told is = stop_grows may_stop old new told is
 
-found_grows : (blocks : ℕ) (may_stop : Bool) (marks : List Entry) (found : Result Request ReadFault) (old new : SessionState) (told : Answer) → IsFoundAnswer blocks may_stop marks found old new told → Grows old new
-found_grows blocks may_stop marks (Ok request) old new told is = answer_grows blocks may_stop marks request old new told is
-found_grows blocks may_stop marks (Err why) old new told is = same_grows old new is.0
+found_grows : (layout : Shape) (may_stop : Bool) (marks : List Entry) (found : Result Request ReadFault) (old new : SessionState) (told : Answer) → IsFoundAnswer layout may_stop marks found old new told → Grows old new
+found_grows layout may_stop marks (Ok request) old new told is = answer_grows layout may_stop marks request old new told is
+found_grows layout may_stop marks (Err why) old new told is = same_grows old new is.0
 
-pub reply_grows : (blocks : ℕ) (may_stop : Bool) (marks : List Entry) (bytes : List ℕ) (old new : SessionState) (told : Answer) → IsReplyTo blocks may_stop marks bytes old new told → Grows old new
-reply_grows blocks may_stop marks bytes old new told is = found_grows blocks may_stop marks is.0 old new told is.2
+pub reply_grows : (layout : Shape) (may_stop : Bool) (marks : List Entry) (bytes : List ℕ) (old new : SessionState) (told : Answer) → IsReplyTo layout may_stop marks bytes old new told → Grows old new
+reply_grows layout may_stop marks bytes old new told is = found_grows layout may_stop marks is.0 old new told is.2
 
-pub answers_grow : (blocks : ℕ) (may_stop : Bool) (marks : List Entry) (records : List (List ℕ)) (old new : SessionState) (answers : List Answer) → AreAnswers blocks may_stop marks records old new answers → Grows old new
-answers_grow blocks may_stop marks [] old new answers are = are.0.seen
-answers_grow blocks may_stop marks (r ∷ rs) old new answers are =
+pub answers_grow : (layout : Shape) (may_stop : Bool) (marks : List Entry) (records : List (List ℕ)) (old new : SessionState) (answers : List Answer) → AreAnswers layout may_stop marks records old new answers → Grows old new
+answers_grow layout may_stop marks [] old new answers are = are.0.seen
+answers_grow layout may_stop marks (r ∷ rs) old new answers are =
     IsPrefix-trans old.seen are.0.seen new.seen are.4.seen
-    (IsPrefix-trans are.0.seen are.1.seen new.seen (reply_grows blocks may_stop marks r are.0 are.1 are.2 are.5) (answers_grow blocks may_stop marks rs are.1 new are.3 are.6))
+    (IsPrefix-trans are.0.seen are.1.seen new.seen (reply_grows layout may_stop marks r are.0 are.1 are.2 are.5) (answers_grow layout may_stop marks rs are.1 new are.3 are.6))

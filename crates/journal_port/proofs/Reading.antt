@@ -9,7 +9,7 @@ use Rattle.std.proofs.lemmas.List.Elements.{All-more, All-weaker}
 use Rattle.journal_world.specs.declared.address.Addr.{Addr}
 use Rattle.journal_world.specs.declared.refusal.Refusal.{Refusal}
 use Rattle.journal_world.specs.declared.refusal.Refusal.TheVariants.{NoMemory, BadAddress, BadSize, TooLarge, Busy, DeviceFailed, BadLog, BadSuper, Stale, Stranger, Worn, Full, Closed, Fenced}
-use Rattle.journal_world.specs.Addresses.{Value, slot_of}
+use Rattle.journal_world.specs.Addresses.{Value, slot_of, Shape}
 use Rattle.journal_world.specs.Maps.{Agrees, value_among}
 use Rattle.journal_world.specs.Histories.{is_trusted, latest}
 use Rattle.journal_core.specs.Causes.{CauseState}
@@ -33,37 +33,37 @@ pub read_keeps : {E : Type 0} (r : Result Value E) (old new : TxnState) (a : Add
 read_keeps (Ok v) old new a none reads before after = kept_reads old new a v (Learns-clear old new a v none reads) before after
 read_keeps (Err why) old new a none reads before after = tt
 
-pub addr_refused : (blocks : ℕ) (t : TxnState) (a : Addr) (why : Refusal CauseState) → (IsBelowHeld (slot_of a) t.held → ⊥) → twophase.IsReadRefusal blocks t a why → IsAddrRefusal blocks a why
-addr_refused blocks t a NoMemory ascends is = tt
-addr_refused blocks t a BadAddress ascends is = is
-addr_refused blocks t a BadSize ascends is = is.1
-addr_refused blocks t a TooLarge ascends is = is.1
-addr_refused blocks t a Busy ascends is = ascends is.1
-addr_refused blocks t a (DeviceFailed cause) ascends is = is
-addr_refused blocks t a BadLog ascends is = is.1
-addr_refused blocks t a BadSuper ascends is = is.1
-addr_refused blocks t a (Stale cause) ascends is = (t.seen, is.1)
-addr_refused blocks t a (Stranger cause) ascends is = is.1
-addr_refused blocks t a (Worn cause) ascends is = is.1
-addr_refused blocks t a (Full cause) ascends is = is.1
-addr_refused blocks t a (Closed cause) ascends is = is
-addr_refused blocks t a Fenced ascends is = is.1
+pub addr_refused : (layout : Shape) (t : TxnState) (a : Addr) (why : Refusal CauseState) → (IsBelowHeld (slot_of a) t.held → ⊥) → twophase.IsReadRefusal layout t a why → IsAddrRefusal layout a why
+addr_refused layout t a NoMemory ascends is = tt
+addr_refused layout t a BadAddress ascends is = is
+addr_refused layout t a BadSize ascends is = is.1
+addr_refused layout t a TooLarge ascends is = is.1
+addr_refused layout t a Busy ascends is = ascends is.1
+addr_refused layout t a (DeviceFailed cause) ascends is = is
+addr_refused layout t a BadLog ascends is = is.1
+addr_refused layout t a BadSuper ascends is = is.1
+addr_refused layout t a (Stale cause) ascends is = (t.seen, is.1)
+addr_refused layout t a (Stranger cause) ascends is = is.1
+addr_refused layout t a (Worn cause) ascends is = is.1
+addr_refused layout t a (Full cause) ascends is = is.1
+addr_refused layout t a (Closed cause) ascends is = is
+addr_refused layout t a Fenced ascends is = is.1
 
-pub read_refused : (blocks : ℕ) (addrs : List Addr) (a : Addr) (why : Refusal CauseState) → Contains addrs a → IsAddrRefusal blocks a why → IsReadRefusal blocks addrs why
-read_refused blocks addrs a NoMemory has is = is
-read_refused blocks addrs a BadAddress has is = (a, has, is)
-read_refused blocks addrs a BadSize has is = is
-read_refused blocks addrs a TooLarge has is = is
-read_refused blocks addrs a Busy has is = is
-read_refused blocks addrs a (DeviceFailed cause) has is = is
-read_refused blocks addrs a BadLog has is = is
-read_refused blocks addrs a BadSuper has is = is
-read_refused blocks addrs a (Stale cause) has is = is
-read_refused blocks addrs a (Stranger cause) has is = is
-read_refused blocks addrs a (Worn cause) has is = is
-read_refused blocks addrs a (Full cause) has is = is
-read_refused blocks addrs a (Closed cause) has is = is
-read_refused blocks addrs a Fenced has is = is
+pub read_refused : (layout : Shape) (addrs : List Addr) (a : Addr) (why : Refusal CauseState) → Contains addrs a → IsAddrRefusal layout a why → IsReadRefusal layout addrs why
+read_refused layout addrs a NoMemory has is = is
+read_refused layout addrs a BadAddress has is = (a, has, is)
+read_refused layout addrs a BadSize has is = is
+read_refused layout addrs a TooLarge has is = is
+read_refused layout addrs a Busy has is = is
+read_refused layout addrs a (DeviceFailed cause) has is = is
+read_refused layout addrs a BadLog has is = is
+read_refused layout addrs a BadSuper has is = is
+read_refused layout addrs a (Stale cause) has is = is
+read_refused layout addrs a (Stranger cause) has is = is
+read_refused layout addrs a (Worn cause) has is = is
+read_refused layout addrs a (Full cause) has is = is
+read_refused layout addrs a (Closed cause) has is = is
+read_refused layout addrs a Fenced has is = is
 
 -- ---- the slots
 

@@ -2,6 +2,7 @@
 use Rattle.std.proofs.Common.{ℕ, ◌≡◌, ◌≤◌, nat_le, if◌then◌else◌, Bool, true, false, Result, Ok, Err, List, refl, sym, subst, arith}
 use Rattle.std.proofs.lemmas.Bool.Decides.{nat_tests}
 use mathlib.Core.List.{IsPrefix}
+use Rattle.journal_world.specs.Addresses.{Shape}
 use Rattle.journal_world.specs.Histories.{Entry, floor}
 use Rattle.journal_world.proofs.Marks.{floor-append-le}
 use Rattle.journal_history.specs.Tokens.{SessionState}
@@ -19,31 +20,31 @@ floor_later marks later p = subst (λ (h : List Entry). floor marks ≤ floor h)
 
 -- ---- by more marks
 
-commit_later : (blocks : ℕ) (parts : List Part) (waits : Bool) (marks later : List Entry) (old new : SessionState) (told : Answer) → IsPrefix marks later
-    → IsCommitAnswer blocks parts waits marks old new told → IsCommitAnswer blocks parts waits later old new told
-commit_later blocks parts waits marks later old new (Committed place count) more is =
+commit_later : (layout : Shape) (parts : List Part) (waits : Bool) (marks later : List Entry) (old new : SessionState) (told : Answer) → IsPrefix marks later
+    → IsCommitAnswer layout parts waits marks old new told → IsCommitAnswer layout parts waits later old new told
+commit_later layout parts waits marks later old new (Committed place count) more is =
     (is.0, λ w. let stands : count ≤ floor marks = is.1 w in let le : floor marks ≤ floor later = floor_later marks later more in omega (arith, stands, le))
-commit_later blocks parts waits marks later old new (Unsure place count) more is = is
-commit_later blocks parts waits marks later old new (Refused n) more is = is
-commit_later blocks parts waits marks later old new (Values values) more is = is
-commit_later blocks parts waits marks later old new (Hello version size) more is = is
-commit_later blocks parts waits marks later old new (Flushed stable) more is = is
-commit_later blocks parts waits marks later old new (Stat commits stable) more is = is
-commit_later blocks parts waits marks later old new Stopping more is = is
+commit_later layout parts waits marks later old new (Unsure place count) more is = is
+commit_later layout parts waits marks later old new (Refused n) more is = is
+commit_later layout parts waits marks later old new (Values values) more is = is
+commit_later layout parts waits marks later old new (Hello version size) more is = is
+commit_later layout parts waits marks later old new (Flushed stable) more is = is
+commit_later layout parts waits marks later old new (Stat commits stable) more is = is
+commit_later layout parts waits marks later old new Stopping more is = is
 
-pub answer_later : (blocks : ℕ) (may_stop : Bool) (marks later : List Entry) (request : Request) (old new : SessionState) (told : Answer) → IsPrefix marks later
-    → IsAnswerTo blocks may_stop marks request old new told → IsAnswerTo blocks may_stop later request old new told
-answer_later blocks may_stop marks later (asked.Hello version) old new told more is = is
-answer_later blocks may_stop marks later (asked.Commit parts waits) old new told more is = commit_later blocks parts.items waits marks later old new told more is
-answer_later blocks may_stop marks later (asked.Read addrs) old new told more is = is
-answer_later blocks may_stop marks later asked.Flush old new told more is = is
-answer_later blocks may_stop marks later asked.Stat old new told more is = is
-answer_later blocks may_stop marks later asked.Stop old new told more is = is
+pub answer_later : (layout : Shape) (may_stop : Bool) (marks later : List Entry) (request : Request) (old new : SessionState) (told : Answer) → IsPrefix marks later
+    → IsAnswerTo layout may_stop marks request old new told → IsAnswerTo layout may_stop later request old new told
+answer_later layout may_stop marks later (asked.Hello version) old new told more is = is
+answer_later layout may_stop marks later (asked.Commit parts waits) old new told more is = commit_later layout parts.items waits marks later old new told more is
+answer_later layout may_stop marks later (asked.Read addrs) old new told more is = is
+answer_later layout may_stop marks later asked.Flush old new told more is = is
+answer_later layout may_stop marks later asked.Stat old new told more is = is
+answer_later layout may_stop marks later asked.Stop old new told more is = is
 
-pub found_later : (blocks : ℕ) (may_stop : Bool) (marks later : List Entry) (found : Result Request ReadFault) (old new : SessionState) (told : Answer) → IsPrefix marks later
-    → IsFoundAnswer blocks may_stop marks found old new told → IsFoundAnswer blocks may_stop later found old new told
-found_later blocks may_stop marks later (Ok request) old new told more is = answer_later blocks may_stop marks later request old new told more is
-found_later blocks may_stop marks later (Err why) old new told more is = is
+pub found_later : (layout : Shape) (may_stop : Bool) (marks later : List Entry) (found : Result Request ReadFault) (old new : SessionState) (told : Answer) → IsPrefix marks later
+    → IsFoundAnswer layout may_stop marks found old new told → IsFoundAnswer layout may_stop later found old new told
+found_later layout may_stop marks later (Ok request) old new told more is = answer_later layout may_stop marks later request old new told more is
+found_later layout may_stop marks later (Err why) old new told more is = is
 
 -- ---- where so many are stable
 
@@ -58,42 +59,42 @@ settled_other P stable (Flushed n) never is = is
 settled_other P stable (Stat commits n) never is = is
 settled_other P stable Stopping never is = is
 
-commit_settled : (blocks : ℕ) (parts : List Part) (waits : Bool) (marks : List Entry) (stable : ℕ) (old new : SessionState) (told : Answer) → stable ≤ floor marks
-    → IsCommitAnswer blocks parts waits marks old new told → IsCommitAnswer blocks parts waits marks old new (settled stable told)
-commit_settled blocks parts waits marks stable old new (Unsure place count) marked is = by_test (nat_le count stable) refl
+commit_settled : (layout : Shape) (parts : List Part) (waits : Bool) (marks : List Entry) (stable : ℕ) (old new : SessionState) (told : Answer) → stable ≤ floor marks
+    → IsCommitAnswer layout parts waits marks old new told → IsCommitAnswer layout parts waits marks old new (settled stable told)
+commit_settled layout parts waits marks stable old new (Unsure place count) marked is = by_test (nat_le count stable) refl
   where
-    by_test : (b : Bool) → nat_le count stable ≡ b → IsCommitAnswer blocks parts waits marks old new (if b then Committed place count else Unsure place count)
+    by_test : (b : Bool) → nat_le count stable ≡ b → IsCommitAnswer layout parts waits marks old new (if b then Committed place count else Unsure place count)
     by_test true le = (is.1, λ w. grind (arith, nat_tests, le, marked))
     by_test false le = is
-commit_settled blocks parts waits marks stable old new (Committed place count) marked is = is
-commit_settled blocks parts waits marks stable old new (Refused n) marked is = is
-commit_settled blocks parts waits marks stable old new (Values values) marked is = is
-commit_settled blocks parts waits marks stable old new (Hello version size) marked is = is
-commit_settled blocks parts waits marks stable old new (Flushed n) marked is = is
-commit_settled blocks parts waits marks stable old new (Stat commits n) marked is = is
-commit_settled blocks parts waits marks stable old new Stopping marked is = is
+commit_settled layout parts waits marks stable old new (Committed place count) marked is = is
+commit_settled layout parts waits marks stable old new (Refused n) marked is = is
+commit_settled layout parts waits marks stable old new (Values values) marked is = is
+commit_settled layout parts waits marks stable old new (Hello version size) marked is = is
+commit_settled layout parts waits marks stable old new (Flushed n) marked is = is
+commit_settled layout parts waits marks stable old new (Stat commits n) marked is = is
+commit_settled layout parts waits marks stable old new Stopping marked is = is
 
-pub answer_settled : (blocks : ℕ) (may_stop : Bool) (marks : List Entry) (stable : ℕ) (request : Request) (old new : SessionState) (told : Answer) → stable ≤ floor marks
-    → IsAnswerTo blocks may_stop marks request old new told → IsAnswerTo blocks may_stop marks request old new (settled stable told)
-answer_settled blocks may_stop marks stable (asked.Hello version) old new told marked is = settled_other (IsHelloAnswer blocks version old new) stable told (λ p c no_such. no_such) is
-answer_settled blocks may_stop marks stable (asked.Commit parts waits) old new told marked is = commit_settled blocks parts.items waits marks stable old new told marked is
-answer_settled blocks may_stop marks stable (asked.Read addrs) old new told marked is = settled_other (IsReadAnswer blocks addrs.items old new) stable told (λ p c no_such. no_such) is
-answer_settled blocks may_stop marks stable asked.Flush old new told marked is = settled_other (IsFlushAnswer old new) stable told (λ p c no_such. no_such) is
-answer_settled blocks may_stop marks stable asked.Stat old new told marked is = settled_other (IsStatAnswer old new) stable told (λ p c no_such. no_such) is
-answer_settled blocks may_stop marks stable asked.Stop old new told marked is = settled_other (IsStopAnswer may_stop old new) stable told (λ p c no_such. no_such) is
+pub answer_settled : (layout : Shape) (may_stop : Bool) (marks : List Entry) (stable : ℕ) (request : Request) (old new : SessionState) (told : Answer) → stable ≤ floor marks
+    → IsAnswerTo layout may_stop marks request old new told → IsAnswerTo layout may_stop marks request old new (settled stable told)
+answer_settled layout may_stop marks stable (asked.Hello version) old new told marked is = settled_other (IsHelloAnswer layout.blocks version old new) stable told (λ p c no_such. no_such) is
+answer_settled layout may_stop marks stable (asked.Commit parts waits) old new told marked is = commit_settled layout parts.items waits marks stable old new told marked is
+answer_settled layout may_stop marks stable (asked.Read addrs) old new told marked is = settled_other (IsReadAnswer layout addrs.items old new) stable told (λ p c no_such. no_such) is
+answer_settled layout may_stop marks stable asked.Flush old new told marked is = settled_other (IsFlushAnswer old new) stable told (λ p c no_such. no_such) is
+answer_settled layout may_stop marks stable asked.Stat old new told marked is = settled_other (IsStatAnswer old new) stable told (λ p c no_such. no_such) is
+answer_settled layout may_stop marks stable asked.Stop old new told marked is = settled_other (IsStopAnswer may_stop old new) stable told (λ p c no_such. no_such) is
 
-pub found_settled : (blocks : ℕ) (may_stop : Bool) (marks : List Entry) (stable : ℕ) (found : Result Request ReadFault) (old new : SessionState) (told : Answer) → stable ≤ floor marks
-    → IsFoundAnswer blocks may_stop marks found old new told → IsFoundAnswer blocks may_stop marks found old new (settled stable told)
-found_settled blocks may_stop marks stable (Ok request) old new told marked is = answer_settled blocks may_stop marks stable request old new told marked is
-found_settled blocks may_stop marks stable (Err why) old new told marked is = settled_other (λ a. (new ≡ old) × (a ≡ Refused (refused_for why))) stable told (λ p c no_such. absurd (let e : Unsure p c ≡ Refused (refused_for why) = no_such.1 in cc)) is
+pub found_settled : (layout : Shape) (may_stop : Bool) (marks : List Entry) (stable : ℕ) (found : Result Request ReadFault) (old new : SessionState) (told : Answer) → stable ≤ floor marks
+    → IsFoundAnswer layout may_stop marks found old new told → IsFoundAnswer layout may_stop marks found old new (settled stable told)
+found_settled layout may_stop marks stable (Ok request) old new told marked is = answer_settled layout may_stop marks stable request old new told marked is
+found_settled layout may_stop marks stable (Err why) old new told marked is = settled_other (λ a. (new ≡ old) × (a ≡ Refused (refused_for why))) stable told (λ p c no_such. absurd (let e : Unsure p c ≡ Refused (refused_for why) = no_such.1 in cc)) is
 
 -- both, for a commit that was not known to be stable
-pub unsure_settled : (blocks : ℕ) (may_stop : Bool) (marks later : List Entry) (stable : ℕ) (request : Request) (old new : SessionState) (told : Answer) → IsPrefix marks later → stable ≤ floor later
-    → IsAnswerTo blocks may_stop marks request old new told → IsAnswerTo blocks may_stop later request old new (settled stable told)
-unsure_settled blocks may_stop marks later stable request old new told more marked is =
-    answer_settled blocks may_stop later stable request old new told marked (answer_later blocks may_stop marks later request old new told more is)
+pub unsure_settled : (layout : Shape) (may_stop : Bool) (marks later : List Entry) (stable : ℕ) (request : Request) (old new : SessionState) (told : Answer) → IsPrefix marks later → stable ≤ floor later
+    → IsAnswerTo layout may_stop marks request old new told → IsAnswerTo layout may_stop later request old new (settled stable told)
+unsure_settled layout may_stop marks later stable request old new told more marked is =
+    answer_settled layout may_stop later stable request old new told marked (answer_later layout may_stop marks later request old new told more is)
 
 -- a hello is answered as one
-pub is_hello : (blocks : ℕ) (may_stop : Bool) (marks : List Entry) (request : Request) (version : ℕ) (session : SessionState) (told : Answer) → request ≡ asked.Hello version
-    → IsHelloAnswer blocks version session session told → IsAnswerTo blocks may_stop marks request session session told
-is_hello blocks may_stop marks request version session told is hello = subst (λ (r : Request). IsAnswerTo blocks may_stop marks r session session told) (sym is) hello
+pub is_hello : (layout : Shape) (may_stop : Bool) (marks : List Entry) (request : Request) (version : ℕ) (session : SessionState) (told : Answer) → request ≡ asked.Hello version
+    → IsHelloAnswer layout.blocks version session session told → IsAnswerTo layout may_stop marks request session session told
+is_hello layout may_stop marks request version session told is hello = subst (λ (r : Request). IsAnswerTo layout may_stop marks r session session told) (sym is) hello

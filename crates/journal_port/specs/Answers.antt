@@ -4,7 +4,7 @@ use Rattle.std.specs.List.{zip}
 use Rattle.journal_world.specs.declared.refusal.Refusal.{Refusal}
 use Rattle.journal_world.specs.declared.refusal.Refusal.TheVariants.{NoMemory, BadAddress, BadSize, TooLarge, DeviceFailed, Stale, Stranger, Worn, Closed, Fenced}
 use Rattle.journal_world.specs.declared.address.Addr.{Addr}
-use Rattle.journal_world.specs.Addresses.{Value, is_valid}
+use Rattle.journal_world.specs.Addresses.{Value, is_valid, Shape}
 use Rattle.journal_world.specs.Maps.{Map, Pair, SamePairs, Agrees}
 use Rattle.journal_world.specs.Histories.{Entry, is_trusted, is_fenced, latest, count, floor}
 use Rattle.journal_wal.specs.declared.limits.TheConstants.{MAX_UPDATES}
@@ -43,9 +43,9 @@ IsRefusedFor for n = (why : Refusal CauseState) × (n ≡ refused_as why) × for
 -- ---- how a transaction ends
 
 -- The transaction was committed. The two numbers are its place, and the commits up to there
-pub record EndsAt (blocks : ℕ) (began : List Entry) (t : TransactionState) (old new : SessionState) (place count : ℕ) : Type 0 where
+pub record EndsAt (layout : Shape) (began : List Entry) (t : TransactionState) (old new : SessionState) (place count : ℕ) : Type 0 where
   pub receipt : CommitPlace
-  pub committed : IsCommitted AnyMap blocks began t old new receipt
+  pub committed : IsCommitted AnyMap layout began t old new receipt
   pub place_is : place ≡ receipt.place
   pub count_is : count ≡ receipt.count
 
@@ -54,11 +54,11 @@ abbrev pub IsEndRefused : TransactionState → SessionState → SessionState →
 IsEndRefused t old new n = OnlyExtends old new × ((why : Refusal CauseState) × (n ≡ refused_as why) × IsCommitRefusal t old why × ShowsFence new why)
 
 -- what the end of a transaction is answered: one that is to wait is not known to be stable yet
-abbrev pub IsEnd : ℕ → TxnState → Bool → SessionState → SessionState → Answer → Type 0
-IsEnd blocks t waits old new (Committed place count) = (waits ≡ false) × EndsAt blocks t.began (core_of t) old new place count
-IsEnd blocks t waits old new (Unsure place count) = IsTrue waits × EndsAt blocks t.began (core_of t) old new place count
-IsEnd blocks t waits old new (Refused n) = IsEndRefused (core_of t) old new n
-IsEnd blocks t waits old new other = ⊥
+abbrev pub IsEnd : Shape → TxnState → Bool → SessionState → SessionState → Answer → Type 0
+IsEnd layout t waits old new (Committed place count) = (waits ≡ false) × EndsAt layout t.began (core_of t) old new place count
+IsEnd layout t waits old new (Unsure place count) = IsTrue waits × EndsAt layout t.began (core_of t) old new place count
+IsEnd layout t waits old new (Refused n) = IsEndRefused (core_of t) old new n
+IsEnd layout t waits old new other = ⊥
 
 -- what is answered where a part was given up
 abbrev pub answer_of : {C : Type 0} → PartFault C → Answer
@@ -70,14 +70,14 @@ answer_of (fault.Refused why) = Refused (refused_as why)
 -- The parts were committed by the session as one transaction: some time after all that it had seen it has one more commit, whose reads
 -- are what the parts compare, and whose writes are what they write. Where the opening was trusted, each part that compares has the
 -- value that the map gives there
-pub record CommitsParts (blocks : ℕ) (parts : List Part) (old new : SessionState) (place count : ℕ) : Type 0 where
+pub record CommitsParts (layout : Shape) (parts : List Part) (old new : SessionState) (place count : ℕ) : Type 0 where
   -- the session when the transaction began
   pub begun : SessionState
   pub began : OnlyExtends old begun
   pub transaction : TransactionState
   pub reads : SamePairs transaction.reads (compared parts)
   pub writes : SamePairs transaction.writes (written parts)
-  pub ends : EndsAt blocks begun.seen transaction begun new place count
+  pub ends : EndsAt layout begun.seen transaction begun new place count
   pub matches : IsTrue (is_trusted ends.committed.found) → All (MatchesAt (latest ends.committed.found)) parts
 
 -- More blocks are written than a transaction may write
@@ -85,49 +85,49 @@ abbrev pub IsTooLarge : List Part → Type 0
 IsTooLarge parts = (writes : List Pair) × SamePairs writes (written parts) × (MAX_UPDATES < written_blocks writes)
 
 -- Why a request to commit is refused. Never because another has a slot, and never for room
-abbrev pub IsRefusal : ℕ → List Part → SessionState → SessionState → Refusal CauseState → Type 0
-IsRefusal blocks parts old new BadAddress = (p : Part) × Contains parts p × IsPartRefusal blocks p BadAddress
-IsRefusal blocks parts old new BadSize = (p : Part) × Contains parts p × IsPartRefusal blocks p BadSize
-IsRefusal blocks parts old new TooLarge = IsTooLarge parts
-IsRefusal blocks parts old new (Closed cause) = IsUnexplained J13 cause
-IsRefusal blocks parts old new (DeviceFailed cause) = IsUnexplained J6 cause
-IsRefusal blocks parts old new (Stale cause) = IsShown J9 cause
-IsRefusal blocks parts old new (Stranger cause) = ShowsStrange old cause
-IsRefusal blocks parts old new (Worn cause) = IsUnexplained J11 cause
-IsRefusal blocks parts old new Fenced = is_fenced new.number new.seen ≡ true
-IsRefusal blocks parts old new NoMemory = Unit {0}
-IsRefusal blocks parts old new other = ⊥
+abbrev pub IsRefusal : Shape → List Part → SessionState → SessionState → Refusal CauseState → Type 0
+IsRefusal layout parts old new BadAddress = (p : Part) × Contains parts p × IsPartRefusal layout p BadAddress
+IsRefusal layout parts old new BadSize = (p : Part) × Contains parts p × IsPartRefusal layout p BadSize
+IsRefusal layout parts old new TooLarge = IsTooLarge parts
+IsRefusal layout parts old new (Closed cause) = IsUnexplained J13 cause
+IsRefusal layout parts old new (DeviceFailed cause) = IsUnexplained J6 cause
+IsRefusal layout parts old new (Stale cause) = IsShown J9 cause
+IsRefusal layout parts old new (Stranger cause) = ShowsStrange old cause
+IsRefusal layout parts old new (Worn cause) = IsUnexplained J11 cause
+IsRefusal layout parts old new Fenced = is_fenced new.number new.seen ≡ true
+IsRefusal layout parts old new NoMemory = Unit {0}
+IsRefusal layout parts old new other = ⊥
 
 -- Some part compares another value than the map gives, at the end of what the session has then seen
 abbrev pub IsConflict : List Part → SessionState → refused.Refused → Type 0
 IsConflict parts new n = (n ≡ Conflict) × (IsTrue (is_trusted new.seen) → (p : Part) × Contains parts p × DiffersAt (latest new.seen) p)
 
 -- What a request to commit these parts is owed. One that is to wait is told to be committed only where a mark of this history covers it
-abbrev pub IsCommitAnswer : ℕ → List Part → Bool → List Entry → SessionState → SessionState → Answer → Type 0
-IsCommitAnswer blocks parts waits marks old new (Committed place count) = CommitsParts blocks parts old new place count × (IsTrue waits → count ≤ floor marks)
-IsCommitAnswer blocks parts waits marks old new (Unsure place count) = IsTrue waits × CommitsParts blocks parts old new place count
-IsCommitAnswer blocks parts waits marks old new (Refused n) = OnlyExtends old new × (IsConflict parts new n ⊎ IsRefusedFor (IsRefusal blocks parts old new) n)
-IsCommitAnswer blocks parts waits marks old new other = ⊥
+abbrev pub IsCommitAnswer : Shape → List Part → Bool → List Entry → SessionState → SessionState → Answer → Type 0
+IsCommitAnswer layout parts waits marks old new (Committed place count) = CommitsParts layout parts old new place count × (IsTrue waits → count ≤ floor marks)
+IsCommitAnswer layout parts waits marks old new (Unsure place count) = IsTrue waits × CommitsParts layout parts old new place count
+IsCommitAnswer layout parts waits marks old new (Refused n) = OnlyExtends old new × (IsConflict parts new n ⊎ IsRefusedFor (IsRefusal layout parts old new) n)
+IsCommitAnswer layout parts waits marks old new other = ⊥
 
 -- ---- a request to read
 
 -- why an address is not read. Never because another has its slot
-abbrev pub IsAddrRefusal : ℕ → Addr → Refusal CauseState → Type 0
-IsAddrRefusal blocks a (Closed cause) = IsUnexplained J13 cause
-IsAddrRefusal blocks a (DeviceFailed cause) = IsUnexplained J6 cause
-IsAddrRefusal blocks a (Stale cause) = IsShown J9 cause
-IsAddrRefusal blocks a BadAddress = is_valid blocks a ≡ false
-IsAddrRefusal blocks a NoMemory = Unit {0}
-IsAddrRefusal blocks a other = ⊥
+abbrev pub IsAddrRefusal : Shape → Addr → Refusal CauseState → Type 0
+IsAddrRefusal layout a (Closed cause) = IsUnexplained J13 cause
+IsAddrRefusal layout a (DeviceFailed cause) = IsUnexplained J6 cause
+IsAddrRefusal layout a (Stale cause) = IsShown J9 cause
+IsAddrRefusal layout a BadAddress = is_valid layout a ≡ false
+IsAddrRefusal layout a NoMemory = Unit {0}
+IsAddrRefusal layout a other = ⊥
 
 -- why a request to read is refused
-abbrev pub IsReadRefusal : ℕ → List Addr → Refusal CauseState → Type 0
-IsReadRefusal blocks addrs (Closed cause) = IsUnexplained J13 cause
-IsReadRefusal blocks addrs (DeviceFailed cause) = IsUnexplained J6 cause
-IsReadRefusal blocks addrs (Stale cause) = IsShown J9 cause
-IsReadRefusal blocks addrs BadAddress = (a : Addr) × Contains addrs a × (is_valid blocks a ≡ false)
-IsReadRefusal blocks addrs NoMemory = Unit {0}
-IsReadRefusal blocks addrs other = ⊥
+abbrev pub IsReadRefusal : Shape → List Addr → Refusal CauseState → Type 0
+IsReadRefusal layout addrs (Closed cause) = IsUnexplained J13 cause
+IsReadRefusal layout addrs (DeviceFailed cause) = IsUnexplained J6 cause
+IsReadRefusal layout addrs (Stale cause) = IsShown J9 cause
+IsReadRefusal layout addrs BadAddress = (a : Addr) × Contains addrs a × (is_valid layout a ≡ false)
+IsReadRefusal layout addrs NoMemory = Unit {0}
+IsReadRefusal layout addrs other = ⊥
 
 -- The values are what the map gives the addresses, each of them, at the end of what was seen
 pub record ReadsValues (addrs : List Addr) (values : List Value) (seen : List Entry) : Type 0 where
@@ -135,10 +135,10 @@ pub record ReadsValues (addrs : List Addr) (values : List Value) (seen : List En
   pub agrees : IsTrue (is_trusted seen) → Agrees (latest seen) (zip addrs values)
 
 -- What a request to read these addresses is owed
-abbrev pub IsReadAnswer : ℕ → List Addr → SessionState → SessionState → Answer → Type 0
-IsReadAnswer blocks addrs old new (Values values) = OnlyExtends old new × ReadsValues addrs values.items new.seen
-IsReadAnswer blocks addrs old new (Refused n) = OnlyExtends old new × IsRefusedFor (IsReadRefusal blocks addrs) n
-IsReadAnswer blocks addrs old new other = ⊥
+abbrev pub IsReadAnswer : Shape → List Addr → SessionState → SessionState → Answer → Type 0
+IsReadAnswer layout addrs old new (Values values) = OnlyExtends old new × ReadsValues addrs values.items new.seen
+IsReadAnswer layout addrs old new (Refused n) = OnlyExtends old new × IsRefusedFor (IsReadRefusal layout addrs) n
+IsReadAnswer layout addrs old new other = ⊥
 
 -- ---- other requests
 
@@ -175,17 +175,17 @@ IsStopAnswer may_stop old new other = ⊥
 -- ---- any request
 
 -- What a request is owed as its answer, which leads the session from what it had seen to what it has then seen, by the marks of this history
-abbrev pub IsAnswerTo : ℕ → Bool → List Entry → Request → SessionState → SessionState → Answer → Type 0
-IsAnswerTo blocks may_stop marks (Hello version) old new answer = IsHelloAnswer blocks version old new answer
-IsAnswerTo blocks may_stop marks (Commit parts waits) old new answer = IsCommitAnswer blocks parts.items waits marks old new answer
-IsAnswerTo blocks may_stop marks (Read addrs) old new answer = IsReadAnswer blocks addrs.items old new answer
-IsAnswerTo blocks may_stop marks Flush old new answer = IsFlushAnswer old new answer
-IsAnswerTo blocks may_stop marks Stat old new answer = IsStatAnswer old new answer
-IsAnswerTo blocks may_stop marks Stop old new answer = IsStopAnswer may_stop old new answer
+abbrev pub IsAnswerTo : Shape → Bool → List Entry → Request → SessionState → SessionState → Answer → Type 0
+IsAnswerTo layout may_stop marks (Hello version) old new answer = IsHelloAnswer layout.blocks version old new answer
+IsAnswerTo layout may_stop marks (Commit parts waits) old new answer = IsCommitAnswer layout parts.items waits marks old new answer
+IsAnswerTo layout may_stop marks (Read addrs) old new answer = IsReadAnswer layout addrs.items old new answer
+IsAnswerTo layout may_stop marks Flush old new answer = IsFlushAnswer old new answer
+IsAnswerTo layout may_stop marks Stat old new answer = IsStatAnswer old new answer
+IsAnswerTo layout may_stop marks Stop old new answer = IsStopAnswer may_stop old new answer
 
 -- The request was done and led the session to a state, which has only seen more since, as the mark that it waited for
-abbrev pub IsAnswered : ℕ → Bool → Request → SessionState → SessionState → Answer → Type 0
-IsAnswered blocks may_stop request old new answer = (done : SessionState) × IsAnswerTo blocks may_stop new.seen request old done answer × OnlyExtends done new
+abbrev pub IsAnswered : Shape → Bool → Request → SessionState → SessionState → Answer → Type 0
+IsAnswered layout may_stop request old new answer = (done : SessionState) × IsAnswerTo layout may_stop new.seen request old done answer × OnlyExtends done new
 
 -- what is answered where so many commits are stable: of one that was not known to be, that it is, where it is among them
 abbrev pub settled : ℕ → Answer → Answer

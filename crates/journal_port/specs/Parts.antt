@@ -1,9 +1,9 @@
 -- What the parts of a request do in an open transaction, and why they are given up.
-use Rattle.std.specs.Prelude.{ℕ, ◌≡◌, ◌≢◌, false, IsTrue, List, ◌++◌, Some, None, Contains, All}
+use Rattle.std.specs.Prelude.{◌≡◌, ◌≢◌, false, IsTrue, List, ◌++◌, Some, None, Contains, All}
 use mathlib.Core.List.{IsPrefix}
 use Rattle.journal_world.specs.declared.refusal.Refusal.{Refusal}
 use Rattle.journal_world.specs.declared.refusal.Refusal.TheVariants.{NoMemory, BadAddress, BadSize, DeviceFailed, Stale, Closed}
-use Rattle.journal_world.specs.Addresses.{kind_of, is_valid, slot_of}
+use Rattle.journal_world.specs.Addresses.{kind_of, is_valid, slot_of, Shape}
 use Rattle.journal_world.specs.Maps.{Map, Pair, SamePairs, value_among, value_at, is_value_at}
 use Rattle.journal_world.specs.Histories.{Entry, is_trusted, latest}
 use Rattle.journal_core.specs.declared.refusal_number.RefusalNumber.TheVariants.{J6, J9, J13}
@@ -45,20 +45,20 @@ abbrev pub DiffersAt : Map → Part → Type 0
 DiffersAt m p = (p.action ≡ Compare) × (value_at m p.addr ≢ p.value)
 
 -- why a part is refused. Never because another has its slot
-abbrev pub IsPartRefusal : ℕ → Part → Refusal CauseState → Type 0
-IsPartRefusal blocks p (Closed cause) = IsUnexplained J13 cause
-IsPartRefusal blocks p (DeviceFailed cause) = IsUnexplained J6 cause
-IsPartRefusal blocks p (Stale cause) = IsShown J9 cause
-IsPartRefusal blocks p BadAddress = is_valid blocks p.addr ≡ false
-IsPartRefusal blocks p BadSize = (p.action ≡ Write) × IsTrue (is_valid blocks p.addr) × (is_value_at (kind_of blocks p.addr.block) p.value ≡ false)
-IsPartRefusal blocks p NoMemory = Unit {0}
-IsPartRefusal blocks p other = ⊥
+abbrev pub IsPartRefusal : Shape → Part → Refusal CauseState → Type 0
+IsPartRefusal layout p (Closed cause) = IsUnexplained J13 cause
+IsPartRefusal layout p (DeviceFailed cause) = IsUnexplained J6 cause
+IsPartRefusal layout p (Stale cause) = IsShown J9 cause
+IsPartRefusal layout p BadAddress = is_valid layout p.addr ≡ false
+IsPartRefusal layout p BadSize = (p.action ≡ Write) × IsTrue (is_valid layout p.addr) × (is_value_at (kind_of layout p.addr.block) p.value ≡ false)
+IsPartRefusal layout p NoMemory = Unit {0}
+IsPartRefusal layout p other = ⊥
 
 -- why a part is given up, where the transaction has then seen this
-abbrev pub IsPartFault : ℕ → Part → List Entry → PartFault CauseState → Type 0
-IsPartFault blocks p seen Differs = IsTrue (is_trusted seen) → DiffersAt (latest seen) p
-IsPartFault blocks p seen (Refused why) = IsPartRefusal blocks p why
+abbrev pub IsPartFault : Shape → Part → List Entry → PartFault CauseState → Type 0
+IsPartFault layout p seen Differs = IsTrue (is_trusted seen) → DiffersAt (latest seen) p
+IsPartFault layout p seen (Refused why) = IsPartRefusal layout p why
 
 -- why some are
-abbrev pub IsPartsFault : ℕ → List Part → List Entry → PartFault CauseState → Type 0
-IsPartsFault blocks ps seen fault = (p : Part) × Contains ps p × IsPartFault blocks p seen fault
+abbrev pub IsPartsFault : Shape → List Part → List Entry → PartFault CauseState → Type 0
+IsPartsFault layout ps seen fault = (p : Part) × Contains ps p × IsPartFault layout p seen fault

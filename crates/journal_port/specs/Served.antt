@@ -2,6 +2,7 @@
 use Rattle.std.specs.Prelude.{ℕ, ◌≡◌, ◌⊎◌, Bool, true, false, Option, Result, Ok, Err, List, [], ◌∷◌, ◌++◌}
 use Rattle.std.specs.List.{flat_map, AllByRecursion}
 use Rattle.std.specs.Io.KnownBytes.{Consumes, Appends, IsAtEnd}
+use Rattle.journal_world.specs.Addresses.{Shape}
 use Rattle.journal_world.specs.Histories.{Entry}
 use Rattle.journal_history.specs.Tokens.{SessionState, OnlyExtends}
 use Rattle.journal_records.specs.declared.fault.ReadFault.{ReadFault}
@@ -30,20 +31,20 @@ refused_for fault.UnknownOperation = UnknownOperation
 refused_for fault.Malformed = Malformed
 
 -- What is owed to what a record reads as. One that is no request changes nothing
-abbrev pub IsFoundAnswer : ℕ → Bool → List Entry → Result Request ReadFault → SessionState → SessionState → Answer → Type 0
-IsFoundAnswer blocks may_stop marks (Ok request) old new told = IsAnswerTo blocks may_stop marks request old new told
-IsFoundAnswer blocks may_stop marks (Err why) old new told = (new ≡ old) × (told ≡ Refused (refused_for why))
+abbrev pub IsFoundAnswer : Shape → Bool → List Entry → Result Request ReadFault → SessionState → SessionState → Answer → Type 0
+IsFoundAnswer layout may_stop marks (Ok request) old new told = IsAnswerTo layout may_stop marks request old new told
+IsFoundAnswer layout may_stop marks (Err why) old new told = (new ≡ old) × (told ≡ Refused (refused_for why))
 
 -- What a record is owed, by its bytes
-abbrev pub IsReplyTo : ℕ → Bool → List Entry → List ℕ → SessionState → SessionState → Answer → Type 0
-IsReplyTo blocks may_stop marks bytes old new told = (found : Result Request ReadFault) × ReadsRequest bytes found × IsFoundAnswer blocks may_stop marks found old new told
+abbrev pub IsReplyTo : Shape → Bool → List Entry → List ℕ → SessionState → SessionState → Answer → Type 0
+IsReplyTo layout may_stop marks bytes old new told = (found : Result Request ReadFault) × ReadsRequest bytes found × IsFoundAnswer layout may_stop marks found old new told
 
 -- These are the answers to the records, in order. Each leads from one state of the session to another, and between them it may see more
-abbrev pub AreAnswers : ℕ → Bool → List Entry → List (List ℕ) → SessionState → SessionState → List Answer → Type 0
-AreAnswers blocks may_stop marks [] old new answers = OnlyExtends old new × (answers ≡ [])
-AreAnswers blocks may_stop marks (r ∷ rs) old new answers =
+abbrev pub AreAnswers : Shape → Bool → List Entry → List (List ℕ) → SessionState → SessionState → List Answer → Type 0
+AreAnswers layout may_stop marks [] old new answers = OnlyExtends old new × (answers ≡ [])
+AreAnswers layout may_stop marks (r ∷ rs) old new answers =
     (begun : SessionState) × (mid : SessionState) × (first : Answer) × (more : List Answer)
-    × OnlyExtends old begun × IsReplyTo blocks may_stop marks r begun mid first × AreAnswers blocks may_stop marks rs mid new more × (answers ≡ first ∷ more)
+    × OnlyExtends old begun × IsReplyTo layout may_stop marks r begun mid first × AreAnswers layout may_stop marks rs mid new more × (answers ≡ first ∷ more)
 
 -- ---- the text of answers
 
@@ -79,11 +80,11 @@ pub record AppendsFront (old new : Option (List ℕ)) (bytes : List ℕ) : Type 
 -- ---- a turn
 
 -- Some records at the front of the bytes that wait were answered so, and the rest waits
-pub record Turns (blocks : ℕ) (may_stop : Bool) (waiting rest : List ℕ) (old new : SessionState) (answers : List Answer) : Type 0 where
+pub record Turns (layout : Shape) (may_stop : Bool) (waiting rest : List ℕ) (old new : SessionState) (answers : List Answer) : Type 0 where
   pub records : List (List ℕ)
   pub is : waiting ≡ frames records ++ rest
   pub short : AllByRecursion IsShort records
-  pub answered : AreAnswers blocks may_stop new.seen records old new answers
+  pub answered : AreAnswers layout may_stop new.seen records old new answers
 
 -- the last of these says that the service ends
 abbrev pub EndsStopping : List Answer → Type 0
@@ -97,17 +98,17 @@ EndsTurn turn.Stopped rest answers = EndsStopping answers
 EndsTurn turn.TooLong rest answers = BeginsTooLong rest
 
 -- they were answered, and the answers written
-pub record Replies (blocks : ℕ) (may_stop : Bool) (turn : Turn) (waiting rest : List ℕ) (old new : SessionState) (before holds : Option (List ℕ)) : Type 0 where
+pub record Replies (layout : Shape) (may_stop : Bool) (turn : Turn) (waiting rest : List ℕ) (old new : SessionState) (before holds : Option (List ℕ)) : Type 0 where
   pub answers : List Answer
-  pub turns : Turns blocks may_stop waiting rest old new answers
+  pub turns : Turns layout may_stop waiting rest old new answers
   pub ends : EndsTurn turn rest answers
   pub wrote : Writes before holds answers
 
 -- they were answered, and a front of the answers' text was written
-pub record RepliesInPart (blocks : ℕ) (may_stop : Bool) (waiting : List ℕ) (old new : SessionState) (before holds : Option (List ℕ)) : Type 0 where
+pub record RepliesInPart (layout : Shape) (may_stop : Bool) (waiting : List ℕ) (old new : SessionState) (before holds : Option (List ℕ)) : Type 0 where
   pub rest : List ℕ
   pub answers : List Answer
-  pub turns : Turns blocks may_stop waiting rest old new answers
+  pub turns : Turns layout may_stop waiting rest old new answers
   pub wrote : AppendsFront before holds (texts answers)
 
 -- a piece came after what waited, or nothing more comes
@@ -122,11 +123,11 @@ FeedsInPart from left = (piece : List ℕ) × Consumes from left piece
 -- ---- a connection
 
 -- The reader gave some records and a rest, and these are the answers to the records
-pub record Exchange (blocks : ℕ) (may_stop : Bool) (from left : Option (List ℕ)) (rest : List ℕ) (old new : SessionState) (answers : List Answer) : Type 0 where
+pub record Exchange (layout : Shape) (may_stop : Bool) (from left : Option (List ℕ)) (rest : List ℕ) (old new : SessionState) (answers : List Answer) : Type 0 where
   pub records : List (List ℕ)
   pub read : Consumes from left (frames records ++ rest)
   pub short : AllByRecursion IsShort records
-  pub answered : AreAnswers blocks may_stop new.seen records old new answers
+  pub answered : AreAnswers layout may_stop new.seen records old new answers
 
 -- the answer to a record that is too long
 abbrev pub refuses_long : Answer
@@ -144,25 +145,25 @@ IsEnd TooLong left rest answers behind = BeginsTooLong rest × (behind ≡ refus
 
 -- A connection that was served to its end: what the reader gave is some records and a rest, and what was written is the answers to the records,
 -- in order, and what is answered after them
-pub record Serves (blocks : ℕ) (may_stop : Bool) (end : End) (from left before holds : Option (List ℕ)) (old new : SessionState) : Type 0 where
+pub record Serves (layout : Shape) (may_stop : Bool) (end : End) (from left before holds : Option (List ℕ)) (old new : SessionState) : Type 0 where
   pub rest : List ℕ
   pub answers : List Answer
   pub behind : List Answer
-  pub exchange : Exchange blocks may_stop from left rest old new answers
+  pub exchange : Exchange layout may_stop from left rest old new answers
   pub wrote : Writes before holds (answers ++ behind)
   pub ends : IsEnd end left rest answers behind
 
 -- One that was given up: a front of the answers' text was written
-pub record Breaks (blocks : ℕ) (may_stop : Bool) (from left before holds : Option (List ℕ)) (old new : SessionState) : Type 0 where
+pub record Breaks (layout : Shape) (may_stop : Bool) (from left before holds : Option (List ℕ)) (old new : SessionState) : Type 0 where
   pub rest : List ℕ
   pub answers : List Answer
   pub behind : List Answer
-  pub exchange : Exchange blocks may_stop from left rest old new answers
+  pub exchange : Exchange layout may_stop from left rest old new answers
   pub owed : IsBehind rest behind
   pub wrote : AppendsFront before holds (texts (answers ++ behind))
 
 -- One on its way
-pub record SoFar (blocks : ℕ) (may_stop : Bool) (from left before holds : Option (List ℕ)) (rest : List ℕ) (old new : SessionState) : Type 0 where
+pub record SoFar (layout : Shape) (may_stop : Bool) (from left before holds : Option (List ℕ)) (rest : List ℕ) (old new : SessionState) : Type 0 where
   pub answers : List Answer
-  pub exchange : Exchange blocks may_stop from left rest old new answers
+  pub exchange : Exchange layout may_stop from left rest old new answers
   pub wrote : Writes before holds answers

@@ -23,7 +23,7 @@ pub(crate) fn commit<'b, D: BlockDisk, J: Naming, W: Wait>(
     parts: Vec<Part>,
     waits: bool,
 ) -> Answer
-    ensures { IsCommitAnswer J.blocks parts.items waits session.new.seen session.old session.new result }
+    ensures { IsCommitAnswer J.layout parts.items waits session.new.seen session.old session.new result }
 {
     let mut parts = parts;
     match sort(&mut parts) {
@@ -42,7 +42,7 @@ fn commit_in_order<'b, D: BlockDisk, J: Naming, W: Wait>(
     waits: bool,
 ) -> Answer
     requires { IsNonDecreasingBy order_of parts.now }
-    ensures { IsCommitAnswer J.blocks parts.now waits session.new.seen session.old session.new result }
+    ensures { IsCommitAnswer J.layout parts.now waits session.new.seen session.old session.new result }
 {
     let mut txn = journal.begin(alloc, session);
     // Called for its contract: the session has seen an opening.
@@ -74,7 +74,7 @@ fn end<'j, 'b, D: BlockDisk, J: Naming, W: Wait>(
     session: &mut Session<'b, J, AnyMap>,
     waits: bool,
 ) -> Answer
-    ensures { IsEnd J.blocks txn.entry waits session.old session.new result }
+    ensures { IsEnd J.layout txn.entry waits session.old session.new result }
 {
     let made = match txn.commit(rt, session) {
         Ok(made) => made,

@@ -39,7 +39,7 @@ pub(crate) fn do_parts<'j, 'b, D: BlockDisk, J: Naming, W: Wait>(
     requires writes { txn.old.writes ≡ [] }
     ensures does { OnOk result (Does parts.now txn.old txn.new) }
     ensures later { IsPrefix txn.old.seen txn.new.seen }
-    ensures fault { IfErr result (IsPartsFault J.blocks parts.now txn.new.seen) }
+    ensures fault { IfErr result (IsPartsFault J.layout parts.now txn.new.seen) }
 {
     for part in parts {
         do_part(rt, txn, part)?;
@@ -57,7 +57,7 @@ fn do_part<'j, 'b, D: BlockDisk, J: Naming, W: Wait>(
     ensures does { OnOk result (Does (part.now ∷ []) txn.old txn.new) }
     ensures held { OnOk result (txn.new.held ≡ with_slot txn.old.held (slot_number part.now.addr)) }
     ensures later { IsPrefix txn.old.seen txn.new.seen }
-    ensures fault { IfErr result (IsPartFault J.blocks part.now txn.new.seen) }
+    ensures fault { IfErr result (IsPartFault J.layout part.now txn.new.seen) }
 {
     match part.action {
         Action::Compare => compare(rt, txn, part),
@@ -76,7 +76,7 @@ fn compare<'j, 'b, D: BlockDisk, J: Naming, W: Wait>(
     ensures does { OnOk result (Does (part.now ∷ []) txn.old txn.new) }
     ensures held { OnOk result (txn.new.held ≡ with_slot txn.old.held (slot_number part.now.addr)) }
     ensures later { IsPrefix txn.old.seen txn.new.seen }
-    ensures fault { IfErr result (IsPartFault J.blocks part.now txn.new.seen) }
+    ensures fault { IfErr result (IsPartFault J.layout part.now txn.new.seen) }
 {
     match txn.read(rt, part.addr) {
         Ok(value) => {
@@ -101,7 +101,7 @@ fn write<'j, 'b, D: BlockDisk, J: Naming, W: Wait>(
     ensures does { OnOk result (Does (part.now ∷ []) txn.old txn.new) }
     ensures held { OnOk result (txn.new.held ≡ with_slot txn.old.held (slot_number part.now.addr)) }
     ensures later { IsPrefix txn.old.seen txn.new.seen }
-    ensures fault { IfErr result (IsPartFault J.blocks part.now txn.new.seen) }
+    ensures fault { IfErr result (IsPartFault J.layout part.now txn.new.seen) }
 {
     match txn.overwrite(rt, part.addr, part.value.bytes()) {
         Ok(()) => Ok(()),

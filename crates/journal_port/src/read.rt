@@ -26,7 +26,7 @@ pub(crate) fn read<'b, D: BlockDisk, J: Naming, W: Wait>(
     session: &mut Session<'b, J, AnyMap>,
     addrs: &[Addr],
 ) -> Answer
-    ensures { IsReadAnswer J.blocks addrs.now session.old session.new result }
+    ensures { IsReadAnswer J.layout addrs.now session.old session.new result }
 {
     let Ok(sorted) = sorted(alloc, addrs) else {
         return Answer::Refused(Refused::NoMemory);
@@ -68,7 +68,7 @@ fn read_values<'j, 'b, D: BlockDisk, J: Naming, W: Wait>(
     ensures reads { IfOk result (λ values. IsTrue (is_trusted txn.old.seen) → AreRead txn.new.reads (zip addrs.now values.items)) }
     ensures counted { IfOk result (λ values. length values.items ≡ length addrs.now) }
     ensures later { IsPrefix txn.old.seen txn.new.seen }
-    ensures refusal { IfErr result (IsReadRefusal J.blocks addrs.now) }
+    ensures refusal { IfErr result (IsReadRefusal J.layout addrs.now) }
 {
     take_slots(rt, txn, sorted)?;
     let values = read_each(rt, alloc, txn, addrs)?;
@@ -87,7 +87,7 @@ fn take_slots<'j, 'b, D: BlockDisk, J: Naming, W: Wait>(
     ensures held { OnOk result (All (λ a. IsTrue (holds txn.new.held (slot_number a))) addrs.now) }
     ensures writes { txn.new.writes ≡ [] }
     ensures later { IsPrefix txn.old.seen txn.new.seen }
-    ensures refusal { IfErr result (IsReadRefusal J.blocks addrs.now) }
+    ensures refusal { IfErr result (IsReadRefusal J.layout addrs.now) }
 {
     for addr in addrs {
         read_one(rt, txn, *addr)?;
@@ -107,7 +107,7 @@ fn read_each<'j, 'b, D: BlockDisk, J: Naming, W: Wait>(
     ensures reads { IfOk result (λ values. IsTrue (is_trusted txn.old.seen) → AreRead txn.new.reads (zip addrs.now values.items)) }
     ensures counted { IfOk result (λ values. length values.items ≡ length addrs.now) }
     ensures later { IsPrefix txn.old.seen txn.new.seen }
-    ensures refusal { IfErr result (IsReadRefusal J.blocks addrs.now) }
+    ensures refusal { IfErr result (IsReadRefusal J.layout addrs.now) }
 {
     let mut values = Vec::new(alloc);
     for addr in addrs {
@@ -132,7 +132,7 @@ fn read_one<'j, 'b, D: BlockDisk, J: Naming, W: Wait>(
     ensures writes { txn.new.writes ≡ [] }
     ensures held { OnOk result (txn.new.held ≡ with_slot txn.old.held (slot_number addr)) }
     ensures later { IsPrefix txn.old.seen txn.new.seen }
-    ensures refusal { IfErr result (IsAddrRefusal J.blocks addr) }
+    ensures refusal { IfErr result (IsAddrRefusal J.layout addr) }
 {
     txn.read(rt, addr)
 }

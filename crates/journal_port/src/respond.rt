@@ -62,8 +62,8 @@ pub fn answer<'b, D: BlockDisk, J: Naming, W: Wait>(
     terms: Terms,
     request: Request,
 ) -> Answer
-    requires { terms.blocks ≡ J.blocks }
-    ensures { IsAnswered J.blocks terms.may_stop request session.old session.new result }
+    requires { terms.blocks ≡ J.layout.blocks }
+    ensures { IsAnswered J.layout terms.may_stop request session.old session.new result }
 {
     let port = Port {
         alloc,
@@ -86,8 +86,8 @@ pub(crate) fn answer_no_wait<'b, D: BlockDisk, J: Naming, W: Wait>(
     session: &mut Session<'b, J, AnyMap>,
     request: Request,
 ) -> Answer
-    requires { port.now.terms.blocks ≡ J.blocks }
-    ensures { IsAnswerTo J.blocks port.now.terms.may_stop session.new.seen request session.old session.new result }
+    requires { port.now.terms.blocks ≡ J.layout.blocks }
+    ensures { IsAnswerTo J.layout port.now.terms.may_stop session.new.seen request session.old session.new result }
 {
     let (alloc, journal, terms) = (port.alloc, port.journal, port.terms);
     match request {

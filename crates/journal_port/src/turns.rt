@@ -47,9 +47,9 @@ pub(crate) fn answer_turn<'b, D: BlockDisk, J: Naming, H: Wait, W: Write>(
     held: &mut Vec<Answer>,
     writer: &mut W,
 ) -> Result<Turn, ConnFault>
-    requires { port.now.terms.blocks ≡ J.blocks }
-    ensures done { IfOk result (λ turn. Replies J.blocks port.now.terms.may_stop turn input.old input.new session.old session.new (W.contents writer.old) (W.contents writer.new)) }
-    ensures given_up { OnErr result (RepliesInPart J.blocks port.now.terms.may_stop input.old session.old session.new (W.contents writer.old) (W.contents writer.new)) }
+    requires { port.now.terms.blocks ≡ J.layout.blocks }
+    ensures done { IfOk result (λ turn. Replies J.layout port.now.terms.may_stop turn input.old input.new session.old session.new (W.contents writer.old) (W.contents writer.new)) }
+    ensures given_up { OnErr result (RepliesInPart J.layout port.now.terms.may_stop input.old session.old session.new (W.contents writer.old) (W.contents writer.new)) }
 {
     let Ok(turn) = take_turn(rt, port, session, input, held) else {
         return Err(ConnFault::NoMemory);
@@ -67,8 +67,8 @@ fn take_turn<'b, D: BlockDisk, J: Naming, H: Wait>(
     input: &mut Input,
     held: &mut Vec<Answer>,
 ) -> Result<Turn, AllocError>
-    requires { port.now.terms.blocks ≡ J.blocks }
-    ensures taken { Turns J.blocks port.now.terms.may_stop input.old input.new session.old session.new held.new.items }
+    requires { port.now.terms.blocks ≡ J.layout.blocks }
+    ensures taken { Turns J.layout port.now.terms.may_stop input.old input.new session.old session.new held.new.items }
     ensures ended { IfOk result (λ turn. EndsTurn turn input.new held.new.items) }
 {
     held.clear();
@@ -102,8 +102,8 @@ fn reply<'b, D: BlockDisk, J: Naming, H: Wait>(
     session: &mut Session<'b, J, AnyMap>,
     found: Result<Request, ReadFault>,
 ) -> Answer
-    requires { port.now.terms.blocks ≡ J.blocks }
-    ensures { IsFoundAnswer J.blocks port.now.terms.may_stop session.new.seen found session.old session.new result }
+    requires { port.now.terms.blocks ≡ J.layout.blocks }
+    ensures { IsFoundAnswer J.layout port.now.terms.may_stop session.new.seen found session.old session.new result }
 {
     match found {
         Ok(request) => answer_no_wait(rt, port, session, request),

@@ -1,5 +1,6 @@
 // Connections from their first byte to their end.
 ghost use Rattle.std.specs.Prelude.{◌≡◌, IsTrue};
+ghost use Rattle.journal_world.specs.Files.{files};
 
 use journal_daemon::{OpenGate, start};
 use journal_disk::MemDisk;
@@ -131,7 +132,7 @@ fn hear_in_book<J: Naming + Send + Sync, H: Abort + Threads + Wait + Clock + Syn
 ) -> (Heard, Heard)
     requires book { book.now ≡ J.book }
     requires cell { cell ≡ J.cell }
-    requires blocks { J.blocks ≡ 600 }
+    requires layout { J.layout ≡ files 600 }
 {
     let journal = opened::<J, _>(rt, alloc, book, cell);
     let heard = hear_beside(rt, alloc, &journal, clients);
@@ -148,7 +149,7 @@ fn opened<'b, J: Naming, H: Abort>(
 ) -> Journal<'b, MemDisk, AnyMap, J>
     requires book { book.now ≡ J.book }
     requires cell { cell ≡ J.cell }
-    requires blocks { J.blocks ≡ 600 }
+    requires layout { J.layout ≡ files 600 }
 {
     let disk = MemDisk::new::<()>(alloc, BLOCKS).expect(rt, "a disk");
     let journal = Journal::open(alloc, book, cell, disk, &AnyMap);
@@ -161,11 +162,11 @@ fn hear_beside<'b, J: Naming + Send + Sync, H: Abort + Threads + Wait + Clock + 
     journal: &Journal<'b, MemDisk, AnyMap, J>,
     clients: (&Client<'_>, &Client<'_>),
 ) -> (Heard, Heard)
-    requires blocks { J.blocks ≡ 600 }
+    requires layout { J.layout ≡ files 600 }
 {
     let (first, second) = clients;
     let serves = || -> (Heard, Heard)
-        requires { J.blocks ≡ 600 }
+        requires { J.layout ≡ files 600 }
     {
         let heard = hear_on(rt, alloc, journal, first);
         let then = hear_on(rt, alloc, journal, second);
@@ -182,7 +183,7 @@ fn hear_on<'b, J: Naming, H: Abort + Wait>(
     journal: &Journal<'b, MemDisk, AnyMap, J>,
     client: &Client<'_>,
 ) -> Heard
-    requires blocks { J.blocks ≡ 600 }
+    requires layout { J.layout ≡ files 600 }
 {
     let mut session = journal.session(rt).ok().expect(rt, "a session");
     let terms = Terms {

@@ -1,5 +1,6 @@
 // Requests that wait: one wait is made for all that came together, and no answer is written before it has ended.
 ghost use Rattle.std.specs.Prelude.{◌≡◌};
+ghost use Rattle.journal_world.specs.Files.{files};
 ghost use Rattle.journal_disk.specs.Disks.{IsSettled};
 
 use crate::tests::{bytes_of, wants};
@@ -167,8 +168,8 @@ fn hear_in_book<'s, J: Naming + Send + Sync, H: Abort + Threads + Wait + Sync>(
 ) -> Heard
     requires book { book.now ≡ J.book }
     requires cell { cell ≡ J.cell }
-    requires blocks { J.blocks ≡ 600 }
-    requires size { disk.disk.past.size ≡ J.blocks }
+    requires layout { J.layout ≡ files 600 }
+    requires size { J.layout ≡ files disk.disk.past.size }
     requires settled { IsSettled disk.disk.past }
 {
     let opened: Result<Gated<'s, '_, J>, _> = Journal::open(alloc, book, cell, disk, &AnyMap);
@@ -186,10 +187,10 @@ fn hear_beside<'s, 'b, J: Naming + Send + Sync, H: Abort + Threads + Wait + Sync
     signals: &'s Signals,
     talk: Talk<'_>,
 ) -> Heard
-    requires blocks { J.blocks ≡ 600 }
+    requires layout { J.layout ≡ files 600 }
 {
     let serves = || -> Heard
-        requires { J.blocks ≡ 600 }
+        requires { J.layout ≡ files 600 }
     {
         let heard = hear_on(rt, alloc, journal, signals, talk);
         signals.is_done.store(true, Ordering::SeqCst);
@@ -206,7 +207,7 @@ fn hear_on<'s, 'b, J: Naming, H: Abort + Wait>(
     signals: &Signals,
     talk: Talk<'_>,
 ) -> Heard
-    requires blocks { J.blocks ≡ 600 }
+    requires layout { J.layout ≡ files 600 }
 {
     let mut session = journal.session(rt).ok().expect(rt, "a session");
     let terms = Terms {

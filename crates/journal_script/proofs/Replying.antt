@@ -6,6 +6,8 @@ use Rattle.std.specs.declared.ops.ControlFlow.{ControlFlow}
 use Rattle.std.specs.declared.ops.ControlFlow.TheVariants.{Continue, Break}
 use Rattle.journal_world.specs.declared.refusal.Refusal.{Refusal}
 use Rattle.journal_world.specs.declared.refusal.Refusal.TheVariants.{NoMemory}
+use Rattle.journal_world.specs.Addresses.{Shape}
+use Rattle.journal_world.specs.Files.{files}
 use Rattle.journal_command.specs.declared.command.Command.{Command}
 use Rattle.journal_command.specs.declared.command.Command.TheVariants as commands
 use Rattle.journal_script.specs.declared.answer.Answer.{Answer}
@@ -29,20 +31,20 @@ use Rattle.journal_script.specs.Clients.{ClientState, IsRefusal, IsRefused, Give
 -- ---- replies of a journal
 
 -- what a call gave or was refused goes on
-pub replies_plain : (blocks : ℕ) (old : ClientState) (command : Command) (r : Result Answer (Refusal CauseState)) (flow : ControlFlow Crash Answer)
-    → ((answer : Answer) → GivesAnswer blocks command answer ⊎ IsRefused (IsRefusal command) answer → Replies blocks old command (Continue answer) old)
-    → IfOk r (GivesAnswer blocks command) → IfErr r (IsRefusal command) → FlowGoesOn r flow → Replies blocks old command flow old
-replies_plain blocks old command (Ok answer) flow replies gives refused goes =
-    subst (λ (f : ControlFlow Crash Answer). Replies blocks old command f old) (sym goes) (replies answer (inl gives))
-replies_plain blocks old command (Err why) flow replies gives refused goes =
-    subst (λ (f : ControlFlow Crash Answer). Replies blocks old command f old) (sym goes.2) (replies goes.0 (inr (why, refused, goes.1)))
+pub replies_plain : (layout : Shape) (old : ClientState) (command : Command) (r : Result Answer (Refusal CauseState)) (flow : ControlFlow Crash Answer)
+    → ((answer : Answer) → GivesAnswer layout command answer ⊎ IsRefused (IsRefusal command) answer → Replies layout old command (Continue answer) old)
+    → IfOk r (GivesAnswer layout command) → IfErr r (IsRefusal command) → FlowGoesOn r flow → Replies layout old command flow old
+replies_plain layout old command (Ok answer) flow replies gives refused goes =
+    subst (λ (f : ControlFlow Crash Answer). Replies layout old command f old) (sym goes) (replies answer (inl gives))
+replies_plain layout old command (Err why) flow replies gives refused goes =
+    subst (λ (f : ControlFlow Crash Answer). Replies layout old command f old) (sym goes.2) (replies goes.0 (inr (why, refused, goes.1)))
 
 -- a crash that opens the disk is one that the line names
-reply_opens : (blocks : ℕ) (old new : ClientState) (line : List ℕ) (crash : Crash) → AnswersLine blocks old line (Break crash) new → crash.opens ≡ true → IsOpening line
-reply_opens blocks old new line crash (inl (commands.Down choice, says, replies)) opens = cc
-reply_opens blocks old new line crash (inl (commands.Crash choice, says, replies)) opens = inr (choice, says)
-reply_opens blocks old new line crash (inl (command, says, replies)) opens = absurd replies
-reply_opens blocks old new line crash (inr (none, told, same)) opens = cc told
+reply_opens : (layout : Shape) (old new : ClientState) (line : List ℕ) (crash : Crash) → AnswersLine layout old line (Break crash) new → crash.opens ≡ true → IsOpening line
+reply_opens layout old new line crash (inl (commands.Down choice, says, replies)) opens = cc
+reply_opens layout old new line crash (inl (commands.Crash choice, says, replies)) opens = inr (choice, says)
+reply_opens layout old new line crash (inl (command, says, replies)) opens = absurd replies
+reply_opens layout old new line crash (inr (none, told, same)) opens = cc told
 
 -- ---- a line that opens a disk
 
@@ -95,27 +97,27 @@ asks_at : (b c mid : Streams) → TakesOneLine b c → mid ≡ c → TakesOneLin
 asks_at b c mid asks same = subst (λ (s : Streams). TakesOneLine b s) (sym same) asks
 
 -- the line was answered
-pub goes_on : (a b c mid d : Streams) (blocks : ℕ) (old new : ClientState) (line : List ℕ) (reply : ControlFlow Crash Answer) (answer : Answer) → Talks a b → TakesOneLine b c → mid ≡ c → line ≡ mid.line
-    → AnswersLine blocks old line reply new → reply ≡ Continue answer → Prints answer mid d → Talks a d
-goes_on a b c mid d blocks old new line reply answer talks asks same is answers goes prints =
-    let replied = subst (λ (f : ControlFlow Crash Answer). AnswersLine blocks old line f new) goes answers in
+pub goes_on : (a b c mid d : Streams) (layout : Shape) (laid : (blocks : ℕ) × (layout ≡ files blocks)) (old new : ClientState) (line : List ℕ) (reply : ControlFlow Crash Answer) (answer : Answer) → Talks a b → TakesOneLine b c → mid ≡ c → line ≡ mid.line
+    → AnswersLine layout old line reply new → reply ≡ Continue answer → Prints answer mid d → Talks a d
+goes_on a b c mid d layout laid old new line reply answer talks asks same is answers goes prints =
+    let replied = subst (λ (f : ControlFlow Crash Answer). AnswersLine (files laid.0) old line f new) goes (subst (λ (s : Shape). AnswersLine s old line reply new) laid.1 answers) in
     talks_more a b mid d talks (asks_at b c mid asks same)
-    (record { answer = answer; answered = subst (λ l. IsAnswerTo l answer) is (inl (blocks, old, new, replied)); prints = prints })
+    (record { answer = answer; answered = subst (λ l. IsAnswerTo l answer) is (inl (laid.0, old, new, replied)); prints = prints })
 
 -- the line ends the journal, and the opening answers it
-pub ends_to_open : (a b c mid : Streams) (blocks : ℕ) (old new : ClientState) (line : List ℕ) (reply : ControlFlow Crash Answer) (crash : Crash) → Talks a b → TakesOneLine b c → mid ≡ c → line ≡ mid.line
-    → AnswersLine blocks old line reply new → reply ≡ Break crash → crash.opens ≡ true → ComesToBy crash.opens a mid
-ends_to_open a b c mid blocks old new line reply crash talks asks same is replied ends opens =
-    let asked = reply_opens blocks old new line crash (subst (λ (f : ControlFlow Crash Answer). AnswersLine blocks old line f new) ends replied) opens in
+pub ends_to_open : (a b c mid : Streams) (layout : Shape) (laid : (blocks : ℕ) × (layout ≡ files blocks)) (old new : ClientState) (line : List ℕ) (reply : ControlFlow Crash Answer) (crash : Crash) → Talks a b → TakesOneLine b c → mid ≡ c → line ≡ mid.line
+    → AnswersLine layout old line reply new → reply ≡ Break crash → crash.opens ≡ true → ComesToBy crash.opens a mid
+ends_to_open a b c mid layout laid old new line reply crash talks asks same is replied ends opens =
+    let asked = reply_opens layout old new line crash (subst (λ (f : ControlFlow Crash Answer). AnswersLine layout old line f new) ends replied) opens in
     subst (λ t. ComesToBy t a mid) (sym opens) (b, talks, asks_at b c mid asks same, subst IsOpening is asked)
 
 -- the line ends the journal, and was answered
-pub ends_to_down : (a b c mid d : Streams) (blocks : ℕ) (old new : ClientState) (line : List ℕ) (reply : ControlFlow Crash Answer) (crash : Crash) → Talks a b → TakesOneLine b c → mid ≡ c → line ≡ mid.line
-    → AnswersLine blocks old line reply new → reply ≡ Break crash → crash.opens ≡ false → Prints answers.Done mid d → ComesToBy crash.opens a d
-ends_to_down a b c mid d blocks old new line reply crash talks asks same is replied ends opens prints =
-    let broken = subst (λ (f : ControlFlow Crash Answer). AnswersLine blocks old line f new) ends replied in
+pub ends_to_down : (a b c mid d : Streams) (layout : Shape) (laid : (blocks : ℕ) × (layout ≡ files blocks)) (old new : ClientState) (line : List ℕ) (reply : ControlFlow Crash Answer) (crash : Crash) → Talks a b → TakesOneLine b c → mid ≡ c → line ≡ mid.line
+    → AnswersLine layout old line reply new → reply ≡ Break crash → crash.opens ≡ false → Prints answers.Done mid d → ComesToBy crash.opens a d
+ends_to_down a b c mid d layout laid old new line reply crash talks asks same is replied ends opens prints =
+    let broken = subst (λ (f : ControlFlow Crash Answer). AnswersLine (files laid.0) old line f new) ends (subst (λ (s : Shape). AnswersLine s old line reply new) laid.1 replied) in
     subst (λ t. ComesToBy t a d) (sym opens) (talks_more a b mid d talks (asks_at b c mid asks same)
-    (record { answer = answers.Done; answered = subst (λ l. IsAnswerTo l answers.Done) is (inr (inl (crash, (blocks, old, new, broken), opens, refl))); prints = prints }))
+    (record { answer = answers.Done; answered = subst (λ l. IsAnswerTo l answers.Done) is (inr (inl (crash, (laid.0, old, new, broken), opens, refl))); prints = prints }))
 
 -- ---- a disk that is down
 

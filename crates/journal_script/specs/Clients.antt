@@ -5,7 +5,7 @@ use Rattle.std.specs.declared.ops.ControlFlow.TheVariants.{Continue, Break}
 use Rattle.journal_world.specs.declared.address.Addr.{Addr}
 use Rattle.journal_world.specs.declared.refusal.Refusal.{Refusal}
 use Rattle.journal_world.specs.declared.refusal.Refusal.TheVariants.{NoMemory}
-use Rattle.journal_world.specs.Addresses.{Value}
+use Rattle.journal_world.specs.Addresses.{Value, Shape}
 use Rattle.journal_world.specs.Histories.{is_fenced}
 use Rattle.journal_history.specs.Tokens.{SessionState, CommitPlace, OnlyExtends}
 use Rattle.journal_core.specs.Causes.{CauseState}
@@ -59,10 +59,9 @@ pub record KeepsOpen (old : ClientState) (why : TxnState → Type 0) (new : Clie
   pub refused : why found
 
 -- The transaction was committed, and the answer is the receipt's count
-pub record CommitsAndEnds (t : TxnState) (old : ClientState) (n : ℕ) (new : ClientState) : Type 0 where
+pub record CommitsAndEnds (layout : Shape) (t : TxnState) (old : ClientState) (n : ℕ) (new : ClientState) : Type 0 where
   pub receipt : CommitPlace
-  pub blocks : ℕ
-  pub committed : IsCommitted (λ m. Unit {0}) blocks t.began (core_of t) old.session new.session receipt
+  pub committed : IsCommitted (λ m. Unit {0}) layout t.began (core_of t) old.session new.session receipt
   pub counted : n ≡ receipt.count
   pub ended : new.txn ≡ None
 
@@ -74,11 +73,11 @@ pub record RefusesAndEnds (t : TxnState) (old : ClientState) (why : Refusal Caus
   pub ended : new.txn ≡ None
 
 -- what a commit answers, and does to the open transaction
-abbrev pub CommitsOpen : ClientState → Result Answer (Refusal CauseState) → ClientState → Type 0
-CommitsOpen old (Ok (answers.Committed n)) new = MatchOption old.txn ⊥ (λ t. CommitsAndEnds t old n new)
-CommitsOpen old (Ok answers.NoTransaction) new = (old.txn ≡ None) × (new ≡ old)
-CommitsOpen old (Ok answer) new = ⊥
-CommitsOpen old (Err why) new = MatchOption old.txn ⊥ (λ t. RefusesAndEnds t old why new)
+abbrev pub CommitsOpen : Shape → ClientState → Result Answer (Refusal CauseState) → ClientState → Type 0
+CommitsOpen layout old (Ok (answers.Committed n)) new = MatchOption old.txn ⊥ (λ t. CommitsAndEnds layout t old n new)
+CommitsOpen layout old (Ok answers.NoTransaction) new = (old.txn ≡ None) × (new ≡ old)
+CommitsOpen layout old (Ok answer) new = ⊥
+CommitsOpen layout old (Err why) new = MatchOption old.txn ⊥ (λ t. RefusesAndEnds t old why new)
 
 -- The session's fence stands, and the session has seen it. A transaction that is open stays open
 pub record FencesSession (old new : ClientState) : Type 0 where
@@ -123,36 +122,36 @@ IsRefusal command why = ⊥
 abbrev pub IsRefused : (Refusal CauseState → Type 0) → Answer → Type 0
 IsRefused may_come answer = (why : Refusal CauseState) × may_come why × Refuses why answer
 
--- what a command gives that is done and looks at no transaction, of a journal over so many blocks
-abbrev pub GivesAnswer : ℕ → Command → Answer → Type 0
-GivesAnswer blocks commands.Wait (answers.Stable n) = Unit {0}
-GivesAnswer blocks (commands.Log most) (answers.Logged n) = n ≤ most_of most
-GivesAnswer blocks (commands.Install most) (answers.Installed n) = n ≤ most_of most
-GivesAnswer blocks commands.Stat (answers.Stat stat) = Unit {0}
-GivesAnswer blocks commands.Pend (answers.Pending pending) = Unit {0}
-GivesAnswer blocks (commands.Disk block at len) (answers.Value v) = (block < blocks) × (length v ≡ len)
-GivesAnswer blocks (commands.Disk block at len) answers.BadLine = block < blocks → ⊥
-GivesAnswer blocks (commands.Fail call) answers.Done = Unit {0}
-GivesAnswer blocks commands.Open answers.Up = Unit {0}
-GivesAnswer blocks (commands.Poke block at v) answers.Up = block < blocks
-GivesAnswer blocks (commands.Poke block at v) answers.BadLine = block < blocks → ⊥
-GivesAnswer blocks command answer = ⊥
+-- what a command gives that is done and looks at no transaction, of a journal over a disk of a layout
+abbrev pub GivesAnswer : Shape → Command → Answer → Type 0
+GivesAnswer layout commands.Wait (answers.Stable n) = Unit {0}
+GivesAnswer layout (commands.Log most) (answers.Logged n) = n ≤ most_of most
+GivesAnswer layout (commands.Install most) (answers.Installed n) = n ≤ most_of most
+GivesAnswer layout commands.Stat (answers.Stat stat) = Unit {0}
+GivesAnswer layout commands.Pend (answers.Pending pending) = Unit {0}
+GivesAnswer layout (commands.Disk block at len) (answers.Value v) = (block < layout.blocks) × (length v ≡ len)
+GivesAnswer layout (commands.Disk block at len) answers.BadLine = block < layout.blocks → ⊥
+GivesAnswer layout (commands.Fail call) answers.Done = Unit {0}
+GivesAnswer layout commands.Open answers.Up = Unit {0}
+GivesAnswer layout (commands.Poke block at v) answers.Up = block < layout.blocks
+GivesAnswer layout (commands.Poke block at v) answers.BadLine = block < layout.blocks → ⊥
+GivesAnswer layout command answer = ⊥
 
--- What a command is answered, and leaves, of a journal over so many blocks. `put` and `get` begin a transaction where none is
+-- What a command is answered, and leaves, of a journal over a disk of a layout. `put` and `get` begin a transaction where none is
 -- open, also where they are refused
-abbrev pub Obeys : ℕ → ClientState → Command → Answer → ClientState → Type 0
-Obeys blocks old (commands.Put a v) answers.Done new = PutsValue old a v.now new
-Obeys blocks old (commands.Put a v) answer new = KeepsOpen old (λ t. IsRefused (IsOverwriteRefusal blocks t a v.now) answer) new
-Obeys blocks old (commands.Get a) (answers.Value v) new = Gets old a v new
-Obeys blocks old (commands.Get a) answer new = KeepsOpen old (λ t. IsRefused (IsReadRefusal blocks t a) answer) new
-Obeys blocks old commands.Commit (answers.Committed n) new = MatchOption old.txn ⊥ (λ t. CommitsAndEnds t old n new)
-Obeys blocks old commands.Commit answers.NoTransaction new = (old.txn ≡ None) × (new ≡ old)
-Obeys blocks old commands.Commit answer new = MatchOption old.txn ⊥ (λ t. IsRefused (λ why. RefusesAndEnds t old why new) answer)
-Obeys blocks old commands.Abort answers.Done new = IsSome old.txn × (new ≡ record old { txn = None })
-Obeys blocks old commands.Abort answer new = (answer ≡ answers.NoTransaction) × (old.txn ≡ None) × (new ≡ old)
-Obeys blocks old commands.Fence answers.Done new = FencesSession old new
-Obeys blocks old commands.Fence answer new = IsRefused (λ why. RefusesFence old why new) answer
-Obeys blocks old command answer new = (GivesAnswer blocks command answer ⊎ IsRefused (IsRefusal command) answer) × (new ≡ old)
+abbrev pub Obeys : Shape → ClientState → Command → Answer → ClientState → Type 0
+Obeys layout old (commands.Put a v) answers.Done new = PutsValue old a v.now new
+Obeys layout old (commands.Put a v) answer new = KeepsOpen old (λ t. IsRefused (IsOverwriteRefusal layout t a v.now) answer) new
+Obeys layout old (commands.Get a) (answers.Value v) new = Gets old a v new
+Obeys layout old (commands.Get a) answer new = KeepsOpen old (λ t. IsRefused (IsReadRefusal layout t a) answer) new
+Obeys layout old commands.Commit (answers.Committed n) new = MatchOption old.txn ⊥ (λ t. CommitsAndEnds layout t old n new)
+Obeys layout old commands.Commit answers.NoTransaction new = (old.txn ≡ None) × (new ≡ old)
+Obeys layout old commands.Commit answer new = MatchOption old.txn ⊥ (λ t. IsRefused (λ why. RefusesAndEnds t old why new) answer)
+Obeys layout old commands.Abort answers.Done new = IsSome old.txn × (new ≡ record old { txn = None })
+Obeys layout old commands.Abort answer new = (answer ≡ answers.NoTransaction) × (old.txn ≡ None) × (new ≡ old)
+Obeys layout old commands.Fence answers.Done new = FencesSession old new
+Obeys layout old commands.Fence answer new = IsRefused (λ why. RefusesFence old why new) answer
+Obeys layout old command answer new = (GivesAnswer layout command answer ⊎ IsRefused (IsRefusal command) answer) × (new ≡ old)
 
 -- The numbers choose the image: 0 for each block, the last write of each, or what the line lists
 abbrev pub IsChosen : Choice → List ℕ → Type 0
@@ -161,16 +160,16 @@ IsChosen choices.Last numbers = (blocks : ℕ) × (numbers ≡ replicate blocks 
 IsChosen (choices.Listed listed) numbers = numbers ≡ listed.now
 
 -- The command is obeyed and answered, or ends the journal by the crash that it names
-abbrev pub Replies : ℕ → ClientState → Command → ControlFlow Crash Answer → ClientState → Type 0
-Replies blocks old command (Continue answer) new = Obeys blocks old command answer new
-Replies blocks old (commands.Down choice) (Break crash) new = IsChosen choice crash.numbers.items × (crash.opens ≡ false) × (new ≡ old)
-Replies blocks old (commands.Crash choice) (Break crash) new = IsChosen choice crash.numbers.items × (crash.opens ≡ true) × (new ≡ old)
-Replies blocks old command (Break crash) new = ⊥
+abbrev pub Replies : Shape → ClientState → Command → ControlFlow Crash Answer → ClientState → Type 0
+Replies layout old command (Continue answer) new = Obeys layout old command answer new
+Replies layout old (commands.Down choice) (Break crash) new = IsChosen choice crash.numbers.items × (crash.opens ≡ false) × (new ≡ old)
+Replies layout old (commands.Crash choice) (Break crash) new = IsChosen choice crash.numbers.items × (crash.opens ≡ true) × (new ≡ old)
+Replies layout old command (Break crash) new = ⊥
 
 -- The line says a command, which is replied to so; or it says none, which changes nothing
-abbrev pub AnswersLine : ℕ → ClientState → List ℕ → ControlFlow Crash Answer → ClientState → Type 0
-AnswersLine blocks old line reply new =
-    ((command : Command) × LineSays line command × Replies blocks old command reply new)
+abbrev pub AnswersLine : Shape → ClientState → List ℕ → ControlFlow Crash Answer → ClientState → Type 0
+AnswersLine layout old line reply new =
+    ((command : Command) × LineSays line command × Replies layout old command reply new)
     ⊎ (((command : Command) → LineSays line command → ⊥) × (reply ≡ Continue (to_no_command line)) × (new ≡ old))
 
 -- what is answered goes on

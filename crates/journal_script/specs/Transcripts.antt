@@ -5,6 +5,7 @@ use Rattle.std.specs.Io.KnownBytes.{Keeps, Appends}
 use Rattle.std.specs.Io.BufRead.{drop_through}
 use Rattle.std.specs.declared.ops.ControlFlow.{ControlFlow}
 use Rattle.std.specs.declared.ops.ControlFlow.TheVariants.{Continue, Break}
+use Rattle.journal_world.specs.Files.{files}
 use Rattle.journal_script.specs.declared.answer.Answer.{Answer}
 use Rattle.journal_script.specs.declared.answer.Answer.TheVariants as answers
 use Rattle.journal_command.specs.declared.command.Choice.{Choice}
@@ -44,7 +45,7 @@ streams c held = record { left = c.left; line = c.line; bad = c.bad; held = held
 
 -- a journal over some disk replies so to the line, in some state of its client
 abbrev pub RepliesUp : List ℕ → ControlFlow Crash Answer → Type 0
-RepliesUp line reply = (blocks : ℕ) × (old : ClientState) × (new : ClientState) × AnswersUp blocks old line reply new
+RepliesUp line reply = (blocks : ℕ) × (old : ClientState) × (new : ClientState) × AnswersUp (files blocks) old line reply new
 
 -- the line opens the disk, if anything does
 abbrev pub IsOpening : List ℕ → Type 0

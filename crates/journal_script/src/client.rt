@@ -1,6 +1,7 @@
 // Commands to an open journal, obeyed one after another.
-ghost use Rattle.std.specs.Prelude.{◌≡◌, ◌≤◌, ◌+◌, nat_lt, if◌then◌else◌, None, Some, IsNone, IfOk, IfErr, IsOkUnless};
+ghost use Rattle.std.specs.Prelude.{ℕ, ◌≡◌, ◌≤◌, ◌+◌, nat_lt, if◌then◌else◌, None, Some, IsNone, IfOk, IfErr, IsOkUnless};
 ghost use Rattle.journal_world.specs.Addresses.{Value};
+ghost use Rattle.journal_world.specs.Files.{files};
 ghost use Rattle.journal_twophase.specs.Journals.{IsSessionRefusal};
 ghost use Rattle.journal_twophase.specs.Transactions.{IsOverwriteRefusal, IsReadRefusal};
 ghost use Rattle.journal_command.specs.Commands.{IsInside};
@@ -46,13 +47,14 @@ pub struct Client<'j, 'b, J: Naming> {
 
 impl<'j, 'b, J: Naming> Model for Client<'j, 'b, J> {
     ghost use Rattle.std.specs.Prelude.{◌≡◌};
+    ghost use Rattle.journal_world.specs.Files.{files};
     ghost use Rattle.journal_script.specs.Clients.{ClientState};
 
     ghost Value = { ClientState };
 
     ghost view = { λ c. record { session = c.session; txn = c.txn } };
 
-    ghost invariant = { λ c. c.blocks ≡ J.blocks };
+    ghost invariant = { λ c. J.layout ≡ files c.blocks };
 }
 
 impl<'j, 'b, J: Naming> Client<'j, 'b, J> {
@@ -63,7 +65,7 @@ impl<'j, 'b, J: Naming> Client<'j, 'b, J> {
         blocks: u64,
         journal: &'j Mount<'b, J>,
     ) -> Result<Client<'j, 'b, J>, JournalRefusal<'b, J, AnyMap>>
-        requires blocks { blocks ≡ J.blocks }
+        requires layout { J.layout ≡ files blocks }
         ensures nothing { IfOk result (λ client. client.txn ≡ None) }
         ensures refusal { IfErr result IsSessionRefusal }
     {
@@ -76,6 +78,13 @@ impl<'j, 'b, J: Naming> Client<'j, 'b, J> {
         })
     }
 
+    /// The disk has the layout of files. Called for its contract.
+    pub fn is_laid(&self)
+        ensures { (blocks : ℕ) × (J.layout ≡ files blocks) }
+    {
+        let _blocks = self.blocks;
+    }
+
     /// Does what the line says, and answers it, or tells how the journal is to end.
     pub fn answer<W: Wait>(
         &mut self,
@@ -83,7 +92,7 @@ impl<'j, 'b, J: Naming> Client<'j, 'b, J> {
         line: &[u8],
         room: &mut Room,
     ) -> ControlFlow<Crash, Answer>
-        ensures { AnswersLine J.blocks self.old line.now result self.new }
+        ensures { AnswersLine J.layout self.old line.now result self.new }
     {
         match Command::read(line, room) {
             Some(command) => self.obey(rt, command),
@@ -94,7 +103,7 @@ impl<'j, 'b, J: Naming> Client<'j, 'b, J> {
     // Does what the command says, likewise.
     fn obey<W: Wait>(&mut self, rt: &W, command: Command<'_>) -> ControlFlow<Crash, Answer>
         requires inside { IsInside command }
-        ensures { Replies J.blocks self.old command.entry result self.new }
+        ensures { Replies J.layout self.old command.entry result self.new }
     {
         match command {
             Command::Put { addr, value } => goes_on(self.put(rt, addr, value)),
@@ -135,7 +144,7 @@ impl<'j, 'b, J: Naming> Client<'j, 'b, J> {
 
     fn put<W: Wait>(&mut self, rt: &W, addr: Addr, value: &[u8]) -> Answered<'b, J>
         ensures done { IfOk result (λ answer. (answer ≡ Answer.Done) × PutsValue self.old addr value.now self.new) }
-        ensures refusal { IfErr result (λ why. KeepsOpen self.old (λ t. IsOverwriteRefusal J.blocks t addr value.now why) self.new) }
+        ensures refusal { IfErr result (λ why. KeepsOpen self.old (λ t. IsOverwriteRefusal J.layout t addr value.now why) self.new) }
     {
         let mut txn = self.take_or_begin();
         let done = txn.overwrite(rt, addr, value);
@@ -146,7 +155,7 @@ impl<'j, 'b, J: Naming> Client<'j, 'b, J> {
 
     fn get<W: Wait>(&mut self, rt: &W, addr: Addr) -> Answered<'b, J>
         ensures value { IfOk result (λ answer. (value : Value) × (answer ≡ Answer.Value value) × Gets self.old addr value self.new) }
-        ensures refusal { IfErr result (λ why. KeepsOpen self.old (λ t. IsReadRefusal J.blocks t addr why) self.new) }
+        ensures refusal { IfErr result (λ why. KeepsOpen self.old (λ t. IsReadRefusal J.layout t addr why) self.new) }
     {
         let mut txn = self.take_or_begin();
         let value = txn.read(rt, addr);
@@ -155,7 +164,7 @@ impl<'j, 'b, J: Naming> Client<'j, 'b, J> {
     }
 
     fn commit<W: Wait>(&mut self, rt: &W) -> Answered<'b, J>
-        ensures { CommitsOpen self.old result self.new }
+        ensures { CommitsOpen J.layout self.old result self.new }
     {
         let Some(txn) = self.txn.take() else {
             return Ok(Answer::NoTransaction);
@@ -165,7 +174,7 @@ impl<'j, 'b, J: Naming> Client<'j, 'b, J> {
     }
 
     fn abort<W: Wait>(&mut self, rt: &W) -> Answer
-        ensures { Obeys J.blocks self.old Command.Abort result self.new }
+        ensures { Obeys J.layout self.old Command.Abort result self.new }
     {
         let Some(txn) = self.txn.take() else {
             return Answer::NoTransaction;
@@ -184,7 +193,7 @@ impl<'j, 'b, J: Naming> Client<'j, 'b, J> {
     }
 
     fn wait<W: Wait>(&self, rt: &W) -> Answered<'b, J>
-        ensures answered { IfOk result (GivesAnswer J.blocks Command.Wait) }
+        ensures answered { IfOk result (GivesAnswer J.layout Command.Wait) }
         ensures refusal { IfErr result (IsStepRefusal Actor.Waiter) }
     {
         drive(rt, self.journal, Actor::Waiter, u64::MAX)?;
@@ -192,7 +201,7 @@ impl<'j, 'b, J: Naming> Client<'j, 'b, J> {
     }
 
     fn log<W: Wait>(&self, rt: &W, most: Option<u32>) -> Answered<'b, J>
-        ensures answered { IfOk result (GivesAnswer J.blocks (Command.Log most)) }
+        ensures answered { IfOk result (GivesAnswer J.layout (Command.Log most)) }
         ensures refusal { IfErr result (IsStepRefusal Actor.Logger) }
     {
         let moved = drive(rt, self.journal, Actor::Logger, steps_of(most))?;
@@ -200,7 +209,7 @@ impl<'j, 'b, J: Naming> Client<'j, 'b, J> {
     }
 
     fn install<W: Wait>(&self, rt: &W, most: Option<u32>) -> Answered<'b, J>
-        ensures answered { IfOk result (GivesAnswer J.blocks (Command.Install most)) }
+        ensures answered { IfOk result (GivesAnswer J.layout (Command.Install most)) }
         ensures refusal { IfErr result (IsStepRefusal Actor.Installer) }
     {
         let moved = drive(rt, self.journal, Actor::Installer, steps_of(most))?;
@@ -208,7 +217,7 @@ impl<'j, 'b, J: Naming> Client<'j, 'b, J> {
     }
 
     fn pend<W: Wait>(&self, rt: &W) -> Answered<'b, J>
-        ensures answered { IfOk result (GivesAnswer J.blocks Command.Pend) }
+        ensures answered { IfOk result (GivesAnswer J.layout Command.Pend) }
         ensures refusal { IsOkUnless result Refusal.NoMemory }
     {
         Ok(Answer::Pending(self.journal.pending(rt)?))
@@ -216,7 +225,7 @@ impl<'j, 'b, J: Naming> Client<'j, 'b, J> {
 
     fn disk<W: Wait>(&self, rt: &W, block: u32, at: u32, len: u32) -> Answered<'b, J>
         requires { at + len ≤ 4096 }
-        ensures answered { IfOk result (GivesAnswer J.blocks (Command.Disk block at len)) }
+        ensures answered { IfOk result (GivesAnswer J.layout (Command.Disk block at len)) }
         ensures refusal { IsOkUnless result Refusal.NoMemory }
     {
         if u64::from(block) >= self.blocks {
@@ -235,14 +244,14 @@ impl<'j, 'b, J: Naming> Client<'j, 'b, J> {
     }
 
     fn stat<W: Wait>(&self, rt: &W) -> Answer
-        ensures { GivesAnswer J.blocks Command.Stat result }
+        ensures { GivesAnswer J.layout Command.Stat result }
     {
         Answer::Stat(self.journal.stat(rt))
     }
 
     // A poke is for a disk that is down.
     fn poke(&self, block: u32) -> Answer
-        ensures { result ≡ (if nat_lt block J.blocks then Answer.Up else Answer.BadLine) }
+        ensures { result ≡ (if nat_lt block J.layout.blocks then Answer.Up else Answer.BadLine) }
     {
         if u64::from(block) < self.blocks {
             Answer::Up

@@ -1,5 +1,6 @@
 // A disk that is up: its journal, from the opening until it is down.
 ghost use Rattle.std.specs.Prelude.{◌≡◌, IfOk, OnOk};
+ghost use Rattle.journal_world.specs.Files.{files};
 ghost use Rattle.journal_disk.specs.Disks.{IsSettled};
 ghost use Rattle.journal_script.specs.Transcripts.{Streams, streams, Opens, OpensToCrash, TellsOpening, RefusesOpening, ComesTo, ComesToCrash};
 
@@ -60,7 +61,7 @@ fn mount<J: Naming, W: Wait, I: Read + Drop, O: Write>(
 ) -> Result<Next, ScriptFault>
     requires book { book.now ≡ J.book }
     requires cell { cell ≡ J.cell }
-    requires blocks { disk.past.size ≡ J.blocks }
+    requires layout { J.layout ≡ files disk.past.size }
     requires settled { IsSettled disk.past }
     ensures { IfOk result (Opens opening (streams console.old (O.contents output.old)) (streams console.new (O.contents output.new))) }
 {
@@ -100,7 +101,7 @@ fn serve<'b, J: Naming, W: Wait, I: Read + Drop, O: Write>(
     console: &mut Console<I>,
     output: &mut O,
 ) -> Result<Next, ScriptFault>
-    requires blocks { blocks ≡ J.blocks }
+    requires layout { J.layout ≡ files blocks }
     ensures { IfOk result (Opens opening (streams console.old (O.contents output.old)) (streams console.new (O.contents output.new))) }
 {
     match answer_lines(rt, alloc, blocks, &journal, opening, console, output) {
@@ -150,7 +151,7 @@ fn answer_lines<'b, J: Naming, W: Wait, I: Read + Drop, O: Write>(
     console: &mut Console<I>,
     output: &mut O,
 ) -> Result<(Option<Crash>, Session<'b, J, AnyMap>), ScriptFault>
-    requires blocks { blocks ≡ J.blocks }
+    requires layout { J.layout ≡ files blocks }
     ensures { IfOk result (λ ended. OpensToCrash opening ended.0 (streams console.old (O.contents output.old)) (streams console.new (O.contents output.new))) }
 {
     answer_opening(opening, console, output)?;
@@ -190,6 +191,7 @@ fn answer_each<'j, 'b, J: Naming, W: Wait, I: Read + Drop, O: Write>(
         if !console.advance(output)? {
             return Ok(None);
         }
+        client.is_laid();
         match client.answer(rt, console.lines.line(), &mut console.room) {
             ControlFlow::Continue(answer) => console.print(&answer, output)?,
             ControlFlow::Break(crash) => {

@@ -1,5 +1,6 @@
 // Whether the disk in a file is sound.
 ghost use Rattle.std.specs.Prelude.{◌≡◌};
+ghost use Rattle.journal_world.specs.Files.{files};
 
 use crate::fault::ServiceFault;
 use crate::mounting::{Tried, mount, slot_cell};
@@ -68,7 +69,7 @@ fn files_of<J: Naming, V: Version, W: Wait>(
 ) -> Result<Tried<u64>, ServiceFault>
     requires book { book.now ≡ J.book }
     requires cell { cell ≡ J.cell }
-    requires blocks { disk.size ≡ J.blocks }
+    requires layout { J.layout ≡ files disk.size }
 {
     let files: FileStore<FileDisk, J, V> = match mount(alloc, book, cell, disk)? {
         Tried::Sound(files) => files,

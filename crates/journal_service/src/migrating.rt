@@ -1,5 +1,6 @@
 // The disk in a file becomes one of version 2.
 ghost use Rattle.std.specs.Prelude.{◌≡◌};
+ghost use Rattle.journal_world.specs.Files.{files};
 
 use crate::fault::ServiceFault;
 use crate::file;
@@ -50,7 +51,7 @@ fn migrated<J: Naming, W: Wait>(
 ) -> Result<FileDisk, ServiceFault>
     requires book { book.now ≡ J.book }
     requires cell { cell ≡ J.cell }
-    requires blocks { disk.size ≡ J.blocks }
+    requires layout { J.layout ≡ files disk.size }
 {
     match journal_migrate::migrate::<FileDisk, J, W>(rt, alloc, book, cell, disk) {
         Ok(disk) => Ok(disk),

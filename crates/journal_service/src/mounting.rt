@@ -1,5 +1,6 @@
 // Mounting a disk of either version of the format.
 ghost use Rattle.std.specs.Prelude.{◌≡◌};
+ghost use Rattle.journal_world.specs.Files.{files};
 
 use crate::fault::ServiceFault;
 use journal_disk::FileDisk;
@@ -47,7 +48,7 @@ pub(crate) fn mount<'b, J: Naming, V: Version>(
 ) -> Result<Tried<FileStore<'b, FileDisk, J, V>>, ServiceFault>
     requires book { book.now ≡ J.book }
     requires cell { cell ≡ J.cell }
-    requires blocks { disk.size ≡ J.blocks }
+    requires layout { J.layout ≡ files disk.size }
 {
     match FileStore::mount(alloc, book, cell, disk) {
         Ok(files) => Ok(Tried::Sound(files)),

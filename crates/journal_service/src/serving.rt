@@ -1,5 +1,6 @@
 // The file service: the files of a disk in a file, over TCP.
 ghost use Rattle.std.specs.Prelude.{◌≡◌};
+ghost use Rattle.journal_world.specs.Files.{files};
 
 use crate::clock::{WallClock, verifier_of};
 use crate::fault::ServiceFault;
@@ -115,7 +116,7 @@ fn serve_mounted<
 ) -> Result<Tried<FileDisk>, ServiceFault>
     requires book { book.now ≡ J.book }
     requires cell { cell ≡ J.cell }
-    requires blocks { disk.size ≡ J.blocks }
+    requires layout { J.layout ≡ files disk.size }
 {
     let files: FileStore<FileDisk, J, V> = match mount(alloc, book, cell, disk)? {
         Tried::Sound(files) => files,

@@ -1,6 +1,7 @@
 // Stores over a disk in memory, each owned by one function and lent to what tells a story of it.
 ghost use Rattle.std.specs.Prelude.{◌≡◌, ◌≤◌, IfOk};
 ghost use Rattle.journal_world.specs.declared.layout.TheConstants.{MIN_BLOCKS, MAX_BLOCKS};
+ghost use Rattle.journal_world.specs.Files.{files};
 ghost use Rattle.journal_disk.specs.Disks.{IsSettled};
 
 use crate::stories::{Errand, Story, run, tell};
@@ -85,7 +86,7 @@ fn over<
 ) -> Result<MemDisk, Wrong>
     requires book { book.now ≡ J.book }
     requires cell { cell ≡ J.cell }
-    requires blocks { disk.past.size ≡ J.blocks }
+    requires layout { J.layout ≡ files disk.past.size }
     requires settled { IsSettled disk.past }
     ensures settled { IfOk result (λ left. IsSettled left.past) }
 {

@@ -2,6 +2,7 @@
 use Rattle.std.proofs.Common.{◌≡◌, ◌≢◌, ℕ, IsTrue, List, [], ◌∷◌, ◌++◌, length, Some, slice_get, Result, Ok, Err, IfOk, IfErr, OnOk, OnErr, sym, ap, subst, ◌∙◌}
 use mathlib.Core.List.{IsPrefix}
 use Rattle.journal_world.specs.declared.refusal.Refusal.{Refusal}
+use Rattle.journal_world.specs.Addresses.{Shape}
 use Rattle.journal_world.specs.Maps.{Map, Transaction, Agrees}
 use Rattle.journal_world.specs.Histories.{Entry, is_trusted, latest, commits_of, opened}
 use Rattle.journal_world.specs.Histories.Entry.{commit}
@@ -21,15 +22,15 @@ use Rattle.journal_twophase.specs.Commits.{IsCommitted}
 use Rattle.journal_twophase.specs.declared.waiting.WaitFault.{WaitFault}
 use Rattle.journal_twophase.specs.declared.waiting.WaitFault.TheVariants.{Refused, Unsure}
 use Rattle.journal_twophase.specs.Waits.{CommitsAndWaits, IsWaitFault}
-use Rattle.journal_twophase.proofs.Knowing.{some_before, ruled_before, blocks_before}
+use Rattle.journal_twophase.proofs.Knowing.{some_before, ruled_before, layout_before}
 
-module _ (rule : Map → Type 0) (blocks : ℕ) where
+module _ (rule : Map → Type 0) (layout : Shape) where
   -- what the core's histories before and after its commit, and what is known of the latter, say of the transaction
   from_histories : (t : TransactionState) (s new : SessionState) (found history : List Entry) (place : CommitPlace)
       → Commits (next_transaction s t.reads t.writes) s new found history
       → IsReceiptFor (next_transaction s t.reads t.writes) history (length found) place
-      → IsPrefix t.seen found → (IsTrue (is_trusted found) → Agrees (latest found) t.reads) → IsKnown rule blocks new.seen
-      → IsCommitted rule blocks t.seen t s new place
+      → IsPrefix t.seen found → (IsTrue (is_trusted found) → Agrees (latest found) t.reads) → IsKnown rule layout new.seen
+      → IsCommitted rule layout t.seen t s new place
   from_histories t s new found history place commits receipt later agrees known =
       let u : Transaction = next_transaction s t.reads t.writes in
       let whole : new.seen ≡ history = ap (λ (n : SessionState). n.seen) commits.session in
@@ -45,7 +46,7 @@ module _ (rule : Map → Type 0) (blocks : ℕ) where
         after_reads = later;
         agrees = agrees;
         ruled = ruled_before rule found u some sound;
-        on_disk = blocks_before rule blocks found u some (subst (λ (h : List Entry). (opened h).blocks ≡ blocks) (whole ∙ here) known.on_disk);
+        on_disk = layout_before rule layout found u some (subst (λ (h : List Entry). (opened h).layout ≡ layout) (whole ∙ here) known.on_disk);
         committed = subst (λ (h : List Entry). Commits u s new found h) (sym whole) commits;
         exact = ap (commits_of new.number) (whole ∙ sym mine);
         known = known;
@@ -57,8 +58,8 @@ module _ (rule : Map → Type 0) (blocks : ℕ) where
       → IfOk answer (IfDone (IsReceiptFor (next_transaction s t.reads t.writes) volatile.ledger.history (length old.ledger.history)))
       → OnOk answer (CanCommit (outset_of old) s t)
       → OnOk answer (IsTrue (is_trusted old.ledger.history) → Agrees (latest old.ledger.history) t.reads)
-      → IsKnown rule blocks new.seen
-      → IfOk answer (IfDone (IsCommitted rule blocks t.seen t s new))
+      → IsKnown rule layout new.seen
+      → IfOk answer (IfDone (IsCommitted rule layout t.seen t s new))
   committed t s new old volatile (Err why) commits receipt can agrees known = tt
   committed t s new old volatile (Ok (Missing blocks_of)) commits receipt can agrees known = tt
   committed t s new old volatile (Ok (Done place)) commits receipt can agrees known =
@@ -67,7 +68,7 @@ module _ (rule : Map → Type 0) (blocks : ℕ) where
   -- a transaction whose reads came after its beginning is committed after that
   -- a session that has only seen more commits the same
   pub committed_later : (began : List Entry) (t : TransactionState) (s mid new : SessionState) (answer : Result CommitPlace (Refusal CauseState)) → OnlyExtends s mid
-      → IfOk answer (IsCommitted rule blocks began t mid new) → IfOk answer (IsCommitted rule blocks began t s new)
+      → IfOk answer (IsCommitted rule layout began t mid new) → IfOk answer (IsCommitted rule layout began t s new)
   committed_later began t s mid new (Err why) extends is = tt
   committed_later began t s mid new (Ok place) extends is =
       let same : next_transaction mid t.reads t.writes ≡ next_transaction s t.reads t.writes =
@@ -92,7 +93,7 @@ module _ (rule : Map → Type 0) (blocks : ℕ) where
       }
 
   pub since_begin : (began : List Entry) (t : TransactionState) (s new : SessionState) (answer : Result CommitPlace (Refusal CauseState)) → IsPrefix began t.seen
-      → IfOk answer (IsCommitted rule blocks t.seen t s new) → IfOk answer (IsCommitted rule blocks began t s new)
+      → IfOk answer (IsCommitted rule layout t.seen t s new) → IfOk answer (IsCommitted rule layout began t s new)
   since_begin began t s new (Err why) begins is = tt
   since_begin began t s new (Ok place) begins is = record {
     found = is.found;
@@ -109,7 +110,7 @@ module _ (rule : Map → Type 0) (blocks : ℕ) where
 
   -- and the same of one that then waited
   waits_from : (began : List Entry) (t : TransactionState) (s new : SessionState) (place : CommitPlace) → IsPrefix began t.seen
-      → CommitsAndWaits rule blocks t.seen t s new place → CommitsAndWaits rule blocks began t s new place
+      → CommitsAndWaits rule layout t.seen t s new place → CommitsAndWaits rule layout began t s new place
   waits_from began t s new place begins is = record {
     then = is.then;
     committed = since_begin began t s is.then (Ok place) begins is.committed;
@@ -119,12 +120,12 @@ module _ (rule : Map → Type 0) (blocks : ℕ) where
   }
 
   pub waits_since : {N E : Type 0} (began : List Entry) (t : TransactionState) (s new : SessionState) (answer : Result (CommitPlace × N) E) → IsPrefix began t.seen
-      → IfOk answer (λ done. CommitsAndWaits rule blocks t.seen t s new done.0) → IfOk answer (λ done. CommitsAndWaits rule blocks began t s new done.0)
+      → IfOk answer (λ done. CommitsAndWaits rule layout t.seen t s new done.0) → IfOk answer (λ done. CommitsAndWaits rule layout began t s new done.0)
   waits_since began t s new (Ok done) begins is = waits_from began t s new done.0 begins is
   waits_since began t s new (Err fault) begins is = tt
 
   pub fault_since : {T : Type 0} (began : List Entry) (t : TransactionState) (s new : SessionState) (answer : Result T (WaitFault CommitPlace CauseState)) → IsPrefix began t.seen
-      → IfErr answer (IsWaitFault rule blocks t.seen t s new) → IfErr answer (IsWaitFault rule blocks began t s new)
+      → IfErr answer (IsWaitFault rule layout t.seen t s new) → IfErr answer (IsWaitFault rule layout began t s new)
   fault_since began t s new (Ok done) begins is = tt
   fault_since began t s new (Err (Refused why)) begins is = is
   fault_since began t s new (Err (Unsure place why)) begins is = (waits_from began t s new place begins is.0, is.1)

@@ -1,18 +1,19 @@
 -- What is known of a history that was seen, and of the one before its last commit.
 use Rattle.std.proofs.Common.{◌≡◌, ◌≢◌, ℕ, Bool, IsTrue, List, [], ◌∷◌, ◌++◌, length, Some, slice_get, take, refl, sym, ap, subst, ◌∙◌}
 use Rattle.std.proofs.lemmas.List.{take_at}
+use Rattle.journal_world.specs.Addresses.{Shape}
 use Rattle.journal_world.specs.Maps.{Map, Transaction}
 use Rattle.journal_world.specs.Histories.{Entry, Follows, IsLegal, commits, count, opened, is_trusted, after, at, latest}
 use Rattle.journal_world.specs.Histories.Entry.{commit}
-use Rattle.journal_world.proofs.LongerHistories.{commits-commit, opened-append, after-blocks}
+use Rattle.journal_world.proofs.LongerHistories.{commits-commit, opened-append, after-layout}
 use Rattle.journal_world.proofs.MapsOfHistories.{is_trusted-append}
 use Rattle.journal_history.specs.Soundness.{IsSound}
 use Rattle.journal_twophase.specs.Journals.{IsKnown}
 
 module _ (rule : Map → Type 0) where
-  pub known : (blocks : ℕ) (history : List Entry) → (opened history).blocks ≡ blocks → IsSound rule history
-      → (IsTrue (is_trusted history) → IsLegal rule history) → IsKnown rule blocks history
-  known blocks history on_disk sound legal = record {
+  pub known : (layout : Shape) (history : List Entry) → (opened history).layout ≡ layout → IsSound rule history
+      → (IsTrue (is_trusted history) → IsLegal rule history) → IsKnown rule layout history
+  known layout history on_disk sound legal = record {
     on_disk = on_disk;
     ruled = λ trusted. sound.ruled trusted 0;
     legal = legal;
@@ -37,7 +38,7 @@ module _ (rule : Map → Type 0) where
       subst rule (at_before found t some)
       (sound.ruled (subst (λ (b : Bool). IsTrue b) (sym (is_trusted-append found (commit t ∷ []) some)) trusted) (count found))
 
-  pub blocks_before : (blocks : ℕ) (found : List Entry) (t : Transaction) → found ≢ [] → (opened (found ++ commit t ∷ [])).blocks ≡ blocks
-      → (latest found).blocks ≡ blocks
-  blocks_before blocks found t some on_disk =
-      after-blocks (opened found) (commits found) ∙ sym (ap (λ (m : Map). m.blocks) (opened-append found (commit t ∷ []) some)) ∙ on_disk
+  pub layout_before : (layout : Shape) (found : List Entry) (t : Transaction) → found ≢ [] → (opened (found ++ commit t ∷ [])).layout ≡ layout
+      → (latest found).layout ≡ layout
+  layout_before layout found t some on_disk =
+      after-layout (opened found) (commits found) ∙ sym (ap (λ (m : Map). m.layout) (opened-append found (commit t ∷ []) some)) ∙ on_disk

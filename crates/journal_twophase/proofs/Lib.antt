@@ -1,4 +1,5 @@
 pub mod Knowing
+pub mod Opening
 pub mod Looking
 pub mod Committing
 pub mod Fencing

@@ -7,7 +7,7 @@ use Rattle.journal_world.specs.declared.address.Addr.{Addr}
 use Rattle.journal_block.specs.declared.update.Update.{Update}
 use Rattle.journal_world.specs.declared.refusal.Refusal.{Refusal}
 use Rattle.journal_world.specs.declared.refusal.Refusal.TheVariants.{NoMemory, BadAddress, BadSize, TooLarge, Busy, DeviceFailed, BadLog, BadSuper, Stale, Stranger, Worn, Full, Closed, Fenced}
-use Rattle.journal_world.specs.Addresses.{Value, is_valid, is_same}
+use Rattle.journal_world.specs.Addresses.{Value, is_valid, is_same, Shape}
 use Rattle.journal_world.specs.Maps.{Pair, SamePairs, value_among, value_at, is_object, are_objects, Agrees}
 use Rattle.journal_world.specs.Histories.{Entry, is_trusted, latest}
 use Rattle.journal_world.proofs.Prefixes.{IsPrefix-trans}
@@ -21,47 +21,47 @@ use Rattle.journal_core.proofs.Remembering.{agrees_later}
 use Rattle.journal_twophase.specs.Transactions.{TxnState, core_of, holding, Finds, Learns, IsCheckRefusal, IsReadRefusal}
 
 -- what objects give an address is an object
-value_among-object : (blocks : ℕ) (ps : List Pair) (a : Addr) (v : Value) → IsTrue (are_objects blocks ps) → value_among ps a ≡ Some v → IsTrue (is_object blocks (a, v))
-value_among-object blocks [] a v objects is = absurd (cc is)
-value_among-object blocks (p ∷ ps) a v objects is = by_test (is_same a p.0) refl (value_among-object blocks ps a v parts.1) is
+value_among-object : (layout : Shape) (ps : List Pair) (a : Addr) (v : Value) → IsTrue (are_objects layout ps) → value_among ps a ≡ Some v → IsTrue (is_object layout (a, v))
+value_among-object layout [] a v objects is = absurd (cc is)
+value_among-object layout (p ∷ ps) a v objects is = by_test (is_same a p.0) refl (value_among-object layout ps a v parts.1) is
   where
-    parts : IsTrue (is_object blocks p) × IsTrue (are_objects blocks ps)
-    parts = and_parts (is_object blocks p) (are_objects blocks ps) objects
+    parts : IsTrue (is_object layout p) × IsTrue (are_objects layout ps)
+    parts = and_parts (is_object layout p) (are_objects layout ps) objects
 
-    by_test : (b : Bool) → is_same a p.0 ≡ b → (value_among ps a ≡ Some v → IsTrue (is_object blocks (a, v)))
-        → cond b (Some p.1) (value_among ps a) ≡ Some v → IsTrue (is_object blocks (a, v))
+    by_test : (b : Bool) → is_same a p.0 ≡ b → (value_among ps a ≡ Some v → IsTrue (is_object layout (a, v)))
+        → cond b (Some p.1) (value_among ps a) ≡ Some v → IsTrue (is_object layout (a, v))
     by_test true same later found =
         let here : p.1 ≡ v = cc found in
-        subst (λ (w : Value). IsTrue (is_object blocks (a, w))) here (subst (λ (b : Addr). IsTrue (is_object blocks (b, p.1))) (sym (same_addr a p.0 same)) parts.0)
+        subst (λ (w : Value). IsTrue (is_object layout (a, w))) here (subst (λ (b : Addr). IsTrue (is_object layout (b, p.1))) (sym (same_addr a p.0 same)) parts.0)
     by_test false same later found = later found
 
 -- and so is what is found of one
-pub own_object : (blocks : ℕ) (ps : List Pair) (a : Addr) (own : Option Value) → own ≡ value_among ps a → IsTrue (are_objects blocks ps)
-    → IfSome own (λ value. IsTrue (is_object blocks (a, value)))
-own_object blocks ps a None is objects = tt
-own_object blocks ps a (Some v) is objects = value_among-object blocks ps a v objects (sym is)
+pub own_object : (layout : Shape) (ps : List Pair) (a : Addr) (own : Option Value) → own ≡ value_among ps a → IsTrue (are_objects layout ps)
+    → IfSome own (λ value. IsTrue (is_object layout (a, value)))
+own_object layout ps a None is objects = tt
+own_object layout ps a (Some v) is objects = value_among-object layout ps a v objects (sym is)
 
 -- why a transaction reads nothing, whose slot is held
-pub read_refusal : (blocks : ℕ) (t : TxnState) (a : Addr) (why : Refusal CauseState) → IsTrue (is_valid blocks a) → IsCheckRefusal (core_of t) why → IsReadRefusal blocks t a why
-read_refusal blocks t a NoMemory valid look = (valid, look)
-read_refusal blocks t a BadAddress valid look = absurd look
-read_refusal blocks t a BadSize valid look = absurd look
-read_refusal blocks t a TooLarge valid look = absurd look
-read_refusal blocks t a Busy valid look = absurd look
-read_refusal blocks t a (DeviceFailed cause) valid look = look
-read_refusal blocks t a BadLog valid look = absurd look
-read_refusal blocks t a BadSuper valid look = absurd look
-read_refusal blocks t a (Stale cause) valid look = (valid, look)
-read_refusal blocks t a (Stranger cause) valid look = absurd look
-read_refusal blocks t a (Worn cause) valid look = absurd look
-read_refusal blocks t a (Full cause) valid look = absurd look
-read_refusal blocks t a (Closed cause) valid look = look
-read_refusal blocks t a Fenced valid look = absurd look
+pub read_refusal : (layout : Shape) (t : TxnState) (a : Addr) (why : Refusal CauseState) → IsTrue (is_valid layout a) → IsCheckRefusal (core_of t) why → IsReadRefusal layout t a why
+read_refusal layout t a NoMemory valid look = (valid, look)
+read_refusal layout t a BadAddress valid look = absurd look
+read_refusal layout t a BadSize valid look = absurd look
+read_refusal layout t a TooLarge valid look = absurd look
+read_refusal layout t a Busy valid look = absurd look
+read_refusal layout t a (DeviceFailed cause) valid look = look
+read_refusal layout t a BadLog valid look = absurd look
+read_refusal layout t a BadSuper valid look = absurd look
+read_refusal layout t a (Stale cause) valid look = (valid, look)
+read_refusal layout t a (Stranger cause) valid look = absurd look
+read_refusal layout t a (Worn cause) valid look = absurd look
+read_refusal layout t a (Full cause) valid look = absurd look
+read_refusal layout t a (Closed cause) valid look = look
+read_refusal layout t a Fenced valid look = absurd look
 
-pub read_refused : (blocks : ℕ) (t held : TxnState) (a : Addr) (answer : Result Value (Refusal CauseState))
-    → held ≡ holding t a → IsTrue (is_valid blocks a) → IfErr answer (IsCheckRefusal (core_of held)) → IfErr answer (IsReadRefusal blocks t a)
-read_refused blocks t held a (Ok v) same valid look = tt
-read_refused blocks t held a (Err why) same valid look = read_refusal blocks t a why valid (subst (λ (h : TxnState). IsCheckRefusal (core_of h) why) same look)
+pub read_refused : (layout : Shape) (t held : TxnState) (a : Addr) (answer : Result Value (Refusal CauseState))
+    → held ≡ holding t a → IsTrue (is_valid layout a) → IfErr answer (IsCheckRefusal (core_of held)) → IfErr answer (IsReadRefusal layout t a)
+read_refused layout t held a (Ok v) same valid look = tt
+read_refused layout t held a (Err why) same valid look = read_refusal layout t a why valid (subst (λ (h : TxnState). IsCheckRefusal (core_of h) why) same look)
 
 -- what is found for the open transaction, and remembered, is what it learns
 pub learns : (began : List Entry) (held : List ℕ) (t after : TransactionState) (a : Addr) (v w : Value) (found : ReadResultState) → Finds t a found
@@ -92,12 +92,12 @@ reads_stay t after a v found some agrees finds remembers =
     (agrees_later t.seen found.seen t.reads some finds.later finds.unmoved agrees)
 
 -- what is found in memory is found for the transaction
-pub finds : (o : Outset) (a : Addr) (blocks : ℕ) (t : TransactionState) (answer : Result (Option ReadResultState) (Refusal CauseState))
+pub finds : (o : Outset) (a : Addr) (layout : Shape) (t : TransactionState) (answer : Result (Option ReadResultState) (Refusal CauseState))
     → IfOk answer (λ found. IfSome found (λ f. f ≡ record { addr = a; seen = o.history }))
-    → OnOk answer (MayRead blocks o t a) → IfOk answer (λ found. IfSome found (Finds t a))
-finds o a blocks t (Err why) is may = tt
-finds o a blocks t (Ok None) is may = tt
-finds o a blocks t (Ok (Some found)) is may = subst (Finds t a) (sym is) (record { addr = refl; later = may.later; unmoved = may.unmoved })
+    → OnOk answer (MayRead layout o t a) → IfOk answer (λ found. IfSome found (Finds t a))
+finds o a layout t (Err why) is may = tt
+finds o a layout t (Ok None) is may = tt
+finds o a layout t (Ok (Some found)) is may = subst (Finds t a) (sym is) (record { addr = refl; later = may.later; unmoved = may.unmoved })
 
 -- what is held agrees with the history that was found
 pub agrees_found : (answer : Result (Option ReadResultState) (Refusal CauseState)) (a : Addr) (old new : List Entry) (held : List HeldState)

@@ -3,6 +3,7 @@ use Rattle.std.specs.Prelude.{ℕ, true, ◌≡◌, ◌<◌, ◌≤◌, IsTrue, 
 use mathlib.Core.List.{IsPrefix}
 use Rattle.journal_world.specs.declared.refusal.Refusal.{Refusal}
 use Rattle.journal_world.specs.declared.refusal.Refusal.TheVariants.{NoMemory, TooLarge, DeviceFailed, Stale, Stranger, Worn, Full, Closed, Fenced}
+use Rattle.journal_world.specs.Addresses.{Shape}
 use Rattle.journal_world.specs.Maps.{Map, Agrees}
 use Rattle.journal_world.specs.Histories.{Entry, is_trusted, is_fenced, latest, commits_of}
 use Rattle.journal_objlog.specs.Writes.{written_blocks}
@@ -14,7 +15,7 @@ use Rattle.journal_twophase.specs.Journals.{IsKnown, IsShown}
 use Rattle.journal_wal.specs.declared.limits.TheConstants.{MAX_UPDATES}
 
 -- The transaction was committed as the session's next one, with exactly what it read and overwrote
-pub record IsCommitted (rule : Map → Type 0) (blocks : ℕ) (began : List Entry) (t : TransactionState) (old new : SessionState) (place : CommitPlace) : Type 0 where
+pub record IsCommitted (rule : Map → Type 0) (layout : Shape) (began : List Entry) (t : TransactionState) (old new : SessionState) (place : CommitPlace) : Type 0 where
   -- the history that it found, which goes on from what was seen when the transaction began, and from what it saw last
   pub found : List Entry
   pub after_begin : IsPrefix began found
@@ -22,11 +23,11 @@ pub record IsCommitted (rule : Map → Type 0) (blocks : ℕ) (began : List Entr
   -- where the opening was trusted, what it read is what the map gives there, and the mount's rule holds of that map
   pub agrees : IsTrue (is_trusted found) → Agrees (latest found) t.reads
   pub ruled : IsTrue (is_trusted found) → rule (latest found)
-  pub on_disk : (latest found).blocks ≡ blocks
+  pub on_disk : (latest found).layout ≡ layout
   -- it was added to that history, after all that the session had seen, and the session has seen it
   pub committed : Commits (next_transaction old t.reads t.writes) old new found new.seen
   pub exact : IsExact new
-  pub known : IsKnown rule blocks new.seen
+  pub known : IsKnown rule layout new.seen
   -- the receipt names its place
   pub receipt : IsReceiptFor (next_transaction old t.reads t.writes) new.seen (length found) place
 

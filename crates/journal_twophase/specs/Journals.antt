@@ -2,6 +2,7 @@
 use Rattle.std.specs.Prelude.{ℕ, ◌≡◌, IsTrue, List, [], ◌∷◌}
 use Rattle.journal_world.specs.declared.refusal.Refusal.{Refusal}
 use Rattle.journal_world.specs.declared.refusal.Refusal.TheVariants.{NoMemory, DeviceFailed, Stale, Worn, Closed}
+use Rattle.journal_world.specs.Addresses.{Shape}
 use Rattle.journal_world.specs.Maps.{Map, are_objects}
 use Rattle.journal_world.specs.Histories.{Entry, opened, is_trusted, IsLegal}
 use Rattle.journal_world.specs.Histories.Entry.{opening}
@@ -10,25 +11,26 @@ use Rattle.journal_history.specs.Soundness.{IsSound}
 use Rattle.journal_core.specs.declared.refusal_number.RefusalNumber.{RefusalNumber}
 use Rattle.journal_core.specs.declared.refusal_number.RefusalNumber.TheVariants.{J6, J9, J11, J13}
 use Rattle.journal_core.specs.Causes.{CauseState, IsUnexplained, IsExplained}
-use Rattle.journal_core.specs.Openings.{HoldsMap}
+use Rattle.journal_core.specs.Openings.{HoldsMap, HasSize}
 
 -- A journal, by what is known of it outside its lock
 pub record JournalState : Type 0 where
   -- the history when it was opened, with which all begins that is seen of it later
   pub start : List Entry
 
--- The history begins with the map that the disk holds, of which the rule holds
-pub record BeginsWith (rule : Map → Type 0) (disk : DiskState) (history : List Entry) : Type 0 where
+-- The history begins with the map that the disk holds by this layout, of which the rule holds
+pub record BeginsWith (rule : Map → Type 0) (layout : Shape) (disk : DiskState) (history : List Entry) : Type 0 where
   pub map : Map
-  pub size : map.blocks ≡ disk.past.size
-  pub objects : IsTrue (are_objects map.blocks map.pairs)
+  pub size : HasSize layout disk
+  pub on_disk : map.layout ≡ layout
+  pub objects : IsTrue (are_objects map.layout map.pairs)
   pub holds : IsTrue disk.honest → HoldsMap disk map
   pub ruled : IsTrue disk.honest → rule map
   pub start : history ≡ opening map disk.honest ∷ []
 
--- What is known of a history that was seen, under the mount's rule, on a disk of so many blocks
-pub record IsKnown (rule : Map → Type 0) (blocks : ℕ) (history : List Entry) : Type 0 where
-  pub on_disk : (opened history).blocks ≡ blocks
+-- What is known of a history that was seen, under the mount's rule, on a disk of this layout
+pub record IsKnown (rule : Map → Type 0) (layout : Shape) (history : List Entry) : Type 0 where
+  pub on_disk : (opened history).layout ≡ layout
   -- where the disk was honest and settled when it was opened, the rule holds of the opened map, and the history is legal
   pub ruled : IsTrue (is_trusted history) → rule (opened history)
   pub legal : IsTrue (is_trusted history) → IsLegal rule history

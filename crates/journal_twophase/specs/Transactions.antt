@@ -5,7 +5,7 @@ use mathlib.Core.List.{IsPrefix}
 use Rattle.journal_world.specs.declared.address.Addr.{Addr}
 use Rattle.journal_world.specs.declared.refusal.Refusal.{Refusal}
 use Rattle.journal_world.specs.declared.refusal.Refusal.TheVariants.{NoMemory, BadAddress, BadSize, Busy, DeviceFailed, Stale, Closed}
-use Rattle.journal_world.specs.Addresses.{Value, kind_of, is_valid, slot_of}
+use Rattle.journal_world.specs.Addresses.{Value, kind_of, is_valid, slot_of, Shape}
 use Rattle.journal_world.specs.Maps.{Pair, SamePairs, value_among, value_at, is_value_at, is_object}
 use Rattle.journal_world.specs.Histories.{Entry, is_trusted, latest}
 use Rattle.journal_core.specs.declared.refusal_number.RefusalNumber.TheVariants.{J6, J9, J13}
@@ -107,15 +107,15 @@ IsCheckRefusal t NoMemory = Unit {0}
 IsCheckRefusal t other = ⊥
 
 -- Why an address is not read
-abbrev pub IsReadRefusal : ℕ → TxnState → Addr → Refusal CauseState → Type 0
-IsReadRefusal blocks t a (Closed cause) = IsUnexplained J13 cause
-IsReadRefusal blocks t a (DeviceFailed cause) = IsUnexplained J6 cause
-IsReadRefusal blocks t a BadAddress = is_valid blocks a ≡ false
-IsReadRefusal blocks t a Busy = IsTrue (is_valid blocks a) × IsBelowHeld (slot_of a) t.held
-IsReadRefusal blocks t a other = IsTrue (is_valid blocks a) × IsCheckRefusal (core_of t) other
+abbrev pub IsReadRefusal : Shape → TxnState → Addr → Refusal CauseState → Type 0
+IsReadRefusal layout t a (Closed cause) = IsUnexplained J13 cause
+IsReadRefusal layout t a (DeviceFailed cause) = IsUnexplained J6 cause
+IsReadRefusal layout t a BadAddress = is_valid layout a ≡ false
+IsReadRefusal layout t a Busy = IsTrue (is_valid layout a) × IsBelowHeld (slot_of a) t.held
+IsReadRefusal layout t a other = IsTrue (is_valid layout a) × IsCheckRefusal (core_of t) other
 
 -- Why it is not overwritten
-abbrev pub IsOverwriteRefusal : ℕ → TxnState → Addr → Value → Refusal CauseState → Type 0
-IsOverwriteRefusal blocks t a v BadAddress = is_valid blocks a ≡ false
-IsOverwriteRefusal blocks t a v BadSize = IsTrue (is_valid blocks a) × (is_value_at (kind_of blocks a.block) v ≡ false)
-IsOverwriteRefusal blocks t a v other = IsTrue (is_object blocks (a, v)) × IsSlotRefusal t.held (slot_of a) other
+abbrev pub IsOverwriteRefusal : Shape → TxnState → Addr → Value → Refusal CauseState → Type 0
+IsOverwriteRefusal layout t a v BadAddress = is_valid layout a ≡ false
+IsOverwriteRefusal layout t a v BadSize = IsTrue (is_valid layout a) × (is_value_at (kind_of layout a.block) v ≡ false)
+IsOverwriteRefusal layout t a v other = IsTrue (is_object layout (a, v)) × IsSlotRefusal t.held (slot_of a) other

@@ -2,6 +2,7 @@
 use Rattle.std.specs.Prelude.{ℕ, ◌≡◌, ◌<◌, ◌≤◌, List}
 use Rattle.journal_world.specs.declared.refusal.Refusal.{Refusal}
 use Rattle.journal_world.specs.declared.refusal.Refusal.TheVariants.{DeviceFailed, Stale, Stranger, Closed}
+use Rattle.journal_world.specs.Addresses.{Shape}
 use Rattle.journal_world.specs.Maps.{Map}
 use Rattle.journal_world.specs.Histories.{Entry, count, floor}
 use Rattle.journal_history.specs.Tokens.{SessionState, CommitPlace, StableCount, OnlyExtends, IsExact}
@@ -20,12 +21,12 @@ pub record IsStable (commits : ℕ) (note : StableCount) (session : SessionState
   pub front : note.front ≡ session.seen
 
 -- The transaction was committed, and then its session may have seen more. It is exact
-pub record CommitsAndWaits (rule : Map → Type 0) (blocks : ℕ) (began : List Entry) (t : TransactionState) (old new : SessionState) (place : CommitPlace) : Type 0 where
+pub record CommitsAndWaits (rule : Map → Type 0) (layout : Shape) (began : List Entry) (t : TransactionState) (old new : SessionState) (place : CommitPlace) : Type 0 where
   pub then : SessionState
-  pub committed : IsCommitted rule blocks began t old then place
+  pub committed : IsCommitted rule layout began t old then place
   pub later : OnlyExtends then new
   pub exact : IsExact new
-  pub known : IsKnown rule blocks new.seen
+  pub known : IsKnown rule layout new.seen
 
 -- why a session that waits is not told that a mark stands
 abbrev pub IsWaitRefusal : SessionState → Refusal CauseState → Type 0
@@ -43,6 +44,6 @@ IsEndedUnmarked old new (DeviceFailed cause) = floor new.seen < count old.seen
 IsEndedUnmarked old new other = Unit {0}
 
 -- Why a commit that waits for its mark has none: the history lacks it, or it stands there and is not known to be stable
-abbrev pub IsWaitFault : (Map → Type 0) → ℕ → List Entry → TransactionState → SessionState → SessionState → WaitFault CommitPlace CauseState → Type 0
-IsWaitFault rule blocks began t old new (Refused why) = IsCommitRefusal t old why × OnlyExtends old new × ShowsFence new why
-IsWaitFault rule blocks began t old new (Unsure place why) = CommitsAndWaits rule blocks began t old new place × IsWaitRefusal new why
+abbrev pub IsWaitFault : (Map → Type 0) → Shape → List Entry → TransactionState → SessionState → SessionState → WaitFault CommitPlace CauseState → Type 0
+IsWaitFault rule layout began t old new (Refused why) = IsCommitRefusal t old why × OnlyExtends old new × ShowsFence new why
+IsWaitFault rule layout began t old new (Unsure place why) = CommitsAndWaits rule layout began t old new place × IsWaitRefusal new why

@@ -32,9 +32,9 @@ impl<'j, 'b, D: BlockDisk, R: MapRule, J: Naming> Txn<'j, 'b, D, R, J> {
         rt: &W,
         session: &mut Session<'b, J, R>,
     ) -> Result<Receipt<'b, J, R>, JournalRefusal<'b, J, R>>
-        requires rule { (m : Map) → m.blocks ≡ J.blocks → R.statement m → Agrees m self.reads
+        requires rule { (m : Map) → m.layout ≡ J.layout → R.statement m → Agrees m self.reads
             → R.statement (overwritten m self.writes) }
-        ensures committed { IfOk result (IsCommitted R.statement J.blocks self.entry.began (core_of self.entry) session.old session.new) }
+        ensures committed { IfOk result (IsCommitted R.statement J.layout self.entry.began (core_of self.entry) session.old session.new) }
         ensures refusal { IfErr result (IsCommitRefusal (core_of self.entry) session.old) }
         ensures fenced { IfErr result (ShowsFence session.new) }
         ensures session { OnErr result (OnlyExtends session.old session.new) }
@@ -63,9 +63,9 @@ impl<'j, 'b, D: BlockDisk, R: MapRule, J: Naming> Txn<'j, 'b, D, R, J> {
         rt: &W,
         session: &mut Session<'b, J, R>,
     ) -> Result<Receipt<'b, J, R>, JournalRefusal<'b, J, R>>
-        requires rule { (m : Map) → m.blocks ≡ J.blocks → R.statement m → Agrees m self.reads
+        requires rule { (m : Map) → m.layout ≡ J.layout → R.statement m → Agrees m self.reads
             → R.statement (overwritten m self.writes) }
-        ensures committed { IfOk result (IsCommitted R.statement J.blocks self.entry.began (core_of self.entry) session.old session.new) }
+        ensures committed { IfOk result (IsCommitted R.statement J.layout self.entry.began (core_of self.entry) session.old session.new) }
         ensures refusal { IfErr result (IsTryRefusal (core_of self.entry) session.old) }
         ensures fenced { IfErr result (ShowsFence session.new) }
         ensures session { OnErr result (OnlyExtends session.old session.new) }
@@ -95,11 +95,11 @@ impl<'j, 'b, D: BlockDisk, R: MapRule, J: Naming> Txn<'j, 'b, D, R, J> {
     /// `Stranger` where it has a commit under the session's number that the session did not make. The session is
     /// exact then too.
     pub fn commit_wait<W: Wait>(self, rt: &W, session: &mut Session<'b, J, R>) -> Waited<'b, J, R>
-        requires rule { (m : Map) → m.blocks ≡ J.blocks → R.statement m → Agrees m self.reads
+        requires rule { (m : Map) → m.layout ≡ J.layout → R.statement m → Agrees m self.reads
             → R.statement (overwritten m self.writes) }
-        ensures committed { IfOk result (λ done. CommitsAndWaits R.statement J.blocks self.entry.began (core_of self.entry) session.old session.new done.0) }
+        ensures committed { IfOk result (λ done. CommitsAndWaits R.statement J.layout self.entry.began (core_of self.entry) session.old session.new done.0) }
         ensures stable { IfOk result (λ done. IsStable done.0.count done.1 session.new) }
-        ensures fault { IfErr result (IsWaitFault R.statement J.blocks self.entry.began (core_of self.entry) session.old session.new) }
+        ensures fault { IfErr result (IsWaitFault R.statement J.layout self.entry.began (core_of self.entry) session.old session.new) }
     {
         let Txn {
             journal,

@@ -168,14 +168,14 @@ impl<'b, D: BlockDisk, R: MapRule, J: Naming> LockedParts<'b, D, R, J> {
         nothing: Fetched<'b, J, R>,
         into: &mut Vec<u8>,
     ) -> Result<ReadResult<'b, J, R>, JournalRefusal<'b, J, R>>
-        requires valid { IsTrue (is_valid J.blocks addr) }
-        requires below { addr.block < J.blocks }
+        requires valid { IsTrue (is_valid J.layout addr) }
+        requires below { addr.block < J.layout.blocks }
         requires under { AreUnder held.old transaction.now.seen transaction.now.reads }
-        requires size { length into.old.items ≡ size_at J.blocks addr }
+        requires size { length into.old.items ≡ size_at J.layout addr }
         ensures agree { IfOk result (λ found. AgreeWith found.seen held.new) }
         ensures held { held.new ≡ held.old }
         ensures value { IfOk result (λ found. IsTrue (is_trusted found.seen) → into.new.items ≡ value_at (latest found.seen) addr) }
-        ensures object { OnOk result (IsTrue (is_object J.blocks (addr, into.new.items))) }
+        ensures object { OnOk result (IsTrue (is_object J.layout (addr, into.new.items))) }
         ensures found { IfOk result (Finds transaction.now addr) }
         ensures refusal { IfErr result (IsCheckRefusal transaction.now) }
     {
@@ -204,10 +204,10 @@ impl<'b, D: BlockDisk, R: MapRule, J: Naming> LockedParts<'b, D, R, J> {
         MutexGuard<'s, UnderMemoryLock<'b, R, J>>,
         Result<Receipt<'b, J, R>, JournalRefusal<'b, J, R>>,
     )
-        requires rule { (m : Map) → m.blocks ≡ J.blocks → R.statement m → Agrees m transaction.now.reads
+        requires rule { (m : Map) → m.layout ≡ J.layout → R.statement m → Agrees m transaction.now.reads
             → R.statement (overwritten m transaction.now.writes) }
         requires held { KeepsHeld held.old transaction.now }
-        ensures committed { IfOk result.1 (IsCommitted R.statement J.blocks transaction.now.seen transaction.now session.old session.new) }
+        ensures committed { IfOk result.1 (IsCommitted R.statement J.layout transaction.now.seen transaction.now session.old session.new) }
         ensures refusal { IfErr result.1 (IsTryRefusal transaction.now session.old) }
         ensures fenced { IfErr result.1 (ShowsFence session.new) }
         ensures session { OnErr result.1 (OnlyExtends session.old session.new) }
@@ -249,7 +249,7 @@ impl<'b, D: BlockDisk, R: MapRule, J: Naming> LockedParts<'b, D, R, J> {
         durable: &mut Durable<'b, D, R, J>,
         blocks: &[u64],
     ) -> Result<Fetched<'b, J, R>, JournalRefusal<'b, J, R>>
-        requires below { All (λ b. b < J.blocks) blocks.now }
+        requires below { All (λ b. b < J.layout.blocks) blocks.now }
         ensures refusal { IfErr result IsFetchRefusal }
     {
         match durable.fetch(fetch_buffers(self.alloc, blocks)?) {
@@ -292,7 +292,7 @@ impl<'b, D: BlockDisk, R: MapRule, J: Naming> LockedParts<'b, D, R, J> {
         session: &mut Session<'b, J, R>,
     ) -> Result<D, Refused<D, Cause<'b, J, R>>>
         ensures session { OnlyExtends session.old session.new }
-        ensures size { IfOk result (λ disk. (D.state disk).past.size ≡ J.blocks) }
+        ensures size { IfOk result (λ disk. (D.state disk).past.size ≡ J.layout.blocks) }
         ensures trusted { IfOk result (λ disk. is_trusted session.new.seen ≡ (D.state disk).honest) }
         ensures images { IfOk result (λ disk. IsTrue (D.state disk).honest → EveryImage (D.state disk).past (Leaves session.new.seen)) }
         ensures refusal { IfErr result (λ refused. IsCloseRefusal refused.refusal) }
@@ -341,7 +341,7 @@ impl<'b, D: BlockDisk, R: MapRule, J: Naming> LockedParts<'b, D, R, J> {
 impl<'b, R: MapRule, J: Naming> LockedParts<'b, MemDisk, R, J> {
     // Copies a block of the disk as a read of it would.
     pub(crate) fn inspect<W: Wait>(&self, rt: &W, block: u64, into: &mut Block)
-        requires { block < J.blocks }
+        requires { block < J.layout.blocks }
     {
         self.durable.lock(rt).disk().peek(block, into);
     }
@@ -364,7 +364,7 @@ impl<'b, R: MapRule, J: Naming> LockedParts<'b, MemDisk, R, J> {
         choice: &[u32],
     ) -> Result<MemDisk, JournalRefusal<'b, J, R>>
         ensures session { OnlyExtends session.old session.new }
-        ensures size { IfOk result (λ image. image.past.size ≡ J.blocks) }
+        ensures size { IfOk result (λ image. image.past.size ≡ J.layout.blocks) }
         ensures settled { IfOk result (λ image. IsSettled image.past) }
         ensures stands { IfOk result (λ image. IsTrue (is_trusted session.new.seen) → Leaves session.new.seen image.past.first) }
         ensures images { IfOk result (λ image. IsTrue (is_trusted session.new.seen) → EveryImage image.past (Leaves session.new.seen)) }

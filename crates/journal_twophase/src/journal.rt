@@ -1,12 +1,13 @@
 // The journal, and what is no transaction's.
 ghost use Rattle.std.specs.Prelude.{◌≡◌, ◌≤◌, ◌<◌, true, false, IsTrue, IfOk, IfErr, OnOk, IsOkUnless};
 ghost use mathlib.Core.List.{IsPrefix};
+ghost use Rattle.journal_world.specs.Files.{shape, files};
 ghost use Rattle.journal_world.specs.Histories.{is_trusted, is_fenced, count};
 ghost use Rattle.journal_disk.specs.Disks.{IsSettled};
 ghost use Rattle.journal_disk.specs.Images.{EveryImage};
 ghost use Rattle.journal_history.specs.Tokens.{made, IsExact, OnlyExtends};
 ghost use Rattle.journal_core.specs.Cores.{Leaves};
-ghost use Rattle.journal_core.specs.Openings.{HasWellFormedLog, IsOpenRefusal, OnlyReadsDisk};
+ghost use Rattle.journal_core.specs.Openings.{HasWellFormedLog, IsInRange, IsLayoutRefusal, IsOpenRefusal, OnlyReadsDisk};
 ghost use Rattle.journal_twophase.specs.Journals.{BeginsWith, IsKnown, IsSessionRefusal, IsFenceRefusal, IsLogRefusal, IsInstallRefusal, IsCloseRefusal, IsImageRefusal};
 ghost use Rattle.journal_twophase.specs.Waits.{IsStable, IsWaitRefusal, IsEndedUnmarked};
 ghost use Rattle.journal_twophase.specs.Transactions.{begun};
@@ -43,13 +44,14 @@ pub struct Journal<'b, D: BlockDisk, R: MapRule, J: Naming> {
 
 impl<'b, D: BlockDisk, R: MapRule, J: Naming> Model for Journal<'b, D, R, J> {
     ghost use Rattle.std.specs.Prelude.{◌≡◌, length};
+    ghost use Rattle.journal_world.specs.Files.{shape};
     ghost use Rattle.journal_twophase.specs.Journals.{JournalState};
 
     ghost Value = { JournalState };
 
     ghost view = { λ j. record { start = j.start } };
 
-    ghost invariant = { λ j. (j.layout.blocks ≡ J.blocks) × (length j.start ≡ 1) };
+    ghost invariant = { λ j. (shape j.layout ≡ J.layout) × (length j.start ≡ 1) };
 }
 
 impl<'b, D: BlockDisk, R: MapRule, J: Naming> Journal<'b, D, R, J> {
@@ -72,9 +74,10 @@ impl<'b, D: BlockDisk, R: MapRule, J: Naming> Journal<'b, D, R, J> {
     ) -> Result<Journal<'b, D, R, J>, Refused<D, Cause<'b, J, R>>>
         requires book { book.now ≡ J.book }
         requires cell { cell ≡ J.cell }
-        requires blocks { (D.state disk).past.size ≡ J.blocks }
+        requires layout { J.layout ≡ files (D.state disk).past.size }
         requires settled { IsTrue (D.state disk).honest → IsSettled (D.state disk).past }
-        ensures begun { IfOk result (λ journal. BeginsWith R.statement (D.state disk) journal.start) }
+        ensures begun { IfOk result (λ journal. BeginsWith R.statement J.layout (D.state disk) journal.start) }
+        ensures range { OnOk result (IsInRange (D.state disk)) }
         ensures well_formed { IsTrue (D.state disk).honest → OnOk result (HasWellFormedLog (D.state disk)) }
         ensures refusal { IfErr result (λ refused. IsOpenRefusal R.statement (D.state disk) (D.state refused.disk) refused.refusal) }
         ensures left { IfErr result (λ refused. OnlyReadsDisk (D.state disk) (D.state refused.disk)) }
@@ -97,9 +100,10 @@ impl<'b, D: BlockDisk, R: MapRule, J: Naming> Journal<'b, D, R, J> {
         requires most { cached ≤ MAX_CACHED_BLOCKS }
         requires book { book.now ≡ J.book }
         requires cell { cell ≡ J.cell }
-        requires blocks { (D.state disk).past.size ≡ J.blocks }
+        requires layout { J.layout ≡ files (D.state disk).past.size }
         requires settled { IsTrue (D.state disk).honest → IsSettled (D.state disk).past }
-        ensures begun { IfOk result (λ journal. BeginsWith R.statement (D.state disk) journal.start) }
+        ensures begun { IfOk result (λ journal. BeginsWith R.statement J.layout (D.state disk) journal.start) }
+        ensures range { OnOk result (IsInRange (D.state disk)) }
         ensures well_formed { IsTrue (D.state disk).honest → OnOk result (HasWellFormedLog (D.state disk)) }
         ensures refusal { IfErr result (λ refused. IsOpenRefusal R.statement (D.state disk) (D.state refused.disk) refused.refusal) }
         ensures left { IfErr result (λ refused. OnlyReadsDisk (D.state disk) (D.state refused.disk)) }
@@ -110,6 +114,41 @@ impl<'b, D: BlockDisk, R: MapRule, J: Naming> Journal<'b, D, R, J> {
                 disk,
             });
         };
+        Journal::open_layout(alloc, book, cell, layout, disk, rule, cached)
+    }
+
+    /// Opens a disk by a layout, as `open_with_cache` does by that of files. The disk does not tell its layout: it has
+    /// to be opened by the same one each time.
+    ///
+    /// The first that applies of these refuses it: J8 `BadSuper` where the disk has not as many blocks as the layout,
+    /// then what refuses `open`. A refusal hands the disk back, with nothing written, and leaves the book as it was; the
+    /// cell is spent.
+    pub fn open_layout(
+        alloc: Global,
+        book: &'b Book<R>,
+        cell: SlotCell,
+        layout: Layout,
+        disk: D,
+        rule: &R,
+        cached: usize,
+    ) -> Result<Journal<'b, D, R, J>, Refused<D, Cause<'b, J, R>>>
+        requires some { 1 ≤ cached }
+        requires most { cached ≤ MAX_CACHED_BLOCKS }
+        requires book { book.now ≡ J.book }
+        requires cell { cell ≡ J.cell }
+        requires layout { shape layout ≡ J.layout }
+        requires settled { IsTrue (D.state disk).honest → IsSettled (D.state disk).past }
+        ensures begun { IfOk result (λ journal. BeginsWith R.statement J.layout (D.state disk) journal.start) }
+        ensures well_formed { IsTrue (D.state disk).honest → OnOk result (HasWellFormedLog (D.state disk)) }
+        ensures refusal { IfErr result (λ refused. IsLayoutRefusal R.statement J.layout (D.state disk) (D.state refused.disk) refused.refusal) }
+        ensures left { IfErr result (λ refused. OnlyReadsDisk (D.state disk) (D.state refused.disk)) }
+    {
+        if disk.size() != layout.blocks {
+            return Err(Refused {
+                refusal: Refusal::BadSuper,
+                disk,
+            });
+        }
         let Ok(slot_locks) = SlotLocks::new(alloc) else {
             return Err(Refused {
                 refusal: Refusal::NoMemory,
@@ -118,7 +157,7 @@ impl<'b, D: BlockDisk, R: MapRule, J: Naming> Journal<'b, D, R, J> {
         };
         // Nothing but the core's opening can be refused from here on, so a refusal leaves the book as it was.
         let OpenedCore { core, start, slots } = LockedParts::open(
-            alloc, book, cell, disk, rule, cached,
+            alloc, book, cell, layout, disk, rule, cached,
         )?;
         Ok(Journal {
             layout,
@@ -137,7 +176,7 @@ impl<'b, D: BlockDisk, R: MapRule, J: Naming> Journal<'b, D, R, J> {
         ensures exact { IfOk result IsExact }
         ensures unfenced { IfOk result (λ session. is_fenced session.number session.seen ≡ false) }
         ensures start { IfOk result (λ session. IsPrefix self.now.start session.seen) }
-        ensures known { IfOk result (λ session. IsKnown R.statement J.blocks session.seen) }
+        ensures known { IfOk result (λ session. IsKnown R.statement J.layout session.seen) }
         ensures refusal { IfErr result IsSessionRefusal }
     {
         let session = self.core.session(rt)?;
@@ -176,7 +215,7 @@ impl<'b, D: BlockDisk, R: MapRule, J: Naming> Journal<'b, D, R, J> {
     // history, and what is known of it.
     fn prove_begins(&self, session: &Session<'b, J, R>)
         ensures start { IsPrefix self.now.start session.now.seen }
-        ensures known { IsKnown R.statement J.blocks session.now.seen }
+        ensures known { IsKnown R.statement J.layout session.now.seen }
     {
         let _seen = session.seen();
         let mut start = self.start.again();
@@ -330,7 +369,7 @@ impl<'b, D: BlockDisk, R: MapRule, J: Naming> Journal<'b, D, R, J> {
     /// disk is then given up too.
     pub fn close(self, session: &mut Session<'b, J, R>) -> Result<D, Refused<D, Cause<'b, J, R>>>
         ensures session { OnlyExtends session.old session.new }
-        ensures size { IfOk result (λ disk. (D.state disk).past.size ≡ J.blocks) }
+        ensures size { IfOk result (λ disk. (D.state disk).past.size ≡ J.layout.blocks) }
         ensures trusted { IfOk result (λ disk. is_trusted session.new.seen ≡ (D.state disk).honest) }
         ensures images { IfOk result (λ disk. IsTrue (D.state disk).honest → EveryImage (D.state disk).past (Leaves session.new.seen)) }
         ensures refusal { IfErr result (λ refused. IsCloseRefusal refused.refusal) }
@@ -348,7 +387,7 @@ impl<'b, D: BlockDisk, R: MapRule, J: Naming> Journal<'b, D, R, J> {
 impl<'b, R: MapRule, J: Naming> Journal<'b, MemDisk, R, J> {
     /// Copies a block of the disk as a read of it would. It is no device call.
     pub fn inspect<W: Wait>(&self, rt: &W, block: u64, into: &mut Block)
-        requires { block < J.blocks }
+        requires { block < J.layout.blocks }
     {
         self.core.inspect(rt, block, into);
     }
@@ -374,7 +413,7 @@ impl<'b, R: MapRule, J: Naming> Journal<'b, MemDisk, R, J> {
         choice: &[u32],
     ) -> Result<MemDisk, JournalRefusal<'b, J, R>>
         ensures session { OnlyExtends session.old session.new }
-        ensures size { IfOk result (λ image. image.past.size ≡ J.blocks) }
+        ensures size { IfOk result (λ image. image.past.size ≡ J.layout.blocks) }
         ensures settled { IfOk result (λ image. IsSettled image.past) }
         ensures stands { IfOk result (λ image. IsTrue (is_trusted session.new.seen) → Leaves session.new.seen image.past.first) }
         ensures images { IfOk result (λ image. IsTrue (is_trusted session.new.seen) → EveryImage image.past (Leaves session.new.seen)) }

@@ -5,6 +5,7 @@
 // true after its lock is released.
 ghost use Rattle.std.specs.Prelude.{◌≡◌, ◌<◌, true, false, length, IsTrue, IsSome, IfOk, IfErr, IfSome, OnOk, OnErr, All};
 ghost use Rattle.journal_world.specs.Addresses.{is_valid};
+ghost use Rattle.journal_world.specs.Files.{shape};
 ghost use Rattle.journal_world.specs.Maps.{Map, Agrees, is_object, value_at, overwritten};
 ghost use Rattle.journal_object.specs.Objects.{size_at};
 ghost use Rattle.journal_world.specs.Histories.{is_trusted, is_fenced, latest};
@@ -12,7 +13,7 @@ ghost use Rattle.journal_disk.specs.Disks.{IsSettled};
 ghost use Rattle.journal_history.specs.Tokens.{made, IsExact, OnlyExtends};
 ghost use Rattle.journal_core.specs.SlotCounts.{AgreeWith, AreUnder};
 ghost use Rattle.journal_core.specs.VolatileCommits.{IfDone, IfMissing};
-ghost use Rattle.journal_core.specs.Openings.{HasWellFormedLog, IsOpenRefusal, OnlyReadsDisk};
+ghost use Rattle.journal_core.specs.Openings.{HasWellFormedLog, IsLayoutRefusal, OnlyReadsDisk};
 ghost use Rattle.journal_twophase.specs.Journals.{BeginsWith, IsSessionRefusal, IsFenceRefusal};
 ghost use Rattle.journal_twophase.specs.Transactions.{Finds, KeepsHeld, IsCheckRefusal, IsEndRefusal};
 ghost use Rattle.journal_twophase.specs.Commits.{IsCommitted, ShowsFence, IsTryRefusal, IsCommitRefusal};
@@ -25,7 +26,7 @@ use journal_core::{
 use journal_disk::BlockDisk;
 use journal_history::{Book, Front, Naming, Receipt, Session};
 use journal_lockmap::{Held, SlotCell, Slots};
-use journal_world::{Addr, MapRule, Refusal, Refused};
+use journal_world::{Addr, Layout, MapRule, Refusal, Refused};
 use std::alloc::Global;
 use std::hint::spin_loop;
 use std::rt::Clock;
@@ -153,6 +154,7 @@ impl<'b, D: BlockDisk, R: MapRule, J: Naming> LockedParts<'b, D, R, J> {
         alloc: Global,
         book: &'b Book<R>,
         cell: SlotCell,
+        layout: Layout,
         disk: D,
         rule: &R,
         copies: usize,
@@ -160,14 +162,14 @@ impl<'b, D: BlockDisk, R: MapRule, J: Naming> LockedParts<'b, D, R, J> {
         requires some { 0 < copies }
         requires book { book.now ≡ J.book }
         requires cell { cell ≡ J.cell }
-        requires blocks { (D.state disk).past.size ≡ J.blocks }
+        requires layout { shape layout ≡ J.layout }
         requires settled { IsTrue (D.state disk).honest → IsSettled (D.state disk).past }
-        ensures begun { IfOk result (λ opened. BeginsWith R.statement (D.state disk) opened.start) }
+        ensures begun { IfOk result (λ opened. BeginsWith R.statement J.layout (D.state disk) opened.start) }
         ensures well_formed { IsTrue (D.state disk).honest → OnOk result (HasWellFormedLog (D.state disk)) }
-        ensures refusal { IfErr result (λ refused. IsOpenRefusal R.statement (D.state disk) (D.state refused.disk) refused.refusal) }
+        ensures refusal { IfErr result (λ refused. IsLayoutRefusal R.statement J.layout (D.state disk) (D.state refused.disk) refused.refusal) }
         ensures left { IfErr result (λ refused. OnlyReadsDisk (D.state disk) (D.state refused.disk)) }
     {
-        let (core, slots) = Core::open_step(alloc, book, cell, disk, rule, copies)?;
+        let (core, slots) = Core::open_step(alloc, book, cell, layout, disk, rule, copies)?;
         let start = core.front();
         let (durable, volatile) = core.into_parts();
         let (log_start, _) = durable.log_range();
@@ -266,7 +268,7 @@ impl<'b, D: BlockDisk, R: MapRule, J: Naming> LockedParts<'b, D, R, J> {
         held: &mut [Held<J>],
         addr: Addr,
     ) -> Result<(), JournalRefusal<'b, J, R>>
-        requires valid { IsTrue (is_valid J.blocks addr) }
+        requires valid { IsTrue (is_valid J.layout addr) }
         requires under { AreUnder held.old transaction.now.seen transaction.now.reads }
         ensures held { held.new ≡ held.old }
         ensures refusal { IfErr result (IsCheckRefusal transaction.now) }
@@ -285,13 +287,13 @@ impl<'b, D: BlockDisk, R: MapRule, J: Naming> LockedParts<'b, D, R, J> {
         addr: Addr,
         into: &mut Vec<u8>,
     ) -> Result<ReadResult<'b, J, R>, JournalRefusal<'b, J, R>>
-        requires valid { IsTrue (is_valid J.blocks addr) }
+        requires valid { IsTrue (is_valid J.layout addr) }
         requires under { AreUnder held.old transaction.now.seen transaction.now.reads }
-        requires size { length into.old.items ≡ size_at J.blocks addr }
+        requires size { length into.old.items ≡ size_at J.layout addr }
         ensures agree { IfOk result (λ found. AgreeWith found.seen held.new) }
         ensures held { held.new ≡ held.old }
         ensures value { IfOk result (λ found. IsTrue (is_trusted found.seen) → into.new.items ≡ value_at (latest found.seen) addr) }
-        ensures object { OnOk result (IsTrue (is_object J.blocks (addr, into.new.items))) }
+        ensures object { OnOk result (IsTrue (is_object J.layout (addr, into.new.items))) }
         ensures found { IfOk result (Finds transaction.now addr) }
         ensures refusal { IfErr result (IsCheckRefusal transaction.now) }
     {
@@ -309,13 +311,13 @@ impl<'b, D: BlockDisk, R: MapRule, J: Naming> LockedParts<'b, D, R, J> {
         addr: Addr,
         into: &mut Vec<u8>,
     ) -> Result<ReadResult<'b, J, R>, JournalRefusal<'b, J, R>>
-        requires valid { IsTrue (is_valid J.blocks addr) }
+        requires valid { IsTrue (is_valid J.layout addr) }
         requires under { AreUnder held.old transaction.now.seen transaction.now.reads }
-        requires size { length into.old.items ≡ size_at J.blocks addr }
+        requires size { length into.old.items ≡ size_at J.layout addr }
         ensures agree { IfOk result (λ found. AgreeWith found.seen held.new) }
         ensures held { held.new ≡ held.old }
         ensures value { IfOk result (λ found. IsTrue (is_trusted found.seen) → into.new.items ≡ value_at (latest found.seen) addr) }
-        ensures object { OnOk result (IsTrue (is_object J.blocks (addr, into.new.items))) }
+        ensures object { OnOk result (IsTrue (is_object J.layout (addr, into.new.items))) }
         ensures found { IfOk result (Finds transaction.now addr) }
         ensures refusal { IfErr result (IsCheckRefusal transaction.now) }
     {
@@ -336,22 +338,20 @@ impl<'b, D: BlockDisk, R: MapRule, J: Naming> LockedParts<'b, D, R, J> {
         fetched: &Fetched<'b, J, R>,
         into: &mut Vec<u8>,
     ) -> Result<Option<ReadResult<'b, J, R>>, JournalRefusal<'b, J, R>>
-        requires valid { IsTrue (is_valid J.blocks addr) }
+        requires valid { IsTrue (is_valid J.layout addr) }
         requires under { AreUnder held.old transaction.now.seen transaction.now.reads }
-        requires size { length into.old.items ≡ size_at J.blocks addr }
+        requires size { length into.old.items ≡ size_at J.layout addr }
         requires front { fetched.now.front ≡ transaction.now.seen }
         ensures agree { IfOk result (λ found. IfSome found (λ found. AgreeWith found.seen held.new)) }
         ensures held { held.new ≡ held.old }
         ensures value { IfOk result (λ found. IfSome found (λ found. IsTrue (is_trusted found.seen) → into.new.items ≡ value_at (latest found.seen) addr)) }
-        ensures object { IfOk result (λ found. IsSome found → IsTrue (is_object J.blocks (addr, into.new.items))) }
+        ensures object { IfOk result (λ found. IsSome found → IsTrue (is_object J.layout (addr, into.new.items))) }
         ensures found { IfOk result (λ found. IfSome found (Finds transaction.now addr)) }
         ensures size { length into.new.items ≡ length into.old.items }
-        ensures below { addr.block < J.blocks }
+        ensures below { addr.block < J.layout.blocks }
         ensures refusal { IfErr result (IsCheckRefusal transaction.now) }
     {
         let mut memory = self.lock_memory(rt);
-        // Called for its contract: how many blocks there are at least.
-        let _layout = memory.volatile.layout();
         let answer = memory
             .volatile
             .read(rt, transaction, held, addr, fetched, into);
@@ -370,13 +370,13 @@ impl<'b, D: BlockDisk, R: MapRule, J: Naming> LockedParts<'b, D, R, J> {
         fetched: Fetched<'b, J, R>,
         into: &mut Vec<u8>,
     ) -> Result<Option<ReadResult<'b, J, R>>, JournalRefusal<'b, J, R>>
-        requires valid { IsTrue (is_valid J.blocks addr) }
+        requires valid { IsTrue (is_valid J.layout addr) }
         requires under { AreUnder held.old transaction.now.seen transaction.now.reads }
-        requires size { length into.old.items ≡ size_at J.blocks addr }
+        requires size { length into.old.items ≡ size_at J.layout addr }
         ensures agree { IfOk result (λ found. IfSome found (λ found. AgreeWith found.seen held.new)) }
         ensures held { held.new ≡ held.old }
         ensures value { IfOk result (λ found. IfSome found (λ found. IsTrue (is_trusted found.seen) → into.new.items ≡ value_at (latest found.seen) addr)) }
-        ensures object { IfOk result (λ found. IsSome found → IsTrue (is_object J.blocks (addr, into.new.items))) }
+        ensures object { IfOk result (λ found. IsSome found → IsTrue (is_object J.layout (addr, into.new.items))) }
         ensures found { IfOk result (λ found. IfSome found (Finds transaction.now addr)) }
         ensures size { length into.new.items ≡ length into.old.items }
         ensures refusal { IfErr result (IsCheckRefusal transaction.now) }
@@ -412,10 +412,10 @@ impl<'b, D: BlockDisk, R: MapRule, J: Naming> LockedParts<'b, D, R, J> {
         held: &mut [Held<J>],
         spares: &mut Spares,
     ) -> Result<Receipt<'b, J, R>, JournalRefusal<'b, J, R>>
-        requires rule { (m : Map) → m.blocks ≡ J.blocks → R.statement m → Agrees m transaction.now.reads
+        requires rule { (m : Map) → m.layout ≡ J.layout → R.statement m → Agrees m transaction.now.reads
             → R.statement (overwritten m transaction.now.writes) }
         requires held { KeepsHeld held.old transaction.now }
-        ensures committed { IfOk result (IsCommitted R.statement J.blocks transaction.now.seen transaction.now session.old session.new) }
+        ensures committed { IfOk result (IsCommitted R.statement J.layout transaction.now.seen transaction.now session.old session.new) }
         ensures refusal { IfErr result (IsCommitRefusal transaction.now session.old) }
         ensures fenced { IfErr result (ShowsFence session.new) }
         ensures session { OnErr result (OnlyExtends session.old session.new) }
@@ -436,10 +436,10 @@ impl<'b, D: BlockDisk, R: MapRule, J: Naming> LockedParts<'b, D, R, J> {
         held: &mut [Held<J>],
         spares: &mut Spares,
     ) -> Result<Receipt<'b, J, R>, JournalRefusal<'b, J, R>>
-        requires rule { (m : Map) → m.blocks ≡ J.blocks → R.statement m → Agrees m transaction.now.reads
+        requires rule { (m : Map) → m.layout ≡ J.layout → R.statement m → Agrees m transaction.now.reads
             → R.statement (overwritten m transaction.now.writes) }
         requires held { KeepsHeld held.old transaction.now }
-        ensures committed { IfOk result (IsCommitted R.statement J.blocks transaction.now.seen transaction.now session.old session.new) }
+        ensures committed { IfOk result (IsCommitted R.statement J.layout transaction.now.seen transaction.now session.old session.new) }
         ensures refusal { IfErr result (IsTryRefusal transaction.now session.old) }
         ensures fenced { IfErr result (ShowsFence session.new) }
         ensures session { OnErr result (OnlyExtends session.old session.new) }
@@ -471,10 +471,10 @@ impl<'b, D: BlockDisk, R: MapRule, J: Naming> LockedParts<'b, D, R, J> {
         MutexGuard<'s, UnderMemoryLock<'b, R, J>>,
         Result<Receipt<'b, J, R>, JournalRefusal<'b, J, R>>,
     )
-        requires rule { (m : Map) → m.blocks ≡ J.blocks → R.statement m → Agrees m transaction.now.reads
+        requires rule { (m : Map) → m.layout ≡ J.layout → R.statement m → Agrees m transaction.now.reads
             → R.statement (overwritten m transaction.now.writes) }
         requires held { KeepsHeld held.old transaction.now }
-        ensures committed { IfOk result.1 (IsCommitted R.statement J.blocks transaction.now.seen transaction.now session.old session.new) }
+        ensures committed { IfOk result.1 (IsCommitted R.statement J.layout transaction.now.seen transaction.now session.old session.new) }
         ensures refusal { IfErr result.1 (IsCommitRefusal transaction.now session.old) }
         ensures fenced { IfErr result.1 (ShowsFence session.new) }
         ensures session { OnErr result.1 (OnlyExtends session.old session.new) }
@@ -511,10 +511,10 @@ impl<'b, D: BlockDisk, R: MapRule, J: Naming> LockedParts<'b, D, R, J> {
         MutexGuard<'s, UnderMemoryLock<'b, R, J>>,
         Result<Receipt<'b, J, R>, JournalRefusal<'b, J, R>>,
     )
-        requires rule { (m : Map) → m.blocks ≡ J.blocks → R.statement m → Agrees m transaction.now.reads
+        requires rule { (m : Map) → m.layout ≡ J.layout → R.statement m → Agrees m transaction.now.reads
             → R.statement (overwritten m transaction.now.writes) }
         requires held { KeepsHeld held.old transaction.now }
-        ensures committed { IfOk result.1 (IsCommitted R.statement J.blocks transaction.now.seen transaction.now session.old session.new) }
+        ensures committed { IfOk result.1 (IsCommitted R.statement J.layout transaction.now.seen transaction.now session.old session.new) }
         ensures refusal { IfErr result.1 (IsTryRefusal transaction.now session.old) }
         ensures fenced { IfErr result.1 (ShowsFence session.new) }
         ensures session { OnErr result.1 (OnlyExtends session.old session.new) }
@@ -677,12 +677,12 @@ pub(crate) fn commit_in<'b, R: MapRule, J: Naming, W: Wait>(
     spares: &mut Spares,
     fetched: &Fetched<'b, J, R>,
 ) -> Result<CommitStep<Receipt<'b, J, R>>, JournalRefusal<'b, J, R>>
-    requires rule { (m : Map) → m.blocks ≡ J.blocks → R.statement m → Agrees m transaction.now.reads
+    requires rule { (m : Map) → m.layout ≡ J.layout → R.statement m → Agrees m transaction.now.reads
         → R.statement (overwritten m transaction.now.writes) }
     requires held { KeepsHeld held.old transaction.now }
-    ensures committed { IfOk result (IfDone (IsCommitted R.statement J.blocks transaction.now.seen transaction.now session.old session.new)) }
+    ensures committed { IfOk result (IfDone (IsCommitted R.statement J.layout transaction.now.seen transaction.now session.old session.new)) }
     ensures waits { IfOk result (IfMissing (λ _. OnlyExtends session.old session.new)) }
-    ensures below { IfOk result (IfMissing (All (λ b. b < J.blocks))) }
+    ensures below { IfOk result (IfMissing (All (λ b. b < J.layout.blocks))) }
     ensures refusal { IfErr result (IsTryRefusal transaction.now session.old) }
     ensures fenced { IfErr result (ShowsFence session.new) }
     ensures session { OnErr result (OnlyExtends session.old session.new) }

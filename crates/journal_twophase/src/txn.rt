@@ -90,10 +90,10 @@ impl<'j, 'b, D: BlockDisk, R: MapRule, J: Naming> Txn<'j, 'b, D, R, J> {
     /// transaction is then as it was, with the slots that it held.
     pub fn read<W: Wait>(&mut self, rt: &W, addr: Addr) -> Result<Value, JournalRefusal<'b, J, R>>
         ensures reads { IfOk result (λ value. ReadsValue (holding self.old addr) addr value self.new) }
-        ensures object { IfOk result (λ value. IsTrue (is_object J.blocks (addr, value))) }
+        ensures object { IfOk result (λ value. IsTrue (is_object J.layout (addr, value))) }
         ensures agrees { OnOk result (IsTrue (is_trusted self.new.seen) → Agrees (latest self.new.seen) self.new.reads) }
         ensures kept { OnOk result (IsTrue (is_trusted self.new.seen) → Agrees (latest self.new.seen) self.old.reads) }
-        ensures refusal { IfErr result (IsReadRefusal J.blocks self.old addr) }
+        ensures refusal { IfErr result (IsReadRefusal J.layout self.old addr) }
         ensures same { OnErr result (self.new ≡ self.old) }
     {
         let journal = self.journal;
@@ -131,7 +131,7 @@ impl<'j, 'b, D: BlockDisk, R: MapRule, J: Naming> Txn<'j, 'b, D, R, J> {
 
     // The refusal of a read for which there is no memory. All that would refuse it otherwise comes before.
     fn no_memory<W: Wait>(&mut self, rt: &W, addr: Addr) -> JournalRefusal<'b, J, R>
-        requires valid { IsTrue (is_valid J.blocks addr) }
+        requires valid { IsTrue (is_valid J.layout addr) }
         ensures refusal { IsCheckRefusal (core_of self.old) result }
         ensures same { self.new ≡ self.old }
     {
@@ -149,10 +149,10 @@ impl<'j, 'b, D: BlockDisk, R: MapRule, J: Naming> Txn<'j, 'b, D, R, J> {
 
     // Its own overwrite, else what the map gives, which it remembers.
     fn find_value<W: Wait>(&mut self, rt: &W, addr: Addr) -> Result<Value, JournalRefusal<'b, J, R>>
-        requires valid { IsTrue (is_valid J.blocks addr) }
+        requires valid { IsTrue (is_valid J.layout addr) }
         requires slot { IsTrue (holds self.old.held (slot_number addr)) }
         ensures reads { IfOk result (λ value. ReadsValue self.old addr value self.new) }
-        ensures object { IfOk result (λ value. IsTrue (is_object J.blocks (addr, value))) }
+        ensures object { IfOk result (λ value. IsTrue (is_object J.layout (addr, value))) }
         ensures kept { OnOk result (IsTrue (is_trusted self.new.seen) → Agrees (latest self.new.seen) self.old.reads) }
         ensures refusal { IfErr result (IsCheckRefusal (core_of self.old)) }
         ensures same { OnErr result (self.new ≡ self.old) }
@@ -172,7 +172,7 @@ impl<'j, 'b, D: BlockDisk, R: MapRule, J: Naming> Txn<'j, 'b, D, R, J> {
 
     // Zeros in the number of bytes that the address's object has.
     fn room_for(&self, addr: Addr) -> Result<Vec<u8>, AllocError>
-        ensures { IfOk result (λ room. length room.items ≡ size_at J.blocks addr) }
+        ensures { IfOk result (λ room. length room.items ≡ size_at J.layout addr) }
     {
         let journal = self.journal;
         let size = match journal.layout.kind(addr.block) {
@@ -190,11 +190,11 @@ impl<'j, 'b, D: BlockDisk, R: MapRule, J: Naming> Txn<'j, 'b, D, R, J> {
         addr: Addr,
         room: Vec<u8>,
     ) -> Result<Value, JournalRefusal<'b, J, R>>
-        requires valid { IsTrue (is_valid J.blocks addr) }
-        requires size { length room.items ≡ size_at J.blocks addr }
+        requires valid { IsTrue (is_valid J.layout addr) }
+        requires size { length room.items ≡ size_at J.layout addr }
         requires slot { IsTrue (holds self.old.held (slot_number addr)) }
         ensures learns { IfOk result (λ value. Learns self.old addr value self.new) }
-        ensures object { IfOk result (λ value. IsTrue (is_object J.blocks (addr, value))) }
+        ensures object { IfOk result (λ value. IsTrue (is_object J.layout (addr, value))) }
         ensures kept { OnOk result (IsTrue (is_trusted self.new.seen) → Agrees (latest self.new.seen) self.old.reads) }
         ensures refusal { IfErr result (IsCheckRefusal (core_of self.old)) }
         ensures same { OnErr result (self.new ≡ self.old) }
@@ -217,7 +217,7 @@ impl<'j, 'b, D: BlockDisk, R: MapRule, J: Naming> Txn<'j, 'b, D, R, J> {
     // What it gave the address, if it has overwritten it.
     fn own(&self, addr: Addr) -> Option<&Value>
         ensures own { option_copied result ≡ value_among self.now.writes addr }
-        ensures object { IfSome (option_copied result) (λ value. IsTrue (is_object J.blocks (addr, value))) }
+        ensures object { IfSome (option_copied result) (λ value. IsTrue (is_object J.layout (addr, value))) }
     {
         // Called for its contract: what it overwrites are objects.
         let _front = self.transaction.front();
@@ -238,8 +238,8 @@ impl<'j, 'b, D: BlockDisk, R: MapRule, J: Naming> Txn<'j, 'b, D, R, J> {
         bytes: &[u8],
     ) -> Result<(), JournalRefusal<'b, J, R>>
         ensures overwrites { OnOk result (Overwrites (holding self.old addr) addr bytes.now self.new) }
-        ensures object { OnOk result (IsTrue (is_object J.blocks (addr, bytes.now))) }
-        ensures refusal { IfErr result (IsOverwriteRefusal J.blocks self.old addr bytes.now) }
+        ensures object { OnOk result (IsTrue (is_object J.layout (addr, bytes.now))) }
+        ensures refusal { IfErr result (IsOverwriteRefusal J.layout self.old addr bytes.now) }
         ensures same { OnErr result (self.new ≡ self.old) }
     {
         let journal = self.journal;
@@ -263,7 +263,7 @@ impl<'j, 'b, D: BlockDisk, R: MapRule, J: Naming> Txn<'j, 'b, D, R, J> {
 
     // Remembers what is to be written.
     fn remember(&mut self, addr: Addr, bytes: &[u8]) -> Result<(), JournalRefusal<'b, J, R>>
-        requires object { IsTrue (is_object J.blocks (addr, bytes.now)) }
+        requires object { IsTrue (is_object J.layout (addr, bytes.now)) }
         requires slot { IsTrue (holds self.old.held (slot_number addr)) }
         ensures overwrites { OnOk result (Overwrites self.old addr bytes.now self.new) }
         ensures refusal { IsOkUnless result Refusal.NoMemory }

@@ -122,12 +122,12 @@ impl<'b, D: BlockDisk, R: MapRule, J: Naming> LockedParts<'b, D, R, J> {
         slots: &LockMap<J>,
         held: Vec<Held<J>>,
     ) -> Waited<'b, J, R>
-        requires rule { (m : Map) → m.blocks ≡ J.blocks → R.statement m → Agrees m transaction.now.reads
+        requires rule { (m : Map) → m.layout ≡ J.layout → R.statement m → Agrees m transaction.now.reads
             → R.statement (overwritten m transaction.now.writes) }
         requires held { KeepsHeld held.items transaction.now }
-        ensures committed { IfOk result (λ done. CommitsAndWaits R.statement J.blocks transaction.now.seen transaction.now session.old session.new done.0) }
+        ensures committed { IfOk result (λ done. CommitsAndWaits R.statement J.layout transaction.now.seen transaction.now session.old session.new done.0) }
         ensures stable { IfOk result (λ done. IsStable done.0.count done.1 session.new) }
-        ensures fault { IfErr result (IsWaitFault R.statement J.blocks transaction.now.seen transaction.now session.old session.new) }
+        ensures fault { IfErr result (IsWaitFault R.statement J.layout transaction.now.seen transaction.now session.old session.new) }
     {
         let mut held = held;
         let (mut memory, answer) = self.commit_with_room(

@@ -1,5 +1,5 @@
 -- A map's look-up by the order of addresses is the one by pairs.
-use Rattle.std.proofs.Common.{◌≡◌, ℕ, Bool, true, false, cond, ◌==◌, ◌&&◌, IsTrue, List, [], ◌∷◌, Some, Ordering, refl, sym, ap, subst, ◌∙◌}
+use Rattle.std.proofs.Common.{◌≡◌, Bool, true, false, cond, ◌==◌, ◌&&◌, IsTrue, List, [], ◌∷◌, Some, Ordering, refl, sym, ap, subst, ◌∙◌}
 use Rattle.std.specs.declared.cmp.Ordering.TheVariants.{Less, Equal, Greater}
 use Rattle.std.specs.Ordering.{nat_cmp, ordering_then, is_eq, match_ordering}
 use Rattle.std.specs.BTreeMap.{is_at, insert_entry}
@@ -10,7 +10,7 @@ use Rattle.std.proofs.lemmas.Bool.Decides.{Decides-eqb}
 use Rattle.std.proofs.lemmas.Cmp.{nat_eq_equiv}
 use Rattle.std.proofs.lemmas.List.Elements.{All-head, All-tail, All-cons}
 use Rattle.journal_world.specs.declared.address.Addr.{Addr}
-use Rattle.journal_world.specs.Addresses.{Value, is_same}
+use Rattle.journal_world.specs.Addresses.{Shape, Value, is_same}
 use Rattle.journal_world.specs.Maps.{Pair, Map, value_among, value_at, SamePairs, Agrees, is_object, are_objects}
 
 -- by block, then by offset
@@ -61,21 +61,21 @@ inserted es fs a v updates q =
     ∙ ap (cond (is_same q a) (Some v)) (lookup-addr es q)
 
 -- an insert of an object leaves objects
-pub are_objects-insert_entry : (blocks : ℕ) (es : List Pair) (a : Addr) (v : Value)
-    → IsTrue (are_objects blocks es) → IsTrue (is_object blocks (a, v)) → IsTrue (are_objects blocks (insert_entry addr_cmp es a v))
-are_objects-insert_entry blocks [] a v old new = and_from (is_object blocks (a, v)) true new refl
-are_objects-insert_entry blocks (e ∷ es) a v old new = by_order (addr_cmp a e.0) refl (λ rest. are_objects-insert_entry blocks es a v rest new)
+pub are_objects-insert_entry : (layout : Shape) (es : List Pair) (a : Addr) (v : Value)
+    → IsTrue (are_objects layout es) → IsTrue (is_object layout (a, v)) → IsTrue (are_objects layout (insert_entry addr_cmp es a v))
+are_objects-insert_entry layout [] a v old new = and_from (is_object layout (a, v)) true new refl
+are_objects-insert_entry layout (e ∷ es) a v old new = by_order (addr_cmp a e.0) refl (λ rest. are_objects-insert_entry layout es a v rest new)
   where
-    parts : IsTrue (is_object blocks e) × IsTrue (are_objects blocks es)
-    parts = and_parts (is_object blocks e) (are_objects blocks es) old
+    parts : IsTrue (is_object layout e) × IsTrue (are_objects layout es)
+    parts = and_parts (is_object layout e) (are_objects layout es) old
 
-    by_order : (o : Ordering) → addr_cmp a e.0 ≡ o → (IsTrue (are_objects blocks es) → IsTrue (are_objects blocks (insert_entry addr_cmp es a v)))
-        → IsTrue (are_objects blocks (match_ordering o ((a, v) ∷ e ∷ es) ((e.0, v) ∷ es) (e ∷ insert_entry addr_cmp es a v)))
-    by_order Less is go = and_from (is_object blocks (a, v)) (are_objects blocks (e ∷ es)) new old
+    by_order : (o : Ordering) → addr_cmp a e.0 ≡ o → (IsTrue (are_objects layout es) → IsTrue (are_objects layout (insert_entry addr_cmp es a v)))
+        → IsTrue (are_objects layout (match_ordering o ((a, v) ∷ e ∷ es) ((e.0, v) ∷ es) (e ∷ insert_entry addr_cmp es a v)))
+    by_order Less is go = and_from (is_object layout (a, v)) (are_objects layout (e ∷ es)) new old
     by_order Equal is go =
         let same : a ≡ e.0 = same_addr a e.0 (sym (is_same-at a e.0) ∙ ap is_eq is) in
-        and_from (is_object blocks (e.0, v)) (are_objects blocks es) (subst (λ b. IsTrue (is_object blocks (b, v))) same new) parts.1
-    by_order Greater is go = and_from (is_object blocks e) (are_objects blocks (insert_entry addr_cmp es a v)) parts.0 (go parts.1)
+        and_from (is_object layout (e.0, v)) (are_objects layout es) (subst (λ b. IsTrue (is_object layout (b, v))) same new) parts.1
+    by_order Greater is go = and_from (is_object layout e) (are_objects layout (insert_entry addr_cmp es a v)) parts.0 (go parts.1)
 
 -- an insert of what the map gives leaves what it gives
 pub Agrees-insert_entry : (m : Map) (es : List Pair) (a : Addr) (v : Value)

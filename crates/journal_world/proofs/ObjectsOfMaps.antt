@@ -6,8 +6,8 @@ use Rattle.std.proofs.lemmas.Bool.{and_from, and_parts, eq-eqb, false≢true}
 use Rattle.std.proofs.lemmas.List.{length-replicate}
 use Rattle.journal_world.specs.declared.address.Addr.{Addr}
 use Rattle.journal_world.specs.declared.address.Kind.{Kind}
-use Rattle.journal_world.specs.declared.address.Kind.TheVariants.{Bit, Inode, Block}
-use Rattle.journal_world.specs.Addresses.{kind_of, is_valid, starts_object, bytes_of, limit_of, is_value_of, zeros_of, is_same}
+use Rattle.journal_world.specs.declared.address.Kind.TheVariants.{Bit, Record, Block}
+use Rattle.journal_world.specs.Addresses.{Shape, kind_of, is_valid, starts_object, bytes_of, limit_of, is_value_of, zeros_of, is_same}
 use Rattle.journal_world.specs.Maps.{Pair, Map, value_among, zeros_at, value_at, is_value_at, is_object, are_objects}
 use Rattle.journal_world.proofs.Lookups.{same_addr}
 
@@ -17,7 +17,7 @@ list_all-replicate p (suc n) x here = and_from (p x) (list_all p (replicate n x)
 
 zero_fits : (kind : Kind) → nat_lt 0 (limit_of kind) ≡ true
 zero_fits Bit = refl
-zero_fits Inode = refl
+zero_fits (Record size) = refl
 zero_fits Block = refl
 
 -- zeros are a value
@@ -32,22 +32,22 @@ zeros_fit : (kind : Option Kind) (off : ℕ) → IsTrue (starts_object kind off)
 zeros_fit None off valid = absurd (false≢true valid)
 zeros_fit (Some kind) off valid = is_value_of-zeros kind
 
-found_fits : (blocks : ℕ) (ps : List Pair) (a : Addr) → IsTrue (is_valid blocks a) → IsTrue (are_objects blocks ps)
-    → IsTrue (is_value_at (kind_of blocks a.block) (unwrap_or (value_among ps a) (zeros_at (kind_of blocks a.block))))
-found_fits blocks [] a valid objects = zeros_fit (kind_of blocks a.block) a.off valid
-found_fits blocks (p ∷ ps) a valid objects = by_test (is_same a p.0) refl (found_fits blocks ps a valid parts.1)
+found_fits : (layout : Shape) (ps : List Pair) (a : Addr) → IsTrue (is_valid layout a) → IsTrue (are_objects layout ps)
+    → IsTrue (is_value_at (kind_of layout a.block) (unwrap_or (value_among ps a) (zeros_at (kind_of layout a.block))))
+found_fits layout [] a valid objects = zeros_fit (kind_of layout a.block) a.off valid
+found_fits layout (p ∷ ps) a valid objects = by_test (is_same a p.0) refl (found_fits layout ps a valid parts.1)
   where
-    parts : IsTrue (is_object blocks p) × IsTrue (are_objects blocks ps)
-    parts = and_parts (is_object blocks p) (are_objects blocks ps) objects
+    parts : IsTrue (is_object layout p) × IsTrue (are_objects layout ps)
+    parts = and_parts (is_object layout p) (are_objects layout ps) objects
 
     by_test : (b : Bool) → is_same a p.0 ≡ b
-        → IsTrue (is_value_at (kind_of blocks a.block) (unwrap_or (value_among ps a) (zeros_at (kind_of blocks a.block))))
-        → IsTrue (is_value_at (kind_of blocks a.block) (unwrap_or (cond b (Some p.1) (value_among ps a)) (zeros_at (kind_of blocks a.block))))
+        → IsTrue (is_value_at (kind_of layout a.block) (unwrap_or (value_among ps a) (zeros_at (kind_of layout a.block))))
+        → IsTrue (is_value_at (kind_of layout a.block) (unwrap_or (cond b (Some p.1) (value_among ps a)) (zeros_at (kind_of layout a.block))))
     by_test true is rest =
-        subst (λ b. IsTrue (is_value_at (kind_of blocks b.block) p.1)) (sym (same_addr a p.0 is))
-        (and_parts (is_valid blocks p.0) (is_value_at (kind_of blocks p.0.block) p.1) parts.0).1
+        subst (λ b. IsTrue (is_value_at (kind_of layout b.block) p.1)) (sym (same_addr a p.0 is))
+        (and_parts (is_valid layout p.0) (is_value_at (kind_of layout p.0.block) p.1) parts.0).1
     by_test false is rest = rest
 
 -- what a map of objects gives a valid address is an object
-pub value_at-object : (m : Map) (a : Addr) → IsTrue (is_valid m.blocks a) → IsTrue (are_objects m.blocks m.pairs) → IsTrue (is_object m.blocks (a, value_at m a))
-value_at-object m a valid objects = and_from (is_valid m.blocks a) (is_value_at (kind_of m.blocks a.block) (value_at m a)) valid (found_fits m.blocks m.pairs a valid objects)
+pub value_at-object : (m : Map) (a : Addr) → IsTrue (is_valid m.layout a) → IsTrue (are_objects m.layout m.pairs) → IsTrue (is_object m.layout (a, value_at m a))
+value_at-object m a valid objects = and_from (is_valid m.layout a) (is_value_at (kind_of m.layout a.block) (value_at m a)) valid (found_fits m.layout m.pairs a valid objects)

@@ -1,29 +1,62 @@
 -- Addresses, the kinds of object that they name, and values.
-use Rattle.std.specs.Prelude.{ℕ, ◌+◌, ◌*◌, ◌%◌, Bool, false, ◌&&◌, ◌||◌, ◌==◌, nat_lt, nat_le, if◌then◌else◌, List, length, replicate, Option, Some, None}
+use Rattle.std.specs.Prelude.{ℕ, ◌+◌, ◌*◌, ◌%◌, Bool, true, false, ◌&&◌, ◌||◌, ◌==◌, nat_lt, nat_le, if◌then◌else◌, List, [], ◌∷◌, length, replicate, Option, Some, None}
 use Rattle.std.specs.List.{list_all}
 use Rattle.journal_world.specs.declared.address.Addr.{Addr}
 use Rattle.journal_world.specs.declared.address.Kind.{Kind}
-use Rattle.journal_world.specs.declared.address.Kind.TheVariants.{Bit, Inode, Block}
+use Rattle.journal_world.specs.declared.address.Kind.TheVariants.{Bit, Record, Block}
+use Rattle.journal_world.specs.declared.address.RecordSize.{RecordSize}
+use Rattle.journal_world.specs.declared.address.RecordSize.TheVariants.{Bytes8, Bytes16, Bytes32, Bytes64, Bytes128, Bytes256, Bytes512, Bytes1024, Bytes2048}
+use Rattle.journal_world.specs.declared.layout.Region.{Region}
 use Rattle.journal_world.specs.declared.address.TheConstants.{SLOTS}
-use Rattle.journal_world.specs.declared.layout.TheConstants.{SUPERBLOCK, BITMAP, FIRST_INODES, FIRST_DATA, BLOCK_BITS, BLOCK_BYTES}
+use Rattle.journal_world.specs.declared.layout.TheConstants.{SUPERBLOCK, UNUSED, BLOCK_BITS, BLOCK_BYTES}
 
 -- a value is its bytes
 abbrev pub Value : Type 0
 Value = List ℕ
 
--- what the objects of a block are, on a disk of so many blocks: bits in block 514, inodes in 515 to
--- 530, whole blocks in 513 and from 531 to the last; other blocks have none
-abbrev pub kind_of : ℕ → ℕ → Option Kind
-kind_of blocks block =
-    if block == BITMAP then Some Bit
-    else if nat_le FIRST_INODES block && nat_lt block FIRST_DATA then Some Inode
-    else if block == SUPERBLOCK || nat_le FIRST_DATA block && nat_lt block blocks then Some Block
-    else None
+-- A layout: how many blocks the disk has, and its regions. A region is the first of its blocks and
+-- the kind of their objects. It ends where the next one begins, and the last one where the disk ends
+pub record Shape : Type 0 where
+  pub blocks : ℕ
+  pub regions : List Region
 
--- how many bits the objects of a kind are apart in their block: 1, 1024, 32768
+-- each region begins above the one before it, or is not in use, and then so is each behind it
+abbrev pub rise_from : ℕ → List Region → Bool
+rise_from before [] = true
+rise_from before (r ∷ rs) = (nat_lt before r.first || r.first == UNUSED) && rise_from r.first rs
+
+-- the first region begins at block 513, and the others rise
+abbrev pub are_regions : List Region → Bool
+are_regions [] = false
+are_regions (r ∷ rs) = rise_from 0 (r ∷ rs) && r.first == SUPERBLOCK
+
+-- the kind of the last of the regions that begins at or below a block, or where none does the one
+-- that was found before
+abbrev pub kind_among : List Region → ℕ → Option Kind → Option Kind
+kind_among [] block found = found
+kind_among (r ∷ rs) block found = kind_among rs block (if nat_le r.first block then Some r.kind else found)
+
+-- what the objects of a block are, on a disk of a layout: those of its region. The blocks below 513
+-- and those that the disk has not have none
+abbrev pub kind_of : Shape → ℕ → Option Kind
+kind_of s block = if nat_le SUPERBLOCK block && nat_lt block s.blocks then kind_among s.regions block None else None
+
+-- how many bytes a record of a size has
+abbrev pub record_bytes : RecordSize → ℕ
+record_bytes Bytes8 = 8
+record_bytes Bytes16 = 16
+record_bytes Bytes32 = 32
+record_bytes Bytes64 = 64
+record_bytes Bytes128 = 128
+record_bytes Bytes256 = 256
+record_bytes Bytes512 = 512
+record_bytes Bytes1024 = 1024
+record_bytes Bytes2048 = 2048
+
+-- how many bits the objects of a kind are apart in their block: 1, 64 to 16384, 32768
 abbrev pub bits_of : Kind → ℕ
 bits_of Bit = 1
-bits_of Inode = 1024
+bits_of (Record size) = 8 * record_bytes size
 bits_of Block = BLOCK_BITS
 
 abbrev pub starts_object : Option Kind → ℕ → Bool
@@ -32,19 +65,19 @@ starts_object (Some kind) off = nat_lt off BLOCK_BITS && off % bits_of kind == 0
 
 -- the address names an object: its block has a kind, and its bit offset is below 32768 and a
 -- multiple of the kind's bits
-abbrev pub is_valid : ℕ → Addr → Bool
-is_valid blocks a = starts_object (kind_of blocks a.block) a.off
+abbrev pub is_valid : Shape → Addr → Bool
+is_valid layout a = starts_object (kind_of layout a.block) a.off
 
 -- how many bytes a value of a kind has
 abbrev pub bytes_of : Kind → ℕ
 bytes_of Bit = 1
-bytes_of Inode = 128
+bytes_of (Record size) = record_bytes size
 bytes_of Block = BLOCK_BYTES
 
 -- each byte of a value of a kind is below this
 abbrev pub limit_of : Kind → ℕ
 limit_of Bit = 2
-limit_of Inode = 256
+limit_of (Record size) = 256
 limit_of Block = 256
 
 -- the value is one of the kind

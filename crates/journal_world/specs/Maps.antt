@@ -1,17 +1,19 @@
 -- Maps from addresses to values, and the transactions on them.
-use Rattle.std.specs.Prelude.{ℕ, ◌≡◌, Bool, false, ◌&&◌, if◌then◌else◌, IsTrue, List, [], ◌∷◌, ◌++◌, Option, Some, None, unwrap_or, All}
+use Rattle.std.specs.Prelude.{ℕ, ◌≡◌, ◌<◌, ◌+◌, Bool, false, ◌&&◌, if◌then◌else◌, IsTrue, List, [], ◌∷◌, ◌++◌, Option, Some, None, unwrap_or, All}
+use Rattle.std.specs.Int.{bit_at}
 use Rattle.std.specs.List.{list_all}
 use Rattle.journal_world.specs.declared.address.Addr.{Addr}
 use Rattle.journal_world.specs.declared.address.Kind.{Kind}
-use Rattle.journal_world.specs.Addresses.{Value, kind_of, is_valid, is_value_of, is_same, zeros_of}
+use Rattle.journal_world.specs.Addresses.{Value, Shape, kind_of, is_valid, is_value_of, is_same, zeros_of}
 
 -- an address and a value of it
 abbrev pub Pair : Type 0
 Pair = Addr × Value
 
--- The objects of a disk of so many blocks: those that the pairs name have their values, all others are zeros
+-- The objects of a disk of a layout: those that the pairs name have their values, and all others
+-- are zeros
 pub record Map : Type 0 where
-  pub blocks : ℕ
+  pub layout : Shape
   pub pairs : List Pair
 
 -- the value that the first pair of an address gives it
@@ -29,12 +31,17 @@ zeros_at (Some kind) = zeros_of kind
 
 -- what a map gives an address: the value that its first pair gives, else the zeros of its kind
 abbrev pub value_at : Map → Addr → Value
-value_at m a = unwrap_or (value_among m.pairs a) (zeros_at (kind_of m.blocks a.block))
+value_at m a = unwrap_or (value_among m.pairs a) (zeros_at (kind_of m.layout a.block))
+
+-- the bits at 64 offsets in a row, from the address on, are those of the number, the lowest first
+abbrev pub AreBitsFrom : Map → Addr → ℕ → Type 0
+AreBitsFrom m a bits =
+    (i : ℕ) → i < 64 → value_at m (record { block = a.block; off = a.off + i }) ≡ bit_at bits i ∷ []
 
 -- Two maps that give each valid address the same value are the same map
 pub record SameMap (m n : Map) : Type 0 where
-  pub blocks : m.blocks ≡ n.blocks
-  pub values : (a : Addr) → IsTrue (is_valid m.blocks a) → value_at m a ≡ value_at n a
+  pub layout : m.layout ≡ n.layout
+  pub values : (a : Addr) → IsTrue (is_valid m.layout a) → value_at m a ≡ value_at n a
 
 -- the value is one of this kind; where there is no kind, none is
 abbrev pub is_value_at : Option Kind → Value → Bool
@@ -42,11 +49,11 @@ is_value_at None v = false
 is_value_at (Some kind) v = is_value_of kind v
 
 -- the address is valid, and the value is of its kind
-abbrev pub is_object : ℕ → Pair → Bool
-is_object blocks p = is_valid blocks p.0 && is_value_at (kind_of blocks p.0.block) p.1
+abbrev pub is_object : Shape → Pair → Bool
+is_object layout p = is_valid layout p.0 && is_value_at (kind_of layout p.0.block) p.1
 
-abbrev pub are_objects : ℕ → List Pair → Bool
-are_objects blocks ps = list_all (is_object blocks) ps
+abbrev pub are_objects : Shape → List Pair → Bool
+are_objects layout ps = list_all (is_object layout) ps
 
 -- What a transaction read and what it writes, with its session and the number of that session's earlier ones
 pub record Transaction : Type 0 where
@@ -62,13 +69,13 @@ Agrees m reads = All (λ p. value_at m p.0 ≡ p.1) reads
 -- A transaction that may be committed where the map is m: it reads and writes objects of the map's
 -- disk, and what it read agrees with the map
 pub record IsLegalAt (m : Map) (t : Transaction) : Type 0 where
-  pub reads : IsTrue (are_objects m.blocks t.reads)
-  pub writes : IsTrue (are_objects m.blocks t.writes)
+  pub reads : IsTrue (are_objects m.layout t.reads)
+  pub writes : IsTrue (are_objects m.layout t.writes)
   pub agrees : Agrees m t.reads
 
 -- a map overwritten by pairs, the first of an address before others
 abbrev pub overwritten : Map → List Pair → Map
-overwritten m pairs = record { blocks = m.blocks; pairs = pairs ++ m.pairs }
+overwritten m pairs = record { layout = m.layout; pairs = pairs ++ m.pairs }
 
 -- the map after the transaction
 abbrev pub apply : Transaction → Map → Map

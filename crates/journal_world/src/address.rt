@@ -1,6 +1,6 @@
 // Where an object lies, and what it is.
 ghost use Rattle.std.specs.Prelude.{◌≡◌, IfOk};
-ghost use Rattle.journal_world.specs.Addresses.{bytes_of, bits_of, is_value_of, zeros_of};
+ghost use Rattle.journal_world.specs.Addresses.{record_bytes, bytes_of, bits_of, is_value_of, zeros_of};
 ghost use Rattle.journal_world.specs.Addresses.{slot_of as slot_number};
 
 use crate::Value;
@@ -19,13 +19,55 @@ pub struct Addr {
     pub off: u32,
 }
 
+/// How many bytes each record of a block has: the powers of two from 8 to 2048.
+#[derive(Clone, Copy, Debug, PartialEq, Eq)]
+pub enum RecordSize {
+    /// 512 records a block.
+    Bytes8,
+    /// 256 records a block.
+    Bytes16,
+    /// 128 records a block.
+    Bytes32,
+    /// 64 records a block.
+    Bytes64,
+    /// 32 records a block, as inodes have them.
+    Bytes128,
+    /// 16 records a block.
+    Bytes256,
+    /// 8 records a block.
+    Bytes512,
+    /// 4 records a block.
+    Bytes1024,
+    /// 2 records a block.
+    Bytes2048,
+}
+
+impl RecordSize {
+    /// The number of bytes: 8 to 2048.
+    pub fn bytes(self) -> usize
+        ensures { result ≡ record_bytes self }
+    {
+        match self {
+            RecordSize::Bytes8 => 8,
+            RecordSize::Bytes16 => 16,
+            RecordSize::Bytes32 => 32,
+            RecordSize::Bytes64 => 64,
+            RecordSize::Bytes128 => 128,
+            RecordSize::Bytes256 => 256,
+            RecordSize::Bytes512 => 512,
+            RecordSize::Bytes1024 => 1024,
+            RecordSize::Bytes2048 => 2048,
+        }
+    }
+}
+
 /// What an object is. All objects of one block are of one kind.
 #[derive(Clone, Copy, Debug, PartialEq, Eq)]
 pub enum Kind {
     /// One bit.
     Bit,
-    /// 128 bytes.
-    Inode,
+    /// A record of so many bytes. It begins at a multiple of its size.
+    Record(RecordSize),
     /// A whole block, 4096 bytes.
     Block,
 }
@@ -37,7 +79,7 @@ impl Kind {
     {
         match self {
             Kind::Bit => 1,
-            Kind::Inode => 128,
+            Kind::Record(size) => size.bytes(),
             Kind::Block => BLOCK_BYTES,
         }
     }
@@ -48,7 +90,7 @@ impl Kind {
     {
         match self {
             Kind::Bit => 1,
-            Kind::Inode => 1024,
+            Kind::Record(size) => 8 * size.bytes() as u32,
             Kind::Block => BLOCK_BITS,
         }
     }
@@ -59,7 +101,7 @@ impl Kind {
     {
         match self {
             Kind::Bit => matches!(bytes, [0 | 1]),
-            Kind::Inode | Kind::Block => bytes.len() == self.bytes(),
+            Kind::Record(_) | Kind::Block => bytes.len() == self.bytes(),
         }
     }
 

@@ -4,6 +4,7 @@
 #![tactic(auto)]
 
 mod address;
+mod kinds;
 mod layout;
 mod moment;
 mod objects;
@@ -12,10 +13,10 @@ mod rule;
 mod step;
 mod value;
 
-pub use address::{Addr, Kind, SLOTS, slot_of};
+pub use address::{Addr, Kind, RecordSize, SLOTS, slot_of};
 pub use layout::{
-    BITMAP, BLOCK_BITS, BLOCK_BYTES, FIRST_DATA, FIRST_INODES, Layout, MAX_BLOCKS, MIN_BLOCKS,
-    SUPERBLOCK,
+    BITMAP, BLOCK_BITS, BLOCK_BYTES, FIRST_DATA, FIRST_INODES, Layout, MAX_BLOCKS,
+    MAX_LAYOUT_BLOCKS, MIN_BLOCKS, REGIONS, Region, SUPERBLOCK, UNUSED,
 };
 pub use moment::{MAX_NANOS, Moment};
 pub use objects::Objects;

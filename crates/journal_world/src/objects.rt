@@ -1,6 +1,7 @@
 // Values by address.
-ghost use Rattle.std.specs.Prelude.{◌≡◌, ℕ, [], ◌∷◌, IsTrue, OnOk, OnErr};
+ghost use Rattle.std.specs.Prelude.{◌≡◌, [], ◌∷◌, IsTrue, OnOk, OnErr};
 ghost use Rattle.std.specs.Option.{option_copied};
+ghost use Rattle.journal_world.specs.Addresses.{Shape};
 ghost use Rattle.journal_world.specs.Maps.{Map, value_among, value_at, SamePairs, Agrees, is_object, are_objects};
 ghost use Rattle.journal_world.specs.Orders.{HasAscendingBlocks};
 
@@ -18,6 +19,7 @@ pub struct Objects {
 
 impl Model for Objects {
     ghost use Rattle.std.specs.Prelude.{List};
+    ghost use Rattle.journal_world.specs.Addresses.{Shape};
     ghost use Rattle.journal_world.specs.Maps.{Pair};
 
     ghost Value = { List Pair };
@@ -56,7 +58,7 @@ impl Objects {
         ensures ok { OnOk result (SamePairs self.new ((addr, value) ∷ self.old)) }
         ensures err { OnErr result (self.new ≡ self.old) }
         ensures err_only_if_absent { OnErr result (value_among self.old addr ≡ None) }
-        ensures objects { (blocks : ℕ) → IsTrue (are_objects blocks self.old) → IsTrue (is_object blocks (addr, value)) → IsTrue (are_objects blocks self.new) }
+        ensures objects { (layout : Shape) → IsTrue (are_objects layout self.old) → IsTrue (is_object layout (addr, value)) → IsTrue (are_objects layout self.new) }
         ensures agrees { (m : Map) → Agrees m self.old → value_at m addr ≡ value → Agrees m self.new }
     {
         self.values.insert(addr, value)?;

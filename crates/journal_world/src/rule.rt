@@ -1,10 +1,11 @@
 // What a mount demands of every map that it ever has.
-ghost use Rattle.std.specs.Prelude.{◌≡◌, ◌↔◌, Bool, IsTrue, IfOk, IfErr};
-ghost use Rattle.journal_world.specs.Addresses.{is_valid};
-ghost use Rattle.journal_world.specs.Maps.{Map, SameMap, value_at, is_object};
+ghost use Rattle.std.specs.Prelude.{◌≡◌, ◌≤◌, ◌+◌, ◌%◌, ◌↔◌, Bool, Some, IsTrue, IfOk, IfErr};
+ghost use Rattle.journal_world.specs.Addresses.{kind_of, is_valid};
+ghost use Rattle.journal_world.specs.Files.{shape};
+ghost use Rattle.journal_world.specs.Maps.{Map, SameMap, value_at, is_object, are_objects, AreBitsFrom};
 ghost use Rattle.journal_world.specs.Refusals.{IsReadingRefusal};
 
-use crate::{Addr, Layout, Refusal, Value};
+use crate::{Addr, BLOCK_BITS, Kind, Layout, Refusal, Value};
 
 /// Reads the objects of one map.
 ///
@@ -17,6 +18,9 @@ pub trait ObjectReader {
 
     ghost map: { Self → Map };
 
+    // The map's pairs are objects. So each value is of its address's kind, also one that is not read.
+    ghost objects: { (reader : Self) → IsTrue (are_objects (map reader).layout (map reader).pairs) };
+
     ghost trusted: { Self → Bool };
 
     /// Whether the device failed under the reader, now or before.
@@ -24,15 +28,30 @@ pub trait ObjectReader {
 
     /// The layout of the map's disk.
     fn layout(&self) -> Layout
-        ensures { result.blocks ≡ (map self.now).blocks };
+        ensures { shape result ≡ (map self.now).layout };
 
     /// The value of the address. The map stays.
     ///
     /// Refused for want of memory (J1), and where the device has failed then (J6). It stays failed.
     fn read(&mut self, addr: Addr) -> Result<Value, Refusal<Self::Cause>>
-        requires valid { IsTrue (is_valid (map self.old).blocks addr) }
+        requires valid { IsTrue (is_valid (map self.old).layout addr) }
         ensures value { IsTrue (trusted self.old) → IfOk result (λ value. value ≡ value_at (map self.old) addr) }
-        ensures object { IfOk result (λ value. IsTrue (is_object (map self.old).blocks (addr, value))) }
+        ensures object { IfOk result (λ value. IsTrue (is_object (map self.old).layout (addr, value))) }
+        ensures refusal { IfErr result (IsReadingRefusal (failed self.new)) }
+        ensures stays_failed { IsTrue (failed self.old) → IsTrue (failed self.new) }
+        ensures same_map { map self.new ≡ map self.old }
+        ensures same_trust { trusted self.new ≡ trusted self.old };
+
+    /// The bits of 64 addresses in a row as one number, that of `addr` in the lowest place: each bit
+    /// is the value that `read` gives its address. It is asked for a block whose objects are bits, at
+    /// a multiple of 64. The map stays.
+    ///
+    /// Refused for want of memory (J1), and where the device has failed then (J6). It stays failed.
+    fn read_bits(&mut self, addr: Addr) -> Result<u64, Refusal<Self::Cause>>
+        requires kind { kind_of (map self.old).layout addr.block ≡ Some Kind.Bit }
+        requires inside { addr.off + 64 ≤ BLOCK_BITS }
+        requires multiple { addr.off % 64 ≡ 0 }
+        ensures bits { IsTrue (trusted self.old) → IfOk result (AreBitsFrom (map self.old) addr) }
         ensures refusal { IfErr result (IsReadingRefusal (failed self.new)) }
         ensures stays_failed { IsTrue (failed self.old) → IsTrue (failed self.new) }
         ensures same_map { map self.new ≡ map self.old }

@@ -1,5 +1,6 @@
 // Commits while a barrier waits, the logger's and the installer's.
 ghost use Rattle.std.specs.Prelude.{◌≡◌};
+ghost use Rattle.journal_world.specs.Files.{files};
 
 use super::beside_daemon::in_two;
 use super::gated_disk::{Gate, GatedDisk};
@@ -63,7 +64,7 @@ fn stop_no_commit<J: Naming + Send + Sync, H: Abort + Threads + Wait + Clock + S
 )
     requires book { book.now ≡ J.book }
     requires cell { cell ≡ J.cell }
-    requires blocks { J.blocks ≡ 800 }
+    requires layout { J.layout ≡ files 800 }
 {
     let gate = Gate::default();
     let disk = MemDisk::new::<()>(alloc, BLOCKS).expect(rt, "a disk");

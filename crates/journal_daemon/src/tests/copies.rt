@@ -1,5 +1,6 @@
 // Copies of home blocks: which reads ask the device, and what they find.
 ghost use Rattle.std.specs.Prelude.{◌≡◌, ◌≤◌};
+ghost use Rattle.journal_world.specs.Files.{files};
 ghost use Rattle.journal_twophase.specs.declared.journal.TheConstants.{MAX_CACHED_BLOCKS};
 
 use super::*;
@@ -74,7 +75,7 @@ fn reads_in<J: Naming, H: Abort + Wait>(
 ) -> Option<u32>
     requires book { book.now ≡ J.book }
     requires cell { cell ≡ J.cell }
-    requires blocks { J.blocks ≡ 800 }
+    requires layout { J.layout ≡ files 800 }
     requires some { 1 ≤ cached }
     requires most { cached ≤ MAX_CACHED_BLOCKS }
 {

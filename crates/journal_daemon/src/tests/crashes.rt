@@ -1,5 +1,7 @@
 // What a crash leaves at each device call, while four threads commit beside the daemon.
-ghost use Rattle.std.specs.Prelude.{◌≡◌};
+ghost use Rattle.std.specs.Prelude.{◌≡◌, IsTrue, IfErr};
+ghost use Rattle.journal_world.specs.Refusals.{IsReadingRefusal};
+ghost use Rattle.journal_world.specs.Files.{files};
 ghost use Rattle.journal_disk.specs.Disks.{IsSettled};
 
 use super::beside_daemon::{Work, four_beside};
@@ -79,10 +81,10 @@ impl MapRule for Watch {
     fn admit<O: ObjectReader>(&self, reader: &mut O) -> Result<bool, Refusal<O::Cause>> {
         let [first, second, third, fourth] = &self.accounts;
         let [one, two, three, four] = OBJECTS;
-        self.judge(first, reader.read(one)?.bytes());
-        self.judge(second, reader.read(two)?.bytes());
-        self.judge(third, reader.read(three)?.bytes());
-        self.judge(fourth, reader.read(four)?.bytes());
+        self.judge_object(reader, first, one)?;
+        self.judge_object(reader, second, two)?;
+        self.judge_object(reader, third, three)?;
+        self.judge_object(reader, fourth, four)?;
         Ok(true)
     }
 }
@@ -120,6 +122,26 @@ impl Watch {
             images: AtomicU64::new(0),
             wrong: AtomicU64::new(0),
         }
+    }
+
+    /// Judges the object of an account. A layout that has no such object is wrong.
+    fn judge_object<O: ObjectReader>(
+        &self,
+        reader: &mut O,
+        account: &Account,
+        addr: Addr,
+    ) -> Result<(), Refusal<O::Cause>>
+        ensures refusal { IfErr result (IsReadingRefusal (O.failed reader.new)) }
+        ensures stays_failed { IsTrue (O.failed reader.old) → IsTrue (O.failed reader.new) }
+        ensures same_map { O.map reader.new ≡ O.map reader.old }
+        ensures same_trust { O.trusted reader.new ≡ O.trusted reader.old }
+    {
+        if !reader.layout().is_valid(addr) {
+            self.blame();
+            return Ok(());
+        }
+        self.judge(account, reader.read(addr)?.bytes());
+        Ok(())
     }
 
     fn judge(&self, account: &Account, bytes: &[u8]) {
@@ -193,7 +215,7 @@ fn opens_in<J: Naming>(
 ) -> bool
     requires book { book.now ≡ J.book }
     requires cell { cell ≡ J.cell }
-    requires blocks { image.past.size ≡ J.blocks }
+    requires layout { J.layout ≡ files image.past.size }
     requires settled { IsSettled image.past }
 {
     let opened: Result<Journal<MemDisk, Watch, J>, _> = Journal::open(
@@ -438,7 +460,7 @@ fn watched_in<J: Naming + Send + Sync, H: Abort + Threads + Wait + Clock + Sync>
 ) -> Outcome
     requires book { book.now ≡ J.book }
     requires cell { cell ≡ J.cell }
-    requires blocks { J.blocks ≡ 532 }
+    requires layout { J.layout ≡ files 532 }
 {
     let mut disk = new_disk(rt, alloc, 532, case.form);
     disk.fail_in(case.fails_in);

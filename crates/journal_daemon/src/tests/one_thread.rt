@@ -1,5 +1,6 @@
 // What a journal answers one thread.
 ghost use Rattle.std.specs.Prelude.{◌≡◌};
+ghost use Rattle.journal_world.specs.Files.{files};
 
 use super::*;
 use journal_block::Block;
@@ -104,7 +105,7 @@ fn settles<J: Naming, H: Abort + Wait>(rt: &H, journal: &Open<MemDisk, J>) {
 
 /// The home block is what was committed, and nothing is pending.
 fn lies_home<J: Naming, H: Abort + Wait>(rt: &H, alloc: Global, journal: &Open<MemDisk, J>)
-    requires { J.blocks ≡ 800 }
+    requires { J.layout ≡ files 800 }
 {
     let mut block = Block::try_new::<()>(alloc).expect(rt, "a block");
     journal.inspect(rt, 515, &mut block);
@@ -162,7 +163,7 @@ fn stops<'b, J: Naming, H: Abort + Wait>(
 
 /// What calls answer, from the first commit to a fault. A session that commits nothing is told of the mark.
 fn runs<'b, J: Naming, H: Abort + Wait>(rt: &H, alloc: Global, journal: &Open<'b, MemDisk, J>)
-    requires { J.blocks ≡ 800 }
+    requires { J.layout ≡ files 800 }
 {
     let mut session = client(rt, journal);
     let mut other = client(rt, journal);
@@ -188,7 +189,7 @@ fn opens_again<J: Naming, H: Abort>(
 ) -> (u64, bool)
     requires book { book.now ≡ J.book }
     requires cell { cell ≡ J.cell }
-    requires blocks { J.blocks ≡ 800 }
+    requires layout { J.layout ≡ files 800 }
 {
     let disk = MemDisk::new::<()>(alloc, BLOCKS).expect(rt, "a disk");
     let again: Result<Open<MemDisk, J>, _> = Journal::open(alloc, book, cell, disk, &AnyMap);
@@ -213,7 +214,7 @@ fn closes<'b, J: Naming, H: Abort + Wait>(rt: &H, journal: Open<'b, MemDisk, J>)
 fn answers<J: Naming, H: Abort + Wait>(rt: &H, alloc: Global, book: &Book<AnyMap>, cell: SlotCell)
     requires book { book.now ≡ J.book }
     requires cell { cell ≡ J.cell }
-    requires blocks { J.blocks ≡ 800 }
+    requires layout { J.layout ≡ files 800 }
 {
     let journal = opened::<J, _>(rt, alloc, book, cell, Form::Plain);
     runs(rt, alloc, &journal);

@@ -1,28 +1,38 @@
 // Refused openings of one book.
 ghost use Rattle.std.specs.Prelude.{◌≡◌, ◌<◌};
+ghost use Rattle.journal_world.specs.Files.{files};
 ghost use Rattle.journal_disk.specs.Disks.{IsSettled};
 
 use super::*;
 use journal_block::Block;
 use journal_world::{BITMAP, MapRule, ObjectReader, Refused};
 
-/// The first bit is clear.
+/// The address of the first bit names an object of one byte, and the bit is clear.
 struct FirstBitIsClear;
 
 impl MapRule for FirstBitIsClear {
-    ghost use Rattle.std.specs.Prelude.{◌≡◌, ◌∷◌, [], refl};
-    ghost use Rattle.std.proofs.Common.{sym, ◌∙◌};
+    ghost use Rattle.std.specs.Prelude.{◌≡◌, ◌∷◌, [], IsTrue};
+    ghost use Rattle.std.proofs.Common.{sym, subst, ◌∙◌};
+    ghost use Rattle.journal_world.specs.Addresses.{Shape, is_valid};
     ghost use Rattle.journal_world.specs.Maps.{value_at};
 
-    ghost statement = { λ m. value_at m (record { block = 514; off = 0 }) ≡ 0 ∷ [] };
+    ghost statement = { λ m. IsTrue (is_valid m.layout (record { block = 514; off = 0 }))
+        × (value_at m (record { block = 514; off = 0 }) ≡ 0 ∷ []) };
 
-    ghost respects = { λ m n same holds. sym (same.values (record { block = 514; off = 0 }) refl) ∙ holds };
+    ghost respects = { λ m n same holds. (
+      subst (λ (layout : Shape). IsTrue (is_valid layout (record { block = 514; off = 0 }))) same.layout holds.0,
+      sym (same.values (record { block = 514; off = 0 }) holds.0) ∙ holds.1,
+    ) };
 
     fn admit<O: ObjectReader>(&self, reader: &mut O) -> Result<bool, Refusal<O::Cause>> {
-        let bit = reader.read(Addr {
+        let first = Addr {
             block: BITMAP,
             off: 0,
-        })?;
+        };
+        if !reader.layout().is_valid(first) {
+            return Ok(false);
+        }
+        let bit = reader.read(first)?;
         Ok(matches!(bit.bytes(), [0]))
     }
 }
@@ -85,7 +95,7 @@ fn opening_in<J: Naming, H: Abort + Wait>(
 ) -> Came
     requires book { book.now ≡ J.book }
     requires cell { cell ≡ J.cell }
-    requires blocks { disk.past.size ≡ J.blocks }
+    requires layout { J.layout ≡ files disk.past.size }
     requires settled { IsSettled disk.past }
 {
     let answer: Result<Journal<MemDisk, FirstBitIsClear, J>, _> = Journal::open(
@@ -118,7 +128,7 @@ fn stands<J: Naming, H: Abort + Wait>(
 }
 
 /// Why it was refused.
-fn refused<J: Naming>(why: Why<J, FirstBitIsClear>) -> Came {
+fn refused<J: Naming>(why: JournalRefusal<J, FirstBitIsClear>) -> Came {
     let shown = match &why {
         Refusal::Stale(cause) => cause.front().map_or(0, |front| front.len()),
         _ => 0,

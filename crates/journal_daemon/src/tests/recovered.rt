@@ -1,5 +1,6 @@
 // A journal over a disk whose log was full when it was opened.
 ghost use Rattle.std.specs.Prelude.{◌≡◌};
+ghost use Rattle.journal_world.specs.Files.{files};
 ghost use Rattle.journal_disk.specs.Disks.{IsSettled};
 
 use super::beside_daemon::{WaitOnce, beside};
@@ -32,7 +33,7 @@ fn makes_room<J: Naming + Send + Sync, H: Abort + Threads + Wait + Clock + Sync>
 ) -> ((u64, u64), Ending)
     requires book { book.now ≡ J.book }
     requires cell { cell ≡ J.cell }
-    requires blocks { disk.past.size ≡ J.blocks }
+    requires layout { J.layout ≡ files disk.past.size }
     requires settled { IsSettled disk.past }
 {
     let journal: Open<MemDisk, J> = opened_on(rt, alloc, book, cell, disk);

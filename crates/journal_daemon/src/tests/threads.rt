@@ -1,5 +1,6 @@
 // What a journal answers several threads.
 ghost use Rattle.std.specs.Prelude.{◌≡◌};
+ghost use Rattle.journal_world.specs.Files.{files};
 
 use super::beside_daemon::in_two;
 use super::gated_disk::{Gate, GatedDisk, comes};
@@ -128,7 +129,7 @@ fn stops_nobody<J: Naming + Send + Sync, H: Abort + Threads + Wait + Clock + Syn
 )
     requires book { book.now ≡ J.book }
     requires cell { cell ≡ J.cell }
-    requires blocks { J.blocks ≡ 800 }
+    requires layout { J.layout ≡ files 800 }
 {
     let gate = Gate::default();
     let disk = MemDisk::new::<()>(alloc, BLOCKS).expect(rt, "a disk");

@@ -1,5 +1,6 @@
 // A formatted disk, and what the rule admits once objects of it are overwritten.
 use crate::asserts::{wants, wants_at};
+use crate::world::regions::{BEYOND, FILES, FIVE, WHOLE, regions};
 use journal_block::Block;
 use journal_disk::{BlockDisk, MemDisk};
 use journal_inode::{
@@ -7,7 +8,7 @@ use journal_inode::{
     format,
 };
 use journal_object::{load, store};
-use journal_world::{Addr, Layout, MapRule, Moment, ObjectReader, Refusal, Refused, Value};
+use journal_world::{Addr, Kind, Layout, MapRule, Moment, ObjectReader, Refusal, Refused, Value};
 use std::alloc::Global;
 use std::test::*;
 
@@ -45,11 +46,14 @@ impl Objects {
 }
 
 impl ObjectReader for Objects {
-    ghost use Rattle.std.specs.Prelude.{[], true, false};
+    ghost use Rattle.std.specs.Prelude.{[], true, false, refl};
+    ghost use Rattle.journal_world.specs.Files.{shape};
 
     type Cause = ();
 
-    ghost map = { λ objects. record { blocks = objects.layout.blocks; pairs = [] } };
+    ghost map = { λ objects. record { layout = shape objects.layout; pairs = [] } };
+
+    ghost objects = { λ objects. refl };
 
     ghost trusted = { λ objects. false };
 
@@ -71,6 +75,13 @@ impl ObjectReader for Objects {
             Ok(()) => Ok(Value::new(bytes)),
             Err(_) => Err(Refusal::DeviceFailed(())),
         }
+    }
+
+    fn read_bits(&mut self, addr: Addr) -> Result<u64, Refusal<()>> {
+        if addr.block < self.disk.size() {
+            self.disk.peek(addr.block, &mut self.block);
+        }
+        Ok(self.block.bits_from(addr.off as usize))
     }
 }
 
@@ -187,6 +198,26 @@ fn first_wrong<V: Version>(alloc: Global, cases: &[(&[Put], bool)]) -> Result<Op
 fn a_formatted_disk_is_admitted(rt: HostRuntime) -> Result<(), Fail> {
     assert!(rt; admits::<VersionOne>(rt.alloc(), &[])?);
     assert!(rt; admits::<VersionTwo>(rt.alloc(), &[])?);
+    Ok(())
+}
+
+// Whether the rule admits a disk that was formatted as one of files, where its objects are read by other regions.
+fn admits_by(alloc: Global, in_use: &[(u64, Kind)]) -> Result<bool, Fail> {
+    let mut objects = formatted(alloc, FormatVersion::One)?;
+    objects.layout = Layout::with_regions(600, regions(in_use)).ok_or("regions that rise")?;
+    Ok(SoundFiles::<VersionOne>::new(alloc).admit(&mut objects)?)
+}
+
+#[test]
+fn a_disk_that_is_read_by_another_layout_is_not_admitted(rt: HostRuntime) -> Result<(), Fail> {
+    let alloc = rt.alloc();
+    let admits = [
+        admits_by(alloc, FILES)?,
+        admits_by(alloc, WHOLE)?,
+        admits_by(alloc, FIVE)?,
+        admits_by(alloc, BEYOND)?,
+    ];
+    wants(&rt, &admits, &[true, false, false, false]);
     Ok(())
 }
 

@@ -8,12 +8,15 @@ use crate::asserts::wants;
 use crate::runs::{
     BAD_ADDRESS, BAD_SIZE, FULL, Run, TOO_LARGE, WORN, Wrong, is_refused, number, told,
 };
+use crate::world::regions::{BEYOND, SMALL, regions};
 use journal_block::{Block, Update};
 use journal_memlog::Bounds;
 use journal_objlog::{ObjectTail, Preparation, Spares};
 use journal_world::{Addr, Layout};
 use std::alloc::Global;
+use std::marker::Model;
 use std::process::Abort;
+use std::test::Fail;
 
 // A call of the objects in memory. It answers a number.
 #[derive(Clone, Copy)]
@@ -60,32 +63,50 @@ type Row = (u32, Call, u64);
 // That blocks have to be fetched first.
 const MISSING: u64 = 1 << 40;
 
-// Objects in memory, what was fetched for them, and the last group that was cut.
+// Objects in memory, the layout that they are read by, what was fetched for them, and the last group that was cut.
 #[derive(Drop)]
 struct Memory {
+    layout: Layout,
     tail: ObjectTail,
     fetched: Vec<Update>,
     group: Vec<Update>,
 }
 
-// The objects in memory over a disk of so many blocks, whose log ends at a position.
-fn empty(rt: &impl Abort, alloc: Global, blocks: u64, end: u64) -> Run<Memory>
+impl Model for Memory {
+    ghost use Rattle.std.specs.Prelude.{◌≡◌};
+    ghost use Rattle.journal_objlog.specs.ObjectTails.{blocks_of};
+
+    ghost Value = { Unit {0} };
+
+    ghost view = { λ _. tt };
+
+    ghost invariant = { λ m. m.layout.blocks ≡ blocks_of m.tail };
+}
+
+// The objects in memory over a disk of this layout, whose log ends at a position.
+fn empty(alloc: Global, layout: Layout, end: u64) -> Run<Memory>
     requires { end < 2 ^ 62 }
 {
-    let layout = Layout::new(blocks).expect(rt, "a disk of this size has a layout");
     Ok(Memory {
-        tail: ObjectTail::new(alloc, layout, end, 1)?,
+        layout,
+        tail: ObjectTail::new(alloc, layout.blocks, end, 1)?,
         fetched: Vec::new(alloc),
         group: Vec::new(alloc),
     })
 }
 
-// Whether memory and these fetched blocks have the object so.
-fn has(alloc: Global, tail: &ObjectTail, fetched: &[Update], fill: Fill) -> Run<u64> {
+// Whether objects in memory and these fetched blocks have the object so.
+fn is_so(
+    alloc: Global,
+    layout: &Layout,
+    tail: &ObjectTail,
+    fetched: &[Update],
+    fill: Fill,
+) -> Run<u64> {
     let (block, off, byte) = fill;
     let addr = Addr { block, off };
-    let mut room = room_for(alloc, tail.layout(), addr)?;
-    let is_known = tail.read(addr, fetched, &mut room)?;
+    let mut room = room_for(alloc, *layout, addr)?;
+    let is_known = tail.read(layout, addr, fetched, &mut room)?;
     let want = filled(alloc, bytes_in(block), if is_known { byte } else { 0xaa })?;
     if room.as_slice() != want.bytes() {
         return Ok(0);
@@ -93,15 +114,44 @@ fn has(alloc: Global, tail: &ObjectTail, fetched: &[Update], fill: Fill) -> Run<
     Ok(if is_known { 1 } else { MISSING })
 }
 
+// Whether memory has the object so, with what was fetched.
+fn has(alloc: Global, memory: &mut Memory, fill: Fill) -> Run<u64> {
+    let Memory {
+        layout,
+        tail,
+        fetched,
+        group: _,
+    } = memory;
+    is_so(alloc, layout, tail, fetched, fill)
+}
+
+// Whether the last group has it so.
+fn group_has(alloc: Global, memory: &mut Memory, fill: Fill) -> Run<u64> {
+    let Memory {
+        layout,
+        tail: _,
+        fetched: _,
+        group,
+    } = memory;
+    let none = ObjectTail::new(alloc, layout.blocks, 0, 1)?;
+    is_so(alloc, layout, &none, group, fill)
+}
+
 fn overwrite(alloc: Global, memory: &mut Memory, fills: &[Fill], is_applied: bool) -> Run<u64> {
+    let Memory {
+        layout,
+        tail,
+        fetched,
+        group: _,
+    } = memory;
     let writes = writes(alloc, fills)?;
     let mut spares = Spares::for_writes(alloc, &writes);
-    match memory.tail.prepare(&writes, &mut spares, &memory.fetched)? {
+    match tail.prepare(layout, &writes, &mut spares, fetched)? {
         Preparation::Ready(prepared) => {
             if is_applied {
-                memory.tail.apply(prepared, &writes);
+                tail.apply(layout, prepared, &writes);
             }
-            Ok(memory.tail.tail_len())
+            Ok(tail.tail_len())
         }
         Preparation::Missing(_) => Ok(MISSING),
     }
@@ -116,9 +166,15 @@ fn overwrite_blocks(alloc: Global, memory: &mut Memory, first: u64, end: u64) ->
 }
 
 fn lacks(alloc: Global, memory: &mut Memory, fills: &[Fill], blocks: &[u64]) -> Run<u64> {
+    let Memory {
+        layout,
+        tail,
+        fetched,
+        group: _,
+    } = memory;
     let writes = writes(alloc, fills)?;
     let mut spares = Spares::for_writes(alloc, &writes);
-    match memory.tail.prepare(&writes, &mut spares, &memory.fetched)? {
+    match tail.prepare(layout, &writes, &mut spares, fetched)? {
         Preparation::Ready(_) => Ok(number(blocks.is_empty())),
         Preparation::Missing(missing) => Ok(number(missing.as_slice() == blocks)),
     }
@@ -173,7 +229,7 @@ fn answer(alloc: Global, memory: &mut Memory, call: Call) -> Run<u64> {
         FillBlocks(first, end) => overwrite_blocks(alloc, memory, first, end),
         Prepare(fills) => overwrite(alloc, memory, fills, false),
         Lacks(fills, blocks) => lacks(alloc, memory, fills, blocks),
-        Has(fill) => has(alloc, &memory.tail, &memory.fetched, fill),
+        Has(fill) => has(alloc, memory, fill),
         Fetch(block, byte) => fetch(alloc, memory, block, byte),
         Forget => {
             memory.fetched.clear();
@@ -181,15 +237,7 @@ fn answer(alloc: Global, memory: &mut Memory, call: Call) -> Run<u64> {
         }
         Cut(commits) => cut(memory, commits),
         Group(blocks) => Ok(number(is_of(&memory.group, blocks))),
-        GroupHas(fill) => {
-            let layout = memory.tail.layout();
-            has(
-                alloc,
-                &ObjectTail::new(alloc, layout, 0, 1)?,
-                &memory.group,
-                fill,
-            )
-        }
+        GroupHas(fill) => group_has(alloc, memory, fill),
         Trim(upto) => {
             memory.tail.trim(upto);
             Ok(memory.tail.trimmed())
@@ -210,25 +258,33 @@ fn walk(alloc: Global, memory: &mut Memory, rows: &[Row]) -> Wrong {
     None
 }
 
-// The first row that is answered otherwise over a disk of 800 blocks, whose log ends at a position.
-fn run_once(rt: &impl Abort, alloc: Global, end: u64, rows: &[Row]) -> Wrong
+// The first row that is answered otherwise over a disk of this layout, whose log ends at a position.
+fn run_once(alloc: Global, layout: Layout, end: u64, rows: &[Row]) -> Wrong
     requires { end < 2 ^ 62 }
 {
-    match empty(rt, alloc, 800, end) {
+    match empty(alloc, layout, end) {
         Ok(mut memory) => walk(alloc, &mut memory, rows),
         Err(refusal) => Some((0, told(Err(refusal)))),
     }
 }
 
 // The same where memory may be refused once.
+fn wrong_by(alloc: Global, layout: Layout, end: u64, rows: &[Row]) -> Wrong
+    requires { end < 2 ^ 62 }
+{
+    let wrong = run_once(alloc, layout, end, rows);
+    if is_refused(wrong) {
+        return run_once(alloc, layout, end, rows);
+    }
+    wrong
+}
+
+// The same over a disk of 800 blocks with files.
 fn wrong_row(rt: &impl Abort, alloc: Global, end: u64, rows: &[Row]) -> Wrong
     requires { end < 2 ^ 62 }
 {
-    let wrong = run_once(rt, alloc, end, rows);
-    if is_refused(wrong) {
-        return run_once(rt, alloc, end, rows);
-    }
-    wrong
+    let layout = Layout::new(800).expect(rt, "a disk of this size has a layout");
+    wrong_by(alloc, layout, end, rows)
 }
 
 // What memory does not have is read from what was fetched, and the last of two blocks counts. What is overwritten whole
@@ -382,4 +438,84 @@ static WORN_OUT: [Row; 5] = [
 fn positions_end(rt: HostRuntime) {
     let end = (1 << 62) - 2;
     wants(&rt, &wrong_row(&rt, rt.alloc(), end, &WORN_OUT), &None);
+}
+
+// Of words, small and large records and bits, what was beside an object in its block stays. An address that is another
+// kind's is none, and neither is one behind the disk.
+static BY_REGIONS: [Row; 33] = [
+    (
+        1,
+        Lacks(
+            &[
+                (531, 0, 1),
+                (800, 64, 1),
+                (810, 512, 3),
+                (820, 9, 0),
+                (830, 16384, 4),
+            ],
+            &[800, 810, 820, 830],
+        ),
+        1,
+    ),
+    (1, Fetch(800, 5), 0),
+    (1, Fetch(810, 5), 0),
+    (1, Fetch(820, 0xff), 0),
+    (1, Fetch(830, 5), 0),
+    (1, Has((800, 32704, 5)), 1),
+    (1, Has((810, 32256, 5)), 1),
+    (1, Has((820, 32767, 1)), 1),
+    (1, Has((830, 16384, 5)), 1),
+    (
+        1,
+        Call::Fill(&[(800, 64, 1), (800, 128, 2), (820, 9, 0)]),
+        2,
+    ),
+    (1, Call::Fill(&[(810, 512, 3), (830, 16384, 4)]), 4),
+    (1, Forget, 0),
+    (1, Has((800, 0, 5)), 1),
+    (1, Has((800, 64, 1)), 1),
+    (1, Has((800, 128, 2)), 1),
+    (1, Has((800, 192, 5)), 1),
+    (1, Has((810, 0, 5)), 1),
+    (1, Has((810, 512, 3)), 1),
+    (1, Has((810, 1024, 5)), 1),
+    (1, Has((820, 8, 1)), 1),
+    (1, Has((820, 9, 0)), 1),
+    (1, Has((820, 10, 1)), 1),
+    (1, Has((830, 0, 5)), 1),
+    (1, Has((830, 16384, 4)), 1),
+    (1, Has((800, 32, 5)), BAD_ADDRESS),
+    (1, Has((810, 64, 5)), BAD_ADDRESS),
+    (1, Has((820, 32768, 1)), BAD_ADDRESS),
+    (1, Has((830, 8192, 5)), BAD_ADDRESS),
+    (1, Has((840, 0, 5)), BAD_ADDRESS),
+    (1, Call::Fill(&[(800, 64, 9), (810, 64, 9)]), BAD_ADDRESS),
+    (1, Call::Fill(&[(800, 64, 9), (820, 9, 2)]), BAD_SIZE),
+    (1, Has((800, 64, 1)), 1),
+    (1, Held, 4),
+];
+
+// The same blocks where all objects are records of 64 bytes.
+static BY_ANOTHER_LAYOUT: [Row; 9] = [
+    (1, Call::Fill(&[(800, 512, 1)]), BAD_SIZE),
+    (1, Call::Fill(&[(820, 512, 1)]), BAD_SIZE),
+    (1, Call::Fill(&[(830, 512, 1)]), BAD_SIZE),
+    (1, Call::Fill(&[(531, 512, 1)]), BAD_SIZE),
+    (1, Call::Fill(&[(810, 64, 1)]), BAD_ADDRESS),
+    (1, Call::Fill(&[(840, 0, 1)]), BAD_ADDRESS),
+    (1, Call::Fill(&[(810, 512, 1)]), MISSING),
+    (1, Lacks(&[(810, 512, 1)], &[810]), 1),
+    (1, Held, 0),
+];
+
+#[test]
+fn a_layout_says_what_memory_takes(rt: HostRuntime) -> Result<(), Fail> {
+    let beyond = Layout::with_regions(840, regions(BEYOND)).ok_or("eight regions")?;
+    let small = Layout::with_regions(840, regions(SMALL)).ok_or("one region")?;
+    let wrong = [
+        wrong_by(rt.alloc(), beyond, 7, &BY_REGIONS),
+        wrong_by(rt.alloc(), small, 7, &BY_ANOTHER_LAYOUT),
+    ];
+    wants(&rt, &wrong, &[None, None]);
+    Ok(())
 }

@@ -1,5 +1,6 @@
 // How often a mount reads a disk.
 ghost use Rattle.std.specs.Prelude.{◌≡◌};
+ghost use Rattle.journal_world.specs.Files.{files};
 ghost use Rattle.journal_disk.specs.Disks.{IsSettled};
 
 use crate::asserts::wants;
@@ -24,7 +25,7 @@ fn mount<'w, 'b, J: Naming>(
 ) -> Told
     requires book { book.now ≡ J.book }
     requires cell { cell ≡ J.cell }
-    requires blocks { disk.disk.past.size ≡ J.blocks }
+    requires layout { J.layout ≡ files disk.disk.past.size }
     requires settled { IsSettled disk.disk.past }
 {
     let mounted: Result<FileStore<'b, WatchedDisk<'w>, J>, _> = FileStore::mount(

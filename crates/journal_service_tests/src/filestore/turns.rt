@@ -1,6 +1,7 @@
 // Calls that find a slot taken, which another thread takes and gives up in turns.
 ghost use Rattle.std.specs.Prelude.{◌≡◌, ◌≤◌};
 ghost use Rattle.journal_world.specs.declared.layout.TheConstants.{MIN_BLOCKS, MAX_BLOCKS};
+ghost use Rattle.journal_world.specs.Files.{files};
 ghost use Rattle.journal_disk.specs.Disks.{IsSettled};
 
 use crate::asserts::wants;
@@ -210,7 +211,7 @@ fn over<'w, 'b, J: Naming + Send + Sync, H: Threads + Wait + Sync>(
 ) -> Told
     requires book { book.now ≡ J.book }
     requires cell { cell ≡ J.cell }
-    requires blocks { disk.disk.past.size ≡ J.blocks }
+    requires layout { J.layout ≡ files disk.disk.past.size }
     requires settled { IsSettled disk.disk.past }
 {
     // Each attempt reads two blocks, so that with one copy none of its reads finds its block in memory.

@@ -1,6 +1,7 @@
 // Calls to disks of version 2, whose files have up to twelve blocks.
 ghost use Rattle.std.specs.Prelude.{◌≡◌, ◌≤◌};
 ghost use Rattle.journal_world.specs.declared.layout.TheConstants.{MIN_BLOCKS, MAX_BLOCKS};
+ghost use Rattle.journal_world.specs.Files.{files};
 ghost use Rattle.journal_disk.specs.Disks.{IsSettled};
 
 use crate::asserts::wants;
@@ -48,7 +49,7 @@ fn tell<'b, J: Naming + Send + Sync, H: Threads + Wait + Sync>(
 ) -> Told
     requires book { book.now ≡ J.book }
     requires cell { cell ≡ J.cell }
-    requires blocks { disk.past.size ≡ J.blocks }
+    requires layout { J.layout ≡ files disk.past.size }
     requires settled { IsSettled disk.past }
 {
     let mounted: Result<Files<'b, J>, _> = FileStore::mount(alloc, book, cell, disk);

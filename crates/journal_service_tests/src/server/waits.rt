@@ -1,5 +1,6 @@
 // Calls that come in one piece, and are waited for once.
 ghost use Rattle.std.specs.Prelude.{◌≡◌};
+ghost use Rattle.journal_world.specs.Files.{files};
 ghost use Rattle.journal_disk.specs.Disks.{IsSettled};
 
 use super::peers::Still;
@@ -470,7 +471,7 @@ fn over<'s, 'b, J: Naming + Send + Sync, H: Threads + Wait + Sync>(
 ) -> Told
     requires book { book.now ≡ J.book }
     requires cell { cell ≡ J.cell }
-    requires blocks { disk.disk.past.size ≡ J.blocks }
+    requires layout { J.layout ≡ files disk.disk.past.size }
     requires settled { IsSettled disk.disk.past }
 {
     let mounted: Result<Gated<'s, 'b, J>, _> = FileStore::mount(alloc, book, cell, disk);

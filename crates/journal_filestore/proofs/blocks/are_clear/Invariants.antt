@@ -6,5 +6,5 @@ use Rattle.journal_filestore.proofs.blocks.are_clear.Given as goal
 
 abbrev pub invariant-loop-number : goal.invariant-loop-number
 invariant-loop-number g l =
-    LearnsThat g.V.Version.VERSION g.J.Naming.blocks l.fn.txn l.txn (λ m. AreClear m (take l.number-index l.numbers))
+    LearnsThat g.V.Version.VERSION g.J.Naming.layout l.fn.txn l.txn (λ m. AreClear m (take l.number-index l.numbers))
     × AllByRecursion HasBit (take l.number-index l.numbers) × NotAmongBits l.txn (take l.number-index l.numbers) × HasReadNoBlocks l.txn

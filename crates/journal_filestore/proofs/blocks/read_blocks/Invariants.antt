@@ -7,5 +7,5 @@ use Rattle.journal_filestore.proofs.blocks.read_blocks.Given as goal
 
 abbrev pub invariant-loop-j : goal.invariant-loop-j
 invariant-loop-j g l =
-    LearnsThat g.V.Version.VERSION g.J.Naming.blocks l.fn.txn l.txn (λ m. held m (take l.j l.numbers) ≡ l.bytes.items)
+    LearnsThat g.V.Version.VERSION g.J.Naming.layout l.fn.txn l.txn (λ m. held m (take l.j l.numbers) ≡ l.bytes.items)
     × (length l.bytes.items ≡ BLOCK_BYTES * l.j) × NotAmongRead l.txn (take l.j l.numbers)

@@ -22,9 +22,9 @@ returns-clause-changes g c =
     let count : c.extra_count.result - c.extra_count-had.result ≡ extra_count g.V.Version.VERSION c.args.size - extra_count g.V.Version.VERSION f.size = omega (arith, had, has) in
     let fresh : AreFresh (extra_count g.V.Version.VERSION c.args.size - extra_count g.V.Version.VERSION f.size) taken = subst (λ k. AreFresh k taken) count (c.in_ok-take_blocks.ensures.fresh c.if-not-branch.false) in
     Makes-grown g.V.Version.VERSION _ c.args.number f node taken c.in_ok-zeros.zeros.items c.args.size c.args.mtime _ c.take_blocks.new.txn c.write_file.new.txn _ c.requires.writes c.if-not-branch.false c.in_ok-take_blocks.ensures.told
-    (subst (λ xs. WritesEach g.J.Naming.blocks c.take_blocks.new.txn c.write_file.new.txn (file_written c.args.number node taken taken xs)) c.deref-4.ensures.value
-    (subst (λ xs. WritesEach g.J.Naming.blocks c.take_blocks.new.txn c.write_file.new.txn (file_written c.args.number node taken xs c.deref-4.result.now)) c.deref-3.ensures.value
-    (subst (λ xs. WritesEach g.J.Naming.blocks c.take_blocks.new.txn c.write_file.new.txn (file_written c.args.number node xs c.deref-3.result.now c.deref-4.result.now)) c.deref-2.ensures.value c.in_ok-write_file.ensures.writes)))
+    (subst (λ xs. WritesEach g.J.Naming.layout c.take_blocks.new.txn c.write_file.new.txn (file_written c.args.number node taken taken xs)) c.deref-4.ensures.value
+    (subst (λ xs. WritesEach g.J.Naming.layout c.take_blocks.new.txn c.write_file.new.txn (file_written c.args.number node taken xs c.deref-4.result.now)) c.deref-3.ensures.value
+    (subst (λ xs. WritesEach g.J.Naming.layout c.take_blocks.new.txn c.write_file.new.txn (file_written c.args.number node xs c.deref-3.result.now c.deref-4.result.now)) c.deref-2.ensures.value c.in_ok-write_file.ensures.writes)))
     (c.with_blocks-after.ensures.node
     ∙ ap (λ xs. with_blocks f c.extra_count-had.result xs c.args.size c.args.mtime) c.deref.ensures.value
     ∙ ap (λ k. with_blocks f k taken c.args.size c.args.mtime) had)

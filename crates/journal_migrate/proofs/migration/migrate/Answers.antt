@@ -1,27 +1,49 @@
-use Rattle.journal_migrate.proofs.Closing.{migrated, keeps_files, keeps_two, migrate_refused}
+use Rattle.std.proofs.Common.{inl, sym, subst, rules}
+use Rattle.journal_world.specs.Addresses.{Shape}
+use Rattle.journal_objlog.proofs.Refusing.{if_err}
+use Rattle.journal_core.specs.Openings.{IsInRange, IsLayoutRefusal, OnlyReadsDisk}
+use Rattle.journal_core.specs.OpenLaws.{refuses_files}
+use Rattle.journal_migrate.specs.Either.{HasEitherFiles}
+use Rattle.journal_migrate.specs.Migrations.{IsMigrateRefusal}
+use Rattle.journal_migrate.proofs.Closing.{laid_files, migrated, keeps_files, keeps_two, migrate_refused}
 use Rattle.journal_migrate.proofs.migration.migrate.Goals as goal
 
 pub returns-in-Ok-answer-clause-migrated : goal.returns-in-Ok-answer-clause-migrated
 returns-in-Ok-answer-clause-migrated g c honest =
-    migrated (g.D.BlockDisk.state c.args.disk) c.in_ok-core.core c.upgrade-answer.new.core (g.D.BlockDisk.state c.into_disk.result) c.in_ok-core.ensures.begun c.upgrade-answer.ensures.keeps
+    migrated g.J.Naming.layout (g.D.BlockDisk.state c.args.disk) c.in_ok-core.core c.upgrade-answer.new.core (g.D.BlockDisk.state c.into_disk.result) (laid_files g.J.Naming.layout (g.D.BlockDisk.state c.args.disk).past.size c.requires.layout) c.in_ok-core.ensures.begun c.upgrade-answer.ensures.keeps
     c.into_disk.ensures.disk honest c.into_disk.ensures.images c.in-Ok-answer.ensures.upgraded
 
 pub returns-in-Ok-answer-clause-unchanged : goal.returns-in-Ok-answer-clause-unchanged
 returns-in-Ok-answer-clause-unchanged g c honest =
-    keeps_two (g.D.BlockDisk.state c.args.disk) c.in_ok-core.core c.upgrade-answer.new.core (g.D.BlockDisk.state c.into_disk.result) c.in_ok-core.ensures.begun c.upgrade-answer.ensures.keeps
+    keeps_two g.J.Naming.layout (g.D.BlockDisk.state c.args.disk) c.in_ok-core.core c.upgrade-answer.new.core (g.D.BlockDisk.state c.into_disk.result) (laid_files g.J.Naming.layout (g.D.BlockDisk.state c.args.disk).past.size c.requires.layout) c.in_ok-core.ensures.begun c.upgrade-answer.ensures.keeps
     c.into_disk.ensures.disk honest c.upgrade-answer.ensures.unchanged
+
+pub returns-in_err-core-clause-refusal : goal.returns-in_err-core-clause-refusal
+returns-in_err-core-clause-refusal g c =
+    let old = g.D.BlockDisk.state c.args.disk in
+    let range : IsInRange old = search rules in
+    if_err c.from_residual.result _ (λ refused. IsMigrateRefusal old (g.D.BlockDisk.state refused.disk) refused.refusal) c.from_residual.ensures.1
+    (λ e is.
+    let told = subst (λ refused. IsLayoutRefusal HasEitherFiles g.J.Naming.layout old (g.D.BlockDisk.state refused.disk) refused.refusal) (sym is) c.in_err-core.ensures.refusal in
+    let left = subst (λ refused. OnlyReadsDisk old (g.D.BlockDisk.state refused.disk)) (sym is) c.in_err-core.ensures.left in
+    inl (
+      refuses_files HasEitherFiles old (g.D.BlockDisk.state e.disk) e.refusal range
+          (subst (λ (s : Shape). IsLayoutRefusal HasEitherFiles s old (g.D.BlockDisk.state e.disk) e.refusal) c.requires.layout told),
+      left,
+    ))
 
 pub returns-clause-refusal : goal.returns-clause-refusal
 returns-clause-refusal g c =
-    migrate_refused (g.D.BlockDisk.state c.args.disk) c.in_ok-core.core c.upgrade-answer.new.core (g.D.BlockDisk.state c.into_disk-in-Err.result) c.in_ok-core.ensures.begun c.upgrade-answer.ensures.keeps
-    c.into_disk-in-Err.ensures.disk c.in-Err.refusal c.in_ok-core.ensures.bounds c.in-Err.ensures.refusal
+    let range : IsInRange (g.D.BlockDisk.state c.args.disk) = search rules in
+    migrate_refused g.J.Naming.layout (g.D.BlockDisk.state c.args.disk) c.in_ok-core.core c.upgrade-answer.new.core (g.D.BlockDisk.state c.into_disk-in-Err.result) (laid_files g.J.Naming.layout (g.D.BlockDisk.state c.args.disk).past.size c.requires.layout) c.in_ok-core.ensures.begun c.upgrade-answer.ensures.keeps
+    c.into_disk-in-Err.ensures.disk c.in-Err.refusal range c.in_ok-core.ensures.bounds c.in-Err.ensures.refusal
 
 pub returns-clause-left : goal.returns-clause-left
 returns-clause-left g c honest =
-    keeps_files (g.D.BlockDisk.state c.args.disk) c.in_ok-core.core c.upgrade-answer.new.core (g.D.BlockDisk.state c.into_disk-in-Err.result) c.in_ok-core.ensures.begun c.upgrade-answer.ensures.keeps
+    keeps_files g.J.Naming.layout (g.D.BlockDisk.state c.args.disk) c.in_ok-core.core c.upgrade-answer.new.core (g.D.BlockDisk.state c.into_disk-in-Err.result) (laid_files g.J.Naming.layout (g.D.BlockDisk.state c.args.disk).past.size c.requires.layout) c.in_ok-core.ensures.begun c.upgrade-answer.ensures.keeps
     c.into_disk-in-Err.ensures.disk honest c.into_disk-in-Err.ensures.images c.in-Err.ensures.left
 
 pub returns-clause-left_unchanged : goal.returns-clause-left_unchanged
 returns-clause-left_unchanged g c honest =
-    keeps_two (g.D.BlockDisk.state c.args.disk) c.in_ok-core.core c.upgrade-answer.new.core (g.D.BlockDisk.state c.into_disk-in-Err.result) c.in_ok-core.ensures.begun c.upgrade-answer.ensures.keeps
+    keeps_two g.J.Naming.layout (g.D.BlockDisk.state c.args.disk) c.in_ok-core.core c.upgrade-answer.new.core (g.D.BlockDisk.state c.into_disk-in-Err.result) (laid_files g.J.Naming.layout (g.D.BlockDisk.state c.args.disk).past.size c.requires.layout) c.in_ok-core.ensures.begun c.upgrade-answer.ensures.keeps
     c.into_disk-in-Err.ensures.disk honest c.upgrade-answer.ensures.unchanged

@@ -31,10 +31,10 @@ commit_step-requires g c =
 pub returns-in_err-commit_step-clause-refusal : goal.returns-in_err-commit_step-clause-refusal
 returns-in_err-commit_step-clause-refusal g c =
     let first = c.args.core.now in
-    let begins = c.requires.begins.1 in
+    let begins = c.requires.begins.2 in
     let begun = c.in_ok-session.ensures.begun in
     let is_one : IsTrue c.in_ok-draft.field-0 = search rules in
-    let draft = at_draft _ first c.session_step.new.self c.draft.new.core c.in_ok-session.session c.draft.new.transaction begins begun
+    let draft = at_draft _ _ first c.session_step.new.self c.draft.new.core c.in_ok-session.session c.draft.new.transaction begins begun
     c.in_ok-draft.ensures.reads c.in_ok-draft.ensures.others (c.in_ok-draft.ensures.drafted is_one) in
     let refused = IsUpgradeRefusal (next_of first.objects) (disk_of first) (disk_of c.commit_step.new.self) in
     if_err c.from_residual-in_err-commit_step.result _ refused c.from_residual-in_err-commit_step.ensures.1
@@ -47,9 +47,9 @@ returns-in_err-commit_step-clause-refusal g c =
 pub make_stable-requires : goal.make_stable-requires
 make_stable-requires g c =
     let first = c.args.core.now in
-    let begins = c.requires.begins.1 in
+    let begins = c.requires.begins.2 in
     let is_one : IsTrue c.in_ok-draft.field-0 = search rules in
-    let draft = at_draft _ first c.session_step.new.self c.draft.new.core c.in_ok-session.session c.draft.new.transaction begins c.in_ok-session.ensures.begun
+    let draft = at_draft _ _ first c.session_step.new.self c.draft.new.core c.in_ok-session.session c.draft.new.transaction begins c.in_ok-session.ensures.begun
     c.in_ok-draft.ensures.reads c.in_ok-draft.ensures.others (c.in_ok-draft.ensures.drafted is_one) in
     record {
       awaits = awaits first c.draft.new.core c.commit_step.new.self c.in_ok-session.session c.commit_step.new.session c.draft.new.transaction begins.map _ begins.history
@@ -59,32 +59,32 @@ make_stable-requires g c =
 pub returns-clause-upgraded : goal.returns-clause-upgraded
 returns-clause-upgraded g c =
     let first = c.args.core.now in
-    let begins = c.requires.begins.1 in
+    let begins = c.requires.begins.2 in
     let is_one : IsTrue c.in_ok-draft.field-0 = search rules in
-    let draft = at_draft _ first c.session_step.new.self c.draft.new.core c.in_ok-session.session c.draft.new.transaction begins c.in_ok-session.ensures.begun
+    let draft = at_draft _ _ first c.session_step.new.self c.draft.new.core c.in_ok-session.session c.draft.new.transaction begins c.in_ok-session.ensures.begun
     c.in_ok-draft.ensures.reads c.in_ok-draft.ensures.others (c.in_ok-draft.ensures.drafted is_one) in
     λ trusted. on_ok_weaker c.make_stable.result
-    (λ marked files has. two_marked _ first begins c.draft.new.core c.commit_step.new.self c.in_ok-session.session c.commit_step.new.session c.draft.new.transaction
+    (λ marked files has. two_marked _ _ first begins c.draft.new.core c.commit_step.new.self c.in_ok-session.session c.commit_step.new.session c.draft.new.transaction
     draft.0 draft.1 c.in_ok-commit_step.ensures.committed trusted files has c.make_stable.new.core marked)
     c.make_stable.ensures.marked
 
 pub returns-clause-left : goal.returns-clause-left
 returns-clause-left g c =
     let first = c.args.core.now in
-    let begins = c.requires.begins.1 in
+    let begins = c.requires.begins.2 in
     let is_one : IsTrue c.in_ok-draft.field-0 = search rules in
-    let draft = at_draft _ first c.session_step.new.self c.draft.new.core c.in_ok-session.session c.draft.new.transaction begins c.in_ok-session.ensures.begun
+    let draft = at_draft _ _ first c.session_step.new.self c.draft.new.core c.in_ok-session.session c.draft.new.transaction begins c.in_ok-session.ensures.begun
     c.in_ok-draft.ensures.reads c.in_ok-draft.ensures.others (c.in_ok-draft.ensures.drafted is_one) in
     λ trusted. on_err_weaker c.make_stable.result
-    (λ same files has. left_committed _ first begins c.draft.new.core c.commit_step.new.self c.in_ok-session.session c.commit_step.new.session c.draft.new.transaction
+    (λ same files has. left_committed _ _ first begins c.draft.new.core c.commit_step.new.self c.in_ok-session.session c.commit_step.new.session c.draft.new.transaction
     draft.0 draft.1 c.in_ok-commit_step.ensures.committed trusted files has c.make_stable.new.core same)
     c.make_stable.ensures.same
 
 pub returns-clause-unchanged : goal.returns-clause-unchanged
 returns-clause-unchanged g c =
     let first = c.args.core.now in
-    let begins = c.requires.begins.1 in
+    let begins = c.requires.begins.2 in
     let is_one : IsTrue c.in_ok-draft.field-0 = search rules in
-    let draft = at_draft _ first c.session_step.new.self c.draft.new.core c.in_ok-session.session c.draft.new.transaction begins c.in_ok-session.ensures.begun
+    let draft = at_draft _ _ first c.session_step.new.self c.draft.new.core c.in_ok-session.session c.draft.new.transaction begins c.in_ok-session.ensures.begun
     c.in_ok-draft.ensures.reads c.in_ok-draft.ensures.others (c.in_ok-draft.ensures.drafted is_one) in
-    λ trusted two. absurd (no_commit _ first begins c.draft.new.core c.draft.new.transaction draft.0 trusted draft.1 two)
+    λ trusted two. absurd (no_commit _ _ first begins c.draft.new.core c.draft.new.transaction draft.0 trusted draft.1 two)

@@ -2,10 +2,10 @@ use Rattle.journal_object.proofs.MapOfBlocks.{IsMapOf-map_of_blocks, are_objects
 use Rattle.journal_object.proofs.law.prove_objects_law.Goals as goal
 
 pub returns-clause-map : goal.returns-clause-map
-returns-clause-map c blocks content low = IsMapOf-map_of_blocks blocks content low
+returns-clause-map c layout content = IsMapOf-map_of_blocks layout content
 
 pub returns-clause-objects : goal.returns-clause-objects
-returns-clause-objects c blocks content each = are_objects-map_of_blocks blocks content each
+returns-clause-objects c layout content each = are_objects-map_of_blocks layout content each
 
 pub returns-clause-zeros : goal.returns-clause-zeros
-returns-clause-zeros c blocks = IsMapOf-zeros blocks
+returns-clause-zeros c layout = IsMapOf-zeros layout

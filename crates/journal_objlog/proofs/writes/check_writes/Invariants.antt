@@ -1,4 +1,5 @@
 use Rattle.std.proofs.Common.{◌≡◌, ◌&&◌}
+use Rattle.journal_world.specs.Files.{shape}
 use Rattle.journal_world.specs.Maps.{are_objects}
 use Rattle.journal_objlog.specs.Writes.{are_valid}
 use Rattle.journal_objlog.proofs.writes.check_writes.Given as goal
@@ -6,5 +7,5 @@ use Rattle.journal_objlog.proofs.writes.check_writes.Given as goal
 -- all are valid where those that are left are, and all are objects where those are and those before were
 abbrev pub invariant-loop-addr : goal.invariant-loop-addr
 invariant-loop-addr l =
-    (are_valid l.layout.blocks l.writes ≡ are_valid l.layout.blocks l.addr-iterator)
-    × (are_objects l.layout.blocks l.writes ≡ (l.objects && are_objects l.layout.blocks l.addr-iterator))
+    (are_valid (shape l.layout) l.writes ≡ are_valid (shape l.layout) l.addr-iterator)
+    × (are_objects (shape l.layout) l.writes ≡ (l.objects && are_objects (shape l.layout) l.addr-iterator))

@@ -23,4 +23,4 @@ loop-addr-preserved g c =
     )
 
 pub returns-in-Err-clause-refusal : goal.returns-in-Err-clause-refusal
-returns-in-Err-clause-refusal g c = read_refused g.J.Naming.blocks c.args.addrs.now _ c.in-Err.why (Contains-get_or c.args.addrs.now c.loop-addr.addr-index _ c.loop-addr-test.true) c.in-Err.ensures.refusal
+returns-in-Err-clause-refusal g c = read_refused g.J.Naming.layout c.args.addrs.now _ c.in-Err.why (Contains-get_or c.args.addrs.now c.loop-addr.addr-index _ c.loop-addr-test.true) c.in-Err.ensures.refusal

@@ -17,16 +17,16 @@ pub returns-then-crash : goal.returns-then-crash
 returns-then-crash g c =
     let more : c.in_ok-advance.field-0 ≡ true = grind (arith, nat_tests) in
     let asks = subst (TakesLineOrEnd (streams c.loop.console (g.O.Write.contents c.loop.output)) (streams c.advance.new.self (g.O.Write.contents c.advance.new.output))) more c.in_ok-advance.ensures in
-    ends_to_open _ _ _ _ _ c.loop.client c.answer.new.self c.line.result.now c.answer.result c.in-Break.crash c.loop.invariant asks (ap (λ (k : ConsoleState). streams k (g.O.Write.contents c.advance.new.output)) c.console.view_is) c.line.ensures c.answer.ensures c.in-Break.is c.if-crash.true
+    ends_to_open _ _ _ _ _ c.is_laid.ensures c.loop.client c.answer.new.self c.line.result.now c.answer.result c.in-Break.crash c.loop.invariant asks (ap (λ (k : ConsoleState). streams k (g.O.Write.contents c.advance.new.output)) c.console.view_is) c.line.ensures c.answer.ensures c.in-Break.is c.if-crash.true
 
 pub returns-in-Break : goal.returns-in-Break
 returns-in-Break g c =
     let more : c.in_ok-advance.field-0 ≡ true = grind (arith, nat_tests) in
     let asks = subst (TakesLineOrEnd (streams c.loop.console (g.O.Write.contents c.loop.output)) (streams c.advance.new.self (g.O.Write.contents c.advance.new.output))) more c.in_ok-advance.ensures in
-    ends_to_down _ _ _ _ _ _ c.loop.client c.answer.new.self c.line.result.now c.answer.result c.in-Break.crash c.loop.invariant asks (ap (λ (k : ConsoleState). streams k (g.O.Write.contents c.advance.new.output)) c.console.view_is) c.line.ensures c.answer.ensures c.in-Break.is c.if-crash.false c.in_ok-print-in-Break.ensures
+    ends_to_down _ _ _ _ _ _ c.is_laid.ensures c.loop.client c.answer.new.self c.line.result.now c.answer.result c.in-Break.crash c.loop.invariant asks (ap (λ (k : ConsoleState). streams k (g.O.Write.contents c.advance.new.output)) c.console.view_is) c.line.ensures c.answer.ensures c.in-Break.is c.if-crash.false c.in_ok-print-in-Break.ensures
 
 pub loop-preserved : goal.loop-preserved
 loop-preserved g c =
     let more : c.in_ok-advance.field-0 ≡ true = grind (arith, nat_tests) in
     let asks = subst (TakesLineOrEnd (streams c.loop.console (g.O.Write.contents c.loop.output)) (streams c.advance.new.self (g.O.Write.contents c.advance.new.output))) more c.in_ok-advance.ensures in
-    goes_on _ _ _ _ _ _ c.loop.client c.answer.new.self c.line.result.now c.answer.result c.in-Continue.answer c.loop.invariant asks (ap (λ (k : ConsoleState). streams k (g.O.Write.contents c.advance.new.output)) c.console.view_is) c.line.ensures c.answer.ensures c.in-Continue.is c.in_ok-print-in-Continue.ensures
+    goes_on _ _ _ _ _ _ c.is_laid.ensures c.loop.client c.answer.new.self c.line.result.now c.answer.result c.in-Continue.answer c.loop.invariant asks (ap (λ (k : ConsoleState). streams k (g.O.Write.contents c.advance.new.output)) c.console.view_is) c.line.ensures c.answer.ensures c.in-Continue.is c.in_ok-print-in-Continue.ensures

@@ -8,10 +8,10 @@ returns-clause-committed g c =
     let step = c.commit-answer in
     let seen = c.seen-seen.ensures in
     let rule = g.R.MapRule.statement in
-    let blocks = g.J.Naming.blocks in
-    committed rule blocks c.args.transaction.now c.args.session.now step.new.session c.args.volatile.now step.new.self step.result
+    let layout = g.J.Naming.layout in
+    committed rule layout c.args.transaction.now c.args.session.now step.new.session c.args.volatile.now step.new.self step.result
     step.ensures.committed step.ensures.receipt step.ensures.can step.ensures.agrees
-    (known rule blocks step.new.session.seen seen.on_disk seen.sound seen.legal)
+    (known rule layout step.new.session.seen seen.on_disk seen.sound seen.legal)
 
 pub returns-clause-fenced : goal.returns-clause-fenced
 returns-clause-fenced g c =

@@ -25,7 +25,7 @@ returns-in_err-front-clause-refusal g c =
 
 pub returns-in_err-front-clause-crash : goal.returns-in_err-front-clause-crash
 returns-in_err-front-clause-crash g c =
-    crashes_reads g.J.Naming.blocks _ c.args.self.now c.args.self.now c.self.invariant c.self.view_is (OnlyReads-refl c.args.self.now.objects) refl
+    crashes_reads g.J.Naming.layout _ c.args.self.now c.args.self.now c.self.invariant c.self.view_is (OnlyReads-refl c.args.self.now.objects) refl
 
 pub returns-then-self-cut-clause-only : goal.returns-then-self-cut-clause-only
 returns-then-self-cut-clause-only g c = λ no due.
@@ -35,7 +35,7 @@ returns-then-self-cut-clause-only g c = λ no due.
 
 pub returns-then-self-cut-clause-crash : goal.returns-then-self-cut-clause-crash
 returns-then-self-cut-clause-crash g c =
-    crashes_reads g.J.Naming.blocks _ c.args.self.now c.args.self.now c.self.invariant c.self.view_is (OnlyReads-refl c.args.self.now.objects) refl
+    crashes_reads g.J.Naming.layout _ c.args.self.now c.args.self.now c.self.invariant c.self.view_is (OnlyReads-refl c.args.self.now.objects) refl
 
 pub returns-in_err-reserve-clause-refusal : goal.returns-in_err-reserve-clause-refusal
 returns-in_err-reserve-clause-refusal g c =
@@ -80,8 +80,8 @@ take-requires-clause-longer g c =
 pub take-requires-clause-all : goal.take-requires-clause-all
 take-requires-clause-all g c = λ trusted.
     let history : c.in_ok-front.front ≡ c.args.volatile.now.ledger.history = c.in_ok-front.ensures.whole in
-    subst (λ (h : List Entry). HaveAllSince g.J.Naming.blocks h c.reserve.new.self.logged c.in_ok-group.group.items) (sym history)
-    (since_later g.J.Naming.blocks c.args.volatile.now.ledger.history c.args.volatile.now.ledger.cut c.reserve.new.self.logged c.in_ok-group.group.items
+    subst (λ (h : List Entry). HaveAllSince g.J.Naming.layout h c.reserve.new.self.logged c.in_ok-group.group.items) (sym history)
+    (since_later g.J.Naming.layout c.args.volatile.now.ledger.history c.args.volatile.now.ledger.cut c.reserve.new.self.logged c.in_ok-group.group.items
     (subst (λ (v : VolatileState). v.ledger.cut ≤ c.reserve.new.self.logged) c.volatile.view_is
     (subst (λ (n : ℕ). c.volatile.inside.ledger.cut ≤ n) (ap (λ (d : DurableState). d.logged) c.self.view_is ∙ sym (ap (λ (d : DurableState). d.logged) c.reserve.ensures.same))
     (omega (arith, c.if-self-cut.false, c.cut.ensures))))
@@ -101,8 +101,8 @@ returns-clause-cuts g c = λ done.
 
 pub returns-clause-tied : goal.returns-clause-tied
 returns-clause-tied g c = λ tied.
-    tied_cut g.J.Naming.blocks c.args.volatile.now c.cut-2.new.self c.args.self.now c.take.new.self
-    (subst (IsVolatile g.J.Naming.blocks) c.volatile.view_is c.volatile.invariant) (returns-clause-cuts g c refl) c.take.ensures.flies tied
+    tied_cut g.J.Naming.layout c.args.volatile.now c.cut-2.new.self c.args.self.now c.take.new.self
+    (subst (IsVolatile g.J.Naming.layout) c.volatile.view_is c.volatile.invariant) (returns-clause-cuts g c refl) c.take.ensures.flies tied
 
 pub returns-clause-crash : goal.returns-clause-crash
 returns-clause-crash g c = crashes_roomed c.args.self.now c.reserve.new.self c.take.new.self c.reserve.ensures.same c.take.ensures.crash

@@ -4,4 +4,4 @@ use Rattle.std.proofs.Common.{rules}
 use Rattle.journal_core.proofs.durable.Durable.disk.Goals as goal
 
 pub returns-clause-images : goal.returns-clause-images
-returns-clause-images g c = leaves_disk g.J.Naming.blocks _ c.args.self.now (disk_of c.args.self.now) c.self.invariant c.self.view_is (search rules)
+returns-clause-images g c = leaves_disk g.J.Naming.layout _ c.args.self.now (disk_of c.args.self.now) c.self.invariant c.self.view_is (search rules)

@@ -25,17 +25,17 @@ returns-in_err-front-clause-only g c = λ tied.
 
 pub returns-clause-trusted : goal.returns-clause-trusted
 returns-clause-trusted g c =
-    let kept = subst (IsDurable g.J.Naming.blocks) c.self.view_is c.self.invariant in
+    let kept = subst (IsDurable g.J.Naming.layout) c.self.view_is c.self.invariant in
     trusted-longer c.args.self.now.front c.args.volatile.now.ledger.history kept.begun
     (subst (λ (d : DurableState). IsPrefix d.front c.args.volatile.now.ledger.history) c.self.view_is c.in_ok-front.ensures.begins)
     ∙ kept.trusted
 
 pub returns-clause-images : goal.returns-clause-images
 returns-clause-images g c = λ honest image one.
-    leaves_history g.J.Naming.blocks c.args.self.now c.args.volatile.now.ledger.history image
-    (subst (IsDurable g.J.Naming.blocks) c.self.view_is c.self.invariant)
+    leaves_history g.J.Naming.layout c.args.self.now c.args.volatile.now.ledger.history image
+    (subst (IsDurable g.J.Naming.layout) c.self.view_is c.self.invariant)
     (subst (λ (d : DurableState). IsPrefix d.front c.args.volatile.now.ledger.history) c.self.view_is c.in_ok-front.ensures.begins)
     (subst (λ (v : VolatileState). floor v.ledger.history ≤ c.args.self.now.marked) c.volatile.view_is
     (subst (λ (d : DurableState). floor c.volatile.inside.ledger.history ≤ d.marked) c.self.view_is (omega (arith, c.if-self-floor.false, c.floor.ensures))))
-    (leaves_disk g.J.Naming.blocks _ c.args.self.now (disk_of c.args.self.now) c.self.invariant c.self.view_is
+    (leaves_disk g.J.Naming.layout _ c.args.self.now (disk_of c.args.self.now) c.self.invariant c.self.view_is
     (sym (ap disk_of c.self.view_is)) honest image one)

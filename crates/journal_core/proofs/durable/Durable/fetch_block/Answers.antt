@@ -14,8 +14,8 @@ returns-clause-after g c = λ trusted.
     let here : IsTrue (is_trusted c.self.inside.front) = subst (λ (d : DurableState). IsTrue (is_trusted d.front)) (sym c.self.view_is) trusted in
     on_raised c.read_logged.result c.raise.result c.raise.ensures.only_ok
     (c.read_logged.ensures.value (subst IsTrue c.self.invariant.trusted here))
-    (λ is. subst (λ (d : DurableState). IsBlockAfter g.J.Naming.blocks d.front d.logged (record { block = c.args.update.now.block; bytes = c.read_logged.new.into })) c.self.view_is
-    (logged_block g.J.Naming.blocks _ (record { block = c.args.update.now.block; bytes = c.read_logged.new.into }) c.self.invariant here is))
+    (λ is. subst (λ (d : DurableState). IsBlockAfter g.J.Naming.layout d.front d.logged (record { block = c.args.update.now.block; bytes = c.read_logged.new.into })) c.self.view_is
+    (logged_block g.J.Naming.layout _ (record { block = c.args.update.now.block; bytes = c.read_logged.new.into }) c.self.invariant here is))
 
 pub returns-clause-crash : goal.returns-clause-crash
-returns-clause-crash g c = crashes_read g.J.Naming.blocks _ _ c.read_logged.new.self c.self.invariant c.self.view_is c.read_logged.ensures.reads
+returns-clause-crash g c = crashes_read g.J.Naming.layout _ _ c.read_logged.new.self c.self.invariant c.self.view_is c.read_logged.ensures.reads

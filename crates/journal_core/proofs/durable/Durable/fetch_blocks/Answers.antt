@@ -10,7 +10,7 @@ use Rattle.journal_core.proofs.durable.Durable.fetch_blocks.Goals as goal
 
 pub returns-in_err-fetch_block-clause-crash : goal.returns-in_err-fetch_block-clause-crash
 returns-in_err-fetch_block-clause-crash g c =
-    crashes_reads g.J.Naming.blocks _ c.args.self.now c.fetch_block.new.self c.self.invariant c.self.view_is
+    crashes_reads g.J.Naming.layout _ c.args.self.now c.fetch_block.new.self c.self.invariant c.self.view_is
     (OnlyReads-trans c.args.self.now.objects c.loop-place.self.objects c.fetch_block.new.self.objects c.loop-place.invariant.1 c.fetch_block.ensures.reads)
     (c.fetch_block.ensures.others ∙ ap (λ (d : DurableState). record d { objects = c.fetch_block.new.self.objects }) c.loop-place.invariant.0)
 
@@ -18,8 +18,8 @@ pub loop-place-preserved : goal.loop-place-preserved
 loop-place-preserved g c =
     let same : c.fetch_block.new.update.block ≡ (get_or c.loop-place.updates.items c.loop-place.place c.index_mut.result.now).block =
     c.fetch_block.ensures.block ∙ ap (λ (u : Update). u.block) c.index_mut.ensures.value in
-    let after : IsTrue (is_trusted c.args.self.now.front) → IsBlockAfter g.J.Naming.blocks c.args.self.now.front c.args.self.now.logged c.fetch_block.new.update =
-    subst (λ (d : DurableState). IsTrue (is_trusted d.front) → IsBlockAfter g.J.Naming.blocks d.front d.logged c.fetch_block.new.update) c.loop-place.invariant.0
+    let after : IsTrue (is_trusted c.args.self.now.front) → IsBlockAfter g.J.Naming.layout c.args.self.now.front c.args.self.now.logged c.fetch_block.new.update =
+    subst (λ (d : DurableState). IsTrue (is_trusted d.front) → IsBlockAfter g.J.Naming.layout d.front d.logged c.fetch_block.new.update) c.loop-place.invariant.0
     c.in_ok-fetch_block.ensures.after in (
       c.fetch_block.ensures.others ∙ ap (λ (d : DurableState). record d { objects = c.fetch_block.new.self.objects }) c.loop-place.invariant.0,
       OnlyReads-trans c.args.self.now.objects c.loop-place.self.objects c.fetch_block.new.self.objects c.loop-place.invariant.1 c.fetch_block.ensures.reads,
@@ -27,10 +27,10 @@ loop-place-preserved g c =
       c.loop-place.invariant.3,
       length-set c.loop-place.updates.items c.loop-place.place c.fetch_block.new.update ∙ c.loop-place.invariant.4,
       map-set_same (λ (u : Update). u.block) c.loop-place.updates.items c.loop-place.place c.fetch_block.new.update c.index_mut.result.now same ∙ c.loop-place.invariant.5,
-      All-set (λ (u : Update). u.block < g.J.Naming.blocks) c.loop-place.updates.items c.loop-place.place c.fetch_block.new.update
-          (subst (λ (b : ℕ). b < g.J.Naming.blocks) (sym same) (c.loop-place.invariant.6 c.loop-place.place c.index_mut.result.now (within c))) c.loop-place.invariant.6,
+      All-set (λ (u : Update). u.block < g.J.Naming.layout.blocks) c.loop-place.updates.items c.loop-place.place c.fetch_block.new.update
+          (subst (λ (b : ℕ). b < g.J.Naming.layout.blocks) (sym same) (c.loop-place.invariant.6 c.loop-place.place c.index_mut.result.now (within c))) c.loop-place.invariant.6,
       λ trusted. AllWithin-more_set c.loop-place.updates.items c.loop-place.place c.fetch_block.new.update (within c)
-          (IsBlockAfter g.J.Naming.blocks c.args.self.now.front c.args.self.now.logged) (c.loop-place.invariant.7 trusted) (after trusted),
+          (IsBlockAfter g.J.Naming.layout c.args.self.now.front c.args.self.now.logged) (c.loop-place.invariant.7 trusted) (after trusted),
     )
   where
     within : (c : goal.In_ok-fetch_block g) → c.loop-place.place < length c.loop-place.updates.items
@@ -38,4 +38,4 @@ loop-place-preserved g c =
 
 pub returns-clause-crash : goal.returns-clause-crash
 returns-clause-crash g c =
-    crashes_reads g.J.Naming.blocks _ c.args.self.now c.loop-place.self c.self.invariant c.self.view_is c.loop-place.invariant.1 c.loop-place.invariant.0
+    crashes_reads g.J.Naming.layout _ c.args.self.now c.loop-place.self c.self.invariant c.self.view_is c.loop-place.invariant.1 c.loop-place.invariant.0

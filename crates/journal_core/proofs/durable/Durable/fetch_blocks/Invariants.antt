@@ -14,5 +14,5 @@ invariant-loop-place g l =
     × (l.commits ≡ l.fn.self.logged)
     × (length l.updates.items ≡ l.place-end)
     × (map (λ u. u.block) l.updates.items ≡ map (λ u. u.block) l.fn.updates.items)
-    × All (λ u. u.block < g.J.Naming.blocks) l.updates.items
-    × (IsTrue (is_trusted l.fn.self.front) → AllWithin (IsBlockAfter g.J.Naming.blocks l.fn.self.front l.fn.self.logged) l.updates.items 0 l.place)
+    × All (λ u. u.block < g.J.Naming.layout.blocks) l.updates.items
+    × (IsTrue (is_trusted l.fn.self.front) → AllWithin (IsBlockAfter g.J.Naming.layout l.fn.self.front l.fn.self.logged) l.updates.items 0 l.place)

@@ -15,7 +15,7 @@ use Rattle.journal_core.proofs.durable.Durable.fetch_step.Goals as goal
 
 pub returns-in-Ok : goal.returns-in-Ok
 returns-in-Ok g c =
-    let n = g.J.Naming.blocks in
+    let n = g.J.Naming.layout in
     let v = c.args.volatile.now in
     let d = c.args.self.now in
     let e = c.fetch.new.self in
@@ -41,7 +41,7 @@ returns-in-Ok g c =
 
 pub returns-in-Err : goal.returns-in-Err
 returns-in-Err g c =
-    let n = g.J.Naming.blocks in
+    let n = g.J.Naming.layout in
     let v = c.args.volatile.now in
     let d = c.args.self.now in
     let e = c.fetch.new.self in

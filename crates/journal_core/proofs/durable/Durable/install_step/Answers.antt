@@ -20,7 +20,7 @@ use Rattle.journal_core.proofs.durable.Durable.install_step.Goals as goal
 
 pub returns-in-Ok-Idle : goal.returns-in-Ok-Idle
 returns-in-Ok-Idle g c =
-    let n = g.J.Naming.blocks in
+    let n = g.J.Naming.layout in
     let v = c.args.volatile.now in
     let d = c.args.self.now in
     let e = c.install_call.new.self in
@@ -40,7 +40,7 @@ returns-in-Ok-Idle g c =
 
 pub returns-in-Ok-Put : goal.returns-in-Ok-Put
 returns-in-Ok-Put g c =
-    let n = g.J.Naming.blocks in
+    let n = g.J.Naming.layout in
     let v = c.args.volatile.now in
     let d = c.args.self.now in
     let e = c.install_call.new.self in
@@ -65,7 +65,7 @@ trim-requires g c = record {
 
 pub returns-in-Ok-Freed : goal.returns-in-Ok-Freed
 returns-in-Ok-Freed g c =
-    let n = g.J.Naming.blocks in
+    let n = g.J.Naming.layout in
     let v = c.args.volatile.now in
     let d = c.args.self.now in
     let e = c.install_call.new.self in
@@ -89,7 +89,7 @@ returns-in-Ok-Freed g c =
 
 pub returns-in-Err-NoMemory : goal.returns-in-Err-NoMemory
 returns-in-Err-NoMemory g c =
-    let n = g.J.Naming.blocks in
+    let n = g.J.Naming.layout in
     let v = c.args.volatile.now in
     let d = c.args.self.now in
     let e = c.install_call.new.self in
@@ -111,7 +111,7 @@ returns-in-Err-NoMemory g c =
 
 pub returns-in-Err-Failed : goal.returns-in-Err-Failed
 returns-in-Err-Failed g c =
-    let n = g.J.Naming.blocks in
+    let n = g.J.Naming.layout in
     let v = c.args.volatile.now in
     let d = c.args.self.now in
     let e = c.install_call.new.self in

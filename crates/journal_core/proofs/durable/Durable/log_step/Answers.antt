@@ -18,7 +18,7 @@ use Rattle.journal_core.proofs.durable.Durable.log_step.Goals as goal
 
 pub returns-in-Ok-Put : goal.returns-in-Ok-Put
 returns-in-Ok-Put g c =
-    let n = g.J.Naming.blocks in
+    let n = g.J.Naming.layout in
     let v = c.args.volatile.now in
     let d = c.args.self.now in
     let e = c.log_call.new.self in
@@ -38,7 +38,7 @@ returns-in-Ok-Put g c =
 
 pub returns-in-Ok-Logged : goal.returns-in-Ok-Logged
 returns-in-Ok-Logged g c =
-    let n = g.J.Naming.blocks in
+    let n = g.J.Naming.layout in
     let v = c.args.volatile.now in
     let d = c.args.self.now in
     let e = c.log_call.new.self in
@@ -58,7 +58,7 @@ returns-in-Ok-Logged g c =
 
 pub returns-in-Ok-AtRest : goal.returns-in-Ok-AtRest
 returns-in-Ok-AtRest g c =
-    let n = g.J.Naming.blocks in
+    let n = g.J.Naming.layout in
     let v = c.args.volatile.now in
     let d = c.args.self.now in
     let w = c.mark_or_cut.new.volatile in
@@ -84,7 +84,7 @@ returns-in-Ok-AtRest g c =
 
 pub returns-in-Err : goal.returns-in-Err
 returns-in-Err g c =
-    let n = g.J.Naming.blocks in
+    let n = g.J.Naming.layout in
     let v = c.args.volatile.now in
     let d = c.args.self.now in
     let e = c.log_call.new.self in

@@ -23,11 +23,11 @@ returns-in_err-front-clause-refusal g c =
 
 pub returns-in_err-front-clause-crash : goal.returns-in_err-front-clause-crash
 returns-in_err-front-clause-crash g c =
-    crashes_reads g.J.Naming.blocks _ c.args.self.now c.args.self.now c.self.invariant c.self.view_is (OnlyReads-refl c.args.self.now.objects) refl
+    crashes_reads g.J.Naming.layout _ c.args.self.now c.args.self.now c.self.invariant c.self.view_is (OnlyReads-refl c.args.self.now.objects) refl
 
 pub returns-then-self-marked-clause-crash : goal.returns-then-self-marked-clause-crash
 returns-then-self-marked-clause-crash g c =
-    crashes_reads g.J.Naming.blocks _ c.args.self.now c.args.self.now c.self.invariant c.self.view_is (OnlyReads-refl c.args.self.now.objects) refl
+    crashes_reads g.J.Naming.layout _ c.args.self.now c.args.self.now c.self.invariant c.self.view_is (OnlyReads-refl c.args.self.now.objects) refl
 
 pub returns-then-cut-self-clause-only : goal.returns-then-cut-self-clause-only
 returns-then-cut-self-clause-only g c = λ no due.
@@ -42,7 +42,7 @@ returns-then-cut-self-clause-only g c = λ no due.
 
 pub returns-then-cut-self-clause-crash : goal.returns-then-cut-self-clause-crash
 returns-then-cut-self-clause-crash g c =
-    crashes_reads g.J.Naming.blocks _ c.args.self.now c.args.self.now c.self.invariant c.self.view_is (OnlyReads-refl c.args.self.now.objects) refl
+    crashes_reads g.J.Naming.layout _ c.args.self.now c.args.self.now c.self.invariant c.self.view_is (OnlyReads-refl c.args.self.now.objects) refl
 
 pub returns-in_err-mark-clause-refusal : goal.returns-in_err-mark-clause-refusal
 returns-in_err-mark-clause-refusal g c =
@@ -59,7 +59,7 @@ returns-in_err-mark-clause-refusal g c =
 
 pub returns-in_err-mark-clause-crash : goal.returns-in_err-mark-clause-crash
 returns-in_err-mark-clause-crash g c =
-    crashes_reads g.J.Naming.blocks _ c.args.self.now c.args.self.now c.self.invariant c.self.view_is (OnlyReads-refl c.args.self.now.objects) refl
+    crashes_reads g.J.Naming.layout _ c.args.self.now c.args.self.now c.self.invariant c.self.view_is (OnlyReads-refl c.args.self.now.objects) refl
 
 pub set_marked-requires : goal.set_marked-requires
 set_marked-requires g c =

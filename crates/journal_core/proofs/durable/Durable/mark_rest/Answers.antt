@@ -25,7 +25,7 @@ returns-in_err-front_over-clause-refusal g c =
 
 pub returns-in_err-front_over-clause-crash : goal.returns-in_err-front_over-clause-crash
 returns-in_err-front_over-clause-crash g c =
-    crashes_reads g.J.Naming.blocks _ c.args.self.now c.args.self.now c.self.invariant c.self.view_is (OnlyReads-refl c.args.self.now.objects) refl
+    crashes_reads g.J.Naming.layout _ c.args.self.now c.args.self.now c.self.invariant c.self.view_is (OnlyReads-refl c.args.self.now.objects) refl
 
 pub returns-then-awaits_logging-clause-only : goal.returns-then-awaits_logging-clause-only
 returns-then-awaits_logging-clause-only g c = λ no due.
@@ -39,7 +39,7 @@ returns-then-awaits_logging-clause-only g c = λ no due.
 
 pub returns-then-awaits_logging-clause-crash : goal.returns-then-awaits_logging-clause-crash
 returns-then-awaits_logging-clause-crash g c =
-    crashes_reads g.J.Naming.blocks _ c.args.self.now c.args.self.now c.self.invariant c.self.view_is (OnlyReads-refl c.args.self.now.objects) refl
+    crashes_reads g.J.Naming.layout _ c.args.self.now c.args.self.now c.self.invariant c.self.view_is (OnlyReads-refl c.args.self.now.objects) refl
 
 pub returns-in_err-mark-clause-refusal : goal.returns-in_err-mark-clause-refusal
 returns-in_err-mark-clause-refusal g c =
@@ -56,7 +56,7 @@ returns-in_err-mark-clause-refusal g c =
 
 pub returns-in_err-mark-clause-crash : goal.returns-in_err-mark-clause-crash
 returns-in_err-mark-clause-crash g c =
-    crashes_reads g.J.Naming.blocks _ c.args.self.now c.args.self.now c.self.invariant c.self.view_is (OnlyReads-refl c.args.self.now.objects) refl
+    crashes_reads g.J.Naming.layout _ c.args.self.now c.args.self.now c.self.invariant c.self.view_is (OnlyReads-refl c.args.self.now.objects) refl
 
 pub note_all_logged-requires-clause-longer : goal.note_all_logged-requires-clause-longer
 note_all_logged-requires-clause-longer g c =
@@ -80,8 +80,8 @@ note_all_logged-requires-clause-all g c =
     let history : c.front.result ≡ c.args.volatile.now.ledger.history ++ stable (count c.args.volatile.now.ledger.history) ∷ [] =
     c.front.ensures.history ∙ ap (λ (v : VolatileState). v.ledger.history) (c.volatile-2.view_is ∙ c.in_ok-mark.ensures.added)
     ∙ ap (λ (n : ℕ). c.args.volatile.now.ledger.history ++ stable n ∷ []) commits in
-    subst (λ (h : List Entry). IsTrue (is_trusted h) → HaveAllSince g.J.Naming.blocks h c.args.self.now.logged []) (sym history)
-    (rest_since g.J.Naming.blocks c.args.volatile.now c.args.self.now.logged (subst (IsVolatile g.J.Naming.blocks) c.volatile.view_is c.volatile.invariant)
+    subst (λ (h : List Entry). IsTrue (is_trusted h) → HaveAllSince g.J.Naming.layout h c.args.self.now.logged []) (sym history)
+    (rest_since g.J.Naming.layout c.args.volatile.now c.args.self.now.logged (subst (IsVolatile g.J.Naming.layout) c.volatile.view_is c.volatile.invariant)
     (c.if-awaits_logging.ensures.cut refl) (c.if-awaits_logging.ensures.tail refl))
 
 pub returns-clause-marks : goal.returns-clause-marks
@@ -100,7 +100,7 @@ returns-clause-marks g c = λ done.
 pub returns-clause-tied : goal.returns-clause-tied
 returns-clause-tied g c = λ tied.
     let commits : c.count-commits.result ≡ count c.args.volatile.now.ledger.history = c.count-commits.ensures ∙ ap (λ (v : VolatileState). count v.ledger.history) c.volatile.view_is in
-    tied_rest g.J.Naming.blocks c.args.volatile.now c.mark.new.self c.args.self.now c.set_marked.new.self
-    (subst (IsVolatile g.J.Naming.blocks) c.volatile.view_is c.volatile.invariant) (subst (IsDurable g.J.Naming.blocks) c.self.view_is c.self.invariant)
+    tied_rest g.J.Naming.layout c.args.volatile.now c.mark.new.self c.args.self.now c.set_marked.new.self
+    (subst (IsVolatile g.J.Naming.layout) c.volatile.view_is c.volatile.invariant) (subst (IsDurable g.J.Naming.layout) c.self.view_is c.self.invariant)
     (omega (arith, c.if-commits-floor.false, c.floor.ensures, commits, ap (λ (v : VolatileState). floor v.ledger.history) c.volatile.view_is))
     (returns-clause-marks g c refl) tied

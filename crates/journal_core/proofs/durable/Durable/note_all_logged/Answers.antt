@@ -9,9 +9,9 @@ use Rattle.journal_core.proofs.durable.Durable.note_all_logged.Goals as goal
 
 pub invariant_of-self : goal.invariant_of-self
 invariant_of-self g c =
-    kept_reach g.J.Naming.blocks _ c.self.invariant c.args.front (subst (λ (d : DurableState). IsPrefix d.front c.args.front) (sym c.self.view_is) c.requires.longer)
+    kept_reach g.J.Naming.layout _ c.self.invariant c.args.front (subst (λ (d : DurableState). IsPrefix d.front c.args.front) (sym c.self.view_is) c.requires.longer)
     c.args.commits (subst (λ (d : DurableState). IsCutLogged d.objects) (sym c.self.view_is) c.requires.rest) c.requires.counted
-    (subst (λ (d : DurableState). IsTrue (is_trusted c.args.front) → HaveAllSince g.J.Naming.blocks c.args.front d.logged []) (sym c.self.view_is) c.requires.all)
+    (subst (λ (d : DurableState). IsTrue (is_trusted c.args.front) → HaveAllSince g.J.Naming.layout c.args.front d.logged []) (sym c.self.view_is) c.requires.all)
 
 pub returns-clause-crash : goal.returns-clause-crash
-returns-clause-crash g c = crashes_noted g.J.Naming.blocks _ _ _ c.self.invariant c.self.view_is (invariant_of-self g c) refl
+returns-clause-crash g c = crashes_noted g.J.Naming.layout _ _ _ c.self.invariant c.self.view_is (invariant_of-self g c) refl

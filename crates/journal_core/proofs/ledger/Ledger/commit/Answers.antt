@@ -12,7 +12,7 @@ use Rattle.journal_core.proofs.ledger.Ledger.commit.Goals as goal
 
 pub commit-requires-clause-rule : goal.commit-requires-clause-rule
 commit-requires-clause-rule g c =
-    ruled_then g.J.Naming.blocks g.R.MapRule.statement c.self.inside.writer c.args.transaction.now.reads c.args.transaction.now.writes c.len-len.ensures.on_disk c.len-len.ensures.sound
+    ruled_then g.J.Naming.layout g.R.MapRule.statement c.self.inside.writer c.args.transaction.now.reads c.args.transaction.now.writes c.len-len.ensures.on_disk c.len-len.ensures.sound
     c.requires.rule
     (subst (λ (s : LedgerState). IsTrue (is_trusted s.history) → Agrees (latest s.history) c.args.transaction.now.reads) (sym c.self.view_is) c.requires.agrees)
 

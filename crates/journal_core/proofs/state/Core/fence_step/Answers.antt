@@ -7,24 +7,24 @@ use Rattle.journal_core.proofs.state.Core.fence_step.Goals as goal
 
 pub invariant_of-self : goal.invariant_of-self
 invariant_of-self g c = record {
-  pair = pair_fenced g.J.Naming.blocks c.self.inside.volatile c.self.inside.durable c.self.invariant.pair c.args.target c.fence_step.new.self c.fence_step.result
+  pair = pair_fenced g.J.Naming.layout c.self.inside.volatile c.self.inside.durable c.self.invariant.pair c.args.target c.fence_step.new.self c.fence_step.result
       c.fence_step.ensures.others c.fence_step.ensures.did c.fence_step.ensures.same;
   room = c.self.invariant.room;
 }
 
 pub returns-clause-did : goal.returns-clause-did
 returns-clause-did g c =
-    fenced_in_core g.J.Naming.blocks c.self.inside.volatile c.self.inside.durable c.self.invariant.pair c.args.target c.fence_step.new.self c.args.self.now c.fence_step.result
+    fenced_in_core g.J.Naming.layout c.self.inside.volatile c.self.inside.durable c.self.invariant.pair c.args.target c.fence_step.new.self c.args.self.now c.fence_step.result
     c.self.view_is c.fence_step.ensures.others c.fence_step.ensures.did
 
 pub returns-clause-refusal : goal.returns-clause-refusal
 returns-clause-refusal g c =
     subst (λ (o : Outset). IfErr c.fence_step.result (IsFenceRefusal c.args.target o))
-    (outset_seen g.J.Naming.blocks c.self.inside.volatile c.self.inside.durable c.args.self.now c.self.invariant.pair c.self.view_is) c.fence_step.ensures.refusal
+    (outset_seen g.J.Naming.layout c.self.inside.volatile c.self.inside.durable c.args.self.now c.self.invariant.pair c.self.view_is) c.fence_step.ensures.refusal
 
 pub returns-clause-crash : goal.returns-clause-crash
 returns-clause-crash g c =
-    crashes_noticed g.J.Naming.blocks c.self.inside.volatile c.self.inside.durable c.args.self.now c.self.invariant.pair c.self.view_is c.fence_step.new.self (invariant_of-self g c).pair
+    crashes_noticed g.J.Naming.layout c.self.inside.volatile c.self.inside.durable c.args.self.now c.self.invariant.pair c.self.view_is c.fence_step.new.self (invariant_of-self g c).pair
 
 pub returns-clause-event : goal.returns-clause-event
 returns-clause-event g c =

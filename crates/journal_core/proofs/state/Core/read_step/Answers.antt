@@ -34,11 +34,11 @@ returns-clause-found g c =
 
 pub returns-clause-may : goal.returns-clause-may
 returns-clause-may g c =
-    subst (λ (s : CoreState). OnOk c.read_verified.result (MayRead g.J.Naming.blocks s c.args.transaction.now c.args.addr)) c.verify_tokens.ensures.same c.read_verified.ensures.may
+    subst (λ (s : CoreState). OnOk c.read_verified.result (MayRead g.J.Naming.layout s c.args.transaction.now c.args.addr)) c.verify_tokens.ensures.same c.read_verified.ensures.may
 
 pub returns-clause-refusal : goal.returns-clause-refusal
 returns-clause-refusal g c =
-    subst (λ (s : CoreState). IfErr c.read_verified.result (IsReadRefusal g.J.Naming.blocks s c.args.transaction.now c.args.addr c.read_verified.new.self)) c.verify_tokens.ensures.same
+    subst (λ (s : CoreState). IfErr c.read_verified.result (IsReadRefusal g.J.Naming.layout s c.args.transaction.now c.args.addr c.read_verified.new.self)) c.verify_tokens.ensures.same
     c.read_verified.ensures.refusal
 
 pub returns-clause-reads : goal.returns-clause-reads
@@ -49,5 +49,5 @@ returns-clause-crash g c = subst (λ (s : CoreState). Crashes s c.read_verified.
 
 pub returns-clause-event : goal.returns-clause-event
 returns-clause-event g c =
-    subst (λ (s : CoreState). AnswersRead g.J.Naming.blocks s c.args.transaction.now c.args.addr c.read_verified.result c.read_verified.new.into c.read_verified.new.self)
+    subst (λ (s : CoreState). AnswersRead g.J.Naming.layout s c.args.transaction.now c.args.addr c.read_verified.result c.read_verified.new.into c.read_verified.new.self)
     c.verify_tokens.ensures.same c.read_verified.ensures.event

@@ -22,7 +22,7 @@ use Rattle.journal_core.proofs.state.Core.read_verified.Goals as goal
 
 pub returns-in_err-found-clause-refusal : goal.returns-in_err-found-clause-refusal
 returns-in_err-found-clause-refusal g c =
-    let n = g.J.Naming.blocks in
+    let n = g.J.Naming.layout in
     let v = c.self.inside.volatile in
     let now = c.args.self.now in
     let t = c.args.transaction.now in
@@ -36,34 +36,33 @@ returns-in_err-found-clause-refusal g c =
 
 pub returns-in_err-found-clause-crash : goal.returns-in_err-found-clause-crash
 returns-in_err-found-clause-crash g c =
-    crashes_still g.J.Naming.blocks c.self.inside.volatile c.self.inside.durable c.args.self.now c.self.invariant.pair c.self.view_is
+    crashes_still g.J.Naming.layout c.self.inside.volatile c.self.inside.durable c.args.self.now c.self.invariant.pair c.self.view_is
 
 pub returns-in-Some-clause-crash : goal.returns-in-Some-clause-crash
 returns-in-Some-clause-crash g c =
-    crashes_still g.J.Naming.blocks c.self.inside.volatile c.self.inside.durable c.args.self.now c.self.invariant.pair c.self.view_is
+    crashes_still g.J.Naming.layout c.self.inside.volatile c.self.inside.durable c.args.self.now c.self.invariant.pair c.self.view_is
 
 pub fetch_step-requires-clause-blocks : goal.fetch_step-requires-clause-blocks
 fetch_step-requires-clause-blocks g c =
-    let may : MayRead g.J.Naming.blocks (outset_of c.self.inside.volatile) c.args.transaction.now c.args.addr = search rules in
-    let low : 532 ≤ g.J.Naming.blocks = search rules in
-    all_of_map (λ b. b < g.J.Naming.blocks) c.fetch_buffer.result.items
-    (subst (λ bs. All (λ b. b < g.J.Naming.blocks) bs) (sym c.fetch_buffer.ensures)
-    (All-cons (λ b. b < g.J.Naming.blocks) c.args.addr.block [] (valid_block g.J.Naming.blocks c.args.addr low may.valid).1 (λ k d lt. absurd (omega (arith, lt)))))
+    let may : MayRead g.J.Naming.layout (outset_of c.self.inside.volatile) c.args.transaction.now c.args.addr = search rules in
+    all_of_map (λ b. b < g.J.Naming.layout.blocks) c.fetch_buffer.result.items
+    (subst (λ bs. All (λ b. b < g.J.Naming.layout.blocks) bs) (sym c.fetch_buffer.ensures)
+    (All-cons (λ b. b < g.J.Naming.layout.blocks) c.args.addr.block [] (valid_block g.J.Naming.layout c.args.addr may.valid).1 (λ k d lt. absurd (omega (arith, lt)))))
 
 pub returns-in_err-fetched-clause-crash : goal.returns-in_err-fetched-clause-crash
 returns-in_err-fetched-clause-crash g c =
-    crashes_seen g.J.Naming.blocks c.self.inside.volatile c.self.inside.durable c.args.self.now c.self.invariant.pair c.self.view_is c.fetch_step.new.volatile c.fetch_step.new.self
+    crashes_seen g.J.Naming.layout c.self.inside.volatile c.self.inside.durable c.args.self.now c.self.invariant.pair c.self.view_is c.fetch_step.new.volatile c.fetch_step.new.self
     c.fetch_step.ensures.pair c.fetch_step.ensures.crash
 
 pub returns-clause-crash : goal.returns-clause-crash
 returns-clause-crash g c =
-    crashes_seen g.J.Naming.blocks c.self.inside.volatile c.self.inside.durable c.args.self.now c.self.invariant.pair c.self.view_is c.fetch_step.new.volatile c.fetch_step.new.self
+    crashes_seen g.J.Naming.layout c.self.inside.volatile c.self.inside.durable c.args.self.now c.self.invariant.pair c.self.view_is c.fetch_step.new.volatile c.fetch_step.new.self
     c.fetch_step.ensures.pair c.fetch_step.ensures.crash
 
 pub returns-in_err-found-clause-event : goal.returns-in_err-found-clause-event
 returns-in_err-found-clause-event g c =
     let reads : OnlyReads c.args.self.now.objects c.args.self.now.objects = search rules in
-    refuses_read c.args.self.now c.args.self.now (returns-in_err-found-clause-crash g c) g.J.Naming.blocks c.args.transaction.now c.args.addr _ c.from_residual.result _ c.from_residual.ensures.1
+    refuses_read c.args.self.now c.args.self.now (returns-in_err-found-clause-crash g c) g.J.Naming.layout c.args.transaction.now c.args.addr _ c.from_residual.result _ c.from_residual.ensures.1
     (returns-in_err-found-clause-refusal g c) reads refl
 
 pub unreachable-requires : goal.unreachable-requires
@@ -72,16 +71,16 @@ unreachable-requires g c =
     let f = c.in_ok-fetched.fetched in
     let fresh : v.tail.trimmed ≤ f.commits = omega (arith, c.fetch_step.ensures.pair.tied.trimmed, c.in_ok-fetched.ensures.commits) in
     let named : map (λ (u : Update). u.block) f.updates ≡ c.args.addr.block ∷ [] = search rules in
-    let none : known_at (usable v f) v.tail c.args.addr ≡ None = search rules in
-    fetched_known v f c.args.addr fresh named none
+    let none : known_at g.J.Naming.layout (usable v f) v.tail c.args.addr ≡ None = search rules in
+    fetched_known g.J.Naming.layout v f c.args.addr fresh named none
 
 pub unreachable-requires-in-Err : goal.unreachable-requires-in-Err
 unreachable-requires-in-Err g c =
     let v = c.fetch_step.new.volatile in
     let f = c.in_ok-fetched.fetched in
-    let may : MayRead g.J.Naming.blocks (outset_of v) c.args.transaction.now c.args.addr = search rules in
+    let may : MayRead g.J.Naming.layout (outset_of v) c.args.transaction.now c.args.addr = search rules in
     let begins : IsPrefix f.front v.ledger.history = search rules in
-    may_be_read g.J.Naming.blocks v c.args.transaction.now c.args.addr f c.in-Err.field-0 may begins (search rules)
+    may_be_read g.J.Naming.layout v c.args.transaction.now c.args.addr f c.in-Err.field-0 may begins (search rules)
 
 pub invariant_of-self-2 : goal.invariant_of-self-2
 invariant_of-self-2 g c =

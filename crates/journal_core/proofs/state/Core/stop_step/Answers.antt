@@ -6,8 +6,8 @@ use Rattle.journal_core.proofs.state.Core.stop_step.Goals as goal
 
 pub invariant_of-self : goal.invariant_of-self
 invariant_of-self g c = record {
-  pair = subst (λ (v : VolatileState). IsPair g.J.Naming.blocks v c.self.inside.durable) (sym c.stop.ensures.event)
-      (pair_noted g.J.Naming.blocks c.self.inside.volatile c.self.inside.durable c.self.invariant.pair c.self.inside.volatile.ledger.next true);
+  pair = subst (λ (v : VolatileState). IsPair g.J.Naming.layout v c.self.inside.durable) (sym c.stop.ensures.event)
+      (pair_noted g.J.Naming.layout c.self.inside.volatile c.self.inside.durable c.self.invariant.pair c.self.inside.volatile.ledger.next true);
   room = c.self.invariant.room;
 }
 
@@ -15,6 +15,6 @@ pub returns : goal.returns
 returns g c = record {
   stops = record {
     closed = ap (λ (v : VolatileState). core_of v c.self.inside.durable) c.stop.ensures.event ∙ ap (λ (s : CoreState). record s { closed = true }) c.self.view_is;
-    crash = crashes_noticed g.J.Naming.blocks c.self.inside.volatile c.self.inside.durable c.args.self.now c.self.invariant.pair c.self.view_is c.stop.new.self (invariant_of-self g c).pair;
+    crash = crashes_noticed g.J.Naming.layout c.self.inside.volatile c.self.inside.durable c.args.self.now c.self.invariant.pair c.self.view_is c.stop.new.self (invariant_of-self g c).pair;
   };
 }

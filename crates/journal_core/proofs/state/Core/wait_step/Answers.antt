@@ -9,7 +9,7 @@ use Rattle.journal_core.proofs.state.Core.wait_step.Goals as goal
 
 pub invariant_of-self : goal.invariant_of-self
 invariant_of-self g c = record {
-  pair = subst (λ (v : VolatileState). IsPair g.J.Naming.blocks v c.self.inside.durable) (sym c.wait_step.ensures.same) c.self.invariant.pair;
+  pair = subst (λ (v : VolatileState). IsPair g.J.Naming.layout v c.self.inside.durable) (sym c.wait_step.ensures.same) c.self.invariant.pair;
   room = c.self.invariant.room;
 }
 
@@ -20,9 +20,9 @@ returns-clause-answer g c =
 pub returns-clause-goes_on : goal.returns-clause-goes_on
 returns-clause-goes_on g c =
     subst (λ (o : Outset). OnOk c.wait_step.result (MayWait o c.args.n))
-    (outset_seen g.J.Naming.blocks c.self.inside.volatile c.self.inside.durable c.args.self.now c.self.invariant.pair c.self.view_is) c.wait_step.ensures.goes_on
+    (outset_seen g.J.Naming.layout c.self.inside.volatile c.self.inside.durable c.args.self.now c.self.invariant.pair c.self.view_is) c.wait_step.ensures.goes_on
 
 pub returns-clause-refusal : goal.returns-clause-refusal
 returns-clause-refusal g c =
     subst (λ (o : Outset). IfErr c.wait_step.result (IsWaitRefusal o c.args.session.now c.args.n))
-    (outset_seen g.J.Naming.blocks c.self.inside.volatile c.self.inside.durable c.args.self.now c.self.invariant.pair c.self.view_is) c.wait_step.ensures.refusal
+    (outset_seen g.J.Naming.layout c.self.inside.volatile c.self.inside.durable c.args.self.now c.self.invariant.pair c.self.view_is) c.wait_step.ensures.refusal

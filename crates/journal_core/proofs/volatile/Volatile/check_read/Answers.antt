@@ -20,10 +20,10 @@ returns-clause-agree g c =
 
 pub returns-clause-may : goal.returns-clause-may
 returns-clause-may g c =
-    subst (λ (s : VolatileState). OnOk c.check_verified.result (MayRead g.J.Naming.blocks (outset_of s) c.args.transaction.now c.args.addr)) c.verify_tokens.ensures.same
+    subst (λ (s : VolatileState). OnOk c.check_verified.result (MayRead g.J.Naming.layout (outset_of s) c.args.transaction.now c.args.addr)) c.verify_tokens.ensures.same
     c.check_verified.ensures.may
 
 pub returns-clause-refusal : goal.returns-clause-refusal
 returns-clause-refusal g c =
-    subst (λ (s : VolatileState). IfErr c.check_verified.result (IsCheckRefusal g.J.Naming.blocks (outset_of s) c.args.transaction.now c.args.addr)) c.verify_tokens.ensures.same
+    subst (λ (s : VolatileState). IfErr c.check_verified.result (IsCheckRefusal g.J.Naming.layout (outset_of s) c.args.transaction.now c.args.addr)) c.verify_tokens.ensures.same
     c.check_verified.ensures.refusal

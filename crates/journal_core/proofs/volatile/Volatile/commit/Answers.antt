@@ -73,7 +73,7 @@ returns-clause-agrees g c =
 pub returns-clause-missing : goal.returns-clause-missing
 returns-clause-missing g c =
     subst (λ (s : VolatileState). IfOk c.commit_verified-answer.result (IfMissing (λ blocks.
-    blocks ≡ missing_blocks g.J.Naming.blocks (known_updates (usable s c.args.fetched.now) s.tail) c.args.transaction.now.writes)))
+    blocks ≡ missing_blocks g.J.Naming.layout (known_updates (usable s c.args.fetched.now) s.tail) c.args.transaction.now.writes)))
     c.verify_tokens.ensures.same c.commit_verified-answer.ensures.missing
 
 pub returns-clause-refusal : goal.returns-clause-refusal
@@ -87,6 +87,6 @@ returns-clause-longer g c =
 
 pub returns-clause-event : goal.returns-clause-event
 returns-clause-event g c =
-    answers_commit_in g.J.Naming.blocks c.args.self.now c.commit_verified-answer.new.self c.args.session.now c.commit_verified-answer.new.session c.args.transaction.now c.args.fetched.now
+    answers_commit_in g.J.Naming.layout c.args.self.now c.commit_verified-answer.new.self c.args.session.now c.commit_verified-answer.new.session c.args.transaction.now c.args.fetched.now
     c.commit_verified-answer.result c.prove_invariant.ensures (returns-clause-can g c) (returns-clause-committed g c) (returns-clause-agrees g c) (returns-clause-missing g c) (returns-clause-waits g c)
     (returns-clause-refusal g c) (returns-clause-same g c)

@@ -22,4 +22,4 @@ pub returns-in_ok-receipt-in-Ready-clause-event : goal.returns-in_ok-receipt-in-
 returns-in_ok-receipt-in-Ready-clause-event g c =
     let can : CanCommit (outset_of c.args.self.now) c.args.session.now c.args.transaction.now = search rules in
     let agrees : IsTrue (is_trusted c.args.self.now.ledger.history) → Agrees (latest c.args.self.now.ledger.history) c.args.transaction.now.reads = search rules in
-    λ d pair. commits_in_memory g.J.Naming.blocks c.args.self.now d pair c.add.new.self c.args.transaction.now c.args.session.now c.add.new.session c.prove_invariant.ensures (returns-in_ok-receipt-in-Ready-clause-committed g c) can agrees
+    λ d pair. commits_in_memory g.J.Naming.layout c.args.self.now d pair c.add.new.self c.args.transaction.now c.args.session.now c.add.new.session c.prove_invariant.ensures (returns-in_ok-receipt-in-Ready-clause-committed g c) can agrees

@@ -9,11 +9,11 @@ use Rattle.journal_core.proofs.volatile.Volatile.keep_copies.Goals as goal
 
 pub invariant_of-self : goal.invariant_of-self
 invariant_of-self g c =
-    let blocks = g.J.Naming.blocks in
-    let held : IsTrue (is_trusted c.args.self.now.ledger.history) → AreObjectsOf blocks (latest c.args.self.now.ledger.history) (c.args.fetched.updates ++ c.args.self.now.tail.log.updates) =
+    let layout = g.J.Naming.layout in
+    let held : IsTrue (is_trusted c.args.self.now.ledger.history) → AreObjectsOf layout (latest c.args.self.now.ledger.history) (c.args.fetched.updates ++ c.args.self.now.tail.log.updates) =
     c.can_keep.ensures c.if-can_keep.true in
-    let inside : IsTrue (is_trusted c.self.inside.ledger.history) → AreObjectsOf blocks (latest c.self.inside.ledger.history) (c.fetched.inside.updates.items ++ c.self.inside.tail.log.updates) =
-    subst (λ (f : FetchedState). IsTrue (is_trusted c.self.inside.ledger.history) → AreObjectsOf blocks (latest c.self.inside.ledger.history) (f.updates ++ c.self.inside.tail.log.updates)) (sym c.fetched.view_is)
-    (subst (λ (v : VolatileState). IsTrue (is_trusted v.ledger.history) → AreObjectsOf blocks (latest v.ledger.history) (c.args.fetched.updates ++ v.tail.log.updates)) (sym c.self.view_is) held) in
-    subst (λ (t : TailState). IsVolatile blocks (record { ledger = c.self.inside.ledger; tail = t; faulted = c.self.inside.faulted })) (sym c.keep.ensures.others)
-    (kept_copies blocks _ c.self.invariant c.keep.new.self.cache c.fetched.inside.updates.items inside c.keep.ensures.known)
+    let inside : IsTrue (is_trusted c.self.inside.ledger.history) → AreObjectsOf layout (latest c.self.inside.ledger.history) (c.fetched.inside.updates.items ++ c.self.inside.tail.log.updates) =
+    subst (λ (f : FetchedState). IsTrue (is_trusted c.self.inside.ledger.history) → AreObjectsOf layout (latest c.self.inside.ledger.history) (f.updates ++ c.self.inside.tail.log.updates)) (sym c.fetched.view_is)
+    (subst (λ (v : VolatileState). IsTrue (is_trusted v.ledger.history) → AreObjectsOf layout (latest v.ledger.history) (c.args.fetched.updates ++ v.tail.log.updates)) (sym c.self.view_is) held) in
+    subst (λ (t : TailState). IsVolatile layout (record { ledger = c.self.inside.ledger; tail = t; faulted = c.self.inside.faulted })) (sym c.keep.ensures.others)
+    (kept_copies layout _ c.self.invariant c.keep.new.self.cache c.fetched.inside.updates.items inside c.keep.ensures.known)

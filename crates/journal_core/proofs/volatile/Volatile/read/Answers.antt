@@ -33,20 +33,20 @@ returns-clause-found g c =
 
 pub returns-clause-lacks : goal.returns-clause-lacks
 returns-clause-lacks g c =
-    subst (λ (s : VolatileState). IfOk c.read_verified.result (λ found. found ≡ None → known_at (usable s c.args.fetched.now) s.tail c.args.addr ≡ None))
+    subst (λ (s : VolatileState). IfOk c.read_verified.result (λ found. found ≡ None → known_at g.J.Naming.layout (usable s c.args.fetched.now) s.tail c.args.addr ≡ None))
     c.verify_tokens.ensures.same c.read_verified.ensures.lacks
 
 pub returns-clause-may : goal.returns-clause-may
 returns-clause-may g c =
-    subst (λ (s : VolatileState). OnOk c.read_verified.result (MayRead g.J.Naming.blocks (outset_of s) c.args.transaction.now c.args.addr)) c.verify_tokens.ensures.same
+    subst (λ (s : VolatileState). OnOk c.read_verified.result (MayRead g.J.Naming.layout (outset_of s) c.args.transaction.now c.args.addr)) c.verify_tokens.ensures.same
     c.read_verified.ensures.may
 
 pub returns-clause-refusal : goal.returns-clause-refusal
 returns-clause-refusal g c =
-    subst (λ (s : VolatileState). IfErr c.read_verified.result (IsReadRefusal g.J.Naming.blocks s c.args.transaction.now c.args.addr c.args.fetched.now)) c.verify_tokens.ensures.same
+    subst (λ (s : VolatileState). IfErr c.read_verified.result (IsReadRefusal g.J.Naming.layout s c.args.transaction.now c.args.addr c.args.fetched.now)) c.verify_tokens.ensures.same
     c.read_verified.ensures.refusal
 
 pub returns-clause-event : goal.returns-clause-event
 returns-clause-event g c =
-    answers_read g.J.Naming.blocks c.args.self.now c.verify_tokens.new.self c.args.transaction.now c.args.addr c.args.fetched.now c.read_verified.result c.read_verified.new.into
+    answers_read g.J.Naming.layout c.args.self.now c.verify_tokens.new.self c.args.transaction.now c.args.addr c.args.fetched.now c.read_verified.result c.read_verified.new.into
     c.verify_tokens.ensures.same (returns-clause-may g c) (returns-clause-found g c) (returns-clause-value g c) c.read_verified.ensures.object (returns-clause-lacks g c) (returns-clause-refusal g c)

@@ -1,8 +1,10 @@
-use Rattle.std.proofs.Common.{◌≡◌, Some, IsTrue, refl, sym, subst, rules}
-use Rattle.journal_world.specs.Addresses.{is_valid}
+use Rattle.std.proofs.Common.{◌≡◌, length, Some, IsTrue, refl, sym, subst, rules}
+use Rattle.journal_world.specs.Addresses.{Shape, is_valid}
+use Rattle.journal_world.specs.Files.{shape}
 use Rattle.journal_world.specs.Maps.{value_at, is_object}
 use Rattle.journal_world.specs.Histories.{latest}
-use Rattle.journal_objlog.specs.ObjectTails.{blocks_of, known_at, known_updates}
+use Rattle.journal_object.specs.Objects.{size_at}
+use Rattle.journal_objlog.specs.ObjectTails.{known_at, known_updates}
 use Rattle.journal_core.specs.Updates.{AreObjectsOf}
 use Rattle.journal_core.specs.Outsets.{MayRead}
 use Rattle.journal_core.specs.Volatiles.{VolatileState, outset_of}
@@ -11,17 +13,24 @@ use Rattle.journal_core.proofs.Staying.{read_latest}
 use Rattle.journal_core.proofs.Stepping.{of_ok}
 use Rattle.journal_core.proofs.volatile.Volatile.read_verified.Goals as goal
 
+pub read-requires : goal.read-requires
+read-requires g c = record {
+  size = subst (λ (s : Shape). IsTrue (is_valid s c.args.addr) → length c.args.into.now ≡ size_at s c.args.addr) (sym c.get-layout.ensures) c.requires.size;
+}
+
 pub returns-clause-value : goal.returns-clause-value
 returns-clause-value g c = λ trusted yes.
     subst (λ (v : VolatileState). c.read.new.into ≡ value_at (latest v.ledger.history) c.args.addr) c.self.view_is
-    (read_latest g.J.Naming.blocks c.self.inside.ledger.history c.in_ok-blocks.blocks.now c.self.inside.tail c.args.addr c.read.new.into c.self.invariant.size
-    (subst (λ (v : VolatileState). AreObjectsOf g.J.Naming.blocks (latest v.ledger.history) (known_updates c.in_ok-blocks.blocks.now v.tail)) (sym c.self.view_is) (c.in_ok-blocks.ensures.latest trusted))
-    (of_ok (λ _. IsTrue (is_valid (blocks_of c.self.inside.tail) c.args.addr)) c.read.result c.in_ok-raise.field-0 c.in_ok-raise.field-0 c.in_ok-raise.ensures.only_ok refl c.read.ensures.valid)
-    (of_ok (λ found. IsTrue found → known_at c.in_ok-blocks.blocks.now c.self.inside.tail c.args.addr ≡ Some c.read.new.into) c.read.result c.in_ok-raise.field-0 c.in_ok-raise.field-0
-    c.in_ok-raise.ensures.only_ok refl c.read.ensures.found (search rules)))
+    (read_latest g.J.Naming.layout c.self.inside.ledger.history c.in_ok-blocks.blocks.now c.self.inside.tail c.args.addr c.read.new.into
+    (subst (λ (v : VolatileState). AreObjectsOf g.J.Naming.layout (latest v.ledger.history) (known_updates c.in_ok-blocks.blocks.now v.tail)) (sym c.self.view_is) (c.in_ok-blocks.ensures.latest trusted))
+    (subst (λ (s : Shape). IsTrue (is_valid s c.args.addr)) c.get-layout.ensures
+    (of_ok (λ _. IsTrue (is_valid (shape c.get-layout.result.now) c.args.addr)) c.read.result c.in_ok-raise.field-0 c.in_ok-raise.field-0 c.in_ok-raise.ensures.only_ok refl c.read.ensures.valid))
+    (subst (λ (s : Shape). known_at s c.in_ok-blocks.blocks.now c.self.inside.tail c.args.addr ≡ Some c.read.new.into) c.get-layout.ensures
+    (of_ok (λ found. IsTrue found → known_at (shape c.get-layout.result.now) c.in_ok-blocks.blocks.now c.self.inside.tail c.args.addr ≡ Some c.read.new.into) c.read.result c.in_ok-raise.field-0 c.in_ok-raise.field-0
+    c.in_ok-raise.ensures.only_ok refl c.read.ensures.found (search rules))))
 
 pub returns-clause-event : goal.returns-clause-event
 returns-clause-event g c = λ d pair yes.
-    let may : MayRead g.J.Naming.blocks (outset_of c.args.self.now) c.args.transaction.now c.args.addr = search rules in
-    let object : IsTrue (is_object g.J.Naming.blocks (c.args.addr, c.read.new.into)) = search rules in
-    finds_in_memory g.J.Naming.blocks c.args.self.now d pair c.args.transaction.now c.args.addr c.read.new.into may (λ trusted. returns-clause-value g c trusted yes) object
+    let may : MayRead g.J.Naming.layout (outset_of c.args.self.now) c.args.transaction.now c.args.addr = search rules in
+    let object : IsTrue (is_object g.J.Naming.layout (c.args.addr, c.read.new.into)) = search rules in
+    finds_in_memory g.J.Naming.layout c.args.self.now d pair c.args.transaction.now c.args.addr c.read.new.into may (λ trusted. returns-clause-value g c trusted yes) object

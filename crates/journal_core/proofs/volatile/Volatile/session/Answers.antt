@@ -4,4 +4,4 @@ use Rattle.journal_core.proofs.volatile.Volatile.session.Goals as goal
 
 pub returns-clause-event : goal.returns-clause-event
 returns-clause-event g c =
-    answers_session_in g.J.Naming.blocks c.args.self.now _ c.session.result (search rules) (search rules) (search rules) (search rules) (search rules) (search rules)
+    answers_session_in g.J.Naming.layout c.args.self.now _ c.session.result (search rules) (search rules) (search rules) (search rules) (search rules) (search rules)

@@ -6,5 +6,5 @@ use Rattle.journal_core.proofs.volatile.Volatile.touch_copy.Goals as goal
 
 pub invariant_of-self : goal.invariant_of-self
 invariant_of-self g c =
-    subst (λ (t : TailState). IsVolatile g.J.Naming.blocks (record { ledger = c.self.inside.ledger; tail = t; faulted = c.self.inside.faulted })) (sym c.touch.ensures.others)
-    (kept_touched g.J.Naming.blocks _ c.self.invariant c.touch.new.self.cache c.touch.ensures.same)
+    subst (λ (t : TailState). IsVolatile g.J.Naming.layout (record { ledger = c.self.inside.ledger; tail = t; faulted = c.self.inside.faulted })) (sym c.touch.ensures.others)
+    (kept_touched g.J.Naming.layout _ c.self.invariant c.touch.new.self.cache c.touch.ensures.same)

@@ -46,9 +46,9 @@ returns-clause-makes g c =
     taken rest c.in_ok-zeros.zeros.items file c.found.result _ c.take_blocks.new.txn c.write_file.new.txn (big ∙ c.if-is_too_big.false) c.if-last-eq4294967295.false c.args.self.now.moment.in_second
     c.if-not-branch.false c.in_ok-take_blocks.ensures.told
     taken_is fresh
-    (subst (λ xs. WritesEach g.J.Naming.blocks c.take_blocks.new.txn c.write_file.new.txn (file_written c.args.number file taken taken xs)) c.deref-4.ensures.value
-    (subst (λ xs. WritesEach g.J.Naming.blocks c.take_blocks.new.txn c.write_file.new.txn (file_written c.args.number file taken xs c.deref-4.result.now)) c.deref-3.ensures.value
-    (subst (λ xs. WritesEach g.J.Naming.blocks c.take_blocks.new.txn c.write_file.new.txn (file_written c.args.number file xs c.deref-3.result.now c.deref-4.result.now)) c.deref-2.ensures.value c.in_ok-write_file.ensures.writes)))
+    (subst (λ xs. WritesEach g.J.Naming.layout c.take_blocks.new.txn c.write_file.new.txn (file_written c.args.number file taken taken xs)) c.deref-4.ensures.value
+    (subst (λ xs. WritesEach g.J.Naming.layout c.take_blocks.new.txn c.write_file.new.txn (file_written c.args.number file taken xs c.deref-4.result.now)) c.deref-3.ensures.value
+    (subst (λ xs. WritesEach g.J.Naming.layout c.take_blocks.new.txn c.write_file.new.txn (file_written c.args.number file xs c.deref-3.result.now c.deref-4.result.now)) c.deref-2.ensures.value c.in_ok-write_file.ensures.writes)))
     (c.in_ok-zeros.ensures.items_if_clones_equal (λ y same. same) ∙ ap (λ k. replicate {A = ℕ} k 0) (omega (arith, count)))
     refl c.unwrap_or-size.ensures
     (c.time_after.ensures.value ∙ ap (λ t. time_after s.size s.mtime now t) c.at.ensures ∙ time_of_new s.size s.mtime now now refl)

@@ -50,7 +50,7 @@ returns g c =
     record {
       does = Does-changed _ (read_case g.V.Version.VERSION w.offset w.count) w.handle.number w.handle.generation _ _ _ c.requires.writes c.in_ok-find.ensures.told _ f _ _ c.in-Regular.is
           (Makes-read g.V.Version.VERSION _ w.handle.number w.offset w.count f c.new-2.result c.attributes_of-read.result n first after bytes c.find.new.txn c.read_blocks.new.txn (c.in_ok-find.ensures.told.writes ∙ c.requires.writes)
-          (subst (λ xs. LearnsThat g.V.Version.VERSION g.J.Naming.blocks c.find.new.txn c.read_blocks.new.txn (λ m. held m (slice_range xs first after) ≡ bytes)) c.numbers.ensures c.in_ok-blocks.ensures.told)
+          (subst (λ xs. LearnsThat g.V.Version.VERSION g.J.Naming.layout c.find.new.txn c.read_blocks.new.txn (λ m. held m (slice_range xs first after) ≡ bytes)) c.numbers.ensures c.in_ok-blocks.ensures.told)
           length_is c.if-length-eq0.false (omega (arith, c.length_read-length.ensures.within, c.if-length-eq0.false)) place.0.4 refl refl c.attributes_of-read.ensures
           (c.new-2.ensures ∙ ap (λ k. record { file = c.attributes_of-read.result; bytes = slice_range bytes k (k + n); is_end = nat_le f.size (w.offset + n) }) from_is))
           (λ m n sound whole number here leads. leads whole);

@@ -23,8 +23,8 @@ returns-then-self-changed-clause-makes g c =
     (λ wrote.
     Makes-write_whole g.V.Version.VERSION _ w.handle.number w.offset bs (time_of w.moment) c.args.file written taken first after c.args.txn.now c.args.txn.now c.write_file.new.txn c.requires.writes c.requires.written c.requires.fits
     c.requires.whole.4 c.requires.small c.requires.some c.requires.end w.moment.in_second c.requires.fresh first_is refl
-    (subst (λ xs. WritesEach g.J.Naming.blocks c.args.txn.now c.write_file.new.txn (file_written w.handle.number written taken (slice_range xs first after) bs)) c.numbers-numbers.ensures
-    (subst (λ xs. WritesEach g.J.Naming.blocks c.args.txn.now c.write_file.new.txn (file_written w.handle.number written xs (slice_range c.numbers-numbers.result first after) bs)) c.deref.ensures.value wrote))
+    (subst (λ xs. WritesEach g.J.Naming.layout c.args.txn.now c.write_file.new.txn (file_written w.handle.number written taken (slice_range xs first after) bs)) c.numbers-numbers.ensures
+    (subst (λ xs. WritesEach g.J.Naming.layout c.args.txn.now c.write_file.new.txn (file_written w.handle.number written xs (slice_range c.numbers-numbers.result first after) bs)) c.deref.ensures.value wrote))
     (subst (λ xs. length bs ≡ BLOCK_BYTES * length (slice_range xs first after)) c.numbers-numbers.ensures (omega (arith, c.if-self-changed.true))))
     c.write_file.ensures.writes
 
@@ -47,10 +47,10 @@ returns-clause-makes g c =
     c.requires.whole.4 c.requires.small c.requires.some c.requires.end w.moment.in_second c.requires.fresh first_is refl
     middle c.in_ok-bytes.bytes.items c.place.new.block.items
     (ap (λ xs. slice_range xs first c.min.result) c.numbers-numbers.ensures ∙ ap (slice_range (written.block ∷ written.more) first) end_is)
-    (subst (λ xs. LearnsThat g.V.Version.VERSION g.J.Naming.blocks c.args.txn.now c.read_span.new.txn (λ m. c.in_ok-bytes.bytes.items ≡ held m middle ++ replicate (BLOCK_BYTES * length (slice_range xs first after) - BLOCK_BYTES * length middle) 0)) c.numbers-numbers.ensures c.in_ok-bytes.ensures.told)
+    (subst (λ xs. LearnsThat g.V.Version.VERSION g.J.Naming.layout c.args.txn.now c.read_span.new.txn (λ m. c.in_ok-bytes.bytes.items ≡ held m middle ++ replicate (BLOCK_BYTES * length (slice_range xs first after) - BLOCK_BYTES * length middle) 0)) c.numbers-numbers.ensures c.in_ok-bytes.ensures.told)
     (subst (λ xs. length c.in_ok-bytes.bytes.items ≡ BLOCK_BYTES * length (slice_range xs first after)) c.numbers-numbers.ensures c.in_ok-bytes.ensures.whole)
     (c.place.ensures ∙ ap (λ k. with_data c.in_ok-bytes.bytes.items k bs) (let e : w.offset - first * BLOCK_BYTES ≡ w.offset - BLOCK_BYTES * first = omega arith in e))
-    (subst (λ xs. WritesEach g.J.Naming.blocks c.read_span.new.txn c.write_file-2.new.txn (file_written w.handle.number written taken (slice_range xs first after) c.place.new.block.items)) c.numbers-numbers.ensures
-    (subst (λ xs. WritesEach g.J.Naming.blocks c.read_span.new.txn c.write_file-2.new.txn (file_written w.handle.number written taken (slice_range numbers first after) xs)) c.deref-3.ensures.value
-    (subst (λ xs. WritesEach g.J.Naming.blocks c.read_span.new.txn c.write_file-2.new.txn (file_written w.handle.number written xs (slice_range numbers first after) c.deref-3.result.now)) c.deref-2.ensures.value wrote))))
+    (subst (λ xs. WritesEach g.J.Naming.layout c.read_span.new.txn c.write_file-2.new.txn (file_written w.handle.number written taken (slice_range xs first after) c.place.new.block.items)) c.numbers-numbers.ensures
+    (subst (λ xs. WritesEach g.J.Naming.layout c.read_span.new.txn c.write_file-2.new.txn (file_written w.handle.number written taken (slice_range numbers first after) xs)) c.deref-3.ensures.value
+    (subst (λ xs. WritesEach g.J.Naming.layout c.read_span.new.txn c.write_file-2.new.txn (file_written w.handle.number written xs (slice_range numbers first after) c.deref-3.result.now)) c.deref-2.ensures.value wrote))))
     c.write_file-2.ensures.writes

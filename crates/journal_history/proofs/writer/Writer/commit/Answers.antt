@@ -25,7 +25,7 @@ pub invariant_of-self : goal.invariant_of-self
 invariant_of-self g c =
     let t : Transaction = next_transaction c.args.session.now (g.T.Recorded.reads c.args.transaction.now) (g.T.Recorded.writes c.args.transaction.now) in
     rw c.in_ok-self-inside.ensures.committed.added
-    (whole_after_commit g.J.Naming.blocks c.self.inside.front c.self.inside.commits c.self.inside.mark c.self.inside.published c.self.invariant t)
+    (whole_after_commit g.J.Naming.layout c.self.inside.front c.self.inside.commits c.self.inside.mark c.self.inside.published c.self.invariant t)
 
 pub returns-clause-receipt : goal.returns-clause-receipt
 returns-clause-receipt g c =

@@ -16,7 +16,7 @@ pub invariant_of-self : goal.invariant_of-self
 invariant_of-self g c =
     let history = c.self.inside.front in
     let rises : floor history ≤ c.args.n = rw c.self.view_is c.requires.rises in
-    rw c.in_ok-self-inside.ensures.added (whole_after_mark g.J.Naming.blocks history c.self.inside.commits c.self.inside.mark c.self.inside.published c.self.invariant c.args.n rises)
+    rw c.in_ok-self-inside.ensures.added (whole_after_mark g.J.Naming.layout history c.self.inside.commits c.self.inside.mark c.self.inside.published c.self.invariant c.args.n rises)
 
 pub returns-clause-marked : goal.returns-clause-marked
 returns-clause-marked g c =

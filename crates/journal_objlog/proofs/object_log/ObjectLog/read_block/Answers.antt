@@ -7,4 +7,4 @@ use Rattle.journal_objlog.proofs.object_log.ObjectLog.read_block.Goals as goal
 pub returns-clause-crash : goal.returns-clause-crash
 returns-clause-crash g c =
     subst (λ (w : WalState). Crashes w c.read.new.self) c.self.view_is
-    (may_crash c.self.inside.layout.blocks c.self.inside.wal c.read.new.self c.self.invariant c.read.ensures.crash)
+    (may_crash c.self.inside.wal c.read.new.self c.read.ensures.crash)

@@ -7,4 +7,4 @@ use Rattle.journal_objlog.proofs.object_log.ObjectLog.read_logged.Goals as goal
 pub returns-clause-crash : goal.returns-clause-crash
 returns-clause-crash g c =
     subst (λ (w : WalState). Crashes w c.read_logged.new.self) c.self.view_is
-    (may_crash c.self.inside.layout.blocks c.self.inside.wal c.read_logged.new.self c.self.invariant c.read_logged.ensures.crash)
+    (may_crash c.self.inside.wal c.read_logged.new.self c.read_logged.ensures.crash)

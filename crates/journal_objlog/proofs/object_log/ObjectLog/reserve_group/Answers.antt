@@ -7,4 +7,4 @@ use Rattle.journal_objlog.proofs.object_log.ObjectLog.reserve_group.Goals as goa
 pub returns-clause-crash : goal.returns-clause-crash
 returns-clause-crash g c =
     subst (λ (w : WalState). Crashes w c.reserve_group.new.self) c.self.view_is
-    (may_crash c.self.inside.layout.blocks c.self.inside.wal c.reserve_group.new.self c.self.invariant c.reserve_group.ensures.crash)
+    (may_crash c.self.inside.wal c.reserve_group.new.self c.reserve_group.ensures.crash)

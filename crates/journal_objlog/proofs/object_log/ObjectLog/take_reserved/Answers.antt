@@ -9,9 +9,9 @@ use Rattle.journal_objlog.proofs.object_log.ObjectLog.take_reserved.Goals as goa
 pub returns-clause-maps : goal.returns-clause-maps
 returns-clause-maps g c =
     subst (λ (w : WalState). TakesMap w c.args.group.items c.take_reserved.new.self) c.self.view_is
-    (takes_map c.self.inside.layout.blocks c.self.inside.wal c.take_reserved.new.self c.args.group.items c.self.invariant c.take_reserved.ensures.takes)
+    (takes_map c.self.inside.wal c.take_reserved.new.self c.args.group.items c.take_reserved.ensures.takes)
 
 pub returns-clause-crash : goal.returns-clause-crash
 returns-clause-crash g c =
     subst (λ (w : WalState). Crashes w c.take_reserved.new.self) c.self.view_is
-    (may_crash c.self.inside.layout.blocks c.self.inside.wal c.take_reserved.new.self c.self.invariant c.take_reserved.ensures.crash)
+    (may_crash c.self.inside.wal c.take_reserved.new.self c.take_reserved.ensures.crash)

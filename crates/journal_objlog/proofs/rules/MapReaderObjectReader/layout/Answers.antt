@@ -1,6 +1,7 @@
-use Rattle.std.proofs.Common.{◌∙◌}
-use Rattle.journal_objlog.proofs.Readings.{blocks_read}
+use Rattle.std.proofs.Common.{sym, ◌∙◌}
+use Rattle.journal_wal.specs.Wal.{blocks_now}
+use Rattle.journal_objlog.specs.MapLaws.{map_of-layout}
 use Rattle.journal_objlog.proofs.rules.MapReaderObjectReader.layout.Goals as goal
 
 pub returns : goal.returns
-returns g c = c.layout.ensures ∙ blocks_read g.O.Opening.log c.self.inside.log c.self.invariant.0
+returns g c = c.self.invariant.0 ∙ sym (map_of-layout g.O.Opening.layout (blocks_now g.O.Opening.log))

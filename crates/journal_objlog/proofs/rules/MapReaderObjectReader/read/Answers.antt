@@ -1,47 +1,46 @@
-use Rattle.std.proofs.Common.{◌≡◌, ℕ, Option, Some, IfSome, sym, ap, subst}
-use Rattle.journal_block.specs.Block.{Bytes}
-use Rattle.journal_wal.specs.Wal.{WalState}
-use Rattle.journal_objlog.specs.Reading.{IsBlockOf, OnlyReadSince}
-use Rattle.journal_objlog.proofs.Readings.{read_on, valid_read}
-use Rattle.journal_objlog.proofs.rules.MapReaderObjectReader.read.Goals.{then-ne+in_ok-read_block-2, else-ne}
+use Rattle.std.proofs.Common.{IsTrue, IfOk, sym, subst, ◌∙◌}
+use Rattle.journal_world.specs.Addresses.{Shape, is_valid}
+use Rattle.journal_world.specs.Maps.{is_object}
+use Rattle.journal_wal.specs.Wal.{blocks_now}
+use Rattle.journal_objlog.specs.MapLaws.{map_of-layout}
+use Rattle.journal_objlog.proofs.Readings.{read_on, held_read, inside_read}
 use Rattle.journal_objlog.proofs.rules.MapReaderObjectReader.read.Goals as goal
 
-pub read_block-requires : goal.read_block-requires
-read_block-requires g c = valid_read g.O.Opening.log c.self.inside.log c.self.invariant.0 c.args.addr c.requires.valid
+pub invariant_of-self : goal.invariant_of-self
+invariant_of-self g c = (
+  c.self.invariant.0,
+  c.self.invariant.1,
+  read_on g.O.Opening.log c.self.inside.log c.read_block.new.self c.self.invariant.2 c.read_block.ensures.reads c.read_block.ensures.maps c.read_block.ensures.crash,
+  held_read c.self.inside.log c.read_block.new.self c.read_block.ensures.reads c.self.inside.kept c.self.inside.block c.self.invariant.3,
+)
+
+pub invariant_of-self-in-Some-Block : goal.invariant_of-self-in-Some-Block
+invariant_of-self-in-Some-Block g c = (
+  c.self.invariant.0,
+  c.self.invariant.1,
+  read_on g.O.Opening.log c.self.inside.log c.read_block.new.self c.self.invariant.2 c.read_block.ensures.reads c.read_block.ensures.maps c.read_block.ensures.crash,
+  held_read c.self.inside.log c.read_block.new.self c.read_block.ensures.reads c.self.inside.kept c.self.inside.block c.self.invariant.3,
+)
 
 pub value_in-requires : goal.value_in-requires
-value_in-requires g c = valid_read g.O.Opening.log c.read_block.new.self
-    (read_on g.O.Opening.log c.self.inside.log c.read_block.new.self c.self.invariant.0
-    c.read_block.ensures.reads c.read_block.ensures.maps c.read_block.ensures.crash) c.args.addr c.requires.valid
-
-pub read_block-requires-then-ne : goal.read_block-requires-then-ne
-read_block-requires-then-ne g c = valid_read g.O.Opening.log c.self.inside.log c.self.invariant.0 c.args.addr c.requires.valid
+value_in-requires g c =
+    subst (λ (n : Shape). IsTrue (is_valid n c.args.addr)) (map_of-layout g.O.Opening.layout (blocks_now g.O.Opening.log) ∙ sym c.self.invariant.0) c.requires.valid
 
 pub value_in-requires-2 : goal.value_in-requires-2
-value_in-requires-2 g c = valid_read g.O.Opening.log c.if-ne.self-inside.log since c.args.addr c.requires.valid
-  where
-    since : OnlyReadSince g.O.Opening.log c.if-ne.self-inside.log
-    since = elim c.if-ne.branch [
-      | then-ne+in_ok-read_block-2 w ↦ subst (λ (log : WalState). OnlyReadSince g.O.Opening.log log) (sym (ap (λ s. s.log) w.self-inside-is))
-          (read_on g.O.Opening.log c.self.inside.log w.read_block-then-ne.new.self c.self.invariant.0
-          w.read_block-then-ne.ensures.reads w.read_block-then-ne.ensures.maps w.read_block-then-ne.ensures.crash)
-      | else-ne w ↦ subst (λ (log : WalState). OnlyReadSince g.O.Opening.log log) (sym (ap (λ s. s.log) w.self-inside-is)) c.self.invariant.0
-    ]
+value_in-requires-2 g c =
+    subst (λ (n : Shape). IsTrue (is_valid n c.args.addr)) (map_of-layout g.O.Opening.layout (blocks_now g.O.Opening.log) ∙ sym c.self.invariant.0) c.requires.valid
 
-pub invariant_of-self-2 : goal.invariant_of-self-2
-invariant_of-self-2 g c = elim c.if-ne.branch [
-  | then-ne+in_ok-read_block-2 w ↦ keeps g.O.Opening.log w.read_block-then-ne.new.self c.if-ne.self-inside.log c.if-ne.self-inside.kept w.read_block-then-ne.new.into
-      c.if-ne.self-inside.block c.args.addr.block (ap (λ s. s.log) w.self-inside-is) (ap (λ s. s.kept) w.self-inside-is) (ap (λ s. s.block) w.self-inside-is)
-      (read_on g.O.Opening.log c.self.inside.log w.read_block-then-ne.new.self c.self.invariant.0
-      w.read_block-then-ne.ensures.reads w.read_block-then-ne.ensures.maps w.read_block-then-ne.ensures.crash) w.in_ok-read_block-2.ensures.block
-  | else-ne w ↦ subst (λ (reader : _). OnlyReadSince g.O.Opening.log reader.log × IfSome reader.kept (IsBlockOf reader.log reader.block))
-      (sym w.self-inside-is) c.self.invariant
-]
-  where
-    keeps : (opened log log' : WalState) (kept : Option ℕ) (bytes bytes' : Bytes) (block : ℕ) → log' ≡ log → kept ≡ Some block → bytes' ≡ bytes
-        → OnlyReadSince opened log → IsBlockOf log bytes block → OnlyReadSince opened log' × IfSome kept (IsBlockOf log' bytes')
-    keeps opened log log' kept bytes bytes' block same number content read held = (
-      subst (λ (w : WalState). OnlyReadSince opened w) (sym same) read,
-      subst (λ (k : Option ℕ). IfSome k (IsBlockOf log' bytes')) (sym number)
-          (subst (λ (w : WalState). IsBlockOf w bytes' block) (sym same) (subst (λ (b : Bytes). IsBlockOf log b block) (sym content) held)),
-    )
+pub keep_block-requires-clause-inside : goal.keep_block-requires-clause-inside
+keep_block-requires-clause-inside g c =
+    inside_read g.O.Opening.layout g.O.Opening.log c.self.inside.log c.self.invariant.1 c.self.invariant.2 c.args.addr
+    (subst (λ (n : Shape). IsTrue (is_valid n c.args.addr)) (map_of-layout g.O.Opening.layout (blocks_now g.O.Opening.log)) c.requires.valid)
+
+pub returns-in-Some-Block-clause-object : goal.returns-in-Some-Block-clause-object
+returns-in-Some-Block-clause-object g c =
+    subst (λ (n : Shape). IfOk c.value_in.result (λ value. IsTrue (is_object n (c.args.addr, value))))
+    (c.self.invariant.0 ∙ sym (map_of-layout g.O.Opening.layout (blocks_now g.O.Opening.log))) c.value_in.ensures.object
+
+pub returns-clause-object : goal.returns-clause-object
+returns-clause-object g c =
+    subst (λ (n : Shape). IfOk c.value_in-2.result (λ value. IsTrue (is_object n (c.args.addr, value))))
+    (c.self.invariant.0 ∙ sym (map_of-layout g.O.Opening.layout (blocks_now g.O.Opening.log))) c.value_in-2.ensures.object

@@ -1,9 +1,10 @@
 use Rattle.std.proofs.Common.{rules, ◌≡◌, ◌+◌, ◌<◌, ◌≤◌, ◌^◌, inl, inr, length, sym, ap, subst, ◌∙◌, arith}
+use Rattle.journal_world.specs.Files.{shape}
 use Rattle.journal_world.specs.declared.refusal.Refusal.{Refusal}
 use Rattle.journal_memlog.specs.Logs.{next_position, tail_of}
 use Rattle.journal_wal.specs.Tails.{TailState}
 use Rattle.journal_objlog.specs.declared.writes.Places.{Places}
-use Rattle.journal_objlog.specs.ObjectTails.{blocks_of, known_updates, tail_base, IsTailWriteRefusal}
+use Rattle.journal_objlog.specs.ObjectTails.{with_tail_room, known_updates, tail_base, IsTailWriteRefusal}
 use Rattle.journal_objlog.proofs.Fetched.{none_of}
 use Rattle.journal_objlog.proofs.Missing.{none_missing}
 use Rattle.journal_objlog.proofs.Refusing.{if_err}
@@ -12,13 +13,13 @@ use Rattle.journal_objlog.proofs.tail.ObjectTail.make_ready.Goals as goal
 
 pub returns-in_err-places-clause-refusal : goal.returns-in_err-places-clause-refusal
 returns-in_err-places-clause-refusal c =
-    if_err c.from_residual.result _ (IsTailWriteRefusal (tail_base c.args.fetched.now c.args.self.now) c.args.writes.now) c.from_residual.ensures.1
-    (λ (e : Refusal Unit) is. subst (λ (r : Refusal Unit). IsTailWriteRefusal (tail_base c.args.fetched.now c.args.self.now) c.args.writes.now r) (sym is)
+    if_err c.from_residual.result _ (IsTailWriteRefusal (tail_base (shape c.args.layout.now) c.args.fetched.now c.args.self.now) c.args.writes.now) c.from_residual.ensures.1
+    (λ (e : Refusal Unit) is. subst (λ (r : Refusal Unit). IsTailWriteRefusal (tail_base (shape c.args.layout.now) c.args.fetched.now c.args.self.now) c.args.writes.now r) (sym is)
     (inl (c.in_err-places.ensures.refusal c.args.fetched.now)))
 
 pub returns-in_err-missing-clause-refusal : goal.returns-in_err-missing-clause-refusal
 returns-in_err-missing-clause-refusal c =
-    if_err c.from_residual-in_err-missing.result _ (IsTailWriteRefusal (tail_base c.args.fetched.now c.args.self.now) c.args.writes.now) c.from_residual-in_err-missing.ensures.1
+    if_err c.from_residual-in_err-missing.result _ (IsTailWriteRefusal (tail_base (shape c.args.layout.now) c.args.fetched.now c.args.self.now) c.args.writes.now) c.from_residual-in_err-missing.ensures.1
     (λ (e : Refusal Unit) is. inr (c.in_ok-places.ensures.ok c.args.fetched.now, is ∙ c.in_err-missing.ensures.refusal))
 
 pub returns-then-not-is_empty-clause-ok : goal.returns-then-not-is_empty-clause-ok
@@ -30,12 +31,12 @@ stage-requires-clause-objects c = (c.in_ok-places.ensures.ok c.args.fetched.now)
 pub stage-requires-clause-present : goal.stage-requires-clause-present
 stage-requires-clause-present c =
     let none : length c.in_ok-missing.missing.items ≡ 0 = search rules in
-    none_missing (blocks_of c.args.self.now) (known_updates c.args.fetched.now c.args.self.now) c.args.writes.now
+    none_missing (shape c.args.layout.now) (known_updates c.args.fetched.now c.args.self.now) c.args.writes.now
     (sym c.in_ok-missing.ensures.blocks ∙ none_of c.in_ok-missing.missing.items none)
 
 pub returns-in_err-updates-clause-refusal : goal.returns-in_err-updates-clause-refusal
 returns-in_err-updates-clause-refusal c =
-    if_err c.from_residual-in_err-updates.result _ (IsTailWriteRefusal (tail_base c.args.fetched.now c.args.self.now) c.args.writes.now) c.from_residual-in_err-updates.ensures.1
+    if_err c.from_residual-in_err-updates.result _ (IsTailWriteRefusal (tail_base (shape c.args.layout.now) c.args.fetched.now c.args.self.now) c.args.writes.now) c.from_residual-in_err-updates.ensures.1
     (λ (e : Refusal Unit) is. inr (c.in_ok-places.ensures.ok c.args.fetched.now, is ∙ c.in_err-updates.ensures.refusal))
 
 pub reserve-requires-clause-small : goal.reserve-requires-clause-small
@@ -50,31 +51,31 @@ reserve-requires-clause-tail c =
 
 pub returns-in_err-reserve-clause-refusal : goal.returns-in_err-reserve-clause-refusal
 returns-in_err-reserve-clause-refusal c =
-    if_err c.from_residual-in_err-reserve.result _ (IsTailWriteRefusal (tail_base c.args.fetched.now c.args.self.now) c.args.writes.now) c.from_residual-in_err-reserve.ensures.1
+    if_err c.from_residual-in_err-reserve.result _ (IsTailWriteRefusal (tail_base (shape c.args.layout.now) c.args.fetched.now c.args.self.now) c.args.writes.now) c.from_residual-in_err-reserve.ensures.1
     (λ (e : Refusal Unit) is. inr (c.in_ok-places.ensures.ok c.args.fetched.now, is ∙ c.in_err-reserve.ensures.refusal))
 
 pub returns-clause-ready : goal.returns-clause-ready
 returns-clause-ready c =
-    tail_ready c.self.inside.tail c.args.self.now c.reserve.new.self c.args.fetched.now c.args.writes.now c.in_ok-updates.updates.items
-    c.self.inside.layout.blocks c.self.invariant c.self.view_is c.in_ok-updates.ensures.staged c.in_ok-updates.ensures.standing
-    (c.in_ok-places.ensures.ok c.args.fetched.now).objects c.in_ok-reserve.ensures.same
+    tail_ready (shape c.args.layout.now) c.args.self.now c.reserve.new.self c.args.fetched.now c.args.writes.now c.in_ok-updates.updates.items
+    c.requires c.in_ok-updates.ensures.staged c.in_ok-updates.ensures.standing
+    (c.in_ok-places.ensures.ok c.args.fetched.now).objects (subst (λ (t : TailState). c.reserve.new.self ≡ with_tail_room t c.reserve.new.self.log.room) c.self.view_is c.in_ok-reserve.ensures.same)
     c.in_ok-places.places.fresh (ap (λ (p : Places). p.fresh) (c.in_ok-places.ensures.places c.args.fetched.now)) c.in_ok-reserve.ensures.room
 
 pub returns-clause-overwrites : goal.returns-clause-overwrites
 returns-clause-overwrites c =
     let none : length c.in_ok-missing.missing.items ≡ 0 = search rules in
-    let present = none_missing (blocks_of c.args.self.now) (known_updates c.args.fetched.now c.args.self.now) c.args.writes.now
+    let present = none_missing (shape c.args.layout.now) (known_updates c.args.fetched.now c.args.self.now) c.args.writes.now
     (sym c.in_ok-missing.ensures.blocks ∙ none_of c.in_ok-missing.missing.items none) in
-    tail_overwrites c.self.inside.tail c.args.self.now c.reserve.new.self c.args.fetched.now c.args.writes.now c.in_ok-updates.updates.items
-    c.self.inside.layout.blocks c.self.invariant c.self.view_is c.in_ok-updates.ensures.staged c.in_ok-updates.ensures.standing
-    (c.in_ok-places.ensures.ok c.args.fetched.now).objects c.in_ok-reserve.ensures.same
+    tail_overwrites (shape c.args.layout.now) c.args.self.now c.reserve.new.self c.args.fetched.now c.args.writes.now c.in_ok-updates.updates.items
+    c.requires c.in_ok-updates.ensures.staged c.in_ok-updates.ensures.standing
+    (c.in_ok-places.ensures.ok c.args.fetched.now).objects (subst (λ (t : TailState). c.reserve.new.self ≡ with_tail_room t c.reserve.new.self.log.room) c.self.view_is c.in_ok-reserve.ensures.same)
     present
 
 pub returns-clause-prepared : goal.returns-clause-prepared
 returns-clause-prepared c =
-    tail_prepared c.self.inside.tail c.args.self.now c.reserve.new.self c.args.fetched.now c.args.writes.now c.in_ok-updates.updates.items
-    c.self.inside.layout.blocks c.self.invariant c.self.view_is c.in_ok-updates.ensures.staged c.in_ok-updates.ensures.standing
-    (c.in_ok-places.ensures.ok c.args.fetched.now).objects c.in_ok-reserve.ensures.same
+    tail_prepared (shape c.args.layout.now) c.args.self.now c.reserve.new.self c.args.fetched.now c.args.writes.now c.in_ok-updates.updates.items
+    c.requires c.in_ok-updates.ensures.staged c.in_ok-updates.ensures.standing
+    (c.in_ok-places.ensures.ok c.args.fetched.now).objects (subst (λ (t : TailState). c.reserve.new.self ≡ with_tail_room t c.reserve.new.self.log.room) c.self.view_is c.in_ok-reserve.ensures.same)
 
 pub returns-clause-ok : goal.returns-clause-ok
 returns-clause-ok c = c.in_ok-places.ensures.ok c.args.fetched.now

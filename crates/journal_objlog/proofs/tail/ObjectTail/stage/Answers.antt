@@ -1,7 +1,8 @@
 use Rattle.std.proofs.Common.{◌∷◌, [], sym, ap, ◌∙◌}
 use Rattle.std.specs.Iterator.Adapters.{rev_source}
+use Rattle.journal_world.specs.Files.{shape}
 use Rattle.journal_world.specs.Maps.{Pair}
-use Rattle.journal_objlog.specs.ObjectTails.{blocks_of, known_updates, tail_base}
+use Rattle.journal_objlog.specs.ObjectTails.{known_updates, tail_base}
 use Rattle.journal_objlog.specs.Applying.{fresh_writes}
 use Rattle.journal_memlog.specs.Logs.{tail_of}
 use Rattle.journal_objlog.proofs.TailStaging.{some_first, tail_below, tail_present, tail_staged_on, tail_passed, tail_staging_begins}
@@ -10,8 +11,8 @@ use Rattle.journal_objlog.proofs.tail.ObjectTail.stage.Goals as goal
 pub loop-addr-init : goal.loop-addr-init
 loop-addr-init c = (
   [],
-  tail_staging_begins c.self.inside.layout.blocks c.self.inside.tail c.args.self.now c.args.fetched.now c.args.writes.now (rev_source c.into_iter-addr-iterator.result)
-      c.new-updates.result c.self.invariant c.self.view_is
+  tail_staging_begins (shape c.args.layout.now) c.args.self.now c.args.fetched.now c.args.writes.now (rev_source c.into_iter-addr-iterator.result)
+      c.new-updates.result
       (ap rev_source c.into_iter-addr-iterator.ensures.into_iter_gives ∙ c.rev-addr-items.ensures.source ∙ c.iter.ensures.pairs)
       c.new-updates.ensures c.requires.objects,
 )
@@ -19,14 +20,14 @@ loop-addr-init c = (
 pub open_block-requires-clause-present : goal.open_block-requires-clause-present
 open_block-requires-clause-present c =
     let p : Pair = (c.in-Some.addr.now, c.in-Some.value.now) in
-    tail_present (tail_base c.args.fetched.now c.args.self.now) c.args.writes.now (rev_source c.loop-addr.addr-iterator) (rev_source c.next.new.self) c.loop-addr.invariant.0 p
+    tail_present (tail_base (shape c.args.layout.now) c.args.fetched.now c.args.self.now) c.args.writes.now (rev_source c.loop-addr.addr-iterator) (rev_source c.next.new.self) c.loop-addr.invariant.0 p
     c.loop-addr.updates c.iter.ensures.ascending c.in-Some.ensures.steps c.loop-addr.invariant.1
     (known_updates c.args.fetched.now c.args.self.now) c.requires.present
 
 pub store_first-requires-clause-some : goal.store_first-requires-clause-some
 store_first-requires-clause-some c =
     let p : Pair = (c.in-Some.addr.now, c.in-Some.value.now) in
-    let under = tail_below (tail_base c.args.fetched.now c.args.self.now) c.args.writes.now (rev_source c.loop-addr.addr-iterator) (rev_source c.next.new.self) c.loop-addr.invariant.0 p
+    let under = tail_below (tail_base (shape c.args.layout.now) c.args.fetched.now c.args.self.now) c.args.writes.now (rev_source c.loop-addr.addr-iterator) (rev_source c.next.new.self) c.loop-addr.invariant.0 p
     c.loop-addr.updates c.iter.ensures.ascending c.in-Some.ensures.steps c.loop-addr.invariant.1 in
     some_first c.open_block.new.updates c.in-Some.addr.now.block
     (c.in_ok-open_block.ensures.opened (fresh_writes (tail_of c.args.self.now.log) c.loop-addr.invariant.0) c.loop-addr.invariant.1.staged under.1 under.0).blocks.first
@@ -34,23 +35,21 @@ store_first-requires-clause-some c =
 pub loop-addr-preserved : goal.loop-addr-preserved
 loop-addr-preserved c =
     let p : Pair = (c.in-Some.addr.now, c.in-Some.value.now) in
-    let under = tail_below (tail_base c.args.fetched.now c.args.self.now) c.args.writes.now (rev_source c.loop-addr.addr-iterator) (rev_source c.next.new.self) c.loop-addr.invariant.0 p
+    let under = tail_below (tail_base (shape c.args.layout.now) c.args.fetched.now c.args.self.now) c.args.writes.now (rev_source c.loop-addr.addr-iterator) (rev_source c.next.new.self) c.loop-addr.invariant.0 p
     c.loop-addr.updates c.iter.ensures.ascending c.in-Some.ensures.steps c.loop-addr.invariant.1 in (
       p ∷ c.loop-addr.invariant.0,
-      tail_staged_on (tail_base c.args.fetched.now c.args.self.now) c.args.writes.now (rev_source c.loop-addr.addr-iterator) (rev_source c.next.new.self) c.loop-addr.invariant.0 p
+      tail_staged_on (tail_base (shape c.args.layout.now) c.args.fetched.now c.args.self.now) c.args.writes.now (rev_source c.loop-addr.addr-iterator) (rev_source c.next.new.self) c.loop-addr.invariant.0 p
           c.loop-addr.updates c.iter.ensures.ascending c.in-Some.ensures.steps c.loop-addr.invariant.1
           (sym c.has_tail_block.ensures.stands ∙ c.if-has_tail_block.false) c.open_block.new.updates c.store_first.new.self
           (c.in_ok-open_block.ensures.opened (fresh_writes (tail_of c.args.self.now.log) c.loop-addr.invariant.0) c.loop-addr.invariant.1.staged under.1 under.0)
-          c.store_first.ensures.stored c.self.inside.layout.blocks
-          (c.self.invariant.size ∙ ap blocks_of c.self.view_is)
-          c.store_first.ensures.only,
+          c.store_first.ensures.stored c.store_first.ensures.only,
     )
 
 pub loop-addr-preserved-then-has_tail_block : goal.loop-addr-preserved-then-has_tail_block
 loop-addr-preserved-then-has_tail_block c =
     let p : Pair = (c.in-Some.addr.now, c.in-Some.value.now) in (
       p ∷ c.loop-addr.invariant.0,
-      tail_passed (tail_base c.args.fetched.now c.args.self.now) c.args.writes.now (rev_source c.loop-addr.addr-iterator) (rev_source c.next.new.self) c.loop-addr.invariant.0 p
+      tail_passed (tail_base (shape c.args.layout.now) c.args.fetched.now c.args.self.now) c.args.writes.now (rev_source c.loop-addr.addr-iterator) (rev_source c.next.new.self) c.loop-addr.invariant.0 p
           c.loop-addr.updates c.iter.ensures.ascending c.in-Some.ensures.steps c.loop-addr.invariant.1
           (sym c.has_tail_block.ensures.stands ∙ c.if-has_tail_block.true) (c.has_tail_block.ensures.value c.if-has_tail_block.true),
     )

@@ -1,5 +1,6 @@
 use Rattle.std.proofs.Common.{List}
 use Rattle.std.specs.Iterator.Adapters.{rev_source}
+use Rattle.journal_world.specs.Files.{shape}
 use Rattle.journal_world.specs.Maps.{Pair}
 use Rattle.journal_objlog.specs.ObjectTails.{tail_base}
 use Rattle.journal_objlog.proofs.TailStaging.{IsTailStaging}
@@ -8,4 +9,4 @@ use Rattle.journal_objlog.proofs.tail.ObjectTail.stage.Given as goal
 -- the writes that are done are staged
 abbrev pub invariant-loop-addr : goal.invariant-loop-addr
 invariant-loop-addr l =
-    (done : List Pair) × IsTailStaging (tail_base l.fetched l.self) l.writes (rev_source l.addr-iterator) done l.updates
+    (done : List Pair) × IsTailStaging (tail_base (shape l.layout) l.fetched l.self) l.writes (rev_source l.addr-iterator) done l.updates

@@ -1,5 +1,6 @@
 use Rattle.std.proofs.Common.{List}
 use Rattle.std.specs.Iterator.Adapters.{rev_source}
+use Rattle.journal_world.specs.Files.{shape}
 use Rattle.journal_world.specs.Maps.{Pair}
 use Rattle.journal_objlog.proofs.InPlace.{IsStoring}
 use Rattle.journal_objlog.proofs.tail.ObjectTail.store_standing.Given as goal
@@ -7,4 +8,4 @@ use Rattle.journal_objlog.proofs.tail.ObjectTail.store_standing.Given as goal
 -- the writes that are done are stored
 abbrev pub invariant-loop-addr : goal.invariant-loop-addr
 invariant-loop-addr l =
-    (done : List Pair) × IsStoring l.fn.self l.self l.writes (rev_source l.addr-iterator) done
+    (done : List Pair) × IsStoring (shape l.layout) l.fn.self l.self l.writes (rev_source l.addr-iterator) done

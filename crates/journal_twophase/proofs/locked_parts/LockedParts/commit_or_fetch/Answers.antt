@@ -8,7 +8,7 @@ use Rattle.journal_twophase.proofs.locked_parts.LockedParts.commit_or_fetch.Goal
 pub returns-in-Ok-Missing-clause-committed : goal.returns-in-Ok-Missing-clause-committed
 returns-in-Ok-Missing-clause-committed g c =
     let extends : OnlyExtends c.args.session.now c.commit_in.new.session = search rules in
-    committed_later g.R.MapRule.statement g.J.Naming.blocks c.args.transaction.now.seen c.args.transaction.now c.args.session.now c.commit_in.new.session c.commit_fetched.new.session
+    committed_later g.R.MapRule.statement g.J.Naming.layout c.args.transaction.now.seen c.args.transaction.now c.args.session.now c.commit_in.new.session c.commit_fetched.new.session
     c.commit_fetched.result.1 extends c.commit_fetched.ensures.committed
 
 pub returns-in-Ok-Missing-clause-session : goal.returns-in-Ok-Missing-clause-session

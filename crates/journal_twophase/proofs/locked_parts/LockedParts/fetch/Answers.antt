@@ -9,7 +9,7 @@ fetch-requires g c =
     let rooms = c.in_ok-fetch_buffers.field-0.items in
     let named : map (λ (u : Update). u.block) rooms ≡ c.args.blocks.now = search rules in
     record {
-      blocks = rooms_below g.J.Naming.blocks rooms (subst (λ (bs : List ℕ). All (λ b. b < g.J.Naming.blocks) bs) (sym named) c.requires.below);
+      blocks = rooms_below g.J.Naming.layout.blocks rooms (subst (λ (bs : List ℕ). All (λ b. b < g.J.Naming.layout.blocks) bs) (sym named) c.requires.below);
     }
 
 pub returns-in-Err : goal.returns-in-Err

@@ -7,6 +7,7 @@ returns-clause-begun g c =
     record {
       map = begun.map;
       size = begun.size;
+      on_disk = begun.on_disk;
       objects = begun.objects;
       holds = begun.holds;
       ruled = begun.ruled;

@@ -1,4 +1,5 @@
 use Rattle.std.proofs.Common.{ap}
+use Rattle.journal_object.proofs.MapOfBlocks.{valid_block}
 use Rattle.journal_core.specs.Volatiles.{VolatileState}
 use Rattle.journal_twophase.proofs.Looking.{finds, agrees_found}
 use Rattle.journal_twophase.proofs.locked_parts.LockedParts.read_in.Goals as goal
@@ -10,4 +11,7 @@ returns-clause-agree g c =
 
 pub returns-clause-found : goal.returns-clause-found
 returns-clause-found g c =
-    finds _ c.args.addr g.J.Naming.blocks c.args.transaction.now c.read-answer.result c.read-answer.ensures.found c.read-answer.ensures.may
+    finds _ c.args.addr g.J.Naming.layout c.args.transaction.now c.read-answer.result c.read-answer.ensures.found c.read-answer.ensures.may
+
+pub returns-clause-below : goal.returns-clause-below
+returns-clause-below g c = (valid_block g.J.Naming.layout c.args.addr c.requires.valid).1

@@ -10,7 +10,7 @@ use Rattle.journal_twophase.proofs.locked_parts.LockedParts.read_with.Goals as g
 pub returns-in-Ok-Some-clause-found : goal.returns-in-Ok-Some-clause-found
 returns-in-Ok-Some-clause-found g c =
     subst (λ (o : Option ReadResultState). IfSome o (Finds c.args.transaction.now c.args.addr)) c.in-Ok-Some.field-0-is
-    (finds _ c.args.addr g.J.Naming.blocks c.args.transaction.now (Ok c.in-Ok-Some.field-0) c.in-Ok-Some.ensures.found c.in-Ok-Some.ensures.may)
+    (finds _ c.args.addr g.J.Naming.layout c.args.transaction.now (Ok c.in-Ok-Some.field-0) c.in-Ok-Some.ensures.found c.in-Ok-Some.ensures.may)
 
 pub returns-in-Ok-Some-clause-agree : goal.returns-in-Ok-Some-clause-agree
 returns-in-Ok-Some-clause-agree g c =

@@ -6,7 +6,7 @@ use Rattle.journal_twophase.proofs.txn.Txn.try_commit.Goals as goal
 
 pub returns-clause-committed : goal.returns-clause-committed
 returns-clause-committed g c =
-    rw (← c.self.view_is) (since_begin g.R.MapRule.statement g.J.Naming.blocks c.self.inside.began c.self.inside.transaction c.args.session.now c.try_commit-answer.new.session c.try_commit-answer.result
+    rw (← c.self.view_is) (since_begin g.R.MapRule.statement g.J.Naming.layout c.self.inside.began c.self.inside.transaction c.args.session.now c.try_commit-answer.new.session c.try_commit-answer.result
     c.self.invariant.0 c.try_commit-answer.ensures.committed)
 
 pub returns-clause-refusal : goal.returns-clause-refusal
