@@ -1,4 +1,5 @@
 // The program from end to end, with files in the folder for temporary files.
+mod service;
 
 use crate::run;
 use journal_disk::BlockDisk;
