@@ -49,15 +49,15 @@ fenced_so old new history session s notes was = notes s ∙ by (s == session) re
         ∙ sym (ap (λ (b : Bool). is_fenced s history || b) (ne_eqb session s (λ e. eqb-false s session is (sym e))) ∙ or-false (is_fenced s history))
 
 -- a fence is no commit
-keeps_fence : (old new : List Run) (sessions slots : List ℕ) (history : List Entry) (session k : ℕ) → NotesFence session old new → KeepsCounts old sessions slots history
-    → KeepsCounts new (sessions ++ replicate k 0) slots (history ++ fence session ∷ [])
-keeps_fence old new sessions slots history session k notes kept = record {
+keeps_fence : (layout : Shape) (old new : List Run) (sessions slots : List ℕ) (history : List Entry) (session k : ℕ) → NotesFence session old new → KeepsCounts layout old sessions slots history
+    → KeepsCounts layout new (sessions ++ replicate k 0) slots (history ++ fence session ∷ [])
+keeps_fence layout old new sessions slots history session k notes kept = record {
   fences = λ s. fenced_so old new history session s notes (kept.fences s);
   per_session = λ s. get_or-zeros sessions k s ∙ kept.per_session s
       ∙ sym (ap (λ (ts : List Transaction). length (filter (λ (t : Transaction). t.session == s) ts)) (commits-fence history session));
   touched = record {
     slots = kept.touched.slots;
-    touched = λ slot lt. kept.touched.touched slot lt ∙ sym (ap (λ (ts : List Transaction). length (filter (writes_slot slot) ts)) (commits-fence history session));
+    touched = λ slot lt. kept.touched.touched slot lt ∙ sym (ap (λ (ts : List Transaction). length (filter (writes_slot layout slot) ts)) (commits-fence history session));
   };
 }
 
@@ -76,13 +76,13 @@ covers_fence lengths now history cut len session is longer kept =
     })
 
 -- what the memory part keeps
-pub ledger_fenced : (fenced new : List Run) (sessions slots : List ℕ) (lengths now : MarkedLengths) (m : LedgerState) (history : List Entry) (len next session : ℕ)
-    → IsLedger fenced sessions slots lengths m → history ≡ m.history ++ fence session ∷ [] → len ≡ length m.history → next ≡ max m.next (session + 1)
+pub ledger_fenced : (layout : Shape) (fenced new : List Run) (sessions slots : List ℕ) (lengths now : MarkedLengths) (m : LedgerState) (history : List Entry) (len next session : ℕ)
+    → IsLedger layout fenced sessions slots lengths m → history ≡ m.history ++ fence session ∷ [] → len ≡ length m.history → next ≡ max m.next (session + 1)
     → NotesFence session fenced new → now ≡ record { marked = with_non_commit len lengths.marked; cut = with_non_commit len lengths.cut }
-    → IsLedger new (given_to sessions (session + 1)) slots now (record m { history = history; next = next })
-ledger_fenced fenced new sessions slots lengths now m history len next session kept added is raised notes longer =
-    subst (λ (h : List Entry). IsLedger new (given_to sessions (session + 1)) slots now (record m { history = h; next = next })) (sym added) (record {
-      counts = keeps_fence fenced new sessions slots m.history session (session + 1 - length sessions) notes kept.counts;
+    → IsLedger layout new (given_to sessions (session + 1)) slots now (record m { history = history; next = next })
+ledger_fenced layout fenced new sessions slots lengths now m history len next session kept added is raised notes longer =
+    subst (λ (h : List Entry). IsLedger layout new (given_to sessions (session + 1)) slots now (record m { history = h; next = next })) (sym added) (record {
+      counts = keeps_fence layout fenced new sessions slots m.history session (session + 1 - length sessions) notes kept.counts;
       given = omega (arith, length-append sessions (replicate (session + 1 - length sessions) 0), length-replicate {A = ℕ} (session + 1 - length sessions) 0, kept.given, raised);
       fronts = covers_fence lengths now m.history m.cut len session is longer kept.fronts;
       fresh = λ s le.

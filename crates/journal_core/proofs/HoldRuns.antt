@@ -243,7 +243,7 @@ module _ (rule : Map → Type 0) where
       let same : w.ledger.history ≡ history_of m.parts = ap (λ (x : VolatileState). x.ledger.history) finds.same in
       let sound : IsSound (history_of m.parts) m.holders actor after =
       sound_read (history_of m.parts) m.holders actor t after a v it.1.1.1.2 finds.object (finds.value is.runs.trusted)
-      (is_holder (m.holders (slot_of a)) actor holder) (is.sound actor t at) in
+      (is_holder (m.holders (slot_of (layout_of m) a)) actor holder) (is.sound actor t at) in
       subst (λ (s : Machine). Goes rule (history_of m.parts) (value b v) s) (sym it.1.1.1.3) (record {
         history = history_of m.parts;
         tells = (finds.value is.runs.trusted ∙ ap (value_at (latest (history_of m.parts))) (sym it.0), refl);
@@ -270,7 +270,7 @@ module _ (rule : Map → Type 0) where
       ⊎_elim (λ same. silent (history_of m.parts) m answer new it.0 same refl is)
       (λ more. silent (history_of m.parts) (with_transaction m actor (Some more.1.0)) answer new it.0 more.1.2 refl
       (draft_kept m actor more.1.0 is (sound_overwritten (history_of m.parts) m.holders actor t more.1.0 p more.1.1 more.0
-      (is_holder (m.holders (slot_of p.0)) actor holder) (is.sound actor t at))))
+      (is_holder (m.holders (slot_of (layout_of m) p.0)) actor holder) (is.sound actor t at))))
       it.1
 
   -- the number of a session's next commit is how many it has

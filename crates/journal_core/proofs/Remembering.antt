@@ -52,32 +52,32 @@ front_empty [] history begins empty = refl
 front_empty (e ∷ es) history begins empty = absurd (cc (begins.1, empty))
 
 -- what was read is what the map gives still, where no slot of it was touched
-pub agrees_later : (seen history : List Entry) (reads : List Pair) → seen ≢ [] → IsPrefix seen history
-    → All (λ (p : Pair). touched history (slot_of p.0) ≡ touched seen (slot_of p.0)) reads
+pub agrees_later : (layout : Shape) (seen history : List Entry) (reads : List Pair) → seen ≢ [] → IsPrefix seen history
+    → All (λ (p : Pair). touched layout history (slot_of layout p.0) ≡ touched layout seen (slot_of layout p.0)) reads
     → (IsTrue (is_trusted seen) → Agrees (latest seen) reads) → IsTrue (is_trusted history) → Agrees (latest history) reads
-agrees_later seen history reads some begins still agrees trusted = λ k d lt.
+agrees_later layout seen history reads some begins still agrees trusted = λ k d lt.
     let p : Pair = get_or reads k d in
     subst (λ (h : List Entry). value_at (latest h) p.0 ≡ p.1) begins.1
-    (latest-untouched seen begins.0 p.0 some (ap (λ (h : List Entry). touched h (slot_of p.0)) begins.1 ∙ still k d lt)
+    (latest-untouched layout seen begins.0 p.0 some (ap (λ (h : List Entry). touched layout h (slot_of layout p.0)) begins.1 ∙ still k d lt)
     ∙ agrees was k d lt)
   where
     was : IsTrue (is_trusted seen)
     was = subst IsTrue (is_trusted-append seen begins.0 some) (subst (λ (h : List Entry). IsTrue (is_trusted h)) (sym begins.1) trusted)
 
 -- what was read under slots that are held has not moved, where these agree with the history: nothing is compared
-pub verified_under : (history : List Entry) (held : List HeldState) (t : TransactionState) → AgreeWith history held → AreUnder held t.seen t.reads → AreUnmoved history t
-verified_under history held t agree under = λ k d lt.
+pub verified_under : (layout : Shape) (history : List Entry) (held : List HeldState) (t : TransactionState) → AgreeWith layout history held → AreUnder layout held t.seen t.reads → AreUnmoved layout history t
+verified_under layout history held t agree under = λ k d lt.
     let here = under k d lt in
-    ap (touched history) (sym here.3) ∙ sym (agrees_at held here.0 here.1 agree here.2) ∙ here.4
+    ap (touched layout history) (sym here.3) ∙ sym (agrees_at held here.0 here.1 agree here.2) ∙ here.4
   where
-    agrees_at : (held : List HeldState) (k : ℕ) (h : HeldState) → AgreeWith history held → slice_get held k ≡ Some h → h.count ≡ touched history h.slot
+    agrees_at : (held : List HeldState) (k : ℕ) (h : HeldState) → AgreeWith layout history held → slice_get held k ≡ Some h → h.count ≡ touched layout history h.slot
     agrees_at [] k h all at = absurd (cc at)
-    agrees_at (x ∷ xs) zero h all at = subst (λ (y : HeldState). y.count ≡ touched history y.slot) (same_Some x h at) (All-head (λ (y : HeldState). y.count ≡ touched history y.slot) x xs all)
-    agrees_at (x ∷ xs) (suc k) h all at = agrees_at xs k h (All-tail (λ (y : HeldState). y.count ≡ touched history y.slot) x xs all) at
+    agrees_at (x ∷ xs) zero h all at = subst (λ (y : HeldState). y.count ≡ touched layout history y.slot) (same_Some x h at) (All-head (λ (y : HeldState). y.count ≡ touched layout history y.slot) x xs all)
+    agrees_at (x ∷ xs) (suc k) h all at = agrees_at xs k h (All-tail (λ (y : HeldState). y.count ≡ touched layout history y.slot) x xs all) at
 
 -- what a transaction keeps once it has read the value of one more address at the end of a history
 pub remembered : (layout : Shape) (t : TransactionState) → IsTransaction layout t → (history : List Entry) (a : Addr) (v : Value)
-    → IsPrefix t.seen history → AreUnmoved history t
+    → IsPrefix t.seen history → AreUnmoved layout history t
     → IsTrue (is_object layout (a, v))
     → (IsTrue (is_trusted history) → v ≡ value_at (latest history) a)
     → IsTransaction layout (record { reads = (a, v) ∷ t.reads; writes = t.writes; seen = history })
@@ -87,7 +87,7 @@ remembered layout t kept history a v begins still object gives = record {
   reads = and_from (is_object layout (a, v)) (are_objects layout t.reads) object kept.reads;
   writes = kept.writes;
   agrees = λ trusted. All-cons (λ (p : Pair). value_at (latest history) p.0 ≡ p.1) (a, v) t.reads (sym (gives trusted))
-      (agrees_later t.seen history t.reads kept.begun begins still kept.agrees trusted);
+      (agrees_later layout t.seen history t.reads kept.begun begins still kept.agrees trusted);
 }
 
 -- what was read is remembered

@@ -253,7 +253,7 @@ module _ (rule : Map → Type 0) where
       let same : core.history ≡ m.core.history = ap (λ (c : CoreState). c.history) finds.others in
       let sound : IsSound m.core.history m.holders actor after =
       sound_read m.core.history m.holders actor t after a v read.remembers finds.object (finds.value is.runs.trusted)
-      (is_holder (m.holders (slot_of a)) actor holder) (is.sound actor t at) in
+      (is_holder (m.holders (slot_of (layout_of m) a)) actor holder) (is.sound actor t at) in
       subst (λ (s : Machine). Goes rule m.core.history (value b v) s) (sym it.1.1.2) (record {
         history = m.core.history;
         tells = (finds.value is.runs.trusted ∙ ap (value_at (latest m.core.history)) (sym it.0), refl);
@@ -279,7 +279,7 @@ module _ (rule : Map → Type 0) where
       ⊎_elim (λ same. silent m.core.history m answer new it.0 same refl is)
       (λ more. silent m.core.history (with_transaction m actor (Some more.1.0)) answer new it.0 more.1.2 refl
       (draft_kept m actor more.1.0 is (sound_overwritten m.core.history m.holders actor t more.1.0 p more.1.1 more.0
-      (is_holder (m.holders (slot_of p.0)) actor holder) (is.sound actor t at))))
+      (is_holder (m.holders (slot_of (layout_of m) p.0)) actor holder) (is.sound actor t at))))
       it.1
 
   -- the number of a session's next commit is how many it has

@@ -60,7 +60,7 @@ pub record Mount : Type 0 where
 
 -- the actor holds the slot of the address
 abbrev pub holds : Mount → ℕ → Addr → Bool
-holds m actor a = is_actor (m.holders (slot_of a)) actor
+holds m actor a = is_actor (m.holders (slot_of (opened m.core.history).layout a)) actor
 
 -- A mount, or a disk that waits to be opened by the layout that it had, as a crash left it
 pub data Machine : Type 0 where
@@ -349,7 +349,7 @@ HasHistory (down layout image) history = (m : Map) × (m.layout ≡ layout) × O
 -- read nor its commit is refused for what others did
 pub record IsUndisturbed (c : CoreState) (t : TransactionState) : Type 0 where
   pub later : IsPrefix t.seen c.history
-  pub unmoved : AreUnmoved c.history t
+  pub unmoved : AreUnmoved (opened c.history).layout c.history t
   pub agrees : Agrees (latest c.history) t.reads
   pub never_behind : (cause : CauseState) → IsBehind c.history t cause → ⊥
 

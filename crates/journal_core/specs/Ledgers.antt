@@ -3,7 +3,8 @@ use Rattle.std.specs.Prelude.{ℕ, ◌≡◌, ◌<◌, ◌≤◌, ◌+◌, ◌^�
 use mathlib.Core.List.{IsPrefix}
 use Rattle.journal_world.specs.declared.refusal.Refusal.{Refusal}
 use Rattle.journal_world.specs.declared.refusal.Refusal.TheVariants.{NoMemory, Stale, Stranger, Worn, Fenced}
-use Rattle.journal_world.specs.Histories.{Entry, commits_of, is_fenced}
+use Rattle.journal_world.specs.Addresses.{Shape}
+use Rattle.journal_world.specs.Histories.{Entry, opened, commits_of, is_fenced}
 use Rattle.journal_history.specs.Soundness.{IsLonger}
 use Rattle.journal_history.specs.Tokens.{SessionState, made}
 use Rattle.journal_core.specs.declared.refusal_number.RefusalNumber.TheVariants.{J9, J10, J11}
@@ -26,8 +27,8 @@ pub record LedgerState : Type 0 where
 
 -- What it keeps: it counts the commits of each session and slot, knows which sessions are fenced and which fronts have only
 -- marked commits, and no session of a later number has committed or is fenced
-pub record IsLedger (fenced : List Run) (sessions slots : List ℕ) (lengths : MarkedLengths) (m : LedgerState) : Type 0 where
-  pub counts : KeepsCounts fenced sessions slots m.history
+pub record IsLedger (layout : Shape) (fenced : List Run) (sessions slots : List ℕ) (lengths : MarkedLengths) (m : LedgerState) : Type 0 where
+  pub counts : KeepsCounts layout fenced sessions slots m.history
   pub given : length sessions ≡ m.next
   pub fronts : KeepsMarkedLengths lengths m.history m.cut
   pub fresh : (s : ℕ) → m.next ≤ s → commits_of s m.history ≡ []
@@ -58,7 +59,7 @@ IsUnknown history s cause = IsExplained J10 history cause × IsStrange history s
 pub record MeetsFence (history : List Entry) (s : SessionState) (t : TransactionState) : Type 0 where
   pub seen : HasSeen history s t
   pub own : length (commits_of s.number history) ≡ made s
-  pub unmoved : AreUnmoved history t
+  pub unmoved : AreUnmoved (opened history).layout history t
   pub fenced : is_fenced s.number history ≡ true
 
 -- J9 and J14 last: the session has then seen the longer history, or its fence, by which each later commit of it is refused

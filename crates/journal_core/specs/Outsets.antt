@@ -6,7 +6,7 @@ use Rattle.journal_world.specs.declared.refusal.Refusal.{Refusal}
 use Rattle.journal_world.specs.declared.refusal.Refusal.TheVariants.{NoMemory, BadAddress, TooLarge, DeviceFailed, Stale, Stranger, Worn, Full, Closed, Fenced}
 use Rattle.journal_world.specs.Addresses.{is_valid, Shape}
 use Rattle.journal_world.specs.Maps.{Pair}
-use Rattle.journal_world.specs.Histories.{Entry, commits_of, is_fenced}
+use Rattle.journal_world.specs.Histories.{Entry, opened, commits_of, is_fenced}
 use Rattle.journal_block.specs.declared.update.Update.{Update}
 use Rattle.journal_wal.specs.declared.limits.TheConstants.{MAX_TAIL, MAX_UPDATES}
 use Rattle.journal_objlog.specs.Writes.{written_blocks, fresh_among}
@@ -40,7 +40,7 @@ pub record MayRead (layout : Shape) (o : Outset) (t : TransactionState) (a : Add
   pub running : GoesOn o
   pub valid : IsTrue (is_valid layout a)
   pub later : IsPrefix t.seen o.history
-  pub unmoved : AreUnmoved o.history t
+  pub unmoved : AreUnmoved layout o.history t
 
 -- why a read is refused by what is known then: the first of these that holds
 abbrev pub IsCheckRefusal : Shape → Outset → TransactionState → Addr → Refusal CauseState → Type 0
@@ -61,7 +61,7 @@ pub record MayCommit (o : Outset) (s : SessionState) (t : TransactionState) : Ty
   pub running : GoesOn o
   pub seen : HasSeen o.history s t
   pub own : length (commits_of s.number o.history) ≡ made s
-  pub unmoved : AreUnmoved o.history t
+  pub unmoved : AreUnmoved (opened o.history).layout o.history t
   pub unfenced : is_fenced s.number o.history ≡ false
 
 -- Nothing but memory and the device can refuse the writes

@@ -16,8 +16,8 @@ abbrev pub begun : List Entry → TransactionState
 begun seen = record { reads = []; writes = []; seen = seen }
 
 -- no slot was touched since, under which the transaction read
-abbrev pub AreUnmoved : List Entry → TransactionState → Type 0
-AreUnmoved history t = All (λ p. touched history (slot_of p.0) ≡ touched t.seen (slot_of p.0)) t.reads
+abbrev pub AreUnmoved : Shape → List Entry → TransactionState → Type 0
+AreUnmoved layout history t = All (λ p. touched layout history (slot_of layout p.0) ≡ touched layout t.seen (slot_of layout p.0)) t.reads
 
 -- What a transaction keeps, on a disk of a layout: its pairs are objects, and its reads agree
 -- with the map at the end of what it has seen

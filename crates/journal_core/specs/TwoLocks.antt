@@ -90,7 +90,7 @@ mounted parts = up (record { parts = parts; transactions = λ actor. None; holde
 
 -- the actor holds the slot of the address
 abbrev pub holds : Mount → ℕ → Addr → Bool
-holds m actor a = is_actor (m.holders (slot_of a)) actor
+holds m actor a = is_actor (m.holders (slot_of (opened (history_of m.parts)).layout a)) actor
 
 abbrev pub with_parts : Mount → VolatileState → DurableState → Mount
 with_parts m volatile durable = record m { parts = record { volatile = volatile; durable = durable } }
@@ -298,7 +298,7 @@ HasHistory (down layout image) history = (m : Map) × (m.layout ≡ layout) × O
 -- which it read: neither a read nor its commit is refused for what others did
 pub record IsUndisturbed (history : List Entry) (t : TransactionState) : Type 0 where
   pub later : IsPrefix t.seen history
-  pub unmoved : AreUnmoved history t
+  pub unmoved : AreUnmoved (opened history).layout history t
   pub agrees : Agrees (latest history) t.reads
   pub never_behind : (cause : CauseState) → IsBehind history t cause → ⊥
 

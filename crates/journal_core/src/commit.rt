@@ -48,10 +48,10 @@ impl<'b, D: BlockDisk, R: MapRule, J: Naming> Core<'b, D, R, J> {
     ) -> Result<Receipt<'b, J, R>, Refusal<Cause<'b, J, R>>>
         requires rule { (m : Map) → m.layout ≡ J.layout → R.statement m → Agrees m transaction.now.reads
             → R.statement (overwritten m transaction.now.writes) }
-        requires under { AreUnder held.old transaction.now.seen transaction.now.reads }
-        requires covered { HoldsSlots held.old transaction.now.writes }
+        requires under { AreUnder J.layout held.old transaction.now.seen transaction.now.reads }
+        requires covered { HoldsSlots J.layout held.old transaction.now.writes }
         requires apart { AreApart held.old }
-        ensures agree { AgreeWith self.new.history held.new }
+        ensures agree { AgreeWith J.layout self.new.history held.new }
         ensures slots { slots_of held.new ≡ slots_of held.old }
         ensures held { OnErr result (held.new ≡ held.old) }
         ensures committed { OnOk result (IsCommitted transaction.now.reads transaction.now.writes session.old session.new self.old self.new) }
@@ -82,10 +82,10 @@ impl<'b, D: BlockDisk, R: MapRule, J: Naming> Core<'b, D, R, J> {
     ) -> Result<Receipt<'b, J, R>, Refusal<Cause<'b, J, R>>>
         requires rule { (m : Map) → m.layout ≡ J.layout → R.statement m → Agrees m transaction.now.reads
             → R.statement (overwritten m transaction.now.writes) }
-        requires unmoved { AreUnmoved self.old.history transaction.now }
-        requires covered { HoldsSlots held.old transaction.now.writes }
+        requires unmoved { AreUnmoved J.layout self.old.history transaction.now }
+        requires covered { HoldsSlots J.layout held.old transaction.now.writes }
         requires apart { AreApart held.old }
-        ensures agree { OnOk result (AgreeWith self.new.history held.new) }
+        ensures agree { OnOk result (AgreeWith J.layout self.new.history held.new) }
         ensures slots { slots_of held.new ≡ slots_of held.old }
         ensures held { OnErr result (held.new ≡ held.old) }
         ensures committed { OnOk result (IsCommitted transaction.now.reads transaction.now.writes session.old session.new self.old self.new) }

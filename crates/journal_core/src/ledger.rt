@@ -1,7 +1,6 @@
 // The core's ledger: its history, and what is counted beside it.
 ghost use Rattle.std.specs.Prelude.{ℕ, ◌≡◌, ◌≢◌, [], false, length, replicate, IfErr, OnOk};
 ghost use mathlib.Core.List.{IsPrefix};
-ghost use Rattle.journal_world.specs.declared.address.TheConstants.{SLOTS as SLOT_COUNT};
 ghost use Rattle.journal_world.specs.Histories.{opened, is_fenced, commits, count, floor};
 ghost use Rattle.journal_history.specs.Soundness.{IsSound};
 ghost use Rattle.journal_core.specs.Ledgers.{IsCheckRefusal};
@@ -45,7 +44,7 @@ impl<'b, R: MapRule, J: Naming> Model for Ledger<'b, R, J> {
 
     ghost view = { λ m. record { history = m.writer; cut = m.cut; next = m.next; closed = m.closed } };
 
-    ghost invariant = { λ m. IsLedger m.fenced.runs m.sessions m.slots m.lengths (record { history = m.writer; cut = m.cut; next = m.next; closed = m.closed }) };
+    ghost invariant = { λ m. IsLedger J.layout m.fenced.runs m.sessions m.slots m.lengths (record { history = m.writer; cut = m.cut; next = m.next; closed = m.closed }) };
 }
 
 impl<'b, R: MapRule, J: Naming> Ledger<'b, R, J> {
@@ -59,7 +58,7 @@ impl<'b, R: MapRule, J: Naming> Ledger<'b, R, J> {
         requires none { commits writer ≡ [] }
         requires unmarked { floor writer ≡ 0 }
         requires unfenced { (s : ℕ) → is_fenced s writer ≡ false }
-        requires slots { slots ≡ replicate SLOT_COUNT 0 }
+        requires slots { slots ≡ replicate J.layout.slots 0 }
         requires sessions { sessions ≡ [] }
         ensures { result ≡ record { history = writer.entry; cut = 0; next = 0; closed = false } }
     {
@@ -124,7 +123,7 @@ impl<'b, R: MapRule, J: Naming> Ledger<'b, R, J> {
     pub(crate) fn verify_tokens<W: Wait>(&mut self, rt: &W, held: &mut [Held<J>])
         ensures same { self.new ≡ self.old }
         ensures held { held.new ≡ held.old }
-        ensures agree { AgreeWith self.old.history held.old }
+        ensures agree { AgreeWith J.layout self.old.history held.old }
     {
         self.slots.verify_tokens(rt, held);
     }

@@ -1,7 +1,7 @@
 // What the ledger adds to the history.
 ghost use Rattle.std.specs.Prelude.{◌≡◌, ◌≢◌, ◌<◌, ◌≤◌, ◌+◌, ◌^◌, ◌++◌, ◌∷◌, ◌⊎◌, [], max, false, IsTrue, length, IfOk, IfErr, OnOk, OnErr};
 ghost use Rattle.journal_world.specs.Maps.{Map, Agrees, are_objects, overwritten};
-ghost use Rattle.journal_world.specs.Histories.{is_trusted, is_fenced, commits_of, count, floor, latest};
+ghost use Rattle.journal_world.specs.Histories.{opened, is_trusted, is_fenced, commits_of, count, floor, latest};
 ghost use Rattle.journal_world.specs.Histories.Entry.{stable};
 ghost use Rattle.journal_history.specs.Tokens.{made, next_transaction, OnlyExtends, Commits, IsReceiptFor};
 ghost use Rattle.journal_core.specs.Ledgers.{HasSeen, ShowsLonger, IsStaleRefusal, IsAdmissionRefusal, IsAddingRefusal, IsMarkRefusal};
@@ -29,9 +29,10 @@ impl<'b, R: MapRule, J: Naming> Ledger<'b, R, J> {
         session: &mut Session<'b, J, R>,
         transaction: &Transaction<'b, J, R>,
     ) -> Result<(), Refusal<Cause<'b, J, R>>>
-        requires unmoved { AreUnmoved self.old.history transaction.now }
+        requires unmoved { AreUnmoved J.layout self.old.history transaction.now }
         ensures same { self.new ≡ self.old }
         ensures own { OnOk result (length (commits_of session.old.number self.old.history) ≡ made session.old) }
+        ensures unmoved { OnOk result (AreUnmoved (opened self.old.history).layout self.old.history transaction.now) }
         ensures seen { OnOk result (HasSeen self.old.history session.old transaction.now) }
         ensures unfenced { OnOk result (is_fenced session.old.number self.old.history ≡ false) }
         ensures agrees { OnOk result (IsTrue (is_trusted self.old.history) → Agrees (latest self.old.history) transaction.now.reads) }
@@ -39,6 +40,8 @@ impl<'b, R: MapRule, J: Naming> Ledger<'b, R, J> {
         ensures refusal { IfErr result (IsAdmissionRefusal self.old.history session.old transaction.now) }
         ensures longer { IfErr result (ShowsLonger self.old.history session.new) }
     {
+        // Called for its contract: by which layout the history is.
+        let _len = self.writer.len();
         self.sessions.verify_session(rt, session);
         self.catch_up(session, transaction)?;
         // Called for its contract: what it has read.
@@ -84,8 +87,8 @@ impl<'b, R: MapRule, J: Naming> Ledger<'b, R, J> {
         requires room { length self.old.history + 1 < 2 ^ 62 }
         requires small { session.old.number < 2 ^ 62 }
         requires apart { AreApart held.old }
-        requires covered { HoldsSlots held.old transaction.now.writes }
-        ensures agree { OnOk result (AgreeWith self.new.history held.new) }
+        requires covered { HoldsSlots J.layout held.old transaction.now.writes }
+        ensures agree { OnOk result (AgreeWith J.layout self.new.history held.new) }
         ensures slots { slots_of held.new ≡ slots_of held.old }
         ensures held { OnErr result (held.new ≡ held.old) }
         ensures committed { OnOk result (Commits (next_transaction session.old transaction.now.reads transaction.now.writes) session.old session.new self.old.history self.new.history) }

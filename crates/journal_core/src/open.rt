@@ -1,7 +1,6 @@
 // The opening of a mount.
 ghost use Rattle.std.specs.Prelude.{◌≡◌, ◌<◌, ◌↔◌, ◌∷◌, [], false, true, length, replicate, IsTrue, OnOk, IfOk, IfErr, IfSome};
 ghost use Rattle.journal_world.specs.Files.{shape};
-ghost use Rattle.journal_world.specs.declared.address.TheConstants.{SLOTS as SLOT_COUNT};
 ghost use Rattle.journal_world.specs.Histories.Entry.{opening};
 ghost use Rattle.journal_wal.specs.Wal.{size_of, IsAtRest};
 ghost use Rattle.journal_wal.specs.Tails.{empty_tail};
@@ -66,7 +65,7 @@ impl<'b, D: BlockDisk, R: MapRule, J: Naming> Core<'b, D, R, J> {
         requires layout { shape layout ≡ J.layout }
         requires settled { IsTrue (D.state disk).honest → IsSettled (D.state disk).past }
         ensures begun { IfOk result (λ opened. Begins R.statement J.layout (D.state disk) opened.0) }
-        ensures free { IfOk result (λ opened. opened.1 ≡ replicate SLOT_COUNT false) }
+        ensures free { IfOk result (λ opened. opened.1 ≡ replicate J.layout.slots false) }
         ensures well_formed { IsTrue (D.state disk).honest → OnOk result (HasWellFormedLog (D.state disk)) }
         ensures bounds { IsTrue (D.state disk).honest → IfOk result (λ opened. HasBoundsOf (D.state disk) opened.0) }
         ensures refusal { IfErr result (λ refused. IsLayoutRefusal R.statement J.layout (D.state disk) (D.state refused.disk) refused.refusal) }
@@ -78,7 +77,7 @@ impl<'b, D: BlockDisk, R: MapRule, J: Naming> Core<'b, D, R, J> {
                 disk,
             });
         };
-        let Some((counts, slots, sessions, spare)) = slots_and_counts(alloc, cell) else {
+        let Some((counts, slots, sessions, spare)) = slots_and_counts(alloc, cell, layout) else {
             return Err(Refused {
                 refusal: Refusal::NoMemory,
                 disk,
@@ -161,14 +160,16 @@ impl<'b, D: BlockDisk, R: MapRule, J: Naming> Core<'b, D, R, J> {
 fn slots_and_counts<J: Naming>(
     alloc: Global,
     cell: SlotCell,
+    layout: Layout,
 ) -> Option<(SlotCounts<J>, Slots<J>, SessionCounts<J>, Vec<Update>)>
     requires cell { cell ≡ J.cell }
-    ensures counts { IfSome result (λ made. made.0 ≡ replicate SLOT_COUNT 0) }
-    ensures free { IfSome result (λ made. made.1 ≡ replicate SLOT_COUNT false) }
+    requires layout { shape layout ≡ J.layout }
+    ensures counts { IfSome result (λ made. made.0 ≡ replicate J.layout.slots 0) }
+    ensures free { IfSome result (λ made. made.1 ≡ replicate J.layout.slots false) }
     ensures sessions { IfSome result (λ made. made.2 ≡ []) }
     ensures spare { IfSome result (λ made. length made.3.items ≡ 1) }
 {
-    let (counts, slots, sessions) = SlotCounts::begin(alloc, cell).ok()?;
+    let (counts, slots, sessions) = SlotCounts::begin(alloc, cell, layout).ok()?;
     let bytes = Block::try_new::<()>(alloc).ok()?;
     let mut spare = Vec::new(alloc);
     spare.push(Update { block: 0, bytes }).ok()?;

@@ -43,11 +43,11 @@ impl<'b, D: BlockDisk, R: MapRule, J: Naming> Durable<'b, D, R, J> {
     ) -> Result<Receipt<'b, J, R>, Refusal<Cause<'b, J, R>>>
         requires rule { (m : Map) → m.layout ≡ J.layout → R.statement m → Agrees m transaction.now.reads
             → R.statement (overwritten m transaction.now.writes) }
-        requires unmoved { AreUnmoved volatile.old.ledger.history transaction.now }
-        requires covered { HoldsSlots held.old transaction.now.writes }
+        requires unmoved { AreUnmoved J.layout volatile.old.ledger.history transaction.now }
+        requires covered { HoldsSlots J.layout held.old transaction.now.writes }
         requires apart { AreApart held.old }
         requires pair { IsPair J.layout volatile.old self.old }
-        ensures agree { OnOk result (AgreeWith volatile.new.ledger.history held.new) }
+        ensures agree { OnOk result (AgreeWith J.layout volatile.new.ledger.history held.new) }
         ensures slots { slots_of held.new ≡ slots_of held.old }
         ensures held { OnErr result (held.new ≡ held.old) }
         ensures committed { OnOk result (IsCommitted transaction.now.reads transaction.now.writes session.old session.new (core_of volatile.old self.old) (core_of volatile.new self.new)) }
@@ -90,14 +90,14 @@ impl<'b, D: BlockDisk, R: MapRule, J: Naming> Durable<'b, D, R, J> {
     ) -> Result<Receipt<'b, J, R>, Refusal<Cause<'b, J, R>>>
         requires rule { (m : Map) → m.layout ≡ J.layout → R.statement m → Agrees m transaction.now.reads
             → R.statement (overwritten m transaction.now.writes) }
-        requires unmoved { AreUnmoved volatile.old.ledger.history transaction.now }
-        requires covered { HoldsSlots held.old transaction.now.writes }
+        requires unmoved { AreUnmoved J.layout volatile.old.ledger.history transaction.now }
+        requires covered { HoldsSlots J.layout held.old transaction.now.writes }
         requires apart { AreApart held.old }
         requires blocks { All (λ u. u.block < J.layout.blocks) rooms.items }
         requires named { map (λ u. u.block) rooms.items ≡ missing_blocks J.layout (known_updates [] volatile.old.tail) transaction.now.writes }
         requires pair { IsPair J.layout volatile.old self.old }
         requires running { IsRunning (core_of volatile.old self.old) }
-        ensures agree { OnOk result (AgreeWith volatile.new.ledger.history held.new) }
+        ensures agree { OnOk result (AgreeWith J.layout volatile.new.ledger.history held.new) }
         ensures slots { slots_of held.new ≡ slots_of held.old }
         ensures held { OnErr result (held.new ≡ held.old) }
         ensures committed { OnOk result (IsCommitted transaction.now.reads transaction.now.writes session.old session.new (core_of volatile.old self.old) (core_of volatile.new self.new)) }

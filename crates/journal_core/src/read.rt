@@ -42,8 +42,8 @@ impl<'b, D: BlockDisk, R: MapRule, J: Naming> Core<'b, D, R, J> {
         into: &mut [u8],
     ) -> Result<ReadResult<'b, J, R>, Refusal<Cause<'b, J, R>>>
         requires size { IsTrue (is_valid J.layout addr) → length into.old ≡ size_at J.layout addr }
-        requires under { AreUnder held.old transaction.now.seen transaction.now.reads }
-        ensures agree { AgreeWith self.new.history held.new }
+        requires under { AreUnder J.layout held.old transaction.now.seen transaction.now.reads }
+        ensures agree { AgreeWith J.layout self.new.history held.new }
         ensures held { held.new ≡ held.old }
         ensures value { IsTrue (is_trusted self.old.history) → OnOk result (into.new ≡ value_at (latest self.old.history) addr) }
         ensures object { OnOk result (IsTrue (is_object J.layout (addr, into.new))) }
@@ -68,7 +68,7 @@ impl<'b, D: BlockDisk, R: MapRule, J: Naming> Core<'b, D, R, J> {
         into: &mut [u8],
     ) -> Result<ReadResult<'b, J, R>, Refusal<Cause<'b, J, R>>>
         requires size { IsTrue (is_valid J.layout addr) → length into.old ≡ size_at J.layout addr }
-        requires unmoved { AreUnmoved self.old.history transaction.now }
+        requires unmoved { AreUnmoved J.layout self.old.history transaction.now }
         ensures value { IsTrue (is_trusted self.old.history) → OnOk result (into.new ≡ value_at (latest self.old.history) addr) }
         ensures object { OnOk result (IsTrue (is_object J.layout (addr, into.new))) }
         ensures found { IfOk result (λ found. found ≡ record { addr = addr; seen = self.old.history }) }

@@ -89,7 +89,7 @@ impl<'b, D: BlockDisk, R: MapRule, J: Naming> Core<'b, D, R, J> {
     pub(crate) fn verify_tokens<W: Wait>(&mut self, rt: &W, held: &mut [Held<J>])
         ensures same { self.new ≡ self.old }
         ensures held { held.new ≡ held.old }
-        ensures agree { AgreeWith self.old.history held.old }
+        ensures agree { AgreeWith J.layout self.old.history held.old }
     {
         self.volatile.verify_tokens(rt, held);
     }

@@ -107,7 +107,7 @@ impl<'b, J: Naming, R: MapRule> Transaction<'b, J, R> {
         requires object { IsTrue (is_object J.layout (found.addr, value.now)) }
         requires value { IsTrue (is_trusted found.seen) → value.now ≡ value_at (latest found.seen) found.addr }
         requires later { IsPrefix self.old.seen found.seen }
-        requires unmoved { AreUnmoved found.seen self.old }
+        requires unmoved { AreUnmoved J.layout found.seen self.old }
         ensures remembered { Remembers self.old found.entry.addr value.now found.entry.seen self.new }
     {
         let ReadResult { addr, front } = found;

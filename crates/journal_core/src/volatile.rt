@@ -135,7 +135,7 @@ impl<'b, R: MapRule, J: Naming> Volatile<'b, R, J> {
     pub(crate) fn verify_tokens<W: Wait>(&mut self, rt: &W, held: &mut [Held<J>])
         ensures same { self.new ≡ self.old }
         ensures held { held.new ≡ held.old }
-        ensures agree { AgreeWith self.old.ledger.history held.old }
+        ensures agree { AgreeWith J.layout self.old.ledger.history held.old }
     {
         self.ledger.verify_tokens(rt, held);
     }

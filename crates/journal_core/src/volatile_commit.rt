@@ -2,7 +2,7 @@
 ghost use Rattle.std.specs.Prelude.{◌≡◌, ◌≢◌, ◌<◌, ◌+◌, ◌^◌, ◌↔◌, ℕ, [], true, false, IsTrue, List, length, All, Err, IfOk, IfErr, OnOk, OnErr};
 ghost use Rattle.journal_world.specs.declared.refusal.Refusal.TheVariants.{TooLarge};
 ghost use Rattle.journal_world.specs.Maps.{Map, Agrees, are_objects, overwritten};
-ghost use Rattle.journal_world.specs.Histories.{is_trusted, is_fenced, commits_of, latest};
+ghost use Rattle.journal_world.specs.Histories.{opened, is_trusted, is_fenced, commits_of, latest};
 ghost use Rattle.journal_block.specs.Updates.{updates_block};
 ghost use Rattle.journal_objlog.specs.ObjectTails.{blocks_of, known_updates, tail_base, missing_blocks, updates_with, TakesPrepared, IfReady, IfMissing as IfUnready};
 ghost use Rattle.journal_objlog.specs.Writes.{writes_block, written_blocks, IsPrepared};
@@ -71,10 +71,10 @@ impl<'b, R: MapRule, J: Naming> Volatile<'b, R, J> {
     ) -> Result<CommitStep<Receipt<'b, J, R>>, Refusal<Cause<'b, J, R>>>
         requires rule { (m : Map) → m.layout ≡ J.layout → R.statement m → Agrees m transaction.now.reads
             → R.statement (overwritten m transaction.now.writes) }
-        requires under { AreUnder held.old transaction.now.seen transaction.now.reads }
-        requires covered { HoldsSlots held.old transaction.now.writes }
+        requires under { AreUnder J.layout held.old transaction.now.seen transaction.now.reads }
+        requires covered { HoldsSlots J.layout held.old transaction.now.writes }
         requires apart { AreApart held.old }
-        ensures agree { AgreeWith self.new.ledger.history held.new }
+        ensures agree { AgreeWith J.layout self.new.ledger.history held.new }
         ensures slots { slots_of held.new ≡ slots_of held.old }
         ensures held { OnErr result (held.new ≡ held.old) }
         ensures committed { IfOk result (IfDone (λ _. IsCommitted transaction.now.reads transaction.now.writes session.old session.new self.old self.new)) }
@@ -111,10 +111,10 @@ impl<'b, R: MapRule, J: Naming> Volatile<'b, R, J> {
     ) -> Result<CommitStep<Receipt<'b, J, R>>, Refusal<Cause<'b, J, R>>>
         requires rule { (m : Map) → m.layout ≡ J.layout → R.statement m → Agrees m transaction.now.reads
             → R.statement (overwritten m transaction.now.writes) }
-        requires unmoved { AreUnmoved self.old.ledger.history transaction.now }
-        requires covered { HoldsSlots held.old transaction.now.writes }
+        requires unmoved { AreUnmoved J.layout self.old.ledger.history transaction.now }
+        requires covered { HoldsSlots J.layout held.old transaction.now.writes }
         requires apart { AreApart held.old }
-        ensures agree { IfOk result (IfDone (λ _. AgreeWith self.new.ledger.history held.new)) }
+        ensures agree { IfOk result (IfDone (λ _. AgreeWith J.layout self.new.ledger.history held.new)) }
         ensures slots { slots_of held.new ≡ slots_of held.old }
         ensures held { OnErr result (held.new ≡ held.old) }
         ensures committed { IfOk result (IfDone (λ _. IsCommitted transaction.now.reads transaction.now.writes session.old session.new self.old self.new)) }
@@ -161,9 +161,10 @@ impl<'b, R: MapRule, J: Naming> Volatile<'b, R, J> {
         session: &mut Session<'b, J, R>,
         transaction: &Transaction<'b, J, R>,
     ) -> Result<(), Refusal<Cause<'b, J, R>>>
-        requires unmoved { AreUnmoved self.old.ledger.history transaction.now }
+        requires unmoved { AreUnmoved J.layout self.old.ledger.history transaction.now }
         ensures same { self.new ≡ self.old }
         ensures own { OnOk result (length (commits_of session.old.number self.old.ledger.history) ≡ made session.old) }
+        ensures unmoved { OnOk result (AreUnmoved (opened self.old.ledger.history).layout self.old.ledger.history transaction.now) }
         ensures seen { OnOk result (HasSeen self.old.ledger.history session.old transaction.now) }
         ensures unfenced { OnOk result (is_fenced session.old.number self.old.ledger.history ≡ false) }
         ensures agrees { OnOk result (IsTrue (is_trusted self.old.ledger.history) → Agrees (latest self.old.ledger.history) transaction.now.reads) }
@@ -231,9 +232,9 @@ impl<'b, R: MapRule, J: Naming> Volatile<'b, R, J> {
         requires named { (b : ℕ) → updates_block (updates_with J.layout self.old.tail transaction.now.writes prepared) b ≡ writes_block transaction.now.writes b }
         requires written { IsTrue (is_trusted self.old.ledger.history)
             → AreObjectsOf J.layout (overwritten (latest self.old.ledger.history) transaction.now.writes) (updates_with J.layout self.old.tail transaction.now.writes prepared) }
-        requires covered { HoldsSlots held.old transaction.now.writes }
+        requires covered { HoldsSlots J.layout held.old transaction.now.writes }
         requires apart { AreApart held.old }
-        ensures agree { OnOk result (AgreeWith self.new.ledger.history held.new) }
+        ensures agree { OnOk result (AgreeWith J.layout self.new.ledger.history held.new) }
         ensures slots { slots_of held.new ≡ slots_of held.old }
         ensures held { OnErr result (held.new ≡ held.old) }
         ensures added { OnOk result (IsAdded (next_transaction session.old transaction.now.reads transaction.now.writes)

@@ -49,8 +49,8 @@ impl<'b, R: MapRule, J: Naming> Volatile<'b, R, J> {
         into: &mut [u8],
     ) -> Result<Option<ReadResult<'b, J, R>>, Refusal<Cause<'b, J, R>>>
         requires size { IsTrue (is_valid J.layout addr) → length into.old ≡ size_at J.layout addr }
-        requires under { AreUnder held.old transaction.now.seen transaction.now.reads }
-        ensures agree { AgreeWith self.new.ledger.history held.new }
+        requires under { AreUnder J.layout held.old transaction.now.seen transaction.now.reads }
+        ensures agree { AgreeWith J.layout self.new.ledger.history held.new }
         ensures held { held.new ≡ held.old }
         ensures same { self.new ≡ self.old }
         ensures value { IsTrue (is_trusted self.old.ledger.history) → IfOk result (λ found. IsSome found → into.new ≡ value_at (latest self.old.ledger.history) addr) }
@@ -75,8 +75,8 @@ impl<'b, R: MapRule, J: Naming> Volatile<'b, R, J> {
         held: &mut [Held<J>],
         addr: Addr,
     ) -> Result<(), Refusal<Cause<'b, J, R>>>
-        requires under { AreUnder held.old transaction.now.seen transaction.now.reads }
-        ensures agree { AgreeWith self.new.ledger.history held.new }
+        requires under { AreUnder J.layout held.old transaction.now.seen transaction.now.reads }
+        ensures agree { AgreeWith J.layout self.new.ledger.history held.new }
         ensures held { held.new ≡ held.old }
         ensures same { self.new ≡ self.old }
         ensures may { OnOk result (MayRead J.layout (outset_of self.old) transaction.now addr) }
@@ -95,7 +95,7 @@ impl<'b, R: MapRule, J: Naming> Volatile<'b, R, J> {
         into: &mut [u8],
     ) -> Result<Option<ReadResult<'b, J, R>>, Refusal<Cause<'b, J, R>>>
         requires size { IsTrue (is_valid J.layout addr) → length into.old ≡ size_at J.layout addr }
-        requires unmoved { AreUnmoved self.now.ledger.history transaction.now }
+        requires unmoved { AreUnmoved J.layout self.now.ledger.history transaction.now }
         ensures value { IsTrue (is_trusted self.now.ledger.history) → IfOk result (λ found. IsSome found → into.new ≡ value_at (latest self.now.ledger.history) addr) }
         ensures object { IfOk result (λ found. IsSome found → IsTrue (is_object J.layout (addr, into.new))) }
         ensures found { IfOk result (λ found. IfSome found (λ found. found ≡ record { addr = addr; seen = self.now.ledger.history })) }
@@ -124,7 +124,7 @@ impl<'b, R: MapRule, J: Naming> Volatile<'b, R, J> {
         transaction: &Transaction<'b, J, R>,
         addr: Addr,
     ) -> Result<(), Refusal<Cause<'b, J, R>>>
-        requires unmoved { AreUnmoved self.now.ledger.history transaction.now }
+        requires unmoved { AreUnmoved J.layout self.now.ledger.history transaction.now }
         ensures may { OnOk result (MayRead J.layout (outset_of self.now) transaction.now addr) }
         ensures refusal { IfErr result (IsCheckRefusal J.layout (outset_of self.now) transaction.now addr) }
     {

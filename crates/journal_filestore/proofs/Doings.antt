@@ -40,12 +40,12 @@ not_none None x none is = absurd (let e : None ≡ Some x = is in cc)
 not_none (Some y) x none is = absurd (let e : Some y ≡ None = none in cc)
 
 -- a transaction that has written nothing learns each read
-pub Learns-first : (old new : TxnState) (a : Addr) (v : Value) → old.writes ≡ [] → ReadsValue (holding old a) a v new → Learns (holding old a) a v new
-Learns-first old new a v none read =
-    subst (λ ws. MatchOption (value_among ws a) (Learns (holding old a) a v new) (λ w. (v ≡ w) × (new ≡ holding old a))) none read
+pub Learns-first : (layout : Shape) (old new : TxnState) (a : Addr) (v : Value) → old.writes ≡ [] → ReadsValue (holding layout old a) a v new → Learns (holding layout old a) a v new
+Learns-first layout old new a v none read =
+    subst (λ ws. MatchOption (value_among ws a) (Learns (holding layout old a) a v new) (λ w. (v ≡ w) × (new ≡ holding layout old a))) none read
 
 -- a first read tells its value
-Tells-read : {version : FormatVersion} (layout : Shape) (old new : TxnState) (a : Addr) (v : Value) → value_among old.reads a ≡ None → Learns (holding old a) a v new → LearnsThat version layout old new (λ m. value_at m a ≡ v)
+Tells-read : {version : FormatVersion} (layout : Shape) (old new : TxnState) (a : Addr) (v : Value) → value_among old.reads a ≡ None → Learns (holding layout old a) a v new → LearnsThat version layout old new (λ m. value_at m a ≡ v)
 Tells-read {version} layout old new a v unread read = record {
   writes = ap (λ t. t.writes) read.others;
   before = λ m seen. record {
@@ -65,10 +65,10 @@ Tells-read {version} layout old new a v unread read = record {
     kept b w is false other = ap (λ t. cond t (Some v) (value_among old.reads b)) other ∙ is
 
 -- the first read of an object tells its value
-pub Tells-object : {version : FormatVersion} (layout : Shape) (old new : TxnState) (o : Object) (a : Addr) (v : Value) → a ≡ addr_of o → old.writes ≡ [] → IsNotYetRead old o → ReadsValue (holding old a) a v new → LearnsThat version layout old new (λ m. object m o ≡ v)
+pub Tells-object : {version : FormatVersion} (layout : Shape) (old new : TxnState) (o : Object) (a : Addr) (v : Value) → a ≡ addr_of o → old.writes ≡ [] → IsNotYetRead old o → ReadsValue (holding layout old a) a v new → LearnsThat version layout old new (λ m. object m o ≡ v)
 Tells-object {version} layout old new o a v is none unread read =
     subst (λ b. LearnsThat version layout old new (λ m. value_at m b ≡ v)) is
-    (Tells-read layout old new a v (ap (value_among old.reads) is ∙ unread) (Learns-first old new a v none read))
+    (Tells-read layout old new a v (ap (value_among old.reads) is ∙ unread) (Learns-first layout old new a v none read))
 
 -- two reads tell both
 pub Tells-both : {version : FormatVersion} (layout : Shape) (t0 t1 t2 : TxnState) (P Q : Map → Type 0) → LearnsThat version layout t0 t1 P → LearnsThat version layout t1 t2 Q → LearnsThat version layout t0 t2 (λ m. P m × Q m)

@@ -30,7 +30,7 @@ fn read<'j, 'b, D: BlockDisk, J: Naming, V: Version, W: Wait>(
     txn: &mut FileTxn<'j, 'b, D, J, V>,
     addr: Addr,
 ) -> Result<Value, AttemptEnd<'b, J, V>>
-    ensures reads { IfOk result (λ value. ReadsValue (holding txn.old addr) addr value txn.new) }
+    ensures reads { IfOk result (λ value. ReadsValue (holding J.layout txn.old addr) addr value txn.new) }
     ensures object { IfOk result (λ value. IsTrue (is_object J.layout (addr, value))) }
     ensures refusal { IfErr result IsAttemptEnd }
 {
@@ -48,7 +48,7 @@ fn overwrite<'j, 'b, D: BlockDisk, J: Naming, V: Version, W: Wait>(
     bytes: &[u8],
 ) -> Result<(), AttemptEnd<'b, J, V>>
     requires kind { IsTrue (is_valid J.layout addr) → is_value_at (kind_of J.layout addr.block) bytes.now ≡ true }
-    ensures overwrites { OnOk result (Overwrites (holding txn.old addr) addr bytes.now txn.new) }
+    ensures overwrites { OnOk result (Overwrites (holding J.layout txn.old addr) addr bytes.now txn.new) }
     ensures object { OnOk result (IsTrue (is_object J.layout (addr, bytes.now))) }
     ensures refusal { IfErr result IsAttemptEnd }
 {

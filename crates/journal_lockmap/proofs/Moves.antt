@@ -1,6 +1,8 @@
 -- Each step keeps the rule of the counts.
-use Rattle.std.proofs.Common.{◌≡◌, ◌≢◌, ◌⊎◌, ℕ, zero, suc, ◌+◌, ◌<◌, List, [], ◌∷◌, ◌++◌, length, set, true, false, true≢false, refl, sym, ap, ◌∙◌, subst, inl, inr, ⊎_elim, arith, get_or-set_same, get_or-set_other}
+use Rattle.std.proofs.Common.{◌≡◌, ◌≢◌, ◌⊎◌, ℕ, zero, suc, ◌+◌, ◌<◌, List, [], ◌∷◌, ◌++◌, length, set, true, false, true≢false, refl, sym, ap, ◌∙◌, subst, inl, inr, ⊎_elim, arith, get_or-set_same, get_or-set_other, length-append}
 use Rattle.std.proofs.lemmas.List.{length-set}
+use Rattle.std.proofs.Math.ListN.{get_or-append}
+use Rattle.std.proofs.Math.Seq.{get_or-append_seam}
 use Rattle.std.specs.Prelude.{slice_index}
 use mathlib.Core.Option.{some, some-ne-none, some-injective}
 use lib.ListN.{get_elem?}
@@ -61,23 +63,30 @@ once_snoc views w old apart i j v u ei ej hv hu s =
 bare : (seat : ℕ) (counts : List ℕ) (made j : ℕ) → KeepsRule seat counts made j nobody
 bare seat counts made j = record { keeps = λ k. absurd (off k); agrees = λ h. absurd (off h); made_already = λ h. absurd (off h) }
 
-pub makes : (by : ℕ) (cs : List ℕ) (m : ℕ) → m < length cs → Forks Kept by (keeper cs m) (keeper cs (m + 1)) (token m (slice_index cs m))
-makes by cs m room words views h at =
+-- the next slot is made, with its token
+pub makes : (by : ℕ) (cs : List ℕ) (m : ℕ) → m ≡ length cs → Forks Kept by (keeper cs m) (keeper (cs ++ 0 ∷ []) (m + 1)) (token m 0)
+makes by cs m next words views h at =
     let k = h.3 in
     let mine = (k.each by (keeper cs m) at).keeps refl in
-    let l = keeper cs (m + 1) in
-    let r = token m (slice_index cs m) in
-    let F : ℕ → View → Type 0 = KeepsRule h.0 h.1 (m + 1) in
+    let more : List ℕ = cs ++ 0 ∷ [] in
+    let l = keeper more (m + 1) in
+    let r = token m 0 in
+    let F : ℕ → View → Type 0 = KeepsRule h.0 more (m + 1) in
     let same : m ≡ h.2 = mine.2 in
-    let long : length cs ≡ length h.1 = ap length mine.1 in
-    let new_l : F by l = record { keeps = λ _. (mine.0, mine.1, refl); agrees = λ c. absurd (off c); made_already = λ c. absurd (off c) } in
+    let longer : length more ≡ length cs + 1 = length-append cs (0 ∷ []) in
+    let new_l : F by l = record { keeps = λ _. (mine.0, refl, refl); agrees = λ c. absurd (off c); made_already = λ c. absurd (off c) } in
     let grows : (j : ℕ) (u : View) → j ≢ by → At views j u → F j u =
-    λ j u apart e. record { keeps = λ p. absurd (apart (((k.each j u e).keeps p).0 ∙ sym mine.0)); agrees = (k.each j u e).agrees; made_already = λ p. let q = (k.each j u e).made_already p in omega arith } in
+    λ j u apart e. record {
+      keeps = λ p. absurd (apart (((k.each j u e).keeps p).0 ∙ sym mine.0));
+      agrees = λ p. let q = (k.each j u e).made_already p in
+          (k.each j u e).agrees p ∙ ap (λ (xs : List ℕ). slice_index xs u.slot) (sym mine.1) ∙ sym (get_or-append cs (0 ∷ []) 0 u.slot (omega (arith, q, same, next)));
+      made_already = λ p. let q = (k.each j u e).made_already p in omega arith;
+    } in
     let low : (j : ℕ) (u : View) → At (set views by l) j u → u.has ≡ true → u.slot < m =
     all_set (λ j u. u.has ≡ true → u.slot < m) views by l (λ c. absurd (off c)) (λ j u apart e p. let q = (k.each j u e).made_already p in omega arith) in
-    let new_r : (j : ℕ) → F j r = λ j. record { keeps = λ c. absurd (off c); agrees = λ _. ap (λ (xs : List ℕ). slice_index xs m) mine.1; made_already = λ _. omega arith } in (
+    let new_r : (j : ℕ) → F j r = λ j. record { keeps = λ c. absurd (off c); agrees = λ _. sym (ap (slice_index more) next ∙ get_or-append_seam cs 0 [] 0); made_already = λ _. omega arith } in (
       h.0,
-      h.1,
+      more,
       m + 1,
       record {
         each = λ j u e. ⊎_elim (λ (x : At (set views by l) j u). all_set F views by l new_l grows j u x) (λ (x : (j ≡ length (set views by l)) × (r ≡ u)). subst (F j) x.1 (new_r j)) (at_snoc (set views by l) r u j e);
@@ -189,8 +198,8 @@ splits by cs m sl n words views h at =
     )
 
 -- the moves, at a view that is known
-pub makes_as : (by : ℕ) (v : View) → v ≡ keeper v.counts v.made → v.made < length v.counts → Forks Kept by v (keeper v.counts (v.made + 1)) (token v.made (slice_index v.counts v.made))
-makes_as by v is room = subst (λ (u : View). Forks Kept by u (keeper v.counts (v.made + 1)) (token v.made (slice_index v.counts v.made))) (sym is) (makes by v.counts v.made room)
+pub makes_as : (by : ℕ) (v : View) → v ≡ keeper v.counts v.made → v.made ≡ length v.counts → Forks Kept by v (keeper (v.counts ++ 0 ∷ []) (v.made + 1)) (token v.made 0)
+makes_as by v is next = subst (λ (u : View). Forks Kept by u (keeper (v.counts ++ 0 ∷ []) (v.made + 1)) (token v.made 0)) (sym is) (makes by v.counts v.made next)
 
 pub joins_as : (by : ℕ) (v : View) (other : ℕ) (u : View) → v ≡ keeper v.counts v.made → u ≡ token u.slot u.count → Merges Kept by v other u (holder v.counts v.made u.slot u.count) nobody
 joins_as by v other u is iu =

@@ -45,16 +45,16 @@ impl Outcome<[u64; 1], View> for Touch {
     ghost then = { Touches };
 }
 
-/// Makes the token of the next slot.
+/// Makes the next slot, which no commit touched, with its token.
 pub struct Make;
 
 impl Split<View> for Make {
-    ghost use Rattle.std.specs.Prelude.{◌+◌, slice_index};
+    ghost use Rattle.std.specs.Prelude.{◌+◌, ◌++◌, ◌∷◌, []};
     ghost use Rattle.journal_lockmap.specs.Tokens.{keeper, token};
 
-    ghost left = { λ v. keeper v.counts (v.made + 1) };
+    ghost left = { λ v. keeper (v.counts ++ 0 ∷ []) (v.made + 1) };
 
-    ghost right = { λ v. token v.made (slice_index v.counts v.made) };
+    ghost right = { λ v. token v.made 0 };
 }
 
 /// Makes a pass that knows nothing.

@@ -1,20 +1,21 @@
 // How many commits touched each slot.
-ghost use Rattle.std.specs.Prelude.{false, ◌≡◌, ◌<◌, ◌+◌, [], IfOk, length, replicate, slice_index, slice_set};
+ghost use Rattle.std.specs.Prelude.{false, ◌≡◌, [], IfOk, length, replicate};
 ghost use Rattle.crossbeam_utils.specs.Seq.{cell_view};
-ghost use Rattle.journal_world.specs.declared.address.TheConstants.{SLOTS as SLOT_COUNT};
+ghost use Rattle.journal_world.specs.Files.{shape};
 ghost use Rattle.journal_lockmap.specs.Tokens.{keeper, first as first_view};
-ghost use Rattle.journal_lockmap.specs.Numbers.{HasNumber, Agree, AreApart, HoldsSlots, slots_of, CountsWrites, MarksWrites};
+ghost use Rattle.journal_lockmap.specs.Numbers.{Agree, AreApart, AreNone, HoldsSlots, slots_of, CountsWrites};
 
 use crate::cell::{Cell, SlotPass};
 use crate::held::Held;
+use crate::keeper::Keeper;
 use crate::slot_set::SlotSet;
 use crate::slots::Slots;
 use crate::steps::make;
 use crate::token::Token;
 use journal_history::{Naming, SessionCell, SessionCounts};
-use journal_world::{Objects, SLOTS, slot_of};
+use journal_world::{Layout, Objects};
 use std::alloc::{AllocError, Global};
-use std::marker::{Model, PhantomData};
+use std::marker::Model;
 use std::sync::Wait;
 
 /// The cells of a journal that has no name yet: that of its slots, and that of its sessions. Contracts see which cells
@@ -56,34 +57,38 @@ impl SlotCell {
 /// alone, as what one pass of the cell, the keeper, knows; a token knows that of its slot.
 #[derive(Drop)]
 pub struct SlotCounts<J: Naming> {
-    cell: Cell,
-    keeper: SlotPass,
-    journal: PhantomData<J>,
+    keeper: Keeper<J>,
+    layout: Layout,
+    // The slots that a commit writes, while it is counted. It is kept from one commit to the next,
+    // so that none has to make it, however many slots there are.
+    written: SlotSet,
 }
 
 impl<J: Naming> Model for SlotCounts<J> {
-    ghost use Rattle.std.specs.Prelude.{ℕ, List};
-    ghost use Rattle.crossbeam_utils.specs.Seq.{cell_view};
-    ghost use Rattle.journal_lockmap.specs.Numbers.{IsKeeper};
+    ghost use Rattle.std.specs.Prelude.{◌≡◌, ℕ, List, length};
+    ghost use Rattle.journal_world.specs.Files.{shape};
+    ghost use Rattle.journal_lockmap.specs.Numbers.{AreNone};
 
     ghost Value = { List ℕ };
 
-    ghost view = { λ c. (cell_view c.keeper).counts };
+    ghost view = { λ c. c.keeper };
 
-    ghost invariant = { λ c. IsKeeper J.cell.slots c.cell.table.shared.table_id c.keeper.table_id (cell_view c.keeper) };
+    ghost invariant = { λ c. (shape c.layout ≡ J.layout) × AreNone c.written × (length c.written ≡ J.layout.slots) };
 }
 
 impl<J: Naming> SlotCounts<J> {
-    /// The numbers of the journal that has these cells, and its slots, with a token for each. No commit touched any,
-    /// and all are free. With them come the numbers of commits of its sessions: there is none. Where memory is refused
-    /// the cells are gone.
+    /// The numbers of the journal that has these cells, and its slots, as many as its layout has,
+    /// with a token for each. No commit touched any, and all are free. With them come the numbers
+    /// of commits of its sessions: there is none. Where memory is refused the cells are gone.
     pub fn begin(
         alloc: Global,
         cell: SlotCell,
+        layout: Layout,
     ) -> Result<(SlotCounts<J>, Slots<J>, SessionCounts<J>), AllocError>
         requires cell { cell ≡ J.cell }
-        ensures counts { IfOk result (λ made. made.0 ≡ replicate SLOT_COUNT 0) }
-        ensures free { IfOk result (λ made. made.1 ≡ replicate SLOT_COUNT false) }
+        requires layout { shape layout ≡ J.layout }
+        ensures counts { IfOk result (λ made. made.0 ≡ replicate J.layout.slots 0) }
+        ensures free { IfOk result (λ made. made.1 ≡ replicate J.layout.slots false) }
         ensures sessions { IfOk result (λ made. made.2 ≡ []) }
     {
         let SlotCell {
@@ -93,16 +98,19 @@ impl<J: Naming> SlotCounts<J> {
         } = cell;
         let mut keeper = first;
         let mut free: Vec<Option<Token<J>>> = Vec::new(alloc);
-        for slot in 0..SLOTS {
+        for slot in 0..layout.slots {
             let token = make(&cell, &mut keeper);
-            free.push(Some(Token::new(slot as u16, token)))?;
+            free.push(Some(Token::new(slot, token)))?;
         }
+        let keeper = Keeper::new(cell, keeper);
+        let written = SlotSet::new(alloc, layout.slots)?;
         let counts = SlotCounts {
-            cell,
             keeper,
-            journal: PhantomData,
+            layout,
+            written,
         };
-        Ok((counts, Slots { free }, SessionCounts::begin(sessions)))
+        let slots = Slots { free };
+        Ok((counts, slots, SessionCounts::begin(sessions)))
     }
 
     /// Shows that the numbers of what is held are those that are kept here. Nothing changes, and it waits for
@@ -113,7 +121,7 @@ impl<J: Naming> SlotCounts<J> {
         ensures agree { Agree self.old held.old }
     {
         for index in 0..held.len() {
-            self.verify_token(rt, &mut held[index]);
+            self.keeper.verify_token(rt, &mut held[index]);
         }
     }
 
@@ -122,47 +130,23 @@ impl<J: Naming> SlotCounts<J> {
     /// waits for nobody, and goes over the writes once and over what is held once.
     pub fn count_writes<W: Wait>(&mut self, rt: &W, held: &mut [Held<J>], writes: &Objects)
         requires apart { AreApart held.old }
-        requires covered { HoldsSlots held.old writes.now }
-        ensures counts { CountsWrites writes.now self.old self.new }
+        requires covered { HoldsSlots J.layout held.old writes.now }
+        ensures counts { CountsWrites J.layout writes.now self.old self.new }
         ensures agree { Agree self.new held.new }
         ensures slots { slots_of held.new ≡ slots_of held.old }
     {
-        let written = written_slots(writes);
+        let SlotCounts {
+            keeper,
+            layout,
+            written,
+        } = self;
+        written.insert_all(layout, writes);
         for i in 0..held.len() {
-            if written.contains(held[i].slot()) {
-                self.touch(rt, &mut held[i]);
+            if written.remove(held[i].slot()) {
+                keeper.touch(rt, &mut held[i]);
             } else {
-                self.verify_token(rt, &mut held[i]);
+                keeper.verify_token(rt, &mut held[i]);
             }
         }
     }
-
-    // Shows that what is held agrees with the numbers. Nothing changes.
-    fn verify_token<W: Wait>(&mut self, rt: &W, held: &mut Held<J>)
-        ensures same { self.new ≡ self.old }
-        ensures held { held.new ≡ held.old }
-        ensures agrees { HasNumber self.old held.old }
-    {
-        held.token.verify(rt, &self.cell, &mut self.keeper);
-    }
-
-    // Counts one more commit for a slot that is held.
-    fn touch<W: Wait>(&mut self, rt: &W, held: &mut Held<J>)
-        ensures count { self.new ≡ slice_set self.old held.old.slot (slice_index self.old held.old.slot + 1) }
-        ensures held { held.new ≡ record { slot = held.old.slot; count = slice_index self.old held.old.slot + 1 } }
-        ensures slots { length self.old ≡ SLOT_COUNT }
-    {
-        held.token.touch(rt, &self.cell, &mut self.keeper);
-    }
-}
-
-// Which slots some of the writes are of.
-fn written_slots(writes: &Objects) -> SlotSet
-    ensures marks { MarksWrites result writes.now }
-{
-    let mut written = SlotSet::new();
-    for (addr, _) in writes.iter() {
-        written.insert(slot_of(*addr));
-    }
-    written
 }

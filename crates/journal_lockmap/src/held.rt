@@ -1,6 +1,5 @@
 // A slot that its holder took.
 ghost use Rattle.std.specs.Prelude.{◌≡◌, ◌<◌, ◌↔◌, false, IsTrue, IsSome, IfSome};
-ghost use Rattle.journal_world.specs.declared.address.TheConstants.{SLOTS};
 ghost use Rattle.journal_lockmap.specs.Tables.{is_taken, none_free, ChangesOnlySlot};
 
 use crate::place::Place;
@@ -20,28 +19,27 @@ pub struct Held<J: Naming> {
 
 impl<J: Naming> Model for Held<J> {
     ghost use Rattle.std.specs.Prelude.{◌<◌};
-    ghost use Rattle.journal_world.specs.declared.address.TheConstants.{SLOTS};
     ghost use Rattle.journal_lockmap.specs.Numbers.{HeldState};
 
     ghost Value = { HeldState };
 
     ghost view = { λ held. held.token };
 
-    ghost invariant = { λ held. held.token.slot < SLOTS };
+    ghost invariant = { λ held. held.token.slot < J.layout.slots };
 }
 
 impl<J: Naming> Held<J> {
-    /// Which slot it is, below `SLOTS`.
+    /// Which slot it is, below the number of slots.
     pub fn slot(&self) -> u16
         ensures slot { result ≡ self.now.slot }
-        ensures in_range { result < SLOTS }
+        ensures in_range { result < J.layout.slots }
     {
         self.token.slot()
     }
 
     // Takes the slot if its token lies in the place.
     pub(crate) fn take(place: &mut Place<J>, slot: u16) -> Option<Held<J>>
-        requires in_range { slot < SLOTS }
+        requires in_range { slot < J.layout.slots }
         ensures free { IsSome result ↔ (is_taken place.old slot ≡ false) }
         ensures held { IfSome result (λ held. held.slot ≡ slot) }
         ensures taken { IsTrue (is_taken place.new slot) }
@@ -59,7 +57,7 @@ impl<J: Naming> Held<J> {
 
     // Frees the slot: its token lies in the place.
     pub(crate) fn give_back(self, place: &mut Place<J>)
-        requires empty { place.old ≡ none_free }
+        requires empty { place.old ≡ none_free J.layout.slots }
         ensures free { is_taken place.new self.slot ≡ false }
         ensures others { ChangesOnlySlot place.old place.new self.slot }
     {

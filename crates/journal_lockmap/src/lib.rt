@@ -1,4 +1,8 @@
-//! The lock map: 257 slots, each of which one transaction holds at a time, and how many commits touched each.
+//! The lock map: slots, each of which one transaction holds at a time, and how many commits touched
+//! each.
+//!
+//! The layout by which a journal is named says how many slots there are: 257 unless it asks for
+//! more.
 //!
 //! Each address has a slot, and transactions that use addresses of one slot exclude one another. Each slot has
 //! one token. It lies in the slot's place while the slot is free, and in the `Held` of whoever took the slot, so
@@ -24,6 +28,7 @@
 mod cell;
 mod counts;
 mod held;
+mod keeper;
 mod map;
 mod place;
 mod slot_set;

@@ -1,13 +1,14 @@
 // The slots, as threads share them.
-ghost use Rattle.std.specs.Prelude.{◌≡◌, ◌<◌, IfOk, IfSome, IsOkUnless, vec_len};
-ghost use Rattle.journal_world.specs.declared.address.TheConstants.{SLOTS};
+ghost use Rattle.std.specs.Prelude.{◌≡◌, ◌<◌, ◌+◌, IfOk, IfSome, IsOkUnless, vec_len};
+ghost use Rattle.journal_world.specs.Files.{shape};
 
 use crate::held::Held;
 use crate::place::Place;
 use crate::slots::Slots;
+use crate::token::Token;
 use crossbeam_utils::CachePadded;
 use journal_history::Naming;
-use journal_world::{Refusal, SLOTS};
+use journal_world::{Layout, Refusal};
 use std::alloc::{AllocError, Global};
 use std::fmt;
 use std::fmt::Debug;
@@ -20,6 +21,10 @@ const SPIN_TURNS: u32 = 32;
 // How long it waits between two looks: so many of the processor's pauses, each of some tens of nanoseconds.
 const SPIN_PAUSES: u32 = 16;
 
+// The most slots whose locks lie on lines of their own. With more of them two threads seldom meet
+// on a line by chance, and lines of their own would take 150 bytes and more a slot.
+const MAX_PADDED: u16 = 1024;
+
 // What belongs to one slot: its place, and the condition variable on which those sleep who wait for the slot.
 #[derive(Drop)]
 struct SlotLock<J: Naming> {
@@ -28,9 +33,17 @@ struct SlotLock<J: Naming> {
 }
 
 impl<J: Naming> SlotLock<J> {
+    // The lock of a slot whose token is still to come.
+    fn new() -> SlotLock<J> {
+        SlotLock {
+            place: Mutex::new(Place::new(None)),
+            freed: Condvar::new(),
+        }
+    }
+
     // Takes the slot if its token lies here. The lock is let go before anything else is done.
     fn take<R: Wait>(&self, rt: &R, slot: u16) -> Option<Held<J>>
-        requires in_range { slot < SLOTS }
+        requires in_range { slot < J.layout.slots }
         ensures { IfSome result (λ held. held.slot ≡ slot) }
     {
         Held::take(&mut self.place.lock(rt), slot)
@@ -45,38 +58,106 @@ impl<J: Naming> SlotLock<J> {
 #[derive(Drop)]
 pub struct SlotLocks<J: Naming> {
     // Each on lines of its own, so that threads that take different slots write no line in common.
-    each: Vec<CachePadded<SlotLock<J>>>,
-    ghost one_each: { vec_len each ≡ SLOTS },
+    // None where there are more slots than `MAX_PADDED`.
+    padded: Vec<CachePadded<SlotLock<J>>>,
+    // Those of the slots after them, side by side.
+    packed: Vec<SlotLock<J>>,
+    ghost one_each: { vec_len padded + vec_len packed ≡ J.layout.slots },
 }
 
 impl<J: Naming> SlotLocks<J> {
-    /// A lock for each slot. Where memory is refused nothing was made.
-    pub fn new(alloc: Global) -> Result<SlotLocks<J>, AllocError> {
-        let mut each = Vec::new(alloc);
-        for _ in 0..SLOTS {
-            each.push(CachePadded::new(SlotLock {
-                place: Mutex::new(Place::new(None)),
-                freed: Condvar::new(),
-            }))?;
+    /// A lock for each slot of the layout. Where memory is refused nothing was made.
+    pub fn new(alloc: Global, layout: Layout) -> Result<SlotLocks<J>, AllocError>
+        requires layout { shape layout ≡ J.layout }
+    {
+        let slots = layout.slots;
+        Ok(if slots <= MAX_PADDED {
+            SlotLocks {
+                padded: padded_locks(alloc, slots)?,
+                packed: Vec::new(alloc),
+            }
+        } else {
+            SlotLocks {
+                padded: Vec::new(alloc),
+                packed: packed_locks(alloc, slots)?,
+            }
+        })
+    }
+
+    // The same locks, with the slots' tokens in their places.
+    fn with_tokens(self, tokens: Vec<Option<Token<J>>>) -> SlotLocks<J> {
+        let SlotLocks {
+            mut padded,
+            mut packed,
+        } = self;
+        if packed.is_empty() {
+            put_padded(&mut padded, tokens);
+            SlotLocks { padded, packed }
+        } else {
+            put_packed(&mut packed, tokens);
+            SlotLocks { padded, packed }
         }
-        Ok(SlotLocks { each })
     }
 
     // The lock of a slot.
     fn of(&self, slot: u16) -> &SlotLock<J>
-        requires in_range { slot < SLOTS }
+        requires in_range { slot < J.layout.slots }
     {
-        &self.each[usize::from(slot)]
+        let slot = usize::from(slot);
+        if slot < self.padded.len() {
+            return &self.padded[slot];
+        }
+        &self.packed[slot - self.padded.len()]
+    }
+}
+
+// So many locks, each on lines of its own.
+fn padded_locks<J: Naming>(
+    alloc: Global,
+    slots: u16,
+) -> Result<Vec<CachePadded<SlotLock<J>>>, AllocError>
+    ensures { IfOk result (λ locks. vec_len locks ≡ slots) }
+{
+    let mut locks = Vec::new(alloc);
+    for _ in 0..slots {
+        locks.push(CachePadded::new(SlotLock::new()))?;
+    }
+    Ok(locks)
+}
+
+// So many locks, side by side.
+fn packed_locks<J: Naming>(alloc: Global, slots: u16) -> Result<Vec<SlotLock<J>>, AllocError>
+    ensures { IfOk result (λ locks. vec_len locks ≡ slots) }
+{
+    let mut locks = Vec::new(alloc);
+    for _ in 0..slots {
+        locks.push(SlotLock::new())?;
+    }
+    Ok(locks)
+}
+
+// Lays the tokens into their places.
+fn put_padded<J: Naming>(locks: &mut [CachePadded<SlotLock<J>>], tokens: Vec<Option<Token<J>>>) {
+    for (slot_lock, token) in locks.iter_mut().zip(tokens) {
+        *slot_lock.place.get_mut() = Place::new(token);
+    }
+}
+
+// Lays the tokens into their places.
+fn put_packed<J: Naming>(locks: &mut [SlotLock<J>], tokens: Vec<Option<Token<J>>>) {
+    for (slot_lock, token) in locks.iter_mut().zip(tokens) {
+        *slot_lock.place.get_mut() = Place::new(token);
     }
 }
 
 impl<J: Naming> Debug for SlotLocks<J> {
     fn fmt<W: fmt::Write>(&self, f: &mut fmt::Formatter<W>) -> fmt::Result {
-        f.debug_struct("Bells").finish_non_exhaustive()
+        f.debug_struct("SlotLocks").finish_non_exhaustive()
     }
 }
 
-/// The slots of one journal, which threads share. A slot is named by its number, below `SLOTS`.
+/// The slots of one journal, which threads share. A slot is named by its number, below the layout's
+/// number of slots.
 ///
 /// Each slot has a lock of its own, so threads that take different slots do not meet. Each slot has a condition
 /// variable of its own, on which those sleep who wait for it. So a release wakes no one in vain who waits for
@@ -90,18 +171,14 @@ pub struct LockMap<J: Naming> {
 impl<J: Naming> LockMap<J> {
     /// A lock map of these slots. It takes no memory, and neither does any later call.
     pub fn new(slot_locks: SlotLocks<J>, slots: Slots<J>) -> LockMap<J> {
-        let SlotLocks { mut each } = slot_locks;
-        for (slot_lock, token) in each.iter_mut().zip(slots.free) {
-            *slot_lock.place.get_mut() = Place::new(token);
-        }
         LockMap {
-            slot_locks: SlotLocks { each },
+            slot_locks: slot_locks.with_tokens(slots.free),
         }
     }
 
     /// Takes the slot, and waits for it as long as someone holds it: for ever where that is the caller.
     pub fn acquire<R: Wait>(&self, rt: &R, slot: u16) -> Held<J>
-        requires in_range { slot < SLOTS }
+        requires in_range { slot < J.layout.slots }
         ensures { result.slot ≡ slot }
     {
         if let Some(held) = self.spin_for(rt, slot) {
@@ -117,7 +194,7 @@ impl<J: Naming> LockMap<J> {
 
     // Takes the slot if it is free within some microseconds: most are held for less time than a sleep and a wake take.
     fn spin_for<R: Wait>(&self, rt: &R, slot: u16) -> Option<Held<J>>
-        requires in_range { slot < SLOTS }
+        requires in_range { slot < J.layout.slots }
         ensures { IfSome result (λ held. held.slot ≡ slot) }
     {
         for _ in 0..SPIN_TURNS {
@@ -133,7 +210,7 @@ impl<J: Naming> LockMap<J> {
     ///
     /// Answers J5 `Busy`, and nothing else, where someone holds the slot; it changes nothing then.
     pub fn try_acquire<C, R: Wait>(&self, rt: &R, slot: u16) -> Result<Held<J>, Refusal<C>>
-        requires in_range { slot < SLOTS }
+        requires in_range { slot < J.layout.slots }
         ensures held { IfOk result (λ held. held.slot ≡ slot) }
         ensures refusal { IsOkUnless result Refusal.Busy }
     {

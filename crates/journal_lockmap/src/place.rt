@@ -1,6 +1,5 @@
 // The place of a slot.
 ghost use Rattle.std.specs.Prelude.{◌≡◌, ◌<◌, ◌↔◌, false, IsTrue, IsSome, IfSome};
-ghost use Rattle.journal_world.specs.declared.address.TheConstants.{SLOTS};
 ghost use Rattle.journal_lockmap.specs.Tables.{is_taken, none_free, table_with, ChangesOnlySlot};
 
 use crate::token::Token;
@@ -19,27 +18,27 @@ impl<J: Naming> Model for Place<J> {
 
     ghost Value = { Table };
 
-    ghost view = { λ place. table_with place.token };
+    ghost view = { λ place. table_with J.layout.slots place.token };
 }
 
 impl<J: Naming> Place<J> {
     // A place in which this token lies, or none.
     pub(crate) fn new(token: Option<Token<J>>) -> Place<J>
-        ensures { result ≡ table_with token }
+        ensures { result ≡ table_with J.layout.slots token }
     {
         Place { token }
     }
 
     // Whether no token lies here.
     pub(crate) fn is_empty(&self) -> bool
-        ensures { IsTrue result → self.now ≡ none_free }
+        ensures { IsTrue result → self.now ≡ none_free J.layout.slots }
     {
         self.token.is_none()
     }
 
     // Whether the slot's token does not lie here.
     pub(crate) fn is_taken(&self, slot: u16) -> bool
-        requires in_range { slot < SLOTS }
+        requires in_range { slot < J.layout.slots }
         ensures { result ≡ is_taken self.now slot }
     {
         match &self.token {
@@ -50,7 +49,7 @@ impl<J: Naming> Place<J> {
 
     // Takes the slot's token, if it lies here. If it does not, nothing changes.
     pub(crate) fn mark(&mut self, slot: u16) -> Option<Token<J>>
-        requires in_range { slot < SLOTS }
+        requires in_range { slot < J.layout.slots }
         ensures free { IsSome result ↔ (is_taken self.old slot ≡ false) }
         ensures token { IfSome result (λ token. token.slot ≡ slot) }
         ensures taken { IsTrue (is_taken self.new slot) }
@@ -65,7 +64,7 @@ impl<J: Naming> Place<J> {
 
     // Frees the slot of the token.
     pub(crate) fn unmark(&mut self, token: Token<J>)
-        requires empty { self.old ≡ none_free }
+        requires empty { self.old ≡ none_free J.layout.slots }
         ensures free { is_taken self.new token.slot ≡ false }
         ensures others { ChangesOnlySlot self.old self.new token.slot }
     {

@@ -1,51 +1,70 @@
 // Some of the slots.
-ghost use Rattle.std.specs.Prelude.{◌≡◌, ◌<◌, ◌==◌, ◌||◌, ℕ, false, length};
-ghost use Rattle.journal_world.specs.declared.address.TheConstants.{SLOTS};
-ghost use Rattle.journal_lockmap.specs.declared.slot_set.TheConstants.{WORDS};
-ghost use Rattle.journal_lockmap.specs.Numbers.{is_in};
+ghost use Rattle.std.specs.Prelude.{◌≡◌, ◌<◌, ◌==◌, ◌||◌, ◌&&◌, not, ℕ, IfOk, length};
+ghost use Rattle.journal_world.specs.Addresses.{slot_of};
+ghost use Rattle.journal_world.specs.Files.{shape};
+ghost use Rattle.journal_lockmap.specs.Numbers.{is_in, AreNone, MarksWrites};
 
-use journal_world::SLOTS;
+use journal_world::{Layout, Objects};
+use std::alloc::{AllocError, Global};
 use std::marker::Model;
 
-// How many words of 64 bits have a bit for each slot.
-const WORDS: usize = SLOTS as usize / 64 + 1;
-
-/// Some of the slots: a bit for each, so that it takes 40 bytes.
+/// Some of the slots, as a flag for each. To add one or to take one out takes the same time however
+/// many there are.
 #[derive(Drop)]
 pub(crate) struct SlotSet {
-    words: [u64; WORDS],
-    ghost all: { length words ≡ WORDS },
+    flags: Vec<bool>,
 }
 
 impl Model for SlotSet {
-    ghost use Rattle.std.specs.Prelude.{ℕ, List};
+    ghost use Rattle.std.specs.Prelude.{Bool, List};
 
-    ghost Value = { List ℕ };
+    ghost Value = { List Bool };
 
-    ghost view = { λ set. set.words };
+    ghost view = { λ set. set.flags.items };
 }
 
 impl SlotSet {
-    // None of them.
-    pub(crate) fn new() -> SlotSet
-        ensures { (slot : ℕ) → is_in result slot ≡ false }
+    // None of so many slots.
+    pub(crate) fn new(alloc: Global, slots: u16) -> Result<SlotSet, AllocError>
+        ensures none { IfOk result AreNone }
+        ensures room { IfOk result (λ set. length set ≡ slots) }
     {
-        SlotSet { words: [0; WORDS] }
+        Ok(SlotSet {
+            flags: vec![in alloc; false; usize::from(slots)]?,
+        })
+    }
+
+    // Adds the slots of these writes, where there is none yet.
+    pub(crate) fn insert_all(&mut self, layout: &Layout, writes: &Objects)
+        requires none { AreNone self.old }
+        requires room { length self.old ≡ layout.now.slots }
+        ensures marks { MarksWrites (shape layout.now) self.new writes.now }
+        ensures room { length self.new ≡ length self.old }
+    {
+        for (addr, _) in writes.iter() {
+            self.insert(layout.slot_of(*addr));
+        }
     }
 
     // Adds a slot.
-    pub(crate) fn insert(&mut self, slot: u16)
-        requires in_range { slot < SLOTS }
-        ensures { (other : ℕ) → is_in self.new other ≡ ((slot == other) || is_in self.old other) }
+    fn insert(&mut self, slot: u16)
+        requires in_range { slot < length self.old }
+        ensures only { (other : ℕ) → is_in self.new other ≡ ((slot == other) || is_in self.old other) }
+        ensures room { length self.new ≡ length self.old }
     {
-        self.words[usize::from(slot / 64)] |= 1 << (slot % 64);
+        self.flags[usize::from(slot)] = true;
     }
 
-    // Whether the slot is one of them.
-    pub(crate) fn contains(&self, slot: u16) -> bool
-        requires in_range { slot < SLOTS }
-        ensures { result ≡ is_in self.now slot }
+    // Takes a slot out, and says whether it was one of them.
+    pub(crate) fn remove(&mut self, slot: u16) -> bool
+        requires in_range { slot < length self.old }
+        ensures was { result ≡ is_in self.old slot }
+        ensures only { (other : ℕ) → is_in self.new other ≡ (not (slot == other) && is_in self.old other) }
+        ensures room { length self.new ≡ length self.old }
     {
-        self.words[usize::from(slot / 64)] >> (slot % 64) & 1 == 1
+        let place = usize::from(slot);
+        let was = self.flags[place];
+        self.flags[place] = false;
+        was
     }
 }

@@ -1,6 +1,5 @@
 // Which slots are taken.
 ghost use Rattle.std.specs.Prelude.{◌≡◌, ◌<◌};
-ghost use Rattle.journal_world.specs.declared.address.TheConstants.{SLOTS};
 ghost use Rattle.journal_lockmap.specs.Tables.{is_taken};
 
 use crate::token::Token;
@@ -25,13 +24,13 @@ impl<J: Naming> Model for Slots<J> {
 
     ghost view = { λ slots. taken_of slots.free.items };
 
-    ghost invariant = { λ slots. IsTable slots.free.items };
+    ghost invariant = { λ slots. IsTable J.layout.slots slots.free.items };
 }
 
 impl<J: Naming> Slots<J> {
     /// Whether the slot is taken.
     pub fn is_taken(&self, slot: u16) -> bool
-        requires in_range { slot < SLOTS }
+        requires in_range { slot < J.layout.slots }
         ensures { result ≡ is_taken self.now slot }
     {
         self.free[usize::from(slot)].is_none()

@@ -1,19 +1,19 @@
 // The four kinds of step of the cell: split a pass, join a pass, look, and a commit's change.
-ghost use Rattle.std.specs.Prelude.{◌≡◌, ◌+◌, ◌<◌, ◌≤◌, [], List, length, true, slice_index, slice_set};
+ghost use Rattle.std.specs.Prelude.{◌≡◌, ◌+◌, ◌<◌, ◌≤◌, ◌++◌, ◌∷◌, [], List, length, true, slice_index, slice_set};
 ghost use Rattle.crossbeam_utils.specs.Seq.{cell_view};
 ghost use Rattle.journal_lockmap.specs.Tokens.{keeper, holder, token, nobody};
 
 use crate::cell::{Cell, Make, Off, SlotPass, Spare, Touch, Verify};
 use std::sync::Wait;
 
-// Makes the token of the next slot.
+// Makes the next slot, with its token.
 pub(crate) fn make(cell: &Cell, all: &mut SlotPass) -> SlotPass
     requires cell { all.old.table_id ≡ cell.now.table.shared.table_id }
     requires keeper { cell_view all.old ≡ keeper (cell_view all.old).counts (cell_view all.old).made }
-    requires room { (cell_view all.old).made < length (cell_view all.old).counts }
+    requires next { (cell_view all.old).made ≡ length (cell_view all.old).counts }
     ensures table { (all.new.table_id ≡ all.old.table_id) × (result.table_id ≡ all.old.table_id) × (result.me.1 ≡ []) }
-    ensures keeper { cell_view all.new ≡ keeper (cell_view all.old).counts ((cell_view all.old).made + 1) }
-    ensures token { cell_view result ≡ token (cell_view all.old).made (slice_index (cell_view all.old).counts (cell_view all.old).made) }
+    ensures keeper { cell_view all.new ≡ keeper ((cell_view all.old).counts ++ 0 ∷ []) ((cell_view all.old).made + 1) }
+    ensures token { cell_view result ≡ token (cell_view all.old).made 0 }
 {
     cell.split_pass::<Make>(all)
 }

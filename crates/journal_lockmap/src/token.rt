@@ -1,7 +1,6 @@
 // The token of a slot.
 ghost use Rattle.std.specs.Prelude.{◌≡◌, ◌<◌, ◌+◌, [], slice_set};
 ghost use Rattle.crossbeam_utils.specs.Seq.{cell_view};
-ghost use Rattle.journal_world.specs.declared.address.TheConstants.{SLOTS};
 ghost use Rattle.journal_lockmap.specs.Tokens.{token as token_of, keeper};
 ghost use Rattle.journal_lockmap.specs.Numbers.{HasNumber};
 
@@ -29,7 +28,7 @@ impl<J: Naming> Model for Token<J> {
 
     ghost view = { λ t. record { slot = t.slot; count = (cell_view t.pass).count } };
 
-    ghost invariant = { λ t. IsToken J.cell.slots t.slot t.pass.table_id (t.pass.me.1 ≡ []) (cell_view t.pass) };
+    ghost invariant = { λ t. IsToken J.cell.slots J.layout.slots t.slot t.pass.table_id (t.pass.me.1 ≡ []) (cell_view t.pass) };
 }
 
 impl<J: Naming> Token<J> {
@@ -38,7 +37,7 @@ impl<J: Naming> Token<J> {
         requires cell { pass.table_id ≡ J.cell.slots }
         requires fresh { pass.me.1 ≡ [] }
         requires view { cell_view pass ≡ token_of slot (cell_view pass).count }
-        requires in_range { slot < SLOTS }
+        requires in_range { slot < J.layout.slots }
         ensures { result ≡ record { slot = slot; count = (cell_view pass).count } }
     {
         Token {
@@ -48,10 +47,10 @@ impl<J: Naming> Token<J> {
         }
     }
 
-    // Which slot it is of, below `SLOTS`.
+    // Which slot it is of, below the number of slots.
     pub(crate) fn slot(&self) -> u16
         ensures slot { result ≡ self.now.slot }
-        ensures in_range { result < SLOTS }
+        ensures in_range { result < J.layout.slots }
     {
         self.slot
     }

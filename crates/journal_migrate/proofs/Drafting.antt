@@ -69,29 +69,29 @@ keeps_files history t files trusted drafts has = by has
 
 -- What it read and overwrites lies under the one slot that is held
 
-module _ (held : List HeldState) (one : slots_of held ≡ slot_of (addr_of superblock) ∷ []) where
-  only : (h : HeldState) × (held ≡ h ∷ []) × (h.slot ≡ slot_of (addr_of superblock))
+module _ (layout : Shape) (held : List HeldState) (one : slots_of held ≡ slot_of layout (addr_of superblock) ∷ []) where
+  only : (h : HeldState) × (held ≡ h ∷ []) × (h.slot ≡ slot_of layout (addr_of superblock))
   only = by held one
     where
-      by : (hs : List HeldState) → slots_of hs ≡ slot_of (addr_of superblock) ∷ [] → (h : HeldState) × (hs ≡ h ∷ []) × (h.slot ≡ slot_of (addr_of superblock))
+      by : (hs : List HeldState) → slots_of hs ≡ slot_of layout (addr_of superblock) ∷ [] → (h : HeldState) × (hs ≡ h ∷ []) × (h.slot ≡ slot_of layout (addr_of superblock))
       by [] is = absurd (cc is)
       by (h ∷ []) is = (h, refl, cc is)
       by (h ∷ g ∷ hs) is = absurd (cc is)
 
-  pub under : (history : List Entry) (t : TransactionState) → DraftsUpgrade history t → AgreeWith history held → AreUnder held t.seen t.reads
-  under history t drafts agree = subst (λ h. AreUnder held h t.reads) (sym drafts.seen)
-      (of_both (λ a. IsUnder held history (a, drafts.found)) (addr_of superblock) drafts.found [] t.reads drafts.reads
-      (0, only.0, ap (λ hs. slice_get hs 0) only.1, only.2, at) (All-nil (IsUnder held history)))
+  pub under : (history : List Entry) (t : TransactionState) → DraftsUpgrade history t → AgreeWith layout history held → AreUnder layout held t.seen t.reads
+  under history t drafts agree = subst (λ h. AreUnder layout held h t.reads) (sym drafts.seen)
+      (of_both (λ a. IsUnder layout held history (a, drafts.found)) (addr_of superblock) drafts.found [] t.reads drafts.reads
+      (0, only.0, ap (λ hs. slice_get hs 0) only.1, only.2, at) (All-nil (IsUnder layout held history)))
     where
-      at : only.0.count ≡ touched history (slot_of (addr_of superblock))
-      at = All-head (λ (h : HeldState). h.count ≡ touched history h.slot) only.0 [] (subst (AgreeWith history) only.1 agree) ∙ ap (touched history) only.2
+      at : only.0.count ≡ touched layout history (slot_of layout (addr_of superblock))
+      at = All-head (λ (h : HeldState). h.count ≡ touched layout history h.slot) only.0 [] (subst (AgreeWith layout history) only.1 agree) ∙ ap (touched layout history) only.2
 
-  pub covered : (history : List Entry) (t : TransactionState) → DraftsUpgrade history t → HoldsSlots held t.writes
+  pub covered : (history : List Entry) (t : TransactionState) → DraftsUpgrade history t → HoldsSlots layout held t.writes
   covered history t drafts =
-      of_both (λ a. IsTrue (is_held held (slot_of a))) (addr_of superblock) (in_version_two drafts.found) [] t.writes drafts.writes
-      (ap (λ hs. is_held hs (slot_of (addr_of superblock))) only.1 ∙ ap (λ (n : ℕ). (n == slot_of (addr_of superblock)) || false) only.2
-      ∙ ap (λ b. b || false) (eq-eqb (slot_of (addr_of superblock)) (slot_of (addr_of superblock)) refl))
-      (All-nil (λ (p : Pair). IsTrue (is_held held (slot_of p.0))))
+      of_both (λ a. IsTrue (is_held held (slot_of layout a))) (addr_of superblock) (in_version_two drafts.found) [] t.writes drafts.writes
+      (ap (λ hs. is_held hs (slot_of layout (addr_of superblock))) only.1 ∙ ap (λ (n : ℕ). (n == slot_of layout (addr_of superblock)) || false) only.2
+      ∙ ap (λ b. b || false) (eq-eqb (slot_of layout (addr_of superblock)) (slot_of layout (addr_of superblock)) refl))
+      (All-nil (λ (p : Pair). IsTrue (is_held held (slot_of layout p.0))))
 
   pub apart : AreApart held
   apart = λ i j lt_i lt_j same. omega (arith, lt_i, lt_j, ap length only.1)

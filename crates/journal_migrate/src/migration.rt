@@ -29,7 +29,7 @@ use journal_core::{Cause, Core, ReadResult, Transaction};
 use journal_disk::BlockDisk;
 use journal_history::{Book, Naming};
 use journal_lockmap::{Held, LockMap, SlotCell, SlotLocks};
-use journal_world::{BLOCK_BYTES, Layout, Refusal, Refused, Value, slot_of};
+use journal_world::{BLOCK_BYTES, Layout, Refusal, Refused, Value};
 use std::alloc::{AllocError, Global};
 use std::array;
 use std::sync::Wait;
@@ -75,7 +75,7 @@ pub fn migrate<'b, D: BlockDisk, J: Naming, W: Wait>(
             disk,
         });
     };
-    let Ok(slot_locks) = SlotLocks::new(alloc) else {
+    let Ok(slot_locks) = SlotLocks::new(alloc, layout) else {
         return Err(Refused {
             refusal: Refusal::NoMemory,
             disk,
@@ -84,7 +84,7 @@ pub fn migrate<'b, D: BlockDisk, J: Naming, W: Wait>(
     let (mut core, slots) = Core::open_step(alloc, book, cell, layout, disk, &rule, COPIES)?;
     let slots = LockMap::new(slot_locks, slots);
     // Nobody else takes one of these slots, so this waits for nobody.
-    let mut held = slots.acquire(rt, slot_of(SUPERBLOCK_ADDR));
+    let mut held = slots.acquire(rt, layout.slot_of(SUPERBLOCK_ADDR));
     let answer = upgrade(rt, alloc, &mut core, array::from_mut(&mut held));
     slots.release(rt, held);
     match answer {
@@ -105,7 +105,7 @@ fn upgrade<'b, D: BlockDisk, J: Naming, W: Wait>(
 ) -> Result<(), MigrationRefusal<'b, J>>
     requires cut { IsCut J.layout }
     requires begins { (layout : Shape) × (disk : DiskState) × Begins HasEitherFiles layout disk core.old }
-    requires held { slots_of held.old ≡ slot_number (addr_of superblock) ∷ [] }
+    requires held { slots_of held.old ≡ slot_number J.layout (addr_of superblock) ∷ [] }
     ensures upgraded { IsTrue (is_trusted core.old.history) → OnOk result ((files : Files)
         → HasFilesOfEither files (opened core.old.history) → LeavesMaps (HasFiles Two files) core.new.history) }
     ensures left { IsTrue (is_trusted core.old.history) → OnErr result ((files : Files)
@@ -137,7 +137,7 @@ fn draft<'b, D: BlockDisk, J: Naming, W: Wait>(
     requires begun { transaction.old ≡ begun core.old.history }
     requires running { IsRunning core.old }
     ensures drafted { IfOk result (λ of_one. IsTrue of_one → DraftsUpgrade core.old.history transaction.new) }
-    ensures agree { OnOk result (AgreeWith core.new.history held.new) }
+    ensures agree { OnOk result (AgreeWith J.layout core.new.history held.new) }
     ensures held { held.new ≡ held.old }
     ensures other { IfOk result (λ of_one. of_one ≡ false → IsTrue (is_trusted core.old.history)
         → HasSoundFiles One (latest core.old.history) → ⊥) }

@@ -82,7 +82,7 @@ impl ObjectTail {
         ensures stands { IsTrue result → updates_block (tail_of self.now.log) addr.block ≡ true }
         ensures value { IsTrue result → IsTrue (is_value_of Kind.Block (updated (tail_of self.now.log) addr.block [])) }
     {
-        self.has_tail_block(addr.block) && layout.is_valid(addr) && is_admitted(layout, addr, value)
+        self.has_tail_block(addr.block) && is_admitted(layout, addr, value)
     }
 
     /// One update for each block that is written and does not stand in the tail, blocks ascending, with its objects

@@ -1,6 +1,5 @@
 // What writes are: their addresses, their values and their blocks.
 ghost use Rattle.std.specs.Prelude.{◌≡◌, ◌↔◌, IsTrue, Some};
-ghost use Rattle.journal_world.specs.Addresses.{is_valid};
 ghost use Rattle.journal_world.specs.Files.{shape};
 ghost use Rattle.journal_world.specs.Maps.{is_object, are_objects};
 ghost use Rattle.journal_objlog.specs.Writes.{are_valid};
@@ -21,20 +20,19 @@ pub(crate) fn check_writes(layout: &Layout, writes: &Objects) -> (bool, bool)
 {
     let mut objects = true;
     for (addr, value) in writes.iter() {
-        if !layout.is_valid(*addr) {
+        let Some(kind) = layout.kind_at(*addr) else {
             return (false, false);
-        }
-        objects &= is_admitted(layout, *addr, value);
+        };
+        objects &= kind.admits(value.bytes());
     }
     (true, objects)
 }
 
-// Whether the value is of the kind of the address, which is valid.
+// Whether the address is valid, and the value of its kind.
 pub(crate) fn is_admitted(layout: &Layout, addr: Addr, value: &Value) -> bool
-    requires { IsTrue (is_valid (shape layout.now) addr) }
     ensures { result ≡ is_object (shape layout.now) (addr, value.now) }
 {
-    match layout.kind(addr.block) {
+    match layout.kind_at(addr) {
         Some(kind) => kind.admits(value.bytes()),
         None => false,
     }

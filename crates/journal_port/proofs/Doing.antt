@@ -6,7 +6,7 @@ use Rattle.std.proofs.lemmas.List.{take_all}
 use Rattle.std.proofs.lemmas.List.Elements.{All-nil, All-cons, All-append, All-weaker}
 use mathlib.Core.List.{IsPrefix}
 use Rattle.journal_world.proofs.Prefixes.{IsPrefix-refl, IsPrefix-trans}
-use Rattle.journal_world.specs.Addresses.{Value, slot_of}
+use Rattle.journal_world.specs.Addresses.{Value, slot_of, Shape}
 use Rattle.journal_world.specs.Maps.{Agrees, value_among}
 use Rattle.journal_world.specs.Histories.{is_trusted, latest}
 use Rattle.journal_twophase.specs.Transactions.{TxnState, holding, with_slot, Learns, Overwrites, ReadsValue}
@@ -18,35 +18,35 @@ use Rattle.journal_port.proofs.Lists.{compared_append, written_append, put_befor
 use Rattle.journal_port.proofs.Keeping.{trusted_later, read_now, kept_reads}
 
 -- what a read of an address told that the transaction did not overwrite
-pub Learns-unwritten : (old new : TxnState) (p : Part) (v : Value) → p.action ≡ Compare → IsReady old p → ReadsValue (holding old p.addr) p.addr v new → Learns (holding old p.addr) p.addr v new
-Learns-unwritten old new p v is ready reads = at (value_among old.writes p.addr) (ready.unwritten is) reads
+pub Learns-unwritten : (layout : Shape) (old new : TxnState) (p : Part) (v : Value) → p.action ≡ Compare → IsReady layout old p → ReadsValue (holding layout old p.addr) p.addr v new → Learns (holding layout old p.addr) p.addr v new
+Learns-unwritten layout old new p v is ready reads = at (value_among old.writes p.addr) (ready.unwritten is) reads
   where
-    at : (own : Option Value) → own ≡ None → MatchOption own (Learns (holding old p.addr) p.addr v new) (λ w. (v ≡ w) × (new ≡ holding old p.addr)) → Learns (holding old p.addr) p.addr v new
+    at : (own : Option Value) → own ≡ None → MatchOption own (Learns (holding layout old p.addr) p.addr v new) (λ w. (v ≡ w) × (new ≡ holding layout old p.addr)) → Learns (holding layout old p.addr) p.addr v new
     at None none told = told
     at (Some w) none told = absurd (let e : Some w ≡ None = none in cc)
 
-pub Does-compare : (old new : TxnState) (p : Part) → p.action ≡ Compare → Learns (holding old p.addr) p.addr p.value new
+pub Does-compare : (layout : Shape) (old new : TxnState) (p : Part) → p.action ≡ Compare → Learns (holding layout old p.addr) p.addr p.value new
     → (IsTrue (is_trusted new.seen) → Agrees (latest new.seen) old.reads) → (IsTrue (is_trusted new.seen) → Agrees (latest new.seen) new.reads) → Does (p ∷ []) old new
-Does-compare old new p is learns before after = record {
+Does-compare layout old new p is learns before after = record {
   reads = λ a. learns.reads a ∙ ap (λ pair. value_among (if_compared pair (p.addr, p.value) ++ old.reads) a) (sym is);
   writes = λ a. ap (λ (t : TxnState). value_among t.writes a) learns.others ∙ ap (λ pair. value_among (if_written pair (p.addr, p.value) ++ old.writes) a) (sym is);
   began = ap (λ (t : TxnState). t.began) learns.others;
   later = learns.later;
-  kept = kept_reads old new p.addr p.value learns before after;
+  kept = kept_reads layout old new p.addr p.value learns before after;
   matched = λ trusted. All-cons (IsRead new.reads) p [] (λ compares. read_now old.reads new.reads p.addr p.value learns.reads) (All-nil (IsRead new.reads));
 }
 
 -- the same, by what the read told
-pub Does-matched : (old new : TxnState) (p : Part) (v : Value) → p.action ≡ Compare → IsReady old p → v ≡ p.value → ReadsValue (holding old p.addr) p.addr v new
+pub Does-matched : (layout : Shape) (old new : TxnState) (p : Part) (v : Value) → p.action ≡ Compare → IsReady layout old p → v ≡ p.value → ReadsValue (holding layout old p.addr) p.addr v new
     → (IsTrue (is_trusted new.seen) → Agrees (latest new.seen) old.reads) → (IsTrue (is_trusted new.seen) → Agrees (latest new.seen) new.reads) → Does (p ∷ []) old new
-Does-matched old new p v is ready same reads before after =
-    Does-compare old new p is (Learns-unwritten old new p p.value is ready (subst (λ (w : Value). ReadsValue (holding old p.addr) p.addr w new) same reads)) before after
+Does-matched layout old new p v is ready same reads before after =
+    Does-compare layout old new p is (Learns-unwritten layout old new p p.value is ready (subst (λ (w : Value). ReadsValue (holding layout old p.addr) p.addr w new) same reads)) before after
 
-pub held-compare : (old new : TxnState) (p : Part) → Learns (holding old p.addr) p.addr p.value new → new.held ≡ with_slot old.held (slot_of p.addr)
-held-compare old new p learns = ap (λ (t : TxnState). t.held) learns.others
+pub held-compare : (layout : Shape) (old new : TxnState) (p : Part) → Learns (holding layout old p.addr) p.addr p.value new → new.held ≡ with_slot old.held (slot_of layout p.addr)
+held-compare layout old new p learns = ap (λ (t : TxnState). t.held) learns.others
 
-pub Does-write : (old new : TxnState) (p : Part) → p.action ≡ Write → Overwrites (holding old p.addr) p.addr p.value new → Does (p ∷ []) old new
-Does-write old new p is wrote = record {
+pub Does-write : (layout : Shape) (old new : TxnState) (p : Part) → p.action ≡ Write → Overwrites (holding layout old p.addr) p.addr p.value new → Does (p ∷ []) old new
+Does-write layout old new p is wrote = record {
   reads = λ a. ap (λ (t : TxnState). value_among t.reads a) wrote.others ∙ ap (λ pair. value_among (if_compared pair (p.addr, p.value) ++ old.reads) a) (sym is);
   writes = λ a. wrote.writes a ∙ ap (λ pair. value_among (if_written pair (p.addr, p.value) ++ old.writes) a) (sym is);
   began = ap (λ (t : TxnState). t.began) wrote.others;
@@ -55,8 +55,8 @@ Does-write old new p is wrote = record {
   matched = λ trusted. All-cons (IsRead new.reads) p [] (λ compares. absurd (let e : Write ≡ Compare = sym is ∙ compares in cc)) (All-nil (IsRead new.reads));
 }
 
-pub held-write : (old new : TxnState) (p : Part) → Overwrites (holding old p.addr) p.addr p.value new → new.held ≡ with_slot old.held (slot_of p.addr)
-held-write old new p wrote = ap (λ (t : TxnState). t.held) wrote.others
+pub held-write : (layout : Shape) (old new : TxnState) (p : Part) → Overwrites (holding layout old p.addr) p.addr p.value new → new.held ≡ with_slot old.held (slot_of layout p.addr)
+held-write layout old new p wrote = ap (λ (t : TxnState). t.held) wrote.others
 
 -- one after another
 pub Does-none : (t : TxnState) → Does [] t t

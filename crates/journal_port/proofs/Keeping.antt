@@ -7,7 +7,7 @@ use Rattle.std.proofs.lemmas.List.{length-take-le}
 use Rattle.std.proofs.lemmas.List.Elements.{All-nil, All-cons, All-head, All-tail, All-append, All-weaker}
 use mathlib.Core.List.{IsPrefix}
 use Rattle.journal_world.specs.declared.address.Addr.{Addr}
-use Rattle.journal_world.specs.Addresses.{Value, is_same}
+use Rattle.journal_world.specs.Addresses.{Value, is_same, Shape}
 use Rattle.journal_world.specs.Maps.{Map, Pair, SamePairs, Agrees, value_among, value_at}
 use Rattle.journal_world.specs.Histories.{Entry, is_trusted, latest}
 use Rattle.journal_world.proofs.Lookups.{same_addr}
@@ -55,9 +55,9 @@ keeps_one m old new a v before after same b w found = by_test (is_same b a) refl
     by_test false is = same b ∙ ap (λ t. cond t (Some v) (value_among old b)) is ∙ found
 
 -- the same, of an open transaction that reads an address
-pub kept_reads : (old new : TxnState) (a : Addr) (v : Value) → Learns (holding old a) a v new → (IsTrue (is_trusted new.seen) → Agrees (latest new.seen) old.reads)
+pub kept_reads : (layout : Shape) (old new : TxnState) (a : Addr) (v : Value) → Learns (holding layout old a) a v new → (IsTrue (is_trusted new.seen) → Agrees (latest new.seen) old.reads)
     → (IsTrue (is_trusted new.seen) → Agrees (latest new.seen) new.reads) → IsTrue (is_trusted old.seen) → KeepsReads old.reads new.reads
-kept_reads old new a v learns before after trusted =
+kept_reads layout old new a v learns before after trusted =
     let still : IsTrue (is_trusted new.seen) = trusted_later old.seen new.seen learns.later trusted in
     keeps_one (latest new.seen) old.reads new.reads a v (before still) (after still) learns.reads
 

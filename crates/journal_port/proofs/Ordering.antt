@@ -7,7 +7,7 @@ use Rattle.std.specs.Ordering.{is_lt, nat_cmp}
 use Rattle.std.proofs.lemmas.Bool.{false≢true}
 use Rattle.std.proofs.lemmas.Bool.Decides.{nat_tests}
 use Rattle.journal_world.specs.declared.address.Addr.{Addr}
-use Rattle.journal_world.specs.Addresses.{is_same, slot_of}
+use Rattle.journal_world.specs.Addresses.{is_same, slot_of, Shape}
 use Rattle.journal_world.specs.Maps.{Pair, SamePairs, value_among}
 use Rattle.journal_world.proofs.Lookups.{same_addr}
 use Rattle.journal_twophase.specs.Transactions.{TxnState, holds, holds_above, with_slot}
@@ -72,8 +72,8 @@ written_kept q a passes (p ∷ ps) = by_test (q p) refl (written_kept q a passes
         ∙ sym (or_else_none (value_among (written ps) a) (value_among (if_written p.action (p.addr, p.value)) a) (others p.action refl is))
         ∙ sym (among_append (written ps) (if_written p.action (p.addr, p.value)) a)
 
-abbrev pub by_order : Part → Part → Bool
-by_order x y = is_lt (nat_cmp (order_of x) (order_of y))
+abbrev pub by_order : Shape → Part → Part → Bool
+by_order layout x y = is_lt (nat_cmp (order_of layout x) (order_of layout y))
 
 -- a part of the address that does this, whatever its value
 abbrev pub at_addr : Action → Addr → Part
@@ -85,26 +85,26 @@ not_below_itself n = grind (arith, nat_tests)
 ties_itself : (m n : ℕ) → m ≡ n → (not (is_lt (nat_cmp m n)) && not (is_lt (nat_cmp n m))) ≡ true
 ties_itself m n is = subst (λ k. (not (is_lt (nat_cmp m k)) && not (is_lt (nat_cmp k m))) ≡ true) is (ap (λ b. not b && not b) (not_below_itself m))
 
-same_order : (action : Action) (a : Addr) (p : Part) → p.action ≡ action → is_same a p.addr ≡ true → slot_of a * 2 + action_order action ≡ order_of p
-same_order action a p is same = ap (λ b. slot_of b * 2 + action_order action) (same_addr a p.addr same) ∙ ap (λ act. slot_of p.addr * 2 + action_order act) (sym is)
+same_order : (layout : Shape) (action : Action) (a : Addr) (p : Part) → p.action ≡ action → is_same a p.addr ≡ true → slot_of layout a * 2 + action_order action ≡ order_of layout p
+same_order layout action a p is same = ap (λ b. slot_of layout b * 2 + action_order action) (same_addr a p.addr same) ∙ ap (λ act. slot_of layout p.addr * 2 + action_order act) (sym is)
 
-pub compared_sorted : (xs ys : List Part) → IsStableByKey order_of nat_cmp xs ys → SamePairs (compared ys) (compared xs)
-compared_sorted xs ys stable a =
-    sym (compared_kept (ties by_order (at_addr Compare a)) a passes ys)
+pub compared_sorted : (layout : Shape) (xs ys : List Part) → IsStableByKey (order_of layout) nat_cmp xs ys → SamePairs (compared ys) (compared xs)
+compared_sorted layout xs ys stable a =
+    sym (compared_kept (ties (by_order layout) (at_addr Compare a)) a passes ys)
     ∙ ap (λ l. value_among (compared l) a) (stable (at_addr Compare a))
-    ∙ compared_kept (ties by_order (at_addr Compare a)) a passes xs
+    ∙ compared_kept (ties (by_order layout) (at_addr Compare a)) a passes xs
   where
-    passes : (p : Part) → p.action ≡ Compare → is_same a p.addr ≡ true → ties by_order (at_addr Compare a) p ≡ true
-    passes p is same = ties_itself (order_of (at_addr Compare a)) (order_of p) (same_order Compare a p is same)
+    passes : (p : Part) → p.action ≡ Compare → is_same a p.addr ≡ true → ties (by_order layout) (at_addr Compare a) p ≡ true
+    passes p is same = ties_itself (order_of layout (at_addr Compare a)) (order_of layout p) (same_order layout Compare a p is same)
 
-pub written_sorted : (xs ys : List Part) → IsStableByKey order_of nat_cmp xs ys → SamePairs (written ys) (written xs)
-written_sorted xs ys stable a =
-    sym (written_kept (ties by_order (at_addr Write a)) a passes ys)
+pub written_sorted : (layout : Shape) (xs ys : List Part) → IsStableByKey (order_of layout) nat_cmp xs ys → SamePairs (written ys) (written xs)
+written_sorted layout xs ys stable a =
+    sym (written_kept (ties (by_order layout) (at_addr Write a)) a passes ys)
     ∙ ap (λ l. value_among (written l) a) (stable (at_addr Write a))
-    ∙ written_kept (ties by_order (at_addr Write a)) a passes xs
+    ∙ written_kept (ties (by_order layout) (at_addr Write a)) a passes xs
   where
-    passes : (p : Part) → p.action ≡ Write → is_same a p.addr ≡ true → ties by_order (at_addr Write a) p ≡ true
-    passes p is same = ties_itself (order_of (at_addr Write a)) (order_of p) (same_order Write a p is same)
+    passes : (p : Part) → p.action ≡ Write → is_same a p.addr ≡ true → ties (by_order layout) (at_addr Write a) p ≡ true
+    passes p is same = ties_itself (order_of layout (at_addr Write a)) (order_of layout p) (same_order layout Write a p is same)
 
 -- ---- what is ready
 
@@ -128,12 +128,12 @@ ascends_with held s t le none = by_test (holds held s)
     by_test false = any_push (λ h. nat_lt t h) held s none (grind (arith, nat_tests))
 
 -- what a part of a later turn compares was not written by this one
-not_written : (p q : Part) → order_of p ≤ order_of q → q.action ≡ Compare → value_among (if_written p.action (p.addr, p.value)) q.addr ≡ None
-not_written p q le compares = by_action p.action refl
+not_written : (layout : Shape) (p q : Part) → order_of layout p ≤ order_of layout q → q.action ≡ Compare → value_among (if_written p.action (p.addr, p.value)) q.addr ≡ None
+not_written layout p q le compares = by_action p.action refl
   where
     elsewhere : p.action ≡ Write → is_same q.addr p.addr ≡ true → ⊥
     elsewhere writes same =
-        let slots : slot_of q.addr ≡ slot_of p.addr = ap slot_of (same_addr q.addr p.addr same) in
+        let slots : slot_of layout q.addr ≡ slot_of layout p.addr = ap (slot_of layout) (same_addr q.addr p.addr same) in
         let first : action_order p.action ≡ 1 = ap action_order writes in
         let second : action_order q.action ≡ 0 = ap action_order compares in
         omega (arith, slots, first, second, le)
@@ -143,29 +143,29 @@ not_written p q le compares = by_action p.action refl
     by_action Write is = single_none q.addr (p.addr, p.value) (not_true (is_same q.addr p.addr) (elsewhere is))
 
 -- a part of a later turn stays ready
-pub IsReady-next : (old new : TxnState) (p q : Part) → order_of p ≤ order_of q → IsReady old q → Does (p ∷ []) old new → new.held ≡ with_slot old.held (slot_of p.addr) → IsReady new q
-IsReady-next old new p q le ready did held = record {
+pub IsReady-next : (layout : Shape) (old new : TxnState) (p q : Part) → order_of layout p ≤ order_of layout q → IsReady layout old q → Does (p ∷ []) old new → new.held ≡ with_slot old.held (slot_of layout p.addr) → IsReady layout new q
+IsReady-next layout old new p q le ready did held = record {
   ascends =
-      ap (λ h. holds_above h (slot_of q.addr)) held
-      ∙ ascends_with old.held (slot_of p.addr) (slot_of q.addr) (let one : action_order q.action ≤ 1 = action_bit q.action in omega (arith, le, one)) ready.ascends;
+      ap (λ h. holds_above h (slot_of layout q.addr)) held
+      ∙ ascends_with old.held (slot_of layout p.addr) (slot_of layout q.addr) (let one : action_order q.action ≤ 1 = action_bit q.action in omega (arith, le, one)) ready.ascends;
   unwritten = λ compares.
       did.writes q.addr
       ∙ among_append (if_written p.action (p.addr, p.value)) old.writes q.addr
-      ∙ ap (λ o. or_else o (value_among old.writes q.addr)) (not_written p q le compares)
+      ∙ ap (λ o. or_else o (value_among old.writes q.addr)) (not_written layout p q le compares)
       ∙ ready.unwritten compares;
 }
 
 -- a transaction that has done nothing is ready for any
-pub IsReady-begun : (t : TxnState) (p : Part) → t.held ≡ [] → t.writes ≡ [] → IsReady t p
-IsReady-begun t p held writes = record {
-  ascends = ap (λ h. holds_above h (slot_of p.addr)) held;
+pub IsReady-begun : (layout : Shape) (t : TxnState) (p : Part) → t.held ≡ [] → t.writes ≡ [] → IsReady layout t p
+IsReady-begun layout t p held writes = record {
+  ascends = ap (λ h. holds_above h (slot_of layout p.addr)) held;
   unwritten = λ compares. ap (λ ws. value_among ws p.addr) writes;
 }
 
 -- in a list whose parts are in order, those behind one that was done
-pub AllReady-next : (parts : List Part) (i : ℕ) (x : Part) (middle new : TxnState) → IsNonDecreasingBy order_of parts → i < length parts → x ≡ get_or parts i x
-    → AllWithin (IsReady middle) parts i (length parts) → Does (x ∷ []) middle new → new.held ≡ with_slot middle.held (slot_of x.addr) → AllWithin (IsReady new) parts (i + 1) (length parts)
-AllReady-next parts i x middle new up low is ready did held k d from below =
-    IsReady-next middle new x (get_or parts k d)
-    (subst (λ p. order_of p ≤ order_of (get_or parts k d)) (get_or_default parts i d x low ∙ sym is) (up i k d (omega (arith, from)) below))
+pub AllReady-next : (layout : Shape) (parts : List Part) (i : ℕ) (x : Part) (middle new : TxnState) → IsNonDecreasingBy (order_of layout) parts → i < length parts → x ≡ get_or parts i x
+    → AllWithin (IsReady layout middle) parts i (length parts) → Does (x ∷ []) middle new → new.held ≡ with_slot middle.held (slot_of layout x.addr) → AllWithin (IsReady layout new) parts (i + 1) (length parts)
+AllReady-next layout parts i x middle new up low is ready did held k d from below =
+    IsReady-next layout middle new x (get_or parts k d)
+    (subst (λ p. order_of layout p ≤ order_of layout (get_or parts k d)) (get_or_default parts i d x low ∙ sym is) (up i k d (omega (arith, from)) below))
     (ready k d (omega (arith, from)) below) did held

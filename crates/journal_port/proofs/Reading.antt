@@ -22,18 +22,18 @@ use Rattle.journal_port.proofs.Ordering.{ascends_with}
 
 -- ---- one address
 
-pub Learns-clear : (old new : TxnState) (a : Addr) (v : Value) → old.writes ≡ [] → ReadsValue (holding old a) a v new → Learns (holding old a) a v new
-Learns-clear old new a v none reads =
-    subst (λ ws. MatchOption (value_among ws a) (Learns (holding old a) a v new) (λ w. (v ≡ w) × (new ≡ holding old a))) none reads
+pub Learns-clear : (layout : Shape) (old new : TxnState) (a : Addr) (v : Value) → old.writes ≡ [] → ReadsValue (holding layout old a) a v new → Learns (holding layout old a) a v new
+Learns-clear layout old new a v none reads =
+    subst (λ ws. MatchOption (value_among ws a) (Learns (holding layout old a) a v new) (λ w. (v ≡ w) × (new ≡ holding layout old a))) none reads
 
 -- a value that was read is read still
-pub read_keeps : {E : Type 0} (r : Result Value E) (old new : TxnState) (a : Addr) → old.writes ≡ [] → IfOk r (λ v. ReadsValue (holding old a) a v new)
+pub read_keeps : {E : Type 0} (layout : Shape) (r : Result Value E) (old new : TxnState) (a : Addr) → old.writes ≡ [] → IfOk r (λ v. ReadsValue (holding layout old a) a v new)
     → OnOk r (IsTrue (is_trusted new.seen) → Agrees (latest new.seen) old.reads) → OnOk r (IsTrue (is_trusted new.seen) → Agrees (latest new.seen) new.reads)
     → OnOk r (IsTrue (is_trusted old.seen) → KeepsReads old.reads new.reads)
-read_keeps (Ok v) old new a none reads before after = kept_reads old new a v (Learns-clear old new a v none reads) before after
-read_keeps (Err why) old new a none reads before after = tt
+read_keeps layout (Ok v) old new a none reads before after = kept_reads layout old new a v (Learns-clear layout old new a v none reads) before after
+read_keeps layout (Err why) old new a none reads before after = tt
 
-pub addr_refused : (layout : Shape) (t : TxnState) (a : Addr) (why : Refusal CauseState) → (IsBelowHeld (slot_of a) t.held → ⊥) → twophase.IsReadRefusal layout t a why → IsAddrRefusal layout a why
+pub addr_refused : (layout : Shape) (t : TxnState) (a : Addr) (why : Refusal CauseState) → (IsBelowHeld (slot_of layout a) t.held → ⊥) → twophase.IsReadRefusal layout t a why → IsAddrRefusal layout a why
 addr_refused layout t a NoMemory ascends is = tt
 addr_refused layout t a BadAddress ascends is = is
 addr_refused layout t a BadSize ascends is = is.1
@@ -101,23 +101,23 @@ holds_kept held s t is = by_test (holds held s)
 pub with_held : (held : List ℕ) (s : ℕ) → holds held s ≡ true → with_slot held s ≡ held
 with_held held s is = ap (λ b. cond b held (held ++ s ∷ [])) is
 
-pub Held-next : (addrs : List Addr) (i : ℕ) (a : Addr) (middle new : TxnState) → i < length addrs → a ≡ get_or addrs i a → new.held ≡ with_slot middle.held (slot_of a)
-    → All (λ b. holds middle.held (slot_of b) ≡ true) (take i addrs) → All (λ b. holds new.held (slot_of b) ≡ true) (take (i + 1) addrs)
-Held-next addrs i a middle new low is held all =
-    All-more (λ b. holds new.held (slot_of b) ≡ true) addrs i a low
-    (All-weaker (λ b. holds middle.held (slot_of b) ≡ true) (λ b. holds new.held (slot_of b) ≡ true) (λ b has. ap (λ h. holds h (slot_of b)) held ∙ holds_kept middle.held (slot_of a) (slot_of b) has) (take i addrs) all)
-    (subst (λ b. holds new.held (slot_of b) ≡ true) is (ap (λ h. holds h (slot_of a)) held ∙ holds_last middle.held (slot_of a)))
+pub Held-next : (layout : Shape) (addrs : List Addr) (i : ℕ) (a : Addr) (middle new : TxnState) → i < length addrs → a ≡ get_or addrs i a → new.held ≡ with_slot middle.held (slot_of layout a)
+    → All (λ b. holds middle.held (slot_of layout b) ≡ true) (take i addrs) → All (λ b. holds new.held (slot_of layout b) ≡ true) (take (i + 1) addrs)
+Held-next layout addrs i a middle new low is held all =
+    All-more (λ b. holds new.held (slot_of layout b) ≡ true) addrs i a low
+    (All-weaker (λ b. holds middle.held (slot_of layout b) ≡ true) (λ b. holds new.held (slot_of layout b) ≡ true) (λ b has. ap (λ h. holds h (slot_of layout b)) held ∙ holds_kept middle.held (slot_of layout a) (slot_of layout b) has) (take i addrs) all)
+    (subst (λ b. holds new.held (slot_of layout b) ≡ true) is (ap (λ h. holds h (slot_of layout a)) held ∙ holds_last middle.held (slot_of layout a)))
 
-pub Ascends-next : (addrs : List Addr) (i : ℕ) (a : Addr) (middle new : TxnState) → IsNonDecreasingBy slot_of addrs → i < length addrs → a ≡ get_or addrs i a → new.held ≡ with_slot middle.held (slot_of a)
-    → AllWithin (λ b. holds_above middle.held (slot_of b) ≡ false) addrs i (length addrs) → AllWithin (λ b. holds_above new.held (slot_of b) ≡ false) addrs (i + 1) (length addrs)
-Ascends-next addrs i a middle new up low is held all k d from below =
-    ap (λ h. holds_above h (slot_of (get_or addrs k d))) held
-    ∙ ascends_with middle.held (slot_of a) (slot_of (get_or addrs k d))
-    (subst (λ b. slot_of b ≤ slot_of (get_or addrs k d)) (get_or_default addrs i d a low ∙ sym is) (up i k d (omega (arith, from)) below))
+pub Ascends-next : (layout : Shape) (addrs : List Addr) (i : ℕ) (a : Addr) (middle new : TxnState) → IsNonDecreasingBy (slot_of layout) addrs → i < length addrs → a ≡ get_or addrs i a → new.held ≡ with_slot middle.held (slot_of layout a)
+    → AllWithin (λ b. holds_above middle.held (slot_of layout b) ≡ false) addrs i (length addrs) → AllWithin (λ b. holds_above new.held (slot_of layout b) ≡ false) addrs (i + 1) (length addrs)
+Ascends-next layout addrs i a middle new up low is held all k d from below =
+    ap (λ h. holds_above h (slot_of layout (get_or addrs k d))) held
+    ∙ ascends_with middle.held (slot_of layout a) (slot_of layout (get_or addrs k d))
+    (subst (λ b. slot_of layout b ≤ slot_of layout (get_or addrs k d)) (get_or_default addrs i d a low ∙ sym is) (up i k d (omega (arith, from)) below))
     (all k d (omega (arith, from)) below)
 
 -- a slot that was held from the start is held no more than before
-pub Held-stays : (addrs : List Addr) (i : ℕ) (a : Addr) (first middle last : List ℕ) → i < length addrs → a ≡ get_or addrs i a → All (λ b. IsTrue (holds first (slot_of b))) addrs
-    → middle ≡ first → last ≡ with_slot middle (slot_of a) → last ≡ first
-Held-stays addrs i a first middle last low is all same taken =
-    taken ∙ ap (λ h. with_slot h (slot_of a)) same ∙ with_held first (slot_of a) (subst (λ b. holds first (slot_of b) ≡ true) (sym is) (all i a low))
+pub Held-stays : (layout : Shape) (addrs : List Addr) (i : ℕ) (a : Addr) (first middle last : List ℕ) → i < length addrs → a ≡ get_or addrs i a → All (λ b. IsTrue (holds first (slot_of layout b))) addrs
+    → middle ≡ first → last ≡ with_slot middle (slot_of layout a) → last ≡ first
+Held-stays layout addrs i a first middle last low is all same taken =
+    taken ∙ ap (λ h. with_slot h (slot_of layout a)) same ∙ with_held first (slot_of layout a) (subst (λ b. holds first (slot_of layout b) ≡ true) (sym is) (all i a low))

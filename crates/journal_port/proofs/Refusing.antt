@@ -10,7 +10,7 @@ use Rattle.journal_records.specs.declared.request.Action.TheVariants.{Write}
 use Rattle.journal_records.specs.declared.request.Part.{Part}
 use Rattle.journal_port.specs.Parts.{IsReady, IsPartRefusal}
 
-pub read_refused : (layout : Shape) (t : TxnState) (p : Part) (why : Refusal CauseState) → IsReady t p → IsReadRefusal layout t p.addr why → IsPartRefusal layout p why
+pub read_refused : (layout : Shape) (t : TxnState) (p : Part) (why : Refusal CauseState) → IsReady layout t p → IsReadRefusal layout t p.addr why → IsPartRefusal layout p why
 read_refused layout t p NoMemory ready is = tt
 read_refused layout t p BadAddress ready is = is
 read_refused layout t p BadSize ready is = absurd is.1
@@ -26,7 +26,7 @@ read_refused layout t p (Full cause) ready is = absurd is.1
 read_refused layout t p (Closed cause) ready is = is
 read_refused layout t p Fenced ready is = absurd is.1
 
-pub overwrite_refused : (layout : Shape) (t : TxnState) (p : Part) (why : Refusal CauseState) → p.action ≡ Write → IsReady t p → IsOverwriteRefusal layout t p.addr p.value why → IsPartRefusal layout p why
+pub overwrite_refused : (layout : Shape) (t : TxnState) (p : Part) (why : Refusal CauseState) → p.action ≡ Write → IsReady layout t p → IsOverwriteRefusal layout t p.addr p.value why → IsPartRefusal layout p why
 overwrite_refused layout t p NoMemory writes ready is = tt
 overwrite_refused layout t p BadAddress writes ready is = is
 overwrite_refused layout t p BadSize writes ready is = (writes, is.0, is.1)

@@ -32,8 +32,8 @@ pub record Does (ps : List Part) (old new : TxnState) : Type 0 where
   pub matched : IsTrue (is_trusted old.seen) → All (IsRead new.reads) ps
 
 -- The part can be done without a slot below one that is held, and what it compares is not the transaction's own
-pub record IsReady (t : TxnState) (p : Part) : Type 0 where
-  pub ascends : holds_above t.held (slot_of p.addr) ≡ false
+pub record IsReady (layout : Shape) (t : TxnState) (p : Part) : Type 0 where
+  pub ascends : holds_above t.held (slot_of layout p.addr) ≡ false
   pub unwritten : p.action ≡ Compare → value_among t.writes p.addr ≡ None
 
 -- where the part compares, the map gives its address its value

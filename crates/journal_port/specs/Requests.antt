@@ -1,6 +1,6 @@
 -- What a request asks, and in which order its parts are done.
 use Rattle.std.specs.Prelude.{ℕ, ◌+◌, ◌*◌, List, [], ◌∷◌, ◌++◌}
-use Rattle.journal_world.specs.Addresses.{slot_of}
+use Rattle.journal_world.specs.Addresses.{slot_of, Shape}
 use Rattle.journal_world.specs.Maps.{Pair}
 use Rattle.journal_records.specs.declared.request.Action.{Action}
 use Rattle.journal_records.specs.declared.request.Action.TheVariants.{Compare, Write}
@@ -31,5 +31,5 @@ action_order Compare = 0
 action_order Write = 1
 
 -- where a part comes: slots ascend, and under one slot what is compared comes first
-abbrev pub order_of : Part → ℕ
-order_of p = slot_of p.addr * 2 + action_order p.action
+abbrev pub order_of : Shape → Part → ℕ
+order_of layout p = slot_of layout p.addr * 2 + action_order p.action

@@ -26,7 +26,7 @@ pub(crate) fn commit<'b, D: BlockDisk, J: Naming, W: Wait>(
     ensures { IsCommitAnswer J.layout parts.items waits session.new.seen session.old session.new result }
 {
     let mut parts = parts;
-    match sort(&mut parts) {
+    match sort(journal, &mut parts) {
         Ok(()) => commit_in_order(rt, alloc, journal, session, &parts, waits),
         Err(_) => Answer::Refused(Refused::NoMemory),
     }
@@ -41,7 +41,7 @@ fn commit_in_order<'b, D: BlockDisk, J: Naming, W: Wait>(
     parts: &[Part],
     waits: bool,
 ) -> Answer
-    requires { IsNonDecreasingBy order_of parts.now }
+    requires { IsNonDecreasingBy (order_of J.layout) parts.now }
     ensures { IsCommitAnswer J.layout parts.now waits session.new.seen session.old session.new result }
 {
     let mut txn = journal.begin(alloc, session);

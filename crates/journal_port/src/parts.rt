@@ -34,7 +34,7 @@ pub(crate) fn do_parts<'j, 'b, D: BlockDisk, J: Naming, W: Wait>(
     txn: &mut Txn<'j, 'b, D, AnyMap, J>,
     parts: &[Part],
 ) -> Result<(), PartEnd<'b, J>>
-    requires ascending { IsNonDecreasingBy order_of parts.now }
+    requires ascending { IsNonDecreasingBy (order_of J.layout) parts.now }
     requires held { txn.old.held ≡ [] }
     requires writes { txn.old.writes ≡ [] }
     ensures does { OnOk result (Does parts.now txn.old txn.new) }
@@ -53,9 +53,9 @@ fn do_part<'j, 'b, D: BlockDisk, J: Naming, W: Wait>(
     txn: &mut Txn<'j, 'b, D, AnyMap, J>,
     part: &Part,
 ) -> Result<(), PartEnd<'b, J>>
-    requires ready { IsReady txn.old part.now }
+    requires ready { IsReady J.layout txn.old part.now }
     ensures does { OnOk result (Does (part.now ∷ []) txn.old txn.new) }
-    ensures held { OnOk result (txn.new.held ≡ with_slot txn.old.held (slot_number part.now.addr)) }
+    ensures held { OnOk result (txn.new.held ≡ with_slot txn.old.held (slot_number J.layout part.now.addr)) }
     ensures later { IsPrefix txn.old.seen txn.new.seen }
     ensures fault { IfErr result (IsPartFault J.layout part.now txn.new.seen) }
 {
@@ -71,10 +71,10 @@ fn compare<'j, 'b, D: BlockDisk, J: Naming, W: Wait>(
     txn: &mut Txn<'j, 'b, D, AnyMap, J>,
     part: &Part,
 ) -> Result<(), PartEnd<'b, J>>
-    requires ready { IsReady txn.old part.now }
+    requires ready { IsReady J.layout txn.old part.now }
     requires action { part.now.action ≡ Compare }
     ensures does { OnOk result (Does (part.now ∷ []) txn.old txn.new) }
-    ensures held { OnOk result (txn.new.held ≡ with_slot txn.old.held (slot_number part.now.addr)) }
+    ensures held { OnOk result (txn.new.held ≡ with_slot txn.old.held (slot_number J.layout part.now.addr)) }
     ensures later { IsPrefix txn.old.seen txn.new.seen }
     ensures fault { IfErr result (IsPartFault J.layout part.now txn.new.seen) }
 {
@@ -96,10 +96,10 @@ fn write<'j, 'b, D: BlockDisk, J: Naming, W: Wait>(
     txn: &mut Txn<'j, 'b, D, AnyMap, J>,
     part: &Part,
 ) -> Result<(), PartEnd<'b, J>>
-    requires ready { IsReady txn.old part.now }
+    requires ready { IsReady J.layout txn.old part.now }
     requires action { part.now.action ≡ Write }
     ensures does { OnOk result (Does (part.now ∷ []) txn.old txn.new) }
-    ensures held { OnOk result (txn.new.held ≡ with_slot txn.old.held (slot_number part.now.addr)) }
+    ensures held { OnOk result (txn.new.held ≡ with_slot txn.old.held (slot_number J.layout part.now.addr)) }
     ensures later { IsPrefix txn.old.seen txn.new.seen }
     ensures fault { IfErr result (IsPartFault J.layout part.now txn.new.seen) }
 {

@@ -14,7 +14,7 @@ use journal_disk::BlockDisk;
 use journal_history::{Naming, Session};
 use journal_records::{Answer, Refused};
 use journal_twophase::{Journal, JournalRefusal, Txn};
-use journal_world::{Addr, AnyMap, Value, slot_of};
+use journal_world::{Addr, AnyMap, Value};
 use std::alloc::{AllocError, Global};
 use std::sync::Wait;
 
@@ -28,7 +28,7 @@ pub(crate) fn read<'b, D: BlockDisk, J: Naming, W: Wait>(
 ) -> Answer
     ensures { IsReadAnswer J.layout addrs.now session.old session.new result }
 {
-    let Ok(sorted) = sorted(alloc, addrs) else {
+    let Ok(sorted) = sorted(alloc, journal, addrs) else {
         return Answer::Refused(Refused::NoMemory);
     };
     let mut txn = journal.begin(alloc, session);
@@ -44,12 +44,16 @@ pub(crate) fn read<'b, D: BlockDisk, J: Naming, W: Wait>(
 }
 
 // The addresses with their slots ascending.
-fn sorted(alloc: Global, addrs: &[Addr]) -> Result<Vec<Addr>, AllocError>
-    ensures ascending { IfOk result (λ sorted. IsNonDecreasingBy slot_number sorted.items) }
+fn sorted<'b, D: BlockDisk, J: Naming>(
+    alloc: Global,
+    journal: &Journal<'b, D, AnyMap, J>,
+    addrs: &[Addr],
+) -> Result<Vec<Addr>, AllocError>
+    ensures ascending { IfOk result (λ sorted. IsNonDecreasingBy (slot_number J.layout) sorted.items) }
     ensures permutation { IfOk result (λ sorted. IsPermutation addrs.now sorted.items) }
 {
     let mut sorted = addrs.to_vec(alloc)?;
-    sorted.sort_by_key(|addr| slot_of(*addr))?;
+    sorted.sort_by_key(|addr| journal.slot_of(*addr))?;
     Ok(sorted)
 }
 
@@ -61,7 +65,7 @@ fn read_values<'j, 'b, D: BlockDisk, J: Naming, W: Wait>(
     sorted: &[Addr],
     addrs: &[Addr],
 ) -> Result<Vec<Value>, JournalRefusal<'b, J, AnyMap>>
-    requires ascending { IsNonDecreasingBy slot_number sorted.now }
+    requires ascending { IsNonDecreasingBy (slot_number J.layout) sorted.now }
     requires permutation { IsPermutation addrs.now sorted.now }
     requires held { txn.old.held ≡ [] }
     requires writes { txn.old.writes ≡ [] }
@@ -81,10 +85,10 @@ fn take_slots<'j, 'b, D: BlockDisk, J: Naming, W: Wait>(
     txn: &mut Txn<'j, 'b, D, AnyMap, J>,
     addrs: &[Addr],
 ) -> Result<(), JournalRefusal<'b, J, AnyMap>>
-    requires ascending { IsNonDecreasingBy slot_number addrs.now }
+    requires ascending { IsNonDecreasingBy (slot_number J.layout) addrs.now }
     requires held { txn.old.held ≡ [] }
     requires writes { txn.old.writes ≡ [] }
-    ensures held { OnOk result (All (λ a. IsTrue (holds txn.new.held (slot_number a))) addrs.now) }
+    ensures held { OnOk result (All (λ a. IsTrue (holds txn.new.held (slot_number J.layout a))) addrs.now) }
     ensures writes { txn.new.writes ≡ [] }
     ensures later { IsPrefix txn.old.seen txn.new.seen }
     ensures refusal { IfErr result (IsReadRefusal J.layout addrs.now) }
@@ -102,7 +106,7 @@ fn read_each<'j, 'b, D: BlockDisk, J: Naming, W: Wait>(
     txn: &mut Txn<'j, 'b, D, AnyMap, J>,
     addrs: &[Addr],
 ) -> Result<Vec<Value>, JournalRefusal<'b, J, AnyMap>>
-    requires held { All (λ a. IsTrue (holds txn.old.held (slot_number a))) addrs.now }
+    requires held { All (λ a. IsTrue (holds txn.old.held (slot_number J.layout a))) addrs.now }
     requires writes { txn.old.writes ≡ [] }
     ensures reads { IfOk result (λ values. IsTrue (is_trusted txn.old.seen) → AreRead txn.new.reads (zip addrs.now values.items)) }
     ensures counted { IfOk result (λ values. length values.items ≡ length addrs.now) }
@@ -125,12 +129,12 @@ fn read_one<'j, 'b, D: BlockDisk, J: Naming, W: Wait>(
     txn: &mut Txn<'j, 'b, D, AnyMap, J>,
     addr: Addr,
 ) -> Result<Value, JournalRefusal<'b, J, AnyMap>>
-    requires ascends { IsBelowHeld (slot_number addr) txn.old.held → ⊥ }
+    requires ascends { IsBelowHeld (slot_number J.layout addr) txn.old.held → ⊥ }
     requires writes { txn.old.writes ≡ [] }
     ensures reads { IfOk result (λ value. SamePairs txn.new.reads ((addr, value) ∷ txn.old.reads)) }
     ensures kept { OnOk result (IsTrue (is_trusted txn.old.seen) → KeepsReads txn.old.reads txn.new.reads) }
     ensures writes { txn.new.writes ≡ [] }
-    ensures held { OnOk result (txn.new.held ≡ with_slot txn.old.held (slot_number addr)) }
+    ensures held { OnOk result (txn.new.held ≡ with_slot txn.old.held (slot_number J.layout addr)) }
     ensures later { IsPrefix txn.old.seen txn.new.seen }
     ensures refusal { IfErr result (IsAddrRefusal J.layout addr) }
 {

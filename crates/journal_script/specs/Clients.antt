@@ -36,20 +36,20 @@ FindsTransaction old t session = MatchOption old.txn
     (λ found. (t ≡ found) × (session ≡ old.session))
 
 -- The transaction overwrites the address
-pub record PutsValue (old : ClientState) (a : Addr) (v : Value) (new : ClientState) : Type 0 where
+pub record PutsValue (layout : Shape) (old : ClientState) (a : Addr) (v : Value) (new : ClientState) : Type 0 where
   pub found : TxnState
   pub finds : FindsTransaction old found new.session
   pub left : TxnState
   pub is_open : new.txn ≡ Some left
-  pub overwrites : Overwrites (holding found a) a v left
+  pub overwrites : Overwrites (holding layout found a) a v left
 
 -- The transaction is told the value: its own overwrite, where there is one, else what the map gives
-pub record Gets (old : ClientState) (a : Addr) (v : Value) (new : ClientState) : Type 0 where
+pub record Gets (layout : Shape) (old : ClientState) (a : Addr) (v : Value) (new : ClientState) : Type 0 where
   pub found : TxnState
   pub finds : FindsTransaction old found new.session
   pub left : TxnState
   pub is_open : new.txn ≡ Some left
-  pub reads : ReadsValue (holding found a) a v left
+  pub reads : ReadsValue (holding layout found a) a v left
 
 -- The transaction is open, as it was
 pub record KeepsOpen (old : ClientState) (why : TxnState → Type 0) (new : ClientState) : Type 0 where
@@ -140,9 +140,9 @@ GivesAnswer layout command answer = ⊥
 -- What a command is answered, and leaves, of a journal over a disk of a layout. `put` and `get` begin a transaction where none is
 -- open, also where they are refused
 abbrev pub Obeys : Shape → ClientState → Command → Answer → ClientState → Type 0
-Obeys layout old (commands.Put a v) answers.Done new = PutsValue old a v.now new
+Obeys layout old (commands.Put a v) answers.Done new = PutsValue layout old a v.now new
 Obeys layout old (commands.Put a v) answer new = KeepsOpen old (λ t. IsRefused (IsOverwriteRefusal layout t a v.now) answer) new
-Obeys layout old (commands.Get a) (answers.Value v) new = Gets old a v new
+Obeys layout old (commands.Get a) (answers.Value v) new = Gets layout old a v new
 Obeys layout old (commands.Get a) answer new = KeepsOpen old (λ t. IsRefused (IsReadRefusal layout t a) answer) new
 Obeys layout old commands.Commit (answers.Committed n) new = MatchOption old.txn ⊥ (λ t. CommitsAndEnds layout t old n new)
 Obeys layout old commands.Commit answers.NoTransaction new = (old.txn ≡ None) × (new ≡ old)

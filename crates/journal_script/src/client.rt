@@ -143,7 +143,7 @@ impl<'j, 'b, J: Naming> Client<'j, 'b, J> {
     }
 
     fn put<W: Wait>(&mut self, rt: &W, addr: Addr, value: &[u8]) -> Answered<'b, J>
-        ensures done { IfOk result (λ answer. (answer ≡ Answer.Done) × PutsValue self.old addr value.now self.new) }
+        ensures done { IfOk result (λ answer. (answer ≡ Answer.Done) × PutsValue J.layout self.old addr value.now self.new) }
         ensures refusal { IfErr result (λ why. KeepsOpen self.old (λ t. IsOverwriteRefusal J.layout t addr value.now why) self.new) }
     {
         let mut txn = self.take_or_begin();
@@ -154,7 +154,7 @@ impl<'j, 'b, J: Naming> Client<'j, 'b, J> {
     }
 
     fn get<W: Wait>(&mut self, rt: &W, addr: Addr) -> Answered<'b, J>
-        ensures value { IfOk result (λ answer. (value : Value) × (answer ≡ Answer.Value value) × Gets self.old addr value self.new) }
+        ensures value { IfOk result (λ answer. (value : Value) × (answer ≡ Answer.Value value) × Gets J.layout self.old addr value self.new) }
         ensures refusal { IfErr result (λ why. KeepsOpen self.old (λ t. IsReadRefusal J.layout t addr why) self.new) }
     {
         let mut txn = self.take_or_begin();

@@ -8,7 +8,7 @@ use crate::table::{Place, ROW_BYTES, Table};
 use journal_disk::BlockDisk;
 use journal_history::{Naming, Session};
 use journal_twophase::{Journal, JournalRefusal, Txn};
-use journal_world::{AnyMap, slot_of};
+use journal_world::AnyMap;
 use std::alloc::Global;
 use std::sync::Wait;
 
@@ -117,7 +117,7 @@ impl<'j, 'b, D: BlockDisk, J: Naming> OpenTable<'j, 'b, D, J> {
     ) -> Result<Found, Fault> {
         let place = self.place(place)?;
         let mut txn = self.journal.begin(self.alloc, session);
-        let found = find(rt, &mut txn, place);
+        let found = find(rt, self.journal, &mut txn, place);
         txn.abort(rt);
         Ok(found?)
     }
@@ -142,7 +142,7 @@ impl<'j, 'b, D: BlockDisk, J: Naming> OpenTable<'j, 'b, D, J> {
     ) -> Result<bool, Fault> {
         let place = self.place(place)?;
         let mut txn = self.journal.begin(self.alloc, session);
-        match prepare(rt, &mut txn, place, wanted, row) {
+        match prepare(rt, self.journal, &mut txn, place, wanted, row) {
             Ok(true) => {
                 let _place_in_history = txn.commit(rt, session)?;
                 Ok(true)
@@ -158,12 +158,13 @@ impl<'j, 'b, D: BlockDisk, J: Naming> OpenTable<'j, 'b, D, J> {
 // Overwrites both objects of a place in the transaction, where the place has what is wanted.
 fn prepare<'j, 'b, D: BlockDisk, J: Naming, W: Wait>(
     rt: &W,
+    journal: &Journal<'b, D, AnyMap, J>,
     txn: &mut Txn<'j, 'b, D, AnyMap, J>,
     place: Place,
     wanted: Found,
     row: Option<Row>,
 ) -> Result<bool, JournalRefusal<'b, J, AnyMap>> {
-    if find(rt, txn, place)? != wanted {
+    if find(rt, journal, txn, place)? != wanted {
         return Ok(false);
     }
     match row {
@@ -192,10 +193,11 @@ fn write<'j, 'b, D: BlockDisk, J: Naming, W: Wait>(
 // for those that others hold, and is never refused by J5.
 fn find<'j, 'b, D: BlockDisk, J: Naming, W: Wait>(
     rt: &W,
+    journal: &Journal<'b, D, AnyMap, J>,
     txn: &mut Txn<'j, 'b, D, AnyMap, J>,
     place: Place,
 ) -> Result<Found, JournalRefusal<'b, J, AnyMap>> {
-    if slot_of(place.bit) <= slot_of(place.record) {
+    if journal.slot_of(place.bit) <= journal.slot_of(place.record) {
         let bit = txn.read(rt, place.bit)?;
         let record = txn.read(rt, place.record)?;
         return Ok(found_in(bit.bytes(), record.bytes()));

@@ -13,7 +13,7 @@ use Rattle.std.proofs.lemmas.List.{append-nil, take_all, drop_all, length-map, m
 use Rattle.std.proofs.lemmas.List.Elements.{All-head, All-tail}
 use Rattle.std.proofs.lemmas.List.Folds.{list_any-append, list_any_at}
 use Rattle.journal_world.specs.declared.address.Addr.{Addr}
-use Rattle.journal_world.specs.Addresses.{Value, slot_of}
+use Rattle.journal_world.specs.Addresses.{Value, slot_of, Shape}
 use Rattle.journal_world.specs.Histories.{Entry, touched}
 use Rattle.journal_lockmap.specs.Numbers.{HeldState, slots_of, is_held, HoldsSlots, AreApart}
 use Rattle.journal_core.specs.SlotCounts.{AgreeWith, IsUnder, AreUnder}
@@ -120,18 +120,18 @@ slots_more held x = map-append (λ (h : HeldState). h.slot) held (x ∷ [])
 -- The transaction's promise
 
 -- one more is held, of a slot that was not
-pub keeps_more : (held : List HeldState) (x : HeldState) (t : TransactionState) → holds (slots_of held) x.slot ≡ false → KeepsHeld held t → KeepsHeld (held ++ x ∷ []) t
-keeps_more held x t free kept = record {
+pub keeps_more : (layout : Shape) (held : List HeldState) (x : HeldState) (t : TransactionState) → holds (slots_of held) x.slot ≡ false → KeepsHeld layout held t → KeepsHeld layout (held ++ x ∷ []) t
+keeps_more layout held x t free kept = record {
   reads = λ k d lt. let u = kept.reads k d lt in (u.0, u.1, place_more held x u.0 u.1 u.2, u.3, u.4);
-  writes = λ k d lt. is_held-more held x (slot_of (get_or t.writes k d).0) (kept.writes k d lt);
+  writes = λ k d lt. is_held-more held x (slot_of layout (get_or t.writes k d).0) (kept.writes k d lt);
   apart = from_once (held ++ x ∷ []) (subst AreOnce (sym (slots_more held x)) (once_more (slots_of held) x.slot free (to_once held kept.apart)));
 }
 
 -- the last is held no more, and nothing lay under it
-pub keeps_fewer : (held : List HeldState) (x : HeldState) (t : TransactionState) → IsClearOf x.slot t.reads → IsClearOf x.slot t.writes → KeepsHeld (held ++ x ∷ []) t → KeepsHeld held t
-keeps_fewer held x t reads writes kept = record {
+pub keeps_fewer : (layout : Shape) (held : List HeldState) (x : HeldState) (t : TransactionState) → IsClearOf layout x.slot t.reads → IsClearOf layout x.slot t.writes → KeepsHeld layout (held ++ x ∷ []) t → KeepsHeld layout held t
+keeps_fewer layout held x t reads writes kept = record {
   reads = λ k d lt. let u = kept.reads k d lt in (u.0, u.1, place_fewer held x u.0 u.1 u.2 (λ same. reads k d lt (sym u.3 ∙ same)), u.3, u.4);
-  writes = λ k d lt. is_held-fewer held x (slot_of (get_or t.writes k d).0) (kept.writes k d lt) (writes k d lt);
+  writes = λ k d lt. is_held-fewer held x (slot_of layout (get_or t.writes k d).0) (kept.writes k d lt) (writes k d lt);
   apart = from_once held (once_fewer (slots_of held) x.slot (subst AreOnce (slots_more held x) (to_once (held ++ x ∷ []) kept.apart)));
 }
 
@@ -143,24 +143,24 @@ held_at (x ∷ xs) zero h slot at same =
 held_at (x ∷ xs) (suc k) h slot at same = ap (λ b. (x.slot == slot) || b) (held_at xs k h slot at same) ∙ or-true (x.slot == slot)
 
 -- one was pushed, or for want of memory not
-pub keeps_pushed : (b : Bool) (held now : List HeldState) (x : HeldState) (t : TransactionState) → now ≡ cond b (held ++ x ∷ []) held → holds (slots_of held) x.slot ≡ false
-    → KeepsHeld held t → KeepsHeld now t
-keeps_pushed true held now x t is free kept = subst (λ (l : List HeldState). KeepsHeld l t) (sym is) (keeps_more held x t free kept)
-keeps_pushed false held now x t is free kept = subst (λ (l : List HeldState). KeepsHeld l t) (sym is) kept
+pub keeps_pushed : (layout : Shape) (b : Bool) (held now : List HeldState) (x : HeldState) (t : TransactionState) → now ≡ cond b (held ++ x ∷ []) held → holds (slots_of held) x.slot ≡ false
+    → KeepsHeld layout held t → KeepsHeld layout now t
+keeps_pushed layout true held now x t is free kept = subst (λ (l : List HeldState). KeepsHeld layout l t) (sym is) (keeps_more layout held x t free kept)
+keeps_pushed layout false held now x t is free kept = subst (λ (l : List HeldState). KeepsHeld layout l t) (sym is) kept
 
 -- the last was popped, if there was one
-pub keeps_popped : (last : Option HeldState) (held now : List HeldState) (t : TransactionState) → held ≡ now ++ option_to_list last
-    → ((before : List ℕ) (slot : ℕ) → slots_of held ≡ before ++ slot ∷ [] → IsClearOf slot t.reads × IsClearOf slot t.writes)
-    → KeepsHeld held t → KeepsHeld now t
-keeps_popped None held now t is clear kept = subst (λ (l : List HeldState). KeepsHeld l t) (is ∙ append-nil now) kept
-keeps_popped (Some x) held now t is clear kept =
+pub keeps_popped : (layout : Shape) (last : Option HeldState) (held now : List HeldState) (t : TransactionState) → held ≡ now ++ option_to_list last
+    → ((before : List ℕ) (slot : ℕ) → slots_of held ≡ before ++ slot ∷ [] → IsClearOf layout slot t.reads × IsClearOf layout slot t.writes)
+    → KeepsHeld layout held t → KeepsHeld layout now t
+keeps_popped layout None held now t is clear kept = subst (λ (l : List HeldState). KeepsHeld layout l t) (is ∙ append-nil now) kept
+keeps_popped layout (Some x) held now t is clear kept =
     let apart = clear (slots_of now) x.slot (ap slots_of is ∙ slots_more now x) in
-    keeps_fewer now x t apart.0 apart.1 (subst (λ (l : List HeldState). KeepsHeld l t) is kept)
+    keeps_fewer layout now x t apart.0 apart.1 (subst (λ (l : List HeldState). KeepsHeld layout l t) is kept)
 
 -- nothing lies under a slot that is not held
-pub clear_of : (held : List HeldState) (t : TransactionState) (slot : ℕ) → holds (slots_of held) slot ≡ false → KeepsHeld held t
-    → IsClearOf slot t.reads × IsClearOf slot t.writes
-clear_of held t slot free kept = (
+pub clear_of : (layout : Shape) (held : List HeldState) (t : TransactionState) (slot : ℕ) → holds (slots_of held) slot ≡ false → KeepsHeld layout held t
+    → IsClearOf layout slot t.reads × IsClearOf layout slot t.writes
+clear_of layout held t slot free kept = (
   λ k d lt same.
       let u = kept.reads k d lt in
       none (held_at held u.0 u.1 slot u.2 (u.3 ∙ same)),
@@ -171,38 +171,38 @@ clear_of held t slot free kept = (
     none is = false≢true (sym free ∙ holds-slots held slot ∙ is)
 
 -- what is held agrees at its place
-agrees_at : (history : List Entry) (held : List HeldState) (k : ℕ) (h : HeldState) → AgreeWith history held → slice_get held k ≡ Some h → h.count ≡ touched history h.slot
-agrees_at history [] k h all at = absurd (cc at)
-agrees_at history (x ∷ xs) zero h all at = subst (λ (y : HeldState). y.count ≡ touched history y.slot) (same_Some x h at) (All-head (λ (y : HeldState). y.count ≡ touched history y.slot) x xs all)
-agrees_at history (x ∷ xs) (suc k) h all at = agrees_at history xs k h (All-tail (λ (y : HeldState). y.count ≡ touched history y.slot) x xs all) at
+agrees_at : (layout : Shape) (history : List Entry) (held : List HeldState) (k : ℕ) (h : HeldState) → AgreeWith layout history held → slice_get held k ≡ Some h → h.count ≡ touched layout history h.slot
+agrees_at layout history [] k h all at = absurd (cc at)
+agrees_at layout history (x ∷ xs) zero h all at = subst (λ (y : HeldState). y.count ≡ touched layout history y.slot) (same_Some x h at) (All-head (λ (y : HeldState). y.count ≡ touched layout history y.slot) x xs all)
+agrees_at layout history (x ∷ xs) (suc k) h all at = agrees_at layout history xs k h (All-tail (λ (y : HeldState). y.count ≡ touched layout history y.slot) x xs all) at
 
 -- one more address was read under a slot that is held, and what is held agrees with the history that the read found
-pub keeps_read : (held : List HeldState) (t after : TransactionState) (a : Addr) (v : Value) (found : ReadResultState) → KeepsHeld held t → AgreeWith found.seen held → Finds t a found
-    → IsTrue (holds (slots_of held) (slot_of a)) → Remembers t found.addr v found.seen after → KeepsHeld held after
-keeps_read held t after a v found kept agree finds slot remembers = record {
-  reads = subst (λ (h : List Entry). AreUnder held h after.reads) (sym seen) (of_both (λ b. IsUnder held found.seen (b, v)) found.addr v t.reads after.reads remembers.reads own before);
-  writes = subst (HoldsSlots held) (sym (ap (λ (u : TransactionState). u.writes) remembers.others)) kept.writes;
+pub keeps_read : (layout : Shape) (held : List HeldState) (t after : TransactionState) (a : Addr) (v : Value) (found : ReadResultState) → KeepsHeld layout held t → AgreeWith layout found.seen held → Finds layout t a found
+    → IsTrue (holds (slots_of held) (slot_of layout a)) → Remembers t found.addr v found.seen after → KeepsHeld layout held after
+keeps_read layout held t after a v found kept agree finds slot remembers = record {
+  reads = subst (λ (h : List Entry). AreUnder layout held h after.reads) (sym seen) (of_both (λ b. IsUnder layout held found.seen (b, v)) found.addr v t.reads after.reads remembers.reads own before);
+  writes = subst (HoldsSlots layout held) (sym (ap (λ (u : TransactionState). u.writes) remembers.others)) kept.writes;
   apart = kept.apart;
 }
   where
     seen : after.seen ≡ found.seen
     seen = ap (λ (u : TransactionState). u.seen) remembers.others
 
-    before : AreUnder held found.seen t.reads
+    before : AreUnder layout held found.seen t.reads
     before = λ k d lt. let u = kept.reads k d lt in (u.0, u.1, u.2, u.3, u.4 ∙ sym (finds.unmoved k d lt))
 
-    own : IsUnder held found.seen (found.addr, v)
+    own : IsUnder layout held found.seen (found.addr, v)
     own =
-        let here : IsTrue (is_held held (slot_of found.addr)) = sym (holds-slots held (slot_of found.addr)) ∙ subst (λ (b : Addr). IsTrue (holds (slots_of held) (slot_of b))) (sym finds.addr) slot in
-        let u = place_of held (slot_of found.addr) here in
-        (u.0, u.1, u.2, u.3, agrees_at found.seen held u.0 u.1 agree u.2 ∙ ap (touched found.seen) u.3)
+        let here : IsTrue (is_held held (slot_of layout found.addr)) = sym (holds-slots held (slot_of layout found.addr)) ∙ subst (λ (b : Addr). IsTrue (holds (slots_of held) (slot_of layout b))) (sym finds.addr) slot in
+        let u = place_of held (slot_of layout found.addr) here in
+        (u.0, u.1, u.2, u.3, agrees_at layout found.seen held u.0 u.1 agree u.2 ∙ ap (touched layout found.seen) u.3)
 
 -- one more address was overwritten under a slot that is held
-pub keeps_written : (held : List HeldState) (t after : TransactionState) (a : Addr) (v : Value) → KeepsHeld held t → IsTrue (holds (slots_of held) (slot_of a)) → Overwrites t a v after
-    → KeepsHeld held after
-keeps_written held t after a v kept slot overwrites = record {
-  reads = subst (λ (u : TransactionState). AreUnder held u.seen u.reads) (sym overwrites.others) kept.reads;
-  writes = of_both (λ b. IsTrue (is_held held (slot_of b))) a v t.writes after.writes overwrites.writes (sym (holds-slots held (slot_of a)) ∙ slot) kept.writes;
+pub keeps_written : (layout : Shape) (held : List HeldState) (t after : TransactionState) (a : Addr) (v : Value) → KeepsHeld layout held t → IsTrue (holds (slots_of held) (slot_of layout a)) → Overwrites t a v after
+    → KeepsHeld layout held after
+keeps_written layout held t after a v kept slot overwrites = record {
+  reads = subst (λ (u : TransactionState). AreUnder layout held u.seen u.reads) (sym overwrites.others) kept.reads;
+  writes = of_both (λ b. IsTrue (is_held held (slot_of layout b))) a v t.writes after.writes overwrites.writes (sym (holds-slots held (slot_of layout a)) ∙ slot) kept.writes;
   apart = kept.apart;
 }
 
@@ -216,8 +216,8 @@ lent_back n xs ys same is =
     subst (λ (zs : List _). take n (zs ++ drop (length zs) ys) ≡ ys) (sym same)
     (ap (λ (zs : List _). take n (ys ++ zs)) (drop_all (length ys) ys (omega arith)) ∙ ap (take n) (append-nil ys) ∙ take_all n ys (omega (arith, is)))
 
-pub keeps_lent : (n : ℕ) (now held : List HeldState) (t : TransactionState) → now ≡ held → n ≡ length held → KeepsHeld held t → KeepsHeld (take n (now ++ drop (length now) held)) t
-keeps_lent n now held t same is kept = subst (λ (l : List HeldState). KeepsHeld l t) (sym (lent_back n now held same is)) kept
+pub keeps_lent : (layout : Shape) (n : ℕ) (now held : List HeldState) (t : TransactionState) → now ≡ held → n ≡ length held → KeepsHeld layout held t → KeepsHeld layout (take n (now ++ drop (length now) held)) t
+keeps_lent layout n now held t same is kept = subst (λ (l : List HeldState). KeepsHeld layout l t) (sym (lent_back n now held same is)) kept
 
 -- what is said of a call that may have taken a slot
 pub if_took : {X E : Type 0} (r : Result Bool E) → X → IfOk r (λ took. IsTrue took → X)
@@ -242,11 +242,11 @@ last_same before held slot last same =
     ∙ get_or-append_seam before last [] 0
 
 -- nothing lies under the last slot where it was just taken
-pub clear_last : (took : Bool) (held : List ℕ) (t : TxnState) (slot : ℕ) → t.held ≡ cond took (held ++ slot ∷ []) held
-    → (IsTrue took → IsClearOf slot t.reads × IsClearOf slot t.writes)
-    → IsTrue took → (before : List ℕ) (last : ℕ) → t.held ≡ before ++ last ∷ [] → IsClearOf last t.reads × IsClearOf last t.writes
-clear_last took held t slot is clear took_it before last same =
-    subst (λ (n : ℕ). IsClearOf n t.reads × IsClearOf n t.writes)
+pub clear_last : (layout : Shape) (took : Bool) (held : List ℕ) (t : TxnState) (slot : ℕ) → t.held ≡ cond took (held ++ slot ∷ []) held
+    → (IsTrue took → IsClearOf layout slot t.reads × IsClearOf layout slot t.writes)
+    → IsTrue took → (before : List ℕ) (last : ℕ) → t.held ≡ before ++ last ∷ [] → IsClearOf layout last t.reads × IsClearOf layout last t.writes
+clear_last layout took held t slot is clear took_it before last same =
+    subst (λ (n : ℕ). IsClearOf layout n t.reads × IsClearOf layout n t.writes)
     (last_same before held slot last (sym (ap (λ b. cond b (held ++ slot ∷ []) held) took_it) ∙ sym is ∙ same)) (clear took_it)
 
 -- a transaction as contracts see it

@@ -59,16 +59,16 @@ read_refusal layout t a (Closed cause) valid look = look
 read_refusal layout t a Fenced valid look = absurd look
 
 pub read_refused : (layout : Shape) (t held : TxnState) (a : Addr) (answer : Result Value (Refusal CauseState))
-    → held ≡ holding t a → IsTrue (is_valid layout a) → IfErr answer (IsCheckRefusal (core_of held)) → IfErr answer (IsReadRefusal layout t a)
+    → held ≡ holding layout t a → IsTrue (is_valid layout a) → IfErr answer (IsCheckRefusal (core_of held)) → IfErr answer (IsReadRefusal layout t a)
 read_refused layout t held a (Ok v) same valid look = tt
 read_refused layout t held a (Err why) same valid look = read_refusal layout t a why valid (subst (λ (h : TxnState). IsCheckRefusal (core_of h) why) same look)
 
 -- what is found for the open transaction, and remembered, is what it learns
-pub learns : (began : List Entry) (held : List ℕ) (t after : TransactionState) (a : Addr) (v w : Value) (found : ReadResultState) → Finds t a found
+pub learns : (layout : Shape) (began : List Entry) (held : List ℕ) (t after : TransactionState) (a : Addr) (v w : Value) (found : ReadResultState) → Finds layout t a found
     → (IsTrue (is_trusted found.seen) → w ≡ value_at (latest found.seen) a) → v ≡ w → Remembers t found.addr v found.seen after
     → Learns (record { began = began; reads = t.reads; writes = t.writes; seen = t.seen; held = held }) a v
     (record { began = began; reads = after.reads; writes = after.writes; seen = after.seen; held = held })
-learns began held t after a v w found finds value same remembers = record {
+learns layout began held t after a v w found finds value same remembers = record {
   value = λ trusted. same ∙ subst (λ (h : List Entry). IsTrue (is_trusted h) → w ≡ value_at (latest h) a) (sym seen) value trusted;
   reads = subst (λ (b : Addr). SamePairs after.reads ((b, v) ∷ t.reads)) finds.addr remembers.reads;
   later = subst (IsPrefix t.seen) (sym seen) finds.later;
@@ -79,34 +79,34 @@ learns began held t after a v w found finds value same remembers = record {
     seen = ap (λ (u : TransactionState). u.seen) remembers.others
 
 -- what it has seen goes on from its beginning
-pub later_on : (began : List Entry) (t after : TransactionState) (a : Addr) (v : Value) (found : ReadResultState) → IsPrefix began t.seen → Finds t a found
+pub later_on : (layout : Shape) (began : List Entry) (t after : TransactionState) (a : Addr) (v : Value) (found : ReadResultState) → IsPrefix began t.seen → Finds layout t a found
     → Remembers t found.addr v found.seen after → IsPrefix began after.seen
-later_on began t after a v found begins finds remembers =
+later_on layout began t after a v found begins finds remembers =
     subst (IsPrefix began) (sym (ap (λ (u : TransactionState). u.seen) remembers.others)) (IsPrefix-trans began t.seen found.seen begins finds.later)
 
 -- and what was read before is what the map gives still
-pub reads_stay : (t after : TransactionState) (a : Addr) (v : Value) (found : ReadResultState) → t.seen ≢ [] → (IsTrue (is_trusted t.seen) → Agrees (latest t.seen) t.reads)
-    → Finds t a found → Remembers t found.addr v found.seen after → IsTrue (is_trusted after.seen) → Agrees (latest after.seen) t.reads
-reads_stay t after a v found some agrees finds remembers =
+pub reads_stay : (layout : Shape) (t after : TransactionState) (a : Addr) (v : Value) (found : ReadResultState) → t.seen ≢ [] → (IsTrue (is_trusted t.seen) → Agrees (latest t.seen) t.reads)
+    → Finds layout t a found → Remembers t found.addr v found.seen after → IsTrue (is_trusted after.seen) → Agrees (latest after.seen) t.reads
+reads_stay layout t after a v found some agrees finds remembers =
     subst (λ (h : List Entry). IsTrue (is_trusted h) → Agrees (latest h) t.reads) (sym (ap (λ (u : TransactionState). u.seen) remembers.others))
-    (agrees_later t.seen found.seen t.reads some finds.later finds.unmoved agrees)
+    (agrees_later layout t.seen found.seen t.reads some finds.later finds.unmoved agrees)
 
 -- what is found in memory is found for the transaction
 pub finds : (o : Outset) (a : Addr) (layout : Shape) (t : TransactionState) (answer : Result (Option ReadResultState) (Refusal CauseState))
     → IfOk answer (λ found. IfSome found (λ f. f ≡ record { addr = a; seen = o.history }))
-    → OnOk answer (MayRead layout o t a) → IfOk answer (λ found. IfSome found (Finds t a))
+    → OnOk answer (MayRead layout o t a) → IfOk answer (λ found. IfSome found (Finds layout t a))
 finds o a layout t (Err why) is may = tt
 finds o a layout t (Ok None) is may = tt
-finds o a layout t (Ok (Some found)) is may = subst (Finds t a) (sym is) (record { addr = refl; later = may.later; unmoved = may.unmoved })
+finds o a layout t (Ok (Some found)) is may = subst (Finds layout t a) (sym is) (record { addr = refl; later = may.later; unmoved = may.unmoved })
 
 -- what is held agrees with the history that was found
-pub agrees_found : (answer : Result (Option ReadResultState) (Refusal CauseState)) (a : Addr) (old new : List Entry) (held : List HeldState)
-    → IfOk answer (λ found. IfSome found (λ f. f ≡ record { addr = a; seen = old })) → new ≡ old → AgreeWith new held
-    → IfOk answer (λ found. IfSome found (λ f. AgreeWith f.seen held))
-agrees_found (Err why) a old new held is same agree = tt
-agrees_found (Ok None) a old new held is same agree = tt
-agrees_found (Ok (Some found)) a old new held is same agree =
-    subst (λ (h : List Entry). AgreeWith h held) (same ∙ sym (ap (λ (f : ReadResultState). f.seen) is)) agree
+pub agrees_found : (layout : Shape) (answer : Result (Option ReadResultState) (Refusal CauseState)) (a : Addr) (old new : List Entry) (held : List HeldState)
+    → IfOk answer (λ found. IfSome found (λ f. f ≡ record { addr = a; seen = old })) → new ≡ old → AgreeWith layout new held
+    → IfOk answer (λ found. IfSome found (λ f. AgreeWith layout f.seen held))
+agrees_found layout (Err why) a old new held is same agree = tt
+agrees_found layout (Ok None) a old new held is same agree = tt
+agrees_found layout (Ok (Some found)) a old new held is same agree =
+    subst (λ (h : List Entry). AgreeWith layout h held) (same ∙ sym (ap (λ (f : ReadResultState). f.seen) is)) agree
 
 -- memory for blocks of the disk is of blocks of the disk
 pub rooms_below : (n : ℕ) (rooms : List Update) → All (λ b. b < n) (map (λ u. u.block) rooms) → All (λ u. u.block < n) rooms

@@ -45,8 +45,8 @@ abbrev pub with_slot : List ℕ → ℕ → List ℕ
 with_slot held slot = if holds held slot then held else held ++ slot ∷ []
 
 -- the transaction, with the slot of the address
-abbrev pub holding : TxnState → Addr → TxnState
-holding t a = record t { held = with_slot t.held (slot_of a) }
+abbrev pub holding : Shape → TxnState → Addr → TxnState
+holding layout t a = record t { held = with_slot t.held (slot_of layout a) }
 
 -- the slot is not held, and a greater one is
 abbrev pub IsBelowHeld : ℕ → List ℕ → Type 0
@@ -70,21 +70,21 @@ pub record Overwrites (old : TxnState) (a : Addr) (v : Value) (new : TxnState) :
 
 -- What an open transaction keeps of the slots that it holds, none of which it holds twice: all that it read lies under them,
 -- and no commit touched one since, and all that it overwrote lies under them
-pub record KeepsHeld (held : List HeldState) (t : TransactionState) : Type 0 where
-  pub reads : AreUnder held t.seen t.reads
-  pub writes : HoldsSlots held t.writes
+pub record KeepsHeld (layout : Shape) (held : List HeldState) (t : TransactionState) : Type 0 where
+  pub reads : AreUnder layout held t.seen t.reads
+  pub writes : HoldsSlots layout held t.writes
   pub apart : AreApart held
 
 -- nothing of these lies under the slot
-abbrev pub IsClearOf : ℕ → List Pair → Type 0
-IsClearOf slot ps = All (λ p. slot_of p.0 ≢ slot) ps
+abbrev pub IsClearOf : Shape → ℕ → List Pair → Type 0
+IsClearOf layout slot ps = All (λ p. slot_of layout p.0 ≢ slot) ps
 
 -- What a read found for the transaction: the address's value at the end of a history that goes on from what it has seen,
 -- in which no commit touched a slot under which it read
-pub record Finds (t : TransactionState) (a : Addr) (found : ReadResultState) : Type 0 where
+pub record Finds (layout : Shape) (t : TransactionState) (a : Addr) (found : ReadResultState) : Type 0 where
   pub addr : found.addr ≡ a
   pub later : IsPrefix t.seen found.seen
-  pub unmoved : AreUnmoved found.seen t
+  pub unmoved : AreUnmoved layout found.seen t
 
 -- why the journal goes on no more: it was stopped, or the device failed before
 abbrev pub IsEndRefusal : Refusal CauseState → Type 0
@@ -111,11 +111,11 @@ abbrev pub IsReadRefusal : Shape → TxnState → Addr → Refusal CauseState �
 IsReadRefusal layout t a (Closed cause) = IsUnexplained J13 cause
 IsReadRefusal layout t a (DeviceFailed cause) = IsUnexplained J6 cause
 IsReadRefusal layout t a BadAddress = is_valid layout a ≡ false
-IsReadRefusal layout t a Busy = IsTrue (is_valid layout a) × IsBelowHeld (slot_of a) t.held
+IsReadRefusal layout t a Busy = IsTrue (is_valid layout a) × IsBelowHeld (slot_of layout a) t.held
 IsReadRefusal layout t a other = IsTrue (is_valid layout a) × IsCheckRefusal (core_of t) other
 
 -- Why it is not overwritten
 abbrev pub IsOverwriteRefusal : Shape → TxnState → Addr → Value → Refusal CauseState → Type 0
 IsOverwriteRefusal layout t a v BadAddress = is_valid layout a ≡ false
 IsOverwriteRefusal layout t a v BadSize = IsTrue (is_valid layout a) × (is_value_at (kind_of layout a.block) v ≡ false)
-IsOverwriteRefusal layout t a v other = IsTrue (is_object layout (a, v)) × IsSlotRefusal t.held (slot_of a) other
+IsOverwriteRefusal layout t a v other = IsTrue (is_object layout (a, v)) × IsSlotRefusal t.held (slot_of layout a) other

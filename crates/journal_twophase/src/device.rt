@@ -170,13 +170,13 @@ impl<'b, D: BlockDisk, R: MapRule, J: Naming> LockedParts<'b, D, R, J> {
     ) -> Result<ReadResult<'b, J, R>, JournalRefusal<'b, J, R>>
         requires valid { IsTrue (is_valid J.layout addr) }
         requires below { addr.block < J.layout.blocks }
-        requires under { AreUnder held.old transaction.now.seen transaction.now.reads }
+        requires under { AreUnder J.layout held.old transaction.now.seen transaction.now.reads }
         requires size { length into.old.items ≡ size_at J.layout addr }
-        ensures agree { IfOk result (λ found. AgreeWith found.seen held.new) }
+        ensures agree { IfOk result (λ found. AgreeWith J.layout found.seen held.new) }
         ensures held { held.new ≡ held.old }
         ensures value { IfOk result (λ found. IsTrue (is_trusted found.seen) → into.new.items ≡ value_at (latest found.seen) addr) }
         ensures object { OnOk result (IsTrue (is_object J.layout (addr, into.new.items))) }
-        ensures found { IfOk result (Finds transaction.now addr) }
+        ensures found { IfOk result (Finds J.layout transaction.now addr) }
         ensures refusal { IfErr result (IsCheckRefusal transaction.now) }
     {
         let mut fetched = nothing;
@@ -206,7 +206,7 @@ impl<'b, D: BlockDisk, R: MapRule, J: Naming> LockedParts<'b, D, R, J> {
     )
         requires rule { (m : Map) → m.layout ≡ J.layout → R.statement m → Agrees m transaction.now.reads
             → R.statement (overwritten m transaction.now.writes) }
-        requires held { KeepsHeld held.old transaction.now }
+        requires held { KeepsHeld J.layout held.old transaction.now }
         ensures committed { IfOk result.1 (IsCommitted R.statement J.layout transaction.now.seen transaction.now session.old session.new) }
         ensures refusal { IfErr result.1 (IsTryRefusal transaction.now session.old) }
         ensures fenced { IfErr result.1 (ShowsFence session.new) }

@@ -1,6 +1,7 @@
 // The journal, and what is no transaction's.
 ghost use Rattle.std.specs.Prelude.{◌≡◌, ◌≤◌, ◌<◌, true, false, IsTrue, IfOk, IfErr, OnOk, IsOkUnless};
 ghost use mathlib.Core.List.{IsPrefix};
+ghost use Rattle.journal_world.specs.Addresses.{slot_of};
 ghost use Rattle.journal_world.specs.Files.{shape, files};
 ghost use Rattle.journal_world.specs.Histories.{is_trusted, is_fenced, count};
 ghost use Rattle.journal_disk.specs.Disks.{IsSettled};
@@ -20,7 +21,7 @@ use journal_core::{Cause, InstallStep, LogStep, Stat};
 use journal_disk::{BlockDisk, MemDisk};
 use journal_history::{Book, Front, Naming, Receipt, Session, StableNote};
 use journal_lockmap::{LockMap, SlotCell, SlotLocks};
-use journal_world::{Layout, MapRule, Refusal, Refused, Step};
+use journal_world::{Addr, Layout, MapRule, Refusal, Refused, Step};
 use std::alloc::Global;
 use std::marker::Model;
 use std::rt::Clock;
@@ -117,8 +118,9 @@ impl<'b, D: BlockDisk, R: MapRule, J: Naming> Journal<'b, D, R, J> {
         Journal::open_layout(alloc, book, cell, layout, disk, rule, cached)
     }
 
-    /// Opens a disk by a layout, as `open_with_cache` does by that of files. The disk does not tell its layout: it has
-    /// to be opened by the same one each time.
+    /// Opens a disk by a layout, as `open_with_cache` does by that of files. The disk does not tell
+    /// its layout: it has to be opened by the same one each time. Each of its slots takes some 30
+    /// bytes of memory, and 160 where there are no more than 1024.
     ///
     /// The first that applies of these refuses it: J8 `BadSuper` where the disk has not as many blocks as the layout,
     /// then what refuses `open`. A refusal hands the disk back, with nothing written, and leaves the book as it was; the
@@ -149,7 +151,7 @@ impl<'b, D: BlockDisk, R: MapRule, J: Naming> Journal<'b, D, R, J> {
                 disk,
             });
         }
-        let Ok(slot_locks) = SlotLocks::new(alloc) else {
+        let Ok(slot_locks) = SlotLocks::new(alloc, layout) else {
             return Err(Refused {
                 refusal: Refusal::NoMemory,
                 disk,
@@ -209,6 +211,16 @@ impl<'b, D: BlockDisk, R: MapRule, J: Naming> Journal<'b, D, R, J> {
         ensures session { OnlyExtends session.old session.new }
     {
         self.core.fence(rt, session, target)
+    }
+
+    /// The slot of an address, below the number of slots. A transaction that takes its slots in
+    /// ascending order waits for each of them, and no call of it is refused because another holds
+    /// one.
+    pub fn slot_of(&self, addr: Addr) -> u16
+        ensures slot { result ≡ slot_of J.layout addr }
+        ensures in_range { result < J.layout.slots }
+    {
+        self.layout.slot_of(addr)
     }
 
     // Called for its contract: what a session has seen begins with the journal's opening, since both are of one

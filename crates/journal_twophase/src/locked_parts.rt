@@ -269,7 +269,7 @@ impl<'b, D: BlockDisk, R: MapRule, J: Naming> LockedParts<'b, D, R, J> {
         addr: Addr,
     ) -> Result<(), JournalRefusal<'b, J, R>>
         requires valid { IsTrue (is_valid J.layout addr) }
-        requires under { AreUnder held.old transaction.now.seen transaction.now.reads }
+        requires under { AreUnder J.layout held.old transaction.now.seen transaction.now.reads }
         ensures held { held.new ≡ held.old }
         ensures refusal { IfErr result (IsCheckRefusal transaction.now) }
     {
@@ -288,13 +288,13 @@ impl<'b, D: BlockDisk, R: MapRule, J: Naming> LockedParts<'b, D, R, J> {
         into: &mut Vec<u8>,
     ) -> Result<ReadResult<'b, J, R>, JournalRefusal<'b, J, R>>
         requires valid { IsTrue (is_valid J.layout addr) }
-        requires under { AreUnder held.old transaction.now.seen transaction.now.reads }
+        requires under { AreUnder J.layout held.old transaction.now.seen transaction.now.reads }
         requires size { length into.old.items ≡ size_at J.layout addr }
-        ensures agree { IfOk result (λ found. AgreeWith found.seen held.new) }
+        ensures agree { IfOk result (λ found. AgreeWith J.layout found.seen held.new) }
         ensures held { held.new ≡ held.old }
         ensures value { IfOk result (λ found. IsTrue (is_trusted found.seen) → into.new.items ≡ value_at (latest found.seen) addr) }
         ensures object { OnOk result (IsTrue (is_object J.layout (addr, into.new.items))) }
-        ensures found { IfOk result (Finds transaction.now addr) }
+        ensures found { IfOk result (Finds J.layout transaction.now addr) }
         ensures refusal { IfErr result (IsCheckRefusal transaction.now) }
     {
         let answer = self.read_or_fetch(rt, transaction, held, addr, into);
@@ -312,13 +312,13 @@ impl<'b, D: BlockDisk, R: MapRule, J: Naming> LockedParts<'b, D, R, J> {
         into: &mut Vec<u8>,
     ) -> Result<ReadResult<'b, J, R>, JournalRefusal<'b, J, R>>
         requires valid { IsTrue (is_valid J.layout addr) }
-        requires under { AreUnder held.old transaction.now.seen transaction.now.reads }
+        requires under { AreUnder J.layout held.old transaction.now.seen transaction.now.reads }
         requires size { length into.old.items ≡ size_at J.layout addr }
-        ensures agree { IfOk result (λ found. AgreeWith found.seen held.new) }
+        ensures agree { IfOk result (λ found. AgreeWith J.layout found.seen held.new) }
         ensures held { held.new ≡ held.old }
         ensures value { IfOk result (λ found. IsTrue (is_trusted found.seen) → into.new.items ≡ value_at (latest found.seen) addr) }
         ensures object { OnOk result (IsTrue (is_object J.layout (addr, into.new.items))) }
-        ensures found { IfOk result (Finds transaction.now addr) }
+        ensures found { IfOk result (Finds J.layout transaction.now addr) }
         ensures refusal { IfErr result (IsCheckRefusal transaction.now) }
     {
         let nothing = self.empty_fetch(transaction);
@@ -339,14 +339,14 @@ impl<'b, D: BlockDisk, R: MapRule, J: Naming> LockedParts<'b, D, R, J> {
         into: &mut Vec<u8>,
     ) -> Result<Option<ReadResult<'b, J, R>>, JournalRefusal<'b, J, R>>
         requires valid { IsTrue (is_valid J.layout addr) }
-        requires under { AreUnder held.old transaction.now.seen transaction.now.reads }
+        requires under { AreUnder J.layout held.old transaction.now.seen transaction.now.reads }
         requires size { length into.old.items ≡ size_at J.layout addr }
         requires front { fetched.now.front ≡ transaction.now.seen }
-        ensures agree { IfOk result (λ found. IfSome found (λ found. AgreeWith found.seen held.new)) }
+        ensures agree { IfOk result (λ found. IfSome found (λ found. AgreeWith J.layout found.seen held.new)) }
         ensures held { held.new ≡ held.old }
         ensures value { IfOk result (λ found. IfSome found (λ found. IsTrue (is_trusted found.seen) → into.new.items ≡ value_at (latest found.seen) addr)) }
         ensures object { IfOk result (λ found. IsSome found → IsTrue (is_object J.layout (addr, into.new.items))) }
-        ensures found { IfOk result (λ found. IfSome found (Finds transaction.now addr)) }
+        ensures found { IfOk result (λ found. IfSome found (Finds J.layout transaction.now addr)) }
         ensures size { length into.new.items ≡ length into.old.items }
         ensures below { addr.block < J.layout.blocks }
         ensures refusal { IfErr result (IsCheckRefusal transaction.now) }
@@ -371,13 +371,13 @@ impl<'b, D: BlockDisk, R: MapRule, J: Naming> LockedParts<'b, D, R, J> {
         into: &mut Vec<u8>,
     ) -> Result<Option<ReadResult<'b, J, R>>, JournalRefusal<'b, J, R>>
         requires valid { IsTrue (is_valid J.layout addr) }
-        requires under { AreUnder held.old transaction.now.seen transaction.now.reads }
+        requires under { AreUnder J.layout held.old transaction.now.seen transaction.now.reads }
         requires size { length into.old.items ≡ size_at J.layout addr }
-        ensures agree { IfOk result (λ found. IfSome found (λ found. AgreeWith found.seen held.new)) }
+        ensures agree { IfOk result (λ found. IfSome found (λ found. AgreeWith J.layout found.seen held.new)) }
         ensures held { held.new ≡ held.old }
         ensures value { IfOk result (λ found. IfSome found (λ found. IsTrue (is_trusted found.seen) → into.new.items ≡ value_at (latest found.seen) addr)) }
         ensures object { IfOk result (λ found. IsSome found → IsTrue (is_object J.layout (addr, into.new.items))) }
-        ensures found { IfOk result (λ found. IfSome found (Finds transaction.now addr)) }
+        ensures found { IfOk result (λ found. IfSome found (Finds J.layout transaction.now addr)) }
         ensures size { length into.new.items ≡ length into.old.items }
         ensures refusal { IfErr result (IsCheckRefusal transaction.now) }
     {
@@ -414,7 +414,7 @@ impl<'b, D: BlockDisk, R: MapRule, J: Naming> LockedParts<'b, D, R, J> {
     ) -> Result<Receipt<'b, J, R>, JournalRefusal<'b, J, R>>
         requires rule { (m : Map) → m.layout ≡ J.layout → R.statement m → Agrees m transaction.now.reads
             → R.statement (overwritten m transaction.now.writes) }
-        requires held { KeepsHeld held.old transaction.now }
+        requires held { KeepsHeld J.layout held.old transaction.now }
         ensures committed { IfOk result (IsCommitted R.statement J.layout transaction.now.seen transaction.now session.old session.new) }
         ensures refusal { IfErr result (IsCommitRefusal transaction.now session.old) }
         ensures fenced { IfErr result (ShowsFence session.new) }
@@ -438,7 +438,7 @@ impl<'b, D: BlockDisk, R: MapRule, J: Naming> LockedParts<'b, D, R, J> {
     ) -> Result<Receipt<'b, J, R>, JournalRefusal<'b, J, R>>
         requires rule { (m : Map) → m.layout ≡ J.layout → R.statement m → Agrees m transaction.now.reads
             → R.statement (overwritten m transaction.now.writes) }
-        requires held { KeepsHeld held.old transaction.now }
+        requires held { KeepsHeld J.layout held.old transaction.now }
         ensures committed { IfOk result (IsCommitted R.statement J.layout transaction.now.seen transaction.now session.old session.new) }
         ensures refusal { IfErr result (IsTryRefusal transaction.now session.old) }
         ensures fenced { IfErr result (ShowsFence session.new) }
@@ -473,7 +473,7 @@ impl<'b, D: BlockDisk, R: MapRule, J: Naming> LockedParts<'b, D, R, J> {
     )
         requires rule { (m : Map) → m.layout ≡ J.layout → R.statement m → Agrees m transaction.now.reads
             → R.statement (overwritten m transaction.now.writes) }
-        requires held { KeepsHeld held.old transaction.now }
+        requires held { KeepsHeld J.layout held.old transaction.now }
         ensures committed { IfOk result.1 (IsCommitted R.statement J.layout transaction.now.seen transaction.now session.old session.new) }
         ensures refusal { IfErr result.1 (IsCommitRefusal transaction.now session.old) }
         ensures fenced { IfErr result.1 (ShowsFence session.new) }
@@ -513,7 +513,7 @@ impl<'b, D: BlockDisk, R: MapRule, J: Naming> LockedParts<'b, D, R, J> {
     )
         requires rule { (m : Map) → m.layout ≡ J.layout → R.statement m → Agrees m transaction.now.reads
             → R.statement (overwritten m transaction.now.writes) }
-        requires held { KeepsHeld held.old transaction.now }
+        requires held { KeepsHeld J.layout held.old transaction.now }
         ensures committed { IfOk result.1 (IsCommitted R.statement J.layout transaction.now.seen transaction.now session.old session.new) }
         ensures refusal { IfErr result.1 (IsTryRefusal transaction.now session.old) }
         ensures fenced { IfErr result.1 (ShowsFence session.new) }
@@ -679,7 +679,7 @@ pub(crate) fn commit_in<'b, R: MapRule, J: Naming, W: Wait>(
 ) -> Result<CommitStep<Receipt<'b, J, R>>, JournalRefusal<'b, J, R>>
     requires rule { (m : Map) → m.layout ≡ J.layout → R.statement m → Agrees m transaction.now.reads
         → R.statement (overwritten m transaction.now.writes) }
-    requires held { KeepsHeld held.old transaction.now }
+    requires held { KeepsHeld J.layout held.old transaction.now }
     ensures committed { IfOk result (IfDone (IsCommitted R.statement J.layout transaction.now.seen transaction.now session.old session.new)) }
     ensures waits { IfOk result (IfMissing (λ _. OnlyExtends session.old session.new)) }
     ensures below { IfOk result (IfMissing (All (λ b. b < J.layout.blocks))) }

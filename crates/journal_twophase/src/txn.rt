@@ -1,7 +1,6 @@
 // Open transactions.
 ghost use Rattle.std.specs.Prelude.{◌≡◌, ◌⊎◌, ◌<◌, [], ◌∷◌, ◌++◌, ℕ, List, length, IsTrue, IfSome, IfOk, IfErr, OnOk, OnErr, IsOkUnless, option_copied, if◌then◌else◌};
 ghost use mathlib.Core.List.{IsPrefix};
-ghost use Rattle.journal_world.specs.declared.address.TheConstants.{SLOTS as SLOT_COUNT};
 ghost use Rattle.journal_world.specs.Addresses.{is_valid, slot_of as slot_number};
 ghost use Rattle.journal_world.specs.Maps.{is_object, value_among, Agrees};
 ghost use Rattle.journal_object.specs.Objects.{size_at};
@@ -14,7 +13,7 @@ use journal_core::Transaction;
 use journal_disk::BlockDisk;
 use journal_history::{Front, Naming, Session};
 use journal_lockmap::{Held, LockMap};
-use journal_world::{Addr, MapRule, Refusal, Value, slot_of};
+use journal_world::{Addr, MapRule, Refusal, Value};
 use std::alloc::{AllocError, AllocFailed, Global};
 use std::marker::Model;
 use std::sync::Wait;
@@ -47,7 +46,7 @@ impl<'j, 'b, D: BlockDisk, R: MapRule, J: Naming> Model for Txn<'j, 'b, D, R, J>
       held = slots_of t.held.items;
     } };
 
-    ghost invariant = { λ t. IsPrefix t.began t.transaction.seen × KeepsHeld t.held.items t.transaction };
+    ghost invariant = { λ t. IsPrefix t.began t.transaction.seen × KeepsHeld J.layout t.held.items t.transaction };
 }
 
 impl<'j, 'b, D: BlockDisk, R: MapRule, J: Naming> Txn<'j, 'b, D, R, J> {
@@ -89,7 +88,7 @@ impl<'j, 'b, D: BlockDisk, R: MapRule, J: Naming> Txn<'j, 'b, D, R, J> {
     /// the core, then J1 `NoMemory` where memory is refused, or J6 where the device fails in this call. The
     /// transaction is then as it was, with the slots that it held.
     pub fn read<W: Wait>(&mut self, rt: &W, addr: Addr) -> Result<Value, JournalRefusal<'b, J, R>>
-        ensures reads { IfOk result (λ value. ReadsValue (holding self.old addr) addr value self.new) }
+        ensures reads { IfOk result (λ value. ReadsValue (holding J.layout self.old addr) addr value self.new) }
         ensures object { IfOk result (λ value. IsTrue (is_object J.layout (addr, value))) }
         ensures agrees { OnOk result (IsTrue (is_trusted self.new.seen) → Agrees (latest self.new.seen) self.new.reads) }
         ensures kept { OnOk result (IsTrue (is_trusted self.new.seen) → Agrees (latest self.new.seen) self.old.reads) }
@@ -100,7 +99,7 @@ impl<'j, 'b, D: BlockDisk, R: MapRule, J: Naming> Txn<'j, 'b, D, R, J> {
         if !journal.layout.is_valid(addr) {
             return Err(self.unless_ended(rt, Refusal::BadAddress));
         }
-        let took = match self.take(rt, slot_of(addr)) {
+        let took = match self.take(rt, journal.slot_of(addr)) {
             Ok(took) => took,
             Err(Refusal::NoMemory) => return Err(self.no_memory(rt, addr)),
             Err(refusal) => return Err(self.unless_ended(rt, refusal)),
@@ -150,7 +149,7 @@ impl<'j, 'b, D: BlockDisk, R: MapRule, J: Naming> Txn<'j, 'b, D, R, J> {
     // Its own overwrite, else what the map gives, which it remembers.
     fn find_value<W: Wait>(&mut self, rt: &W, addr: Addr) -> Result<Value, JournalRefusal<'b, J, R>>
         requires valid { IsTrue (is_valid J.layout addr) }
-        requires slot { IsTrue (holds self.old.held (slot_number addr)) }
+        requires slot { IsTrue (holds self.old.held (slot_number J.layout addr)) }
         ensures reads { IfOk result (λ value. ReadsValue self.old addr value self.new) }
         ensures object { IfOk result (λ value. IsTrue (is_object J.layout (addr, value))) }
         ensures kept { OnOk result (IsTrue (is_trusted self.new.seen) → Agrees (latest self.new.seen) self.old.reads) }
@@ -192,7 +191,7 @@ impl<'j, 'b, D: BlockDisk, R: MapRule, J: Naming> Txn<'j, 'b, D, R, J> {
     ) -> Result<Value, JournalRefusal<'b, J, R>>
         requires valid { IsTrue (is_valid J.layout addr) }
         requires size { length room.items ≡ size_at J.layout addr }
-        requires slot { IsTrue (holds self.old.held (slot_number addr)) }
+        requires slot { IsTrue (holds self.old.held (slot_number J.layout addr)) }
         ensures learns { IfOk result (λ value. Learns self.old addr value self.new) }
         ensures object { IfOk result (λ value. IsTrue (is_object J.layout (addr, value))) }
         ensures kept { OnOk result (IsTrue (is_trusted self.new.seen) → Agrees (latest self.new.seen) self.old.reads) }
@@ -237,23 +236,19 @@ impl<'j, 'b, D: BlockDisk, R: MapRule, J: Naming> Txn<'j, 'b, D, R, J> {
         addr: Addr,
         bytes: &[u8],
     ) -> Result<(), JournalRefusal<'b, J, R>>
-        ensures overwrites { OnOk result (Overwrites (holding self.old addr) addr bytes.now self.new) }
+        ensures overwrites { OnOk result (Overwrites (holding J.layout self.old addr) addr bytes.now self.new) }
         ensures object { OnOk result (IsTrue (is_object J.layout (addr, bytes.now))) }
         ensures refusal { IfErr result (IsOverwriteRefusal J.layout self.old addr bytes.now) }
         ensures same { OnErr result (self.new ≡ self.old) }
     {
         let journal = self.journal;
-        let layout = journal.layout;
-        if !layout.is_valid(addr) {
+        let Some(kind) = journal.layout.kind_at(addr) else {
             return Err(Refusal::BadAddress);
-        }
-        if !layout
-            .kind(addr.block)
-            .is_some_and(|kind| kind.admits(bytes))
-        {
+        };
+        if !kind.admits(bytes) {
             return Err(Refusal::BadSize);
         }
-        let took = self.take(rt, slot_of(addr))?;
+        let took = self.take(rt, journal.slot_of(addr))?;
         let answer = self.remember(addr, bytes);
         if answer.is_err() {
             self.give_back(rt, took);
@@ -264,7 +259,7 @@ impl<'j, 'b, D: BlockDisk, R: MapRule, J: Naming> Txn<'j, 'b, D, R, J> {
     // Remembers what is to be written.
     fn remember(&mut self, addr: Addr, bytes: &[u8]) -> Result<(), JournalRefusal<'b, J, R>>
         requires object { IsTrue (is_object J.layout (addr, bytes.now)) }
-        requires slot { IsTrue (holds self.old.held (slot_number addr)) }
+        requires slot { IsTrue (holds self.old.held (slot_number J.layout addr)) }
         ensures overwrites { OnOk result (Overwrites self.old addr bytes.now self.new) }
         ensures refusal { IsOkUnless result Refusal.NoMemory }
         ensures same { OnErr result (self.new ≡ self.old) }
@@ -276,10 +271,10 @@ impl<'j, 'b, D: BlockDisk, R: MapRule, J: Naming> Txn<'j, 'b, D, R, J> {
 
     // Takes the slot, and says whether the transaction did not hold it already.
     fn take<W: Wait>(&mut self, rt: &W, slot: u16) -> Result<bool, JournalRefusal<'b, J, R>>
-        requires in_range { slot < SLOT_COUNT }
+        requires in_range { slot < J.layout.slots }
         ensures taken { OnOk result (self.new ≡ record self.old { held = with_slot self.old.held slot }) }
         ensures took { IfOk result (λ took. self.new.held ≡ (if took then self.old.held ++ slot ∷ [] else self.old.held)) }
-        ensures clear { IfOk result (λ took. IsTrue took → IsClearOf slot self.new.reads × IsClearOf slot self.new.writes) }
+        ensures clear { IfOk result (λ took. IsTrue took → IsClearOf J.layout slot self.new.reads × IsClearOf J.layout slot self.new.writes) }
         ensures refusal { IfErr result (IsSlotRefusal self.old.held slot) }
         ensures same { OnErr result (self.new ≡ self.old) }
     {
@@ -317,7 +312,7 @@ impl<'j, 'b, D: BlockDisk, R: MapRule, J: Naming> Txn<'j, 'b, D, R, J> {
 
     // Gives back the slot that a refused call took, where it took one. Nothing that was read or overwritten lies under it.
     fn give_back<W: Wait>(&mut self, rt: &W, took: bool)
-        requires clear { IsTrue took → (before : List ℕ) (slot : ℕ) → self.old.held ≡ before ++ slot ∷ [] → IsClearOf slot self.old.reads × IsClearOf slot self.old.writes }
+        requires clear { IsTrue took → (before : List ℕ) (slot : ℕ) → self.old.held ≡ before ++ slot ∷ [] → IsClearOf J.layout slot self.old.reads × IsClearOf J.layout slot self.old.writes }
         ensures { (t : TxnState) (slot : ℕ) → self.old ≡ record t { held = (if took then t.held ++ slot ∷ [] else t.held) } → self.new ≡ t }
     {
         if !took {

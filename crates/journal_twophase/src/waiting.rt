@@ -124,7 +124,7 @@ impl<'b, D: BlockDisk, R: MapRule, J: Naming> LockedParts<'b, D, R, J> {
     ) -> Waited<'b, J, R>
         requires rule { (m : Map) → m.layout ≡ J.layout → R.statement m → Agrees m transaction.now.reads
             → R.statement (overwritten m transaction.now.writes) }
-        requires held { KeepsHeld held.items transaction.now }
+        requires held { KeepsHeld J.layout held.items transaction.now }
         ensures committed { IfOk result (λ done. CommitsAndWaits R.statement J.layout transaction.now.seen transaction.now session.old session.new done.0) }
         ensures stable { IfOk result (λ done. IsStable done.0.count done.1 session.new) }
         ensures fault { IfErr result (IsWaitFault R.statement J.layout transaction.now.seen transaction.now session.old session.new) }

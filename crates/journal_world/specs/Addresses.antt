@@ -7,18 +7,19 @@ use Rattle.journal_world.specs.declared.address.Kind.TheVariants.{Bit, Record, B
 use Rattle.journal_world.specs.declared.address.RecordSize.{RecordSize}
 use Rattle.journal_world.specs.declared.address.RecordSize.TheVariants.{Bytes8, Bytes16, Bytes32, Bytes64, Bytes128, Bytes256, Bytes512, Bytes1024, Bytes2048}
 use Rattle.journal_world.specs.declared.layout.Region.{Region}
-use Rattle.journal_world.specs.declared.address.TheConstants.{SLOTS}
 use Rattle.journal_world.specs.declared.layout.TheConstants.{SUPERBLOCK, UNUSED, BLOCK_BITS, BLOCK_BYTES}
 
 -- a value is its bytes
 abbrev pub Value : Type 0
 Value = List ℕ
 
--- A layout: how many blocks the disk has, and its regions. A region is the first of its blocks and
--- the kind of their objects. It ends where the next one begins, and the last one where the disk ends
+-- A layout: how many blocks the disk has, its regions, and how many slots a journal over it has. A
+-- region is the first of its blocks and the kind of their objects. It ends where the next one
+-- begins, and the last one where the disk ends
 pub record Shape : Type 0 where
   pub blocks : ℕ
   pub regions : List Region
+  pub slots : ℕ
 
 -- each region begins above the one before it, or is not in use, and then so is each behind it
 abbrev pub rise_from : ℕ → List Region → Bool
@@ -92,7 +93,7 @@ zeros_of kind = replicate (bytes_of kind) 0
 abbrev pub is_same : Addr → Addr → Bool
 is_same a b = a.block == b.block && a.off == b.off
 
--- the slot of an address: (block * 32768 + off) mod 257. Transactions that use addresses of one
--- slot exclude one another
-abbrev pub slot_of : Addr → ℕ
-slot_of a = (a.block * BLOCK_BITS + a.off) % SLOTS
+-- the slot of an address: (block * 32768 + off) mod the number of slots. Transactions that use
+-- addresses of one slot exclude one another
+abbrev pub slot_of : Shape → Addr → ℕ
+slot_of layout a = (a.block * BLOCK_BITS + a.off) % layout.slots

@@ -5,12 +5,12 @@ use Rattle.journal_world.specs.declared.address.Kind.TheVariants.{Bit, Record, B
 use Rattle.journal_world.specs.declared.address.RecordSize.TheVariants.{Bytes128}
 use Rattle.journal_world.specs.declared.layout.Region.{Region}
 use Rattle.journal_world.specs.declared.layout.Layout.{Layout}
-use Rattle.journal_world.specs.declared.layout.TheConstants.{SUPERBLOCK, BITMAP, FIRST_INODES, FIRST_DATA, UNUSED}
+use Rattle.journal_world.specs.declared.layout.TheConstants.{SUPERBLOCK, BITMAP, FIRST_INODES, FIRST_DATA, UNUSED, SLOTS}
 use Rattle.journal_world.specs.Addresses.{Shape}
 
 -- what contracts see of a layout
 abbrev pub shape : Layout → Shape
-shape l = record { blocks = l.blocks; regions = l.regions }
+shape l = record { blocks = l.blocks; regions = l.regions; slots = l.slots }
 
 abbrev pub region : ℕ → Kind → Region
 region first kind = record { first = first; kind = kind }
@@ -19,10 +19,11 @@ abbrev pub no_region : Region
 no_region = region UNUSED Block
 
 -- a disk with files: the superblock, a block of bits, inodes of 128 bytes in blocks 515 to 530, and
--- data
+-- data. A journal over it has 257 slots
 abbrev pub files : ℕ → Shape
 files blocks = record {
   blocks = blocks;
   regions = region SUPERBLOCK Block ∷ region BITMAP Bit ∷ region FIRST_INODES (Record Bytes128) ∷ region FIRST_DATA Block
       ∷ no_region ∷ no_region ∷ no_region ∷ no_region ∷ [];
+  slots = SLOTS;
 }

@@ -1,14 +1,10 @@
 // Where an object lies, and what it is.
-ghost use Rattle.std.specs.Prelude.{◌≡◌, IfOk};
-ghost use Rattle.journal_world.specs.Addresses.{record_bytes, bytes_of, bits_of, is_value_of, zeros_of};
-ghost use Rattle.journal_world.specs.Addresses.{slot_of as slot_number};
+ghost use Rattle.std.specs.Prelude.{◌≡◌, ◌*◌, ◌%◌, ◌==◌, Some, IfOk};
+ghost use Rattle.journal_world.specs.Addresses.{record_bytes, bytes_of, bits_of, is_value_of, starts_object, zeros_of};
 
 use crate::Value;
 use crate::layout::{BLOCK_BITS, BLOCK_BYTES};
 use std::alloc::{AllocError, Global};
-
-/// How many slots there are.
-pub const SLOTS: u64 = 257;
 
 /// The place of an object: its block, and its first bit in that block.
 ///
@@ -59,6 +55,24 @@ impl RecordSize {
             RecordSize::Bytes2048 => 2048,
         }
     }
+
+    // Whether a record of the size may begin at this bit. To divide by a number that the compiler
+    // knows takes a tenth of the time.
+    fn begins_at(self, off: u32) -> bool
+        ensures { result ≡ (off % (8 * record_bytes self) == 0) }
+    {
+        match self {
+            RecordSize::Bytes8 => off % 64 == 0,
+            RecordSize::Bytes16 => off % 128 == 0,
+            RecordSize::Bytes32 => off % 256 == 0,
+            RecordSize::Bytes64 => off % 512 == 0,
+            RecordSize::Bytes128 => off % 1024 == 0,
+            RecordSize::Bytes256 => off % 2048 == 0,
+            RecordSize::Bytes512 => off % 4096 == 0,
+            RecordSize::Bytes1024 => off % 8192 == 0,
+            RecordSize::Bytes2048 => off % 16384 == 0,
+        }
+    }
 }
 
 /// What an object is. All objects of one block are of one kind.
@@ -95,6 +109,18 @@ impl Kind {
         }
     }
 
+    /// Whether an object of the kind begins at this bit of its block.
+    pub fn begins_at(self, off: u32) -> bool
+        ensures { result ≡ starts_object (Some self) off }
+    {
+        off < BLOCK_BITS
+            && match self {
+                Kind::Bit => true,
+                Kind::Record(size) => size.begins_at(off),
+                Kind::Block => off == 0,
+            }
+    }
+
     /// Whether the bytes are a value of the kind: as many as it has, and a bit's is 0 or 1.
     pub fn admits(self, bytes: &[u8]) -> bool
         ensures { result ≡ is_value_of self bytes.now }
@@ -111,12 +137,4 @@ impl Kind {
     {
         Ok(Value::new(vec![in alloc; 0u8; self.bytes()]?))
     }
-}
-
-/// The slot of an address, below `SLOTS`. Transactions that use addresses of one slot exclude one another.
-pub fn slot_of(addr: Addr) -> u16
-    ensures { result ≡ slot_number addr }
-{
-    let block = addr.block % SLOTS * u64::from(BLOCK_BITS);
-    ((block + u64::from(addr.off)) % SLOTS) as u16
 }

@@ -1,13 +1,13 @@
 // Which layouts there are, and what a layout says of blocks and addresses.
-ghost use Rattle.std.specs.Prelude.{◌≡◌, ◌≤◌, ◌<◌, ◌%◌, ◌↔◌, IsTrue, IsSome, IfSome};
-ghost use Rattle.journal_world.specs.Addresses.{kind_of, is_valid, are_regions, bits_of};
+ghost use Rattle.std.specs.Prelude.{◌≡◌, ◌≤◌, ◌<◌, ◌+◌, ◌*◌, ◌%◌, ◌↔◌, IsTrue, IsSome, IfSome};
+ghost use Rattle.journal_world.specs.Addresses.{kind_of, is_valid, are_regions, bits_of, slot_of};
 ghost use Rattle.journal_world.specs.Files.{shape, files};
-ghost use Rattle.journal_world.specs.declared.layout.TheConstants.{MIN_BLOCKS, MAX_BLOCKS, MAX_LAYOUT_BLOCKS, BLOCK_BITS};
+ghost use Rattle.journal_world.specs.declared.layout.TheConstants.{MIN_BLOCKS, MAX_BLOCKS, MAX_LAYOUT_BLOCKS, MAX_SLOTS, SLOTS, BLOCK_BITS};
 
 use crate::address::{Addr, Kind, RecordSize};
 use crate::layout::{
-    BITMAP, BLOCK_BITS, FIRST_DATA, FIRST_INODES, Layout, MAX_BLOCKS, MAX_LAYOUT_BLOCKS,
-    MIN_BLOCKS, REGIONS, Region, SUPERBLOCK, UNUSED,
+    BITMAP, BLOCK_BITS, FIRST_DATA, FIRST_INODES, Layout, MAX_BLOCKS, MAX_LAYOUT_BLOCKS, MAX_SLOTS,
+    MIN_BLOCKS, REGIONS, Region, SLOTS, SUPERBLOCK, UNUSED,
 };
 
 // A region that is not in use.
@@ -55,27 +55,51 @@ impl Layout {
         Layout::with_regions(blocks, FILES)
     }
 
-    /// The layout of a disk of so many blocks with these regions. The disk itself does not tell it:
-    /// it has to be opened by the same layout each time.
+    /// The layout of a disk of so many blocks with these regions, and 257 slots. The disk itself
+    /// does not tell it: it has to be opened by the same layout each time.
     ///
     /// `None` where there are fewer than 532 or more than 2^40 blocks, and where the regions do not
     /// begin at block 513, do not rise, or have one in use behind one that is not.
     pub fn with_regions(blocks: u64, regions: [Region; REGIONS]) -> Option<Layout>
         ensures valid { IsSome result
             ↔ ((MIN_BLOCKS ≤ blocks) × (blocks ≤ MAX_LAYOUT_BLOCKS) × IsTrue (are_regions regions)) }
-        ensures value { IfSome result (λ layout. shape layout ≡ record { blocks = blocks; regions = regions }) }
+        ensures value { IfSome result (λ layout. shape layout ≡ record { blocks = blocks; regions = regions; slots = SLOTS }) }
     {
         if blocks < MIN_BLOCKS || blocks > MAX_LAYOUT_BLOCKS || !are_regions(&regions) {
             return None;
         }
-        Some(Layout { blocks, regions })
+        Some(Layout {
+            blocks,
+            regions,
+            slots: SLOTS,
+        })
     }
 
-    /// Whether it is the layout of a disk with files.
+    /// The same layout with so many slots. With more of them, transactions meet less often by
+    /// chance: two that use k addresses each at random share a slot with a probability of about k^2
+    /// / slots. The number is odd, so that whole blocks in a row have different slots.
+    ///
+    /// `None` where the number is even or above 65521.
+    pub fn with_slots(self, slots: u16) -> Option<Layout>
+        ensures valid { IsSome result ↔ ((slots % 2 ≡ 1) × (slots ≤ MAX_SLOTS)) }
+        ensures value { IfSome result (λ layout. shape layout ≡ record (shape self) { slots = slots }) }
+    {
+        if slots % 2 == 0 || slots > MAX_SLOTS {
+            return None;
+        }
+        let same_regions = self.regions;
+        Some(Layout {
+            blocks: self.blocks,
+            regions: same_regions,
+            slots,
+        })
+    }
+
+    /// Whether it is the layout of a disk with files, and 257 slots.
     pub fn is_of_files(&self) -> bool
         ensures { IsTrue result ↔ (shape self.now ≡ files self.now.blocks) }
     {
-        are_same(&self.regions, &FILES)
+        self.slots == SLOTS && are_same(&self.regions, &FILES)
     }
 
     /// The kind of a block's objects, or `None` where it has none.
@@ -85,13 +109,13 @@ impl Layout {
         if block < SUPERBLOCK || block >= self.blocks {
             return None;
         }
-        let mut found = None;
-        for index in 0..REGIONS {
+        // Regions rise, so the last one that begins at the block or below it has it.
+        for index in (0..REGIONS).rev() {
             if self.regions[index].first <= block {
-                found = Some(self.regions[index].kind);
+                return Some(self.regions[index].kind);
             }
         }
-        found
+        None
     }
 
     /// The kind of the object that the address names, or `None` where it names none.
@@ -102,7 +126,7 @@ impl Layout {
         ensures multiple { IfSome result (λ kind. addr.off % bits_of kind ≡ 0) }
     {
         let kind = self.kind(addr.block)?;
-        (addr.off < BLOCK_BITS && addr.off % kind.bits() == 0).then_some(kind)
+        kind.begins_at(addr.off).then_some(kind)
     }
 
     /// Whether the address names an object.
@@ -111,6 +135,47 @@ impl Layout {
     {
         self.kind_at(addr).is_some()
     }
+
+    /// The slot of an address, below the number of slots. Transactions that use addresses of one
+    /// slot exclude one another.
+    pub fn slot_of(&self, addr: Addr) -> u16
+        ensures slot { result ≡ slot_of (shape self.now) addr }
+        ensures in_range { result < self.now.slots }
+    {
+        if self.slots == SLOTS {
+            slot_among_257(addr)
+        } else {
+            slot_among(addr, self.slots)
+        }
+    }
+}
+
+// The slot of an address among 257, which most layouts have. To divide by a number that the
+// compiler knows takes a fifth of the time. A sum below twice that number needs no division, and
+// without one the compiler does not join this with `slot_among`.
+fn slot_among_257(addr: Addr) -> u16
+    ensures slot { result ≡ (addr.block * BLOCK_BITS + addr.off) % SLOTS }
+    ensures in_range { result < SLOTS }
+{
+    let slots = u64::from(SLOTS);
+    let block = addr.block % slots * u64::from(BLOCK_BITS) % slots;
+    let slot = block + u64::from(addr.off) % slots;
+    if slot < slots {
+        slot as u16
+    } else {
+        (slot - slots) as u16
+    }
+}
+
+// The slot of an address, where there are so many.
+fn slot_among(addr: Addr, slots: u16) -> u16
+    requires some { 0 < slots }
+    ensures slot { result ≡ (addr.block * BLOCK_BITS + addr.off) % slots }
+    ensures in_range { result < slots }
+{
+    let slots = u64::from(slots);
+    let block = addr.block % slots * u64::from(BLOCK_BITS);
+    ((block + u64::from(addr.off)) % slots) as u16
 }
 
 // Whether the regions begin at block 513, those in use rise, and all others stand behind them.

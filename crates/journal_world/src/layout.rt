@@ -1,5 +1,5 @@
 // The layout of a disk: how many blocks there are, and what their objects are.
-ghost use Rattle.std.specs.Prelude.{◌≤◌};
+ghost use Rattle.std.specs.Prelude.{◌≡◌, ◌≤◌, ◌%◌};
 ghost use Rattle.journal_world.specs.declared.layout.TheConstants.{MIN_BLOCKS, MAX_LAYOUT_BLOCKS};
 
 use crate::Kind;
@@ -23,6 +23,11 @@ pub const BLOCK_BYTES: usize = 4096;
 /// The bits of a block.
 pub const BLOCK_BITS: u32 = 32768;
 
+/// How many slots a layout has that does not ask for another number.
+pub const SLOTS: u16 = 257;
+/// The most slots of a layout, the greatest prime number below 2^16.
+pub const MAX_SLOTS: u16 = 65521;
+
 /// How many regions a layout has, in use or not.
 pub const REGIONS: usize = 8;
 /// Where a region begins that is not in use.
@@ -38,10 +43,13 @@ pub struct Region {
     pub kind: Kind,
 }
 
-/// The layout of a disk: which addresses name an object of it, and of which kind.
+/// The layout of a disk: which addresses name an object of it, and of which kind, and how many
+/// slots a journal over it has. The number of slots is odd.
 #[derive(Clone, Copy, Debug, PartialEq, Eq)]
 pub struct Layout {
     pub blocks: u64,
     pub regions: [Region; REGIONS],
+    pub slots: u16,
     pub ghost in_range: { (MIN_BLOCKS ≤ blocks) × (blocks ≤ MAX_LAYOUT_BLOCKS) },
+    pub ghost odd: { slots % 2 ≡ 1 },
 }

@@ -13,10 +13,10 @@ mod rule;
 mod step;
 mod value;
 
-pub use address::{Addr, Kind, RecordSize, SLOTS, slot_of};
+pub use address::{Addr, Kind, RecordSize};
 pub use layout::{
     BITMAP, BLOCK_BITS, BLOCK_BYTES, FIRST_DATA, FIRST_INODES, Layout, MAX_BLOCKS,
-    MAX_LAYOUT_BLOCKS, MIN_BLOCKS, REGIONS, Region, SUPERBLOCK, UNUSED,
+    MAX_LAYOUT_BLOCKS, MAX_SLOTS, MIN_BLOCKS, REGIONS, Region, SLOTS, SUPERBLOCK, UNUSED,
 };
 pub use moment::{MAX_NANOS, Moment};
 pub use objects::Objects;

@@ -20,12 +20,12 @@ commit_step-requires g c =
     let is_one : IsTrue c.in_ok-draft.field-0 = search rules in
     let drafts = c.in_ok-draft.ensures.drafted is_one in
     let history : c.draft.new.core.history ≡ c.session_step.new.self.history = ap (λ (k : CoreState). k.history) c.in_ok-draft.ensures.others in
-    let one : slots_of c.draft.new.held ≡ slot_of (addr_of superblock) ∷ [] = ap slots_of c.in_ok-draft.ensures.held ∙ c.requires.held in
+    let one : slots_of c.draft.new.held ≡ slot_of g.J.Naming.layout (addr_of superblock) ∷ [] = ap slots_of c.in_ok-draft.ensures.held ∙ c.requires.held in
     record {
       rule = λ m blocks sound agrees. keeps_rule c.session_step.new.self.history c.draft.new.transaction m drafts sound agrees;
-      under = under c.draft.new.held one c.session_step.new.self.history c.draft.new.transaction drafts (subst (λ h. AgreeWith h c.draft.new.held) history c.in_ok-draft.ensures.agree);
-      covered = covered c.draft.new.held one c.session_step.new.self.history c.draft.new.transaction drafts;
-      apart = apart c.draft.new.held one;
+      under = under g.J.Naming.layout c.draft.new.held one c.session_step.new.self.history c.draft.new.transaction drafts (subst (λ h. AgreeWith g.J.Naming.layout h c.draft.new.held) history c.in_ok-draft.ensures.agree);
+      covered = covered g.J.Naming.layout c.draft.new.held one c.session_step.new.self.history c.draft.new.transaction drafts;
+      apart = apart g.J.Naming.layout c.draft.new.held one;
     }
 
 pub returns-in_err-commit_step-clause-refusal : goal.returns-in_err-commit_step-clause-refusal

@@ -8,7 +8,7 @@ use Rattle.journal_port.proofs.Ending.{OnlyExtends-refl, IsCommitAnswer-sorted}
 use Rattle.journal_port.proofs.commit.commit.Goals as goal
 
 pub commit_in_order-requires : goal.commit_in_order-requires
-commit_in_order-requires g c = subst (IsNonDecreasingBy order_of) (sym c.deref.ensures.value) c.in-Ok.ensures.ascending
+commit_in_order-requires g c = subst (IsNonDecreasingBy (order_of g.J.Naming.layout)) (sym c.deref.ensures.value) c.in-Ok.ensures.ascending
 
 pub returns-in-Ok : goal.returns-in-Ok
 returns-in-Ok g c =

@@ -13,7 +13,7 @@ loop-addr-preserved g c =
     let items : c.push.new.self.items ≡ c.loop-addr.values.items ++ c.in-Ok.value ∷ [] = c.in_ok-push-in-Ok.ensures.items in (
       c.in-Ok.ensures.writes,
       IsPrefix-trans _ _ _ c.loop-addr.invariant.1 c.in-Ok.ensures.later,
-      Held-stays c.args.addrs.now c.loop-addr.addr-index _ c.args.txn.now.held c.loop-addr.txn.held _ c.loop-addr-test.true (get_or_default c.args.addrs.now c.loop-addr.addr-index _ _ c.loop-addr-test.true) c.requires.held c.loop-addr.invariant.2 c.in-Ok.ensures.held,
+      Held-stays g.J.Naming.layout c.args.addrs.now c.loop-addr.addr-index _ c.args.txn.now.held c.loop-addr.txn.held _ c.loop-addr-test.true (get_or_default c.args.addrs.now c.loop-addr.addr-index _ _ c.loop-addr-test.true) c.requires.held c.loop-addr.invariant.2 c.in-Ok.ensures.held,
       ap length items ∙ length-append c.loop-addr.values.items (c.in-Ok.value ∷ []) ∙ ap (λ n. n + 1) c.loop-addr.invariant.3,
       λ trusted.
           subst (λ vs. AreRead c.read_one.new.txn.reads (zip (take (c.loop-addr.addr-index + 1) c.args.addrs.now) vs)) (sym items)

@@ -15,9 +15,9 @@ invariant_of-self-2 g c =
     let added : c.publish_floor.new.self ≡ c.self.inside.writer ++ stable c.args.n ∷ [] = c.publish_floor.ensures ∙ c.in_default.ensures.added in
     let rises : floor c.self.inside.writer ≤ c.args.n = subst (λ (s : LedgerState). floor s.history ≤ c.args.n) (sym c.self.view_is) c.requires.rises in
     let kept : (now : MarkedLengths) → KeepsMarkedLengths now (c.self.inside.writer ++ stable c.args.n ∷ []) c.args.n
-    → IsLedger c.self.inside.fenced.runs c.self.inside.sessions c.self.inside.slots now (record { history = c.publish_floor.new.self; cut = c.args.n; next = c.self.inside.next; closed = c.self.inside.closed }) =
-    λ now covers. subst (λ (h : List Entry). IsLedger c.self.inside.fenced.runs c.self.inside.sessions c.self.inside.slots now (record { history = h; cut = c.args.n; next = c.self.inside.next; closed = c.self.inside.closed })) (sym added)
-    (ledger_marked _ _ _ _ _ c.self.invariant c.args.n now covers) in
+    → IsLedger g.J.Naming.layout c.self.inside.fenced.runs c.self.inside.sessions c.self.inside.slots now (record { history = c.publish_floor.new.self; cut = c.args.n; next = c.self.inside.next; closed = c.self.inside.closed }) =
+    λ now covers. subst (λ (h : List Entry). IsLedger g.J.Naming.layout c.self.inside.fenced.runs c.self.inside.sessions c.self.inside.slots now (record { history = h; cut = c.args.n; next = c.self.inside.next; closed = c.self.inside.closed })) (sym added)
+    (ledger_marked g.J.Naming.layout _ _ _ _ _ c.self.invariant c.args.n now covers) in
     elim c.if-n-count.branch [
       | then-n-count w ↦ let b = w.if-n-count in
           rw w.self-inside-is

@@ -6,5 +6,5 @@ use Rattle.journal_core.proofs.ledger.Ledger.verify_tokens.Goals as goal
 
 pub returns-clause-agree : goal.returns-clause-agree
 returns-clause-agree g c =
-    subst (λ (s : LedgerState). AgreeWith s.history c.args.held.now) c.self.view_is
-    (agree_with c.self.inside.slots c.self.inside.writer c.args.held.now c.self.invariant.counts.touched c.verify_tokens.ensures.agree)
+    subst (λ (s : LedgerState). AgreeWith g.J.Naming.layout s.history c.args.held.now) c.self.view_is
+    (agree_with g.J.Naming.layout c.self.inside.slots c.self.inside.writer c.args.held.now c.self.invariant.counts.touched c.verify_tokens.ensures.agree)

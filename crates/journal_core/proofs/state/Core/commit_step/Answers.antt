@@ -14,11 +14,11 @@ use Rattle.journal_core.proofs.state.Core.commit_step.Goals as goal
 
 pub commit_verified-requires-clause-unmoved : goal.commit_verified-requires-clause-unmoved
 commit_verified-requires-clause-unmoved g c =
-    subst (λ (s : CoreState). AreUnmoved s.history c.args.transaction.now) (sym c.verify_tokens.ensures.same)
-    (verified_under c.args.self.now.history c.args.held.now c.args.transaction.now c.verify_tokens.ensures.agree c.requires.under)
+    subst (λ (s : CoreState). AreUnmoved g.J.Naming.layout s.history c.args.transaction.now) (sym c.verify_tokens.ensures.same)
+    (verified_under g.J.Naming.layout c.args.self.now.history c.args.held.now c.args.transaction.now c.verify_tokens.ensures.agree c.requires.under)
 
 pub commit_verified-requires-clause-covered : goal.commit_verified-requires-clause-covered
-commit_verified-requires-clause-covered g c = subst (λ (l : List HeldState). HoldsSlots l c.args.transaction.now.writes) (sym c.verify_tokens.ensures.held) c.requires.covered
+commit_verified-requires-clause-covered g c = subst (λ (l : List HeldState). HoldsSlots g.J.Naming.layout l c.args.transaction.now.writes) (sym c.verify_tokens.ensures.held) c.requires.covered
 
 pub commit_verified-requires-clause-apart : goal.commit_verified-requires-clause-apart
 commit_verified-requires-clause-apart g c = subst AreApart (sym c.verify_tokens.ensures.held) c.requires.apart
@@ -34,7 +34,7 @@ returns-clause-held g c =
 
 pub returns-clause-agree : goal.returns-clause-agree
 returns-clause-agree g c =
-    agree_committed c.commit_verified.result c.args.self.now c.commit_verified.new.self c.args.held.now c.commit_verified.new.held c.verify_tokens.ensures.agree
+    agree_committed g.J.Naming.layout c.commit_verified.result c.args.self.now c.commit_verified.new.self c.args.held.now c.commit_verified.new.held c.verify_tokens.ensures.agree
     c.commit_verified.ensures.agree (returns-clause-same g c) (returns-clause-held g c)
 
 pub returns-clause-committed : goal.returns-clause-committed

@@ -11,8 +11,8 @@ use Rattle.journal_core.proofs.state.Core.read_step.Goals as goal
 
 pub read_verified-requires-clause-unmoved : goal.read_verified-requires-clause-unmoved
 read_verified-requires-clause-unmoved g c =
-    subst (λ (s : CoreState). AreUnmoved s.history c.args.transaction.now) (sym c.verify_tokens.ensures.same)
-    (verified_under c.args.self.now.history c.args.held.now c.args.transaction.now c.verify_tokens.ensures.agree c.requires.under)
+    subst (λ (s : CoreState). AreUnmoved g.J.Naming.layout s.history c.args.transaction.now) (sym c.verify_tokens.ensures.same)
+    (verified_under g.J.Naming.layout c.args.self.now.history c.args.held.now c.args.transaction.now c.verify_tokens.ensures.agree c.requires.under)
 
 pub returns-clause-others : goal.returns-clause-others
 returns-clause-others g c =
@@ -20,7 +20,7 @@ returns-clause-others g c =
 
 pub returns-clause-agree : goal.returns-clause-agree
 returns-clause-agree g c =
-    agree_still c.args.self.now.history c.read_verified.new.self.history c.args.held.now c.verify_tokens.new.held c.verify_tokens.ensures.agree
+    agree_still g.J.Naming.layout c.args.self.now.history c.read_verified.new.self.history c.args.held.now c.verify_tokens.new.held c.verify_tokens.ensures.agree
     (ap (λ (s : CoreState). s.history) (returns-clause-others g c)) c.verify_tokens.ensures.held
 
 pub returns-clause-value : goal.returns-clause-value

@@ -14,7 +14,7 @@ invariant_of-self g c =
     subst (λ (reads : List Pair). IsTransaction g.J.Naming.layout (record { reads = reads; writes = t.writes; seen = found.front })) (sym c.with.ensures.known)
     (remembered g.J.Naming.layout t c.self.invariant found.front found.addr c.args.value.now
     (subst (λ (f : ReadResultState). IsPrefix t.seen f.seen) is (subst (λ (u : TransactionState). IsPrefix u.seen c.args.found.seen) (sym c.self.view_is) c.requires.later))
-    (subst (λ (f : ReadResultState). AreUnmoved f.seen t) is (subst (AreUnmoved c.args.found.seen) (sym c.self.view_is) c.requires.unmoved))
+    (subst (λ (f : ReadResultState). AreUnmoved g.J.Naming.layout f.seen t) is (subst (AreUnmoved g.J.Naming.layout c.args.found.seen) (sym c.self.view_is) c.requires.unmoved))
     (subst (λ (f : ReadResultState). IsTrue (is_object g.J.Naming.layout (f.addr, c.args.value.now))) is c.requires.object)
     (subst (λ (f : ReadResultState). IsTrue (is_trusted f.seen) → c.args.value.now ≡ value_at (latest f.seen) f.addr) is c.requires.value))
 

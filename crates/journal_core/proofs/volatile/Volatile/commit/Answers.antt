@@ -16,11 +16,11 @@ use Rattle.journal_core.proofs.volatile.Volatile.commit.Goals as goal
 
 pub commit_verified-answer-requires-clause-unmoved : goal.commit_verified-answer-requires-clause-unmoved
 commit_verified-answer-requires-clause-unmoved g c =
-    subst (λ (s : VolatileState). AreUnmoved s.ledger.history c.args.transaction.now) (sym c.verify_tokens.ensures.same)
-    (verified_under c.args.self.now.ledger.history c.args.held.now c.args.transaction.now c.verify_tokens.ensures.agree c.requires.under)
+    subst (λ (s : VolatileState). AreUnmoved g.J.Naming.layout s.ledger.history c.args.transaction.now) (sym c.verify_tokens.ensures.same)
+    (verified_under g.J.Naming.layout c.args.self.now.ledger.history c.args.held.now c.args.transaction.now c.verify_tokens.ensures.agree c.requires.under)
 
 pub commit_verified-answer-requires-clause-covered : goal.commit_verified-answer-requires-clause-covered
-commit_verified-answer-requires-clause-covered g c = subst (λ (l : List HeldState). HoldsSlots l c.args.transaction.now.writes) (sym c.verify_tokens.ensures.held) c.requires.covered
+commit_verified-answer-requires-clause-covered g c = subst (λ (l : List HeldState). HoldsSlots g.J.Naming.layout l c.args.transaction.now.writes) (sym c.verify_tokens.ensures.held) c.requires.covered
 
 pub commit_verified-answer-requires-clause-apart : goal.commit_verified-answer-requires-clause-apart
 commit_verified-answer-requires-clause-apart g c = subst AreApart (sym c.verify_tokens.ensures.held) c.requires.apart
@@ -46,7 +46,7 @@ returns-clause-held g c =
 
 pub returns-clause-agree : goal.returns-clause-agree
 returns-clause-agree g c =
-    agree_after c.commit_verified-answer.result c.args.self.now c.commit_verified-answer.new.self c.args.held.now c.commit_verified-answer.new.held c.args.session.now c.commit_verified-answer.new.session
+    agree_after g.J.Naming.layout c.commit_verified-answer.result c.args.self.now c.commit_verified-answer.new.self c.args.held.now c.commit_verified-answer.new.held c.args.session.now c.commit_verified-answer.new.session
     c.verify_tokens.ensures.agree c.commit_verified-answer.ensures.agree (returns-clause-waits g c) (returns-clause-stays g c) (returns-clause-same g c) (returns-clause-held g c)
 
 pub returns-clause-committed : goal.returns-clause-committed

@@ -13,13 +13,13 @@ use Rattle.journal_core.proofs.volatile.Volatile.read.Goals as goal
 
 pub read_verified-requires-clause-unmoved : goal.read_verified-requires-clause-unmoved
 read_verified-requires-clause-unmoved g c =
-    subst (λ (s : VolatileState). AreUnmoved s.ledger.history c.args.transaction.now) (sym c.verify_tokens.ensures.same)
-    (verified_under c.args.self.now.ledger.history c.args.held.now c.args.transaction.now c.verify_tokens.ensures.agree c.requires.under)
+    subst (λ (s : VolatileState). AreUnmoved g.J.Naming.layout s.ledger.history c.args.transaction.now) (sym c.verify_tokens.ensures.same)
+    (verified_under g.J.Naming.layout c.args.self.now.ledger.history c.args.held.now c.args.transaction.now c.verify_tokens.ensures.agree c.requires.under)
 
 pub returns-clause-agree : goal.returns-clause-agree
 returns-clause-agree g c =
-    subst (λ (s : VolatileState). AgreeWith s.ledger.history c.verify_tokens.new.held) (sym c.verify_tokens.ensures.same)
-    (subst (λ (l : List HeldState). AgreeWith c.args.self.now.ledger.history l) (sym c.verify_tokens.ensures.held) c.verify_tokens.ensures.agree)
+    subst (λ (s : VolatileState). AgreeWith g.J.Naming.layout s.ledger.history c.verify_tokens.new.held) (sym c.verify_tokens.ensures.same)
+    (subst (λ (l : List HeldState). AgreeWith g.J.Naming.layout c.args.self.now.ledger.history l) (sym c.verify_tokens.ensures.held) c.verify_tokens.ensures.agree)
 
 pub returns-clause-value : goal.returns-clause-value
 returns-clause-value g c =

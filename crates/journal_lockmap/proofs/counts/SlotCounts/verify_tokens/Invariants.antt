@@ -4,5 +4,5 @@ use Rattle.journal_lockmap.proofs.counts.SlotCounts.verify_tokens.Given as goal
 
 abbrev pub invariant-loop-index : goal.invariant-loop-index
 invariant-loop-index g l =
-    (l.self ≡ l.initial.self) × (l.held ≡ l.initial.held)
-    × ((k : ℕ) (d : HeldState) → k < l.index → HasNumber l.self (get_or l.held k d))
+    (l.self-inside ≡ l.initial.self-inside) × (l.held ≡ l.initial.held)
+    × ((k : ℕ) (d : HeldState) → k < l.index → HasNumber l.self-inside.keeper (get_or l.held k d))

@@ -19,4 +19,4 @@ returns-in-Ok-Missing-clause-session g c =
 pub commit_fetched-requires-clause-held : goal.commit_fetched-requires-clause-held
 commit_fetched-requires-clause-held g c =
     let same : c.commit_in.new.held ≡ c.args.held.now = search rules in
-    subst (λ (l : List HeldState). KeepsHeld l c.args.transaction.now) (sym same) c.requires.held
+    subst (λ (l : List HeldState). KeepsHeld g.J.Naming.layout l c.args.transaction.now) (sym same) c.requires.held

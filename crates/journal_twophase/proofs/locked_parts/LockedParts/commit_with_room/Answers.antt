@@ -6,4 +6,4 @@ use Rattle.journal_twophase.proofs.locked_parts.LockedParts.commit_with_room.Goa
 pub commit_or_fetch-guard-requires-clause-held : goal.commit_or_fetch-guard-requires-clause-held
 commit_or_fetch-guard-requires-clause-held g c =
     let same : c.loop.held ≡ c.args.held.now = search rules in
-    subst (λ (l : List HeldState). KeepsHeld l c.args.transaction.now) (sym same) c.requires.held
+    subst (λ (l : List HeldState). KeepsHeld g.J.Naming.layout l c.args.transaction.now) (sym same) c.requires.held

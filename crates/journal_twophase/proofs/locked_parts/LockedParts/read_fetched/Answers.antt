@@ -6,4 +6,4 @@ use Rattle.journal_twophase.proofs.locked_parts.LockedParts.read_fetched.Goals a
 pub read_with-requires-clause-under : goal.read_with-requires-clause-under
 read_with-requires-clause-under g c =
     let same : c.loop.held ≡ c.args.held.now = search rules in
-    subst (λ (l : List HeldState). AreUnder l c.args.transaction.now.seen c.args.transaction.now.reads) (sym same) c.requires.under
+    subst (λ (l : List HeldState). AreUnder g.J.Naming.layout l c.args.transaction.now.seen c.args.transaction.now.reads) (sym same) c.requires.under

@@ -6,7 +6,7 @@ use Rattle.journal_twophase.proofs.locked_parts.LockedParts.read_in.Goals as goa
 
 pub returns-clause-agree : goal.returns-clause-agree
 returns-clause-agree g c =
-    agrees_found c.read-answer.result c.args.addr _ _ c.read-answer.new.held c.read-answer.ensures.found (ap (λ (v : VolatileState). v.ledger.history) c.read-answer.ensures.same)
+    agrees_found g.J.Naming.layout c.read-answer.result c.args.addr _ _ c.read-answer.new.held c.read-answer.ensures.found (ap (λ (v : VolatileState). v.ledger.history) c.read-answer.ensures.same)
     c.read-answer.ensures.agree
 
 pub returns-clause-found : goal.returns-clause-found

@@ -5,4 +5,4 @@ use Rattle.journal_twophase.proofs.locked_parts.LockedParts.read_or_fetch.Goals 
 
 pub read_fetched-requires-clause-under : goal.read_fetched-requires-clause-under
 read_fetched-requires-clause-under g c =
-    subst (λ (l : List HeldState). AreUnder l c.args.transaction.now.seen c.args.transaction.now.reads) (sym c.read_in.ensures.held) c.requires.under
+    subst (λ (l : List HeldState). AreUnder g.J.Naming.layout l c.args.transaction.now.seen c.args.transaction.now.reads) (sym c.read_in.ensures.held) c.requires.under

@@ -7,12 +7,12 @@ use Rattle.journal_twophase.proofs.txn.Txn.no_memory.Goals as goal
 
 pub check_read-requires-clause-under : goal.check_read-requires-clause-under
 check_read-requires-clause-under g c =
-    subst (λ (l : List HeldState). AreUnder l c.self.inside.transaction.seen c.self.inside.transaction.reads) (sym c.deref_mut.ensures.value) c.self.invariant.1.reads
+    subst (λ (l : List HeldState). AreUnder g.J.Naming.layout l c.self.inside.transaction.seen c.self.inside.transaction.reads) (sym c.deref_mut.ensures.value) c.self.invariant.1.reads
 
 pub invariant_of-self : goal.invariant_of-self
 invariant_of-self g c = (
   c.self.invariant.0,
-  keeps_lent c.self.inside.held.len c.check_read.new.held c.self.inside.held.items c.self.inside.transaction (c.check_read.ensures.held ∙ c.deref_mut.ensures.value)
+  keeps_lent g.J.Naming.layout c.self.inside.held.len c.check_read.new.held c.self.inside.held.items c.self.inside.transaction (c.check_read.ensures.held ∙ c.deref_mut.ensures.value)
       c.self.inside.held.ok.0 c.self.invariant.1,
 )
 

@@ -11,7 +11,7 @@ use Rattle.journal_twophase.proofs.txn.Txn.read.Goals as goal
 
 pub returns-clause-refusal : goal.returns-clause-refusal
 returns-clause-refusal g c =
-    let taken : c.take.new.self ≡ holding c.args.self.now c.args.addr = rw (c.in-Ok.ensures.taken, c.slot_of.ensures) refl in
+    let taken : c.take.new.self ≡ holding g.J.Naming.layout c.args.self.now c.args.addr = rw (c.in-Ok.ensures.taken, c.slot_of.ensures.slot) refl in
     let valid : IsTrue (is_valid g.J.Naming.layout c.args.addr) = search rules in
     read_refused g.J.Naming.layout c.args.self.now c.take.new.self c.args.addr c.find_value-answer.result taken valid c.find_value-answer.ensures.refusal
 
@@ -24,20 +24,20 @@ returns-in-Err-NoMemory-clause-refusal g c =
 
 pub find_value-answer-requires-clause-slot : goal.find_value-answer-requires-clause-slot
 find_value-answer-requires-clause-slot g c =
-    let taken : c.take.new.self ≡ holding c.args.self.now c.args.addr = rw (c.in-Ok.ensures.taken, c.slot_of.ensures) refl in
-    subst (λ (t : TxnState). IsTrue (holds t.held (slot_of c.args.addr))) (sym taken) (holds_with c.args.self.now.held (slot_of c.args.addr))
+    let taken : c.take.new.self ≡ holding g.J.Naming.layout c.args.self.now c.args.addr = rw (c.in-Ok.ensures.taken, c.slot_of.ensures.slot) refl in
+    subst (λ (t : TxnState). IsTrue (holds t.held (slot_of g.J.Naming.layout c.args.addr))) (sym taken) (holds_with c.args.self.now.held (slot_of g.J.Naming.layout c.args.addr))
 
 pub give_back-requires : goal.give_back-requires
 give_back-requires g c =
     let same : c.find_value-answer.new.self ≡ c.take.new.self = search rules in
     record {
-      clear = subst (λ (t : TxnState). IsTrue c.in-Ok.took → (before : List ℕ) (last : ℕ) → t.held ≡ before ++ last ∷ [] → IsClearOf last t.reads × IsClearOf last t.writes) (sym same)
-          (clear_last c.in-Ok.took c.args.self.now.held c.take.new.self c.slot_of.result c.in-Ok.ensures.took c.in-Ok.ensures.clear);
+      clear = subst (λ (t : TxnState). IsTrue c.in-Ok.took → (before : List ℕ) (last : ℕ) → t.held ≡ before ++ last ∷ [] → IsClearOf g.J.Naming.layout last t.reads × IsClearOf g.J.Naming.layout last t.writes) (sym same)
+          (clear_last g.J.Naming.layout c.in-Ok.took c.args.self.now.held c.take.new.self c.slot_of.result c.in-Ok.ensures.took c.in-Ok.ensures.clear);
     }
 
 pub returns-clause-kept : goal.returns-clause-kept
 returns-clause-kept g c =
-    let taken : c.take.new.self ≡ holding c.args.self.now c.args.addr = rw (c.in-Ok.ensures.taken, c.slot_of.ensures) refl in
+    let taken : c.take.new.self ≡ holding g.J.Naming.layout c.args.self.now c.args.addr = rw (c.in-Ok.ensures.taken, c.slot_of.ensures.slot) refl in
     let after : TxnState = c.find_value-answer.new.self in
     let kept : OnOk c.find_value-answer.result (IsTrue (is_trusted after.seen) → Agrees (latest after.seen) c.args.self.now.reads) =
     subst (λ (t : TxnState). OnOk c.find_value-answer.result (IsTrue (is_trusted after.seen) → Agrees (latest after.seen) t.reads)) taken c.find_value-answer.ensures.kept in

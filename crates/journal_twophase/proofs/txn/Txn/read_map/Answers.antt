@@ -14,12 +14,12 @@ use Rattle.journal_twophase.proofs.txn.Txn.read_map.Goals as goal
 
 pub read-requires-clause-under : goal.read-requires-clause-under
 read-requires-clause-under g c =
-    subst (λ (l : List HeldState). AreUnder l c.self.inside.transaction.seen c.self.inside.transaction.reads) (sym c.deref_mut.ensures.value) c.self.invariant.1.reads
+    subst (λ (l : List HeldState). AreUnder g.J.Naming.layout l c.self.inside.transaction.seen c.self.inside.transaction.reads) (sym c.deref_mut.ensures.value) c.self.invariant.1.reads
 
 pub invariant_of-self : goal.invariant_of-self
 invariant_of-self g c = (
   c.self.invariant.0,
-  keeps_lent c.self.inside.held.len c.read.new.held c.self.inside.held.items c.self.inside.transaction (c.read.ensures.held ∙ c.deref_mut.ensures.value)
+  keeps_lent g.J.Naming.layout c.self.inside.held.len c.read.new.held c.self.inside.held.items c.self.inside.transaction (c.read.ensures.held ∙ c.deref_mut.ensures.value)
       c.self.inside.held.ok.0 c.self.invariant.1,
 )
 
@@ -37,12 +37,12 @@ pub invariant_of-self-2 : goal.invariant_of-self-2
 invariant_of-self-2 g c =
     let t = c.self.inside.transaction in
     let same : c.read.new.held ≡ c.self.inside.held.items = c.read.ensures.held ∙ c.deref_mut.ensures.value in
-    let slot : IsTrue (holds (slots_of c.self.inside.held.items) (slot_of c.args.addr)) =
-    subst (λ (s : TxnState). IsTrue (holds s.held (slot_of c.args.addr))) (sym c.self.view_is) c.requires.slot in (
-      later_on c.self.inside.began t c.remember.new.self c.args.addr c.new-value.result c.in_ok-found.found c.self.invariant.0 c.in_ok-found.ensures.found c.remember.ensures.remembered,
-      keeps_lent c.self.inside.held.len c.read.new.held c.self.inside.held.items c.remember.new.self same c.self.inside.held.ok.0
-          (keeps_read c.self.inside.held.items t c.remember.new.self c.args.addr c.new-value.result c.in_ok-found.found c.self.invariant.1
-          (subst (AgreeWith c.in_ok-found.found.seen) same c.in_ok-found.ensures.agree) c.in_ok-found.ensures.found slot c.remember.ensures.remembered),
+    let slot : IsTrue (holds (slots_of c.self.inside.held.items) (slot_of g.J.Naming.layout c.args.addr)) =
+    subst (λ (s : TxnState). IsTrue (holds s.held (slot_of g.J.Naming.layout c.args.addr))) (sym c.self.view_is) c.requires.slot in (
+      later_on g.J.Naming.layout c.self.inside.began t c.remember.new.self c.args.addr c.new-value.result c.in_ok-found.found c.self.invariant.0 c.in_ok-found.ensures.found c.remember.ensures.remembered,
+      keeps_lent g.J.Naming.layout c.self.inside.held.len c.read.new.held c.self.inside.held.items c.remember.new.self same c.self.inside.held.ok.0
+          (keeps_read g.J.Naming.layout c.self.inside.held.items t c.remember.new.self c.args.addr c.new-value.result c.in_ok-found.found c.self.invariant.1
+          (subst (AgreeWith g.J.Naming.layout c.in_ok-found.found.seen) same c.in_ok-found.ensures.agree) c.in_ok-found.ensures.found slot c.remember.ensures.remembered),
     )
 
 pub returns-clause-learns : goal.returns-clause-learns
@@ -52,11 +52,11 @@ returns-clause-learns g c =
     let back = lent_back c.self.inside.held.len c.read.new.held items (c.read.ensures.held ∙ c.deref_mut.ensures.value) c.self.inside.held.ok.0 in
     rw (← c.self.view_is)
     (subst (λ (l : List HeldState). Learns (state_of c.self.inside.began t items) c.args.addr c.new-value.result (state_of c.self.inside.began c.remember.new.self l)) (sym back)
-    (learns c.self.inside.began (slots_of items) t c.remember.new.self c.args.addr c.new-value.result _ c.in_ok-found.found
+    (learns g.J.Naming.layout c.self.inside.began (slots_of items) t c.remember.new.self c.args.addr c.new-value.result _ c.in_ok-found.found
     c.in_ok-found.ensures.found c.in_ok-found.ensures.value (search rules) c.remember.ensures.remembered))
 
 pub returns-clause-kept : goal.returns-clause-kept
 returns-clause-kept g c =
     subst (λ (s : TxnState). IsTrue (is_trusted c.remember.new.self.seen) → Agrees (latest c.remember.new.self.seen) s.reads) c.self.view_is
-    (reads_stay c.self.inside.transaction c.remember.new.self c.args.addr c.new-value.result c.in_ok-found.found c.front-before.ensures.begun c.front-before.ensures.agrees
+    (reads_stay g.J.Naming.layout c.self.inside.transaction c.remember.new.self c.args.addr c.new-value.result c.in_ok-found.found c.front-before.ensures.begun c.front-before.ensures.agrees
     c.in_ok-found.ensures.found c.remember.ensures.remembered)

@@ -13,11 +13,11 @@ invariant_of-self g c =
       | else-holds_above w ↦ search rules
     ] in (
       c.self.invariant.0,
-      keeps_pushed (is_ok c.push.result) c.self.inside.held.items c.push.new.self.items c.if-holds_above.held c.self.inside.transaction c.push.ensures.items
+      keeps_pushed g.J.Naming.layout (is_ok c.push.result) c.self.inside.held.items c.push.new.self.items c.if-holds_above.held c.self.inside.transaction c.push.ensures.items
           (ap (holds (slots_of c.self.inside.held.items)) own ∙ free) c.self.invariant.1,
     )
 
 pub returns-clause-clear : goal.returns-clause-clear
 returns-clause-clear g c =
     let free : holds (slots_of c.self.inside.held.items) c.args.slot ≡ false = ap (λ (s : TxnState). holds s.held c.args.slot) c.self.view_is ∙ sym c.holds.ensures ∙ c.if-holds.false in
-    if_took c.match-push.result (clear_of c.self.inside.held.items c.self.inside.transaction c.args.slot free c.self.invariant.1)
+    if_took c.match-push.result (clear_of g.J.Naming.layout c.self.inside.held.items c.self.inside.transaction c.args.slot free c.self.invariant.1)

@@ -14,4 +14,4 @@ returns-clause-refusal g c = rw (← c.self.view_is) c.try_commit-answer.ensures
 
 pub try_commit-answer-requires-clause-held : goal.try_commit-answer-requires-clause-held
 try_commit-answer-requires-clause-held g c =
-    subst (λ (l : List HeldState). KeepsHeld l c.self.inside.transaction) (sym c.deref_mut.ensures.value) c.self.invariant.1
+    subst (λ (l : List HeldState). KeepsHeld g.J.Naming.layout l c.self.inside.transaction) (sym c.deref_mut.ensures.value) c.self.invariant.1
