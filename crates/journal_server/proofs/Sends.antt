@@ -8,7 +8,6 @@ use Rattle.std.specs.Io.KnownBytes.{Appends}
 use Rattle.std.proofs.KnownBytes.{Appends-nil, Appends-trans}
 use Rattle.journal_world.specs.Histories.{Entry, floor}
 use Rattle.journal_history.specs.Tokens.{SessionState, OnlyExtends, CommitPlace}
-use Rattle.journal_inode.specs.declared.version.FormatVersion.{FormatVersion}
 use Rattle.journal_inode.specs.declared.node.Time.{Time}
 use Rattle.journal_rpc.specs.Stream.{Stream}
 use Rattle.journal_rpc.specs.Calls.{Message, message}
@@ -17,41 +16,42 @@ use Rattle.journal_server.specs.declared.reply_batch.BatchEntry.{BatchEntry}
 use Rattle.journal_server.specs.declared.reply_batch.ReplyBatch.{ReplyBatch}
 use Rattle.journal_server.specs.declared.replying.Turn.{Turn}
 use Rattle.journal_server.specs.declared.replying.Turn.TheVariants as turns
-use Rattle.journal_server.specs.Output.{IsReply, AllReplies}
+use Rattle.journal_server.specs.Protocols.{Answering, IsLawful}
+use Rattle.journal_server.specs.Output.{IsReplyBy, AllReplies}
 use Rattle.journal_server.specs.Serving.{SoFar}
 use Rattle.journal_server.specs.ReplyBatches.{IsNoWaitReply, Doing, doing, IsHeld, IsInOrder, total, AreFree, IsCovered, AreCovered, AreWaitedFor, held_of, Settles, SendsSettled, SendsInPart, SendsBehind, SendsBehindInPart}
 use Rattle.journal_server.specs.Sending.{AppendsFront, Filled, EndsTurn, Lost, SentSome, Sent, SentUpToBad, SentInPart}
 use Rattle.journal_server.proofs.Answering.{one_more}
-use Rattle.journal_server.proofs.Staying.{replies_grow, all_are_replies}
+use Rattle.journal_server.proofs.Staying.{all_replies_grow}
 use Rattle.journal_server.proofs.Turns.{fewer_wait, loses, sends_more, sends_all, sends_up_to_bad, breaks_off}
 use Rattle.journal_server.proofs.Settling.{one_behind, replies_told, replies_later, replies_stay, settles_same, settles_somehow, front_kept, total-append, covered-append, free_covered, covered_more, free-append}
 
 -- ---- a turn, once its replies are told
 
-module _ (version : FormatVersion) (tells : Time → Type 0) (verifier : List ℕ) (history : List Entry) (old new : Stream) (before middle now : SessionState) (hs : List BatchEntry) (bytes text : List ℕ) (count counted : ℕ)
-    (settles : Settles history hs bytes text) (more : OnlyExtends middle now) (quiet : hs ≡ [] → now ≡ middle) where
-  told : (rs : List (List ℕ)) (held : List ℕ) → bytes ≡ held → AllReplies (IsHeld version tells verifier) rs (doing before hs) (doing middle []) held → AllReplies (IsReply version tells verifier history) rs before now text
+module _ (replies : Answering) (tells : Time → Type 0) (laws : IsLawful replies) (history : List Entry) (old new : Stream) (before middle now : SessionState) (hs : List BatchEntry) (bytes text : List ℕ) (count counted : ℕ)
+    (settles : Settles replies history hs bytes text) (more : OnlyExtends middle now) (quiet : hs ≡ [] → now ≡ middle) where
+  told : (rs : List (List ℕ)) (held : List ℕ) → bytes ≡ held → AllReplies (IsHeld replies tells) rs (doing before hs) (doing middle []) held → AllReplies (IsReplyBy replies tells history) rs before now text
   told rs held same h =
-      replies_later version tells verifier history rs before middle now text more (λ none. quiet (empty rs h none))
-      (replies_told version tells verifier history rs (doing before hs) (doing middle []) held text h refl (subst (λ (b : List ℕ). Settles history hs b text) same settles))
+      replies_later replies tells laws history rs before middle now text more (λ none. quiet (empty rs h none))
+      (replies_told replies tells laws history rs (doing before hs) (doing middle []) held text h refl (subst (λ (b : List ℕ). Settles replies history hs b text) same settles))
     where
-      empty : (qs : List (List ℕ)) → AllReplies (IsHeld version tells verifier) qs (doing before hs) (doing middle []) held → qs ≡ [] → hs ≡ []
+      empty : (qs : List (List ℕ)) → AllReplies (IsHeld replies tells) qs (doing before hs) (doing middle []) held → qs ≡ [] → hs ≡ []
       empty [] k e = sym (ap (λ (d : Doing). d.behind) k.0)
       empty (q ∷ qs) k e = absurd cc
 
-  pub turn_told : (turn : Turn) → EndsTurn (IsHeld version tells verifier) turn old new (doing before hs) (doing middle []) [] bytes count counted → EndsTurn (IsReply version tells verifier history) turn old new before now [] text count counted
+  pub turn_told : (turn : Turn) → EndsTurn (IsHeld replies tells) turn old new (doing before hs) (doing middle []) [] bytes count counted → EndsTurn (IsReplyBy replies tells history) turn old new before now [] text count counted
   turn_told turns.Emptied e = record { text = text; replied = told old.records e.text e.is e.replied; is = refl; rest = e.rest; counts = e.counts }
   turn_told turns.Filled e = record { text = text; answered = e.answered; replied = told e.answered e.text e.is e.replied; is = refl; some = e.some; rest = e.rest; counts = e.counts }
   turn_told turns.Stopped e =
       record { text = text; answered = e.answered; bad = e.bad; behind = e.behind; records = e.records; no_call = e.no_call; replied = told e.answered e.text e.is e.replied; is = refl; counts = e.counts }
 
 -- what was sent before stays so
-pub sent_stays : (version : FormatVersion) (tells : Time → Type 0) (verifier : List ℕ) (history longer : List Entry) (old new : Stream) (before now : SessionState) (held holds : Option (List ℕ)) (count counted : ℕ) → floor history ≤ floor longer
-    → SentSome (IsReply version tells verifier history) old new before now held holds count counted → SentSome (IsReply version tells verifier longer) old new before now held holds count counted
-sent_stays version tells verifier history longer old new before now held holds count counted grows h = record {
+pub sent_stays : (replies : Answering) (tells : Time → Type 0) (laws : IsLawful replies) (history longer : List Entry) (old new : Stream) (before now : SessionState) (held holds : Option (List ℕ)) (count counted : ℕ) → floor history ≤ floor longer
+    → SentSome (IsReplyBy replies tells history) old new before now held holds count counted → SentSome (IsReplyBy replies tells longer) old new before now held holds count counted
+sent_stays replies tells laws history longer old new before now held holds count counted grows h = record {
   text = h.text;
   answered = h.answered;
-  replied = replies_stay version tells verifier history longer h.answered before now h.text grows h.replied;
+  replied = replies_stay replies tells laws history longer h.answered before now h.text grows h.replied;
   sent = h.sent;
   rest = h.rest;
   counts = h.counts;
@@ -151,13 +151,13 @@ latest_below taken l n is below r some = subst (λ (o : Option CommitPlace). IfS
 
 -- ---- what is sent of it
 
-module _ (history : List Entry) (h : ReplyBatch CommitPlace) (o : IsInOrder h) where
+module _ (replies : Answering) (laws : IsLawful replies) (history : List Entry) (h : ReplyBatch CommitPlace) (o : IsInOrder h) where
   -- each reply is covered by a mark
-  pub covered_so : (receipt : CommitPlace) → h.latest ≡ Some receipt → receipt.count ≤ floor history → Settles history h.replies.items h.bytes.items h.bytes.items
+  pub covered_so : (receipt : CommitPlace) → h.latest ≡ Some receipt → receipt.count ≤ floor history → Settles replies history h.replies.items h.bytes.items h.bytes.items
   covered_so receipt waits low =
       let others : AreCovered receipt.count o.others = (subst (λ (l : Option CommitPlace). AreWaitedFor l o.others) waits o.waited).1 in
       let all = covered-append (floor history) o.front o.others (free_covered (floor history) o.front o.is_free) (covered_more receipt.count (floor history) o.others low others) in
-      settles_same history h.replies.items h.bytes.items (subst (AreCovered (floor history)) (sym o.is) all) o.fits
+      settles_same replies history h.replies.items h.bytes.items (subst (AreCovered (floor history)) (sym o.is) all) o.fits
 
   -- nothing is waited for where nothing is held
   pub none_waits : {A : Type 0} (receipt : CommitPlace) → h.latest ≡ Some receipt → h.replies.items ≡ [] → A
@@ -168,20 +168,20 @@ module _ (history : List Entry) (h : ReplyBatch CommitPlace) (o : IsInOrder h) w
       behind_none (x ∷ a) b is = absurd cc
 
   -- nothing is owed for any
-  pub free_so : h.latest ≡ None → Settles history h.replies.items h.bytes.items h.bytes.items × (take h.free h.bytes.items ≡ h.bytes.items)
+  pub free_so : h.latest ≡ None → Settles replies history h.replies.items h.bytes.items h.bytes.items × (take h.free h.bytes.items ≡ h.bytes.items)
   free_so none =
       let empty : o.others ≡ [] = subst (λ (l : Option CommitPlace). AreWaitedFor l o.others) none o.waited in
       let front : h.replies.items ≡ o.front = o.is ∙ ap (λ (b : List BatchEntry). o.front ++ b) empty ∙ append-nil o.front in
       let whole : h.free ≡ length h.bytes.items = o.free ∙ sym (ap total front) ∙ o.fits in
-      (settles_same history h.replies.items h.bytes.items (subst (AreCovered (floor history)) (sym front) (free_covered (floor history) o.front o.is_free)) o.fits, ap (λ (n : ℕ). take n h.bytes.items) whole ∙ take_length h.bytes.items)
+      (settles_same replies history h.replies.items h.bytes.items (subst (AreCovered (floor history)) (sym front) (free_covered (floor history) o.front o.is_free)) o.fits, ap (λ (n : ℕ). take n h.bytes.items) whole ∙ take_length h.bytes.items)
     where
       take_length : (bs : List ℕ) → take (length bs) bs ≡ bs
       take_length bs = ap (take (length bs)) (sym (append-nil bs)) ∙ take-append_seam bs []
 
   -- the bytes of the first are the first of what is told
-  module _ (text : List ℕ) (settles : Settles history h.replies.items h.bytes.items text) where
+  module _ (text : List ℕ) (settles : Settles replies history h.replies.items h.bytes.items text) where
     kept : (front : List ℕ) × (more : List ℕ) × (rest : List ℕ) × (h.bytes.items ≡ front ++ more) × (text ≡ front ++ rest) × (length front ≡ total o.front)
-    kept = front_kept history o.front o.others h.bytes.items text o.is_free (subst (λ (hs : List BatchEntry). Settles history hs h.bytes.items text) o.is settles)
+    kept = front_kept replies history o.front o.others h.bytes.items text o.is_free (subst (λ (hs : List BatchEntry). Settles replies history hs h.bytes.items text) o.is settles)
 
     long : length kept.0 ≡ h.free
     long = kept.5 ∙ sym o.free
@@ -198,10 +198,10 @@ module _ (history : List Entry) (h : ReplyBatch CommitPlace) (o : IsInOrder h) w
     pub free_fits : h.free ≤ length text
     free_fits = let l = length-append kept.0 kept.2 in let e = ap length kept.4 in omega (arith, l, e, long)
 
-    pub sends_whole : (a b c : Option (List ℕ)) → Appends a b (take h.free h.bytes.items) → Appends b c (drop h.free text) → SendsSettled history h a c
+    pub sends_whole : (a b c : Option (List ℕ)) → Appends a b (take h.free h.bytes.items) → Appends b c (drop h.free text) → SendsSettled replies history h a c
     sends_whole a b c one two = record { text = text; settles = settles; sent = subst (Appends a c) (sym whole_is) (Appends-trans a b c (take h.free h.bytes.items) (drop h.free text) one two) }
 
-    pub sends_front : (a b c : Option (List ℕ)) → Appends a b (take h.free h.bytes.items) → AppendsFront b c (drop h.free text) → SendsInPart history h a c
+    pub sends_front : (a b c : Option (List ℕ)) → Appends a b (take h.free h.bytes.items) → AppendsFront b c (drop h.free text) → SendsInPart replies history h a c
     sends_front a b c one two = record {
       text = text;
       settles = settles;
@@ -213,7 +213,7 @@ module _ (history : List Entry) (h : ReplyBatch CommitPlace) (o : IsInOrder h) w
       };
     }
 
-    pub sends_less : (a b : Option (List ℕ)) → AppendsFront a b (take h.free h.bytes.items) → SendsInPart history h a b
+    pub sends_less : (a b : Option (List ℕ)) → AppendsFront a b (take h.free h.bytes.items) → SendsInPart replies history h a b
     sends_less a b part = record {
       text = text;
       settles = settles;
@@ -226,27 +226,27 @@ module _ (history : List Entry) (h : ReplyBatch CommitPlace) (o : IsInOrder h) w
     }
 
   -- the first were not all written
-  pub breaks_first : (a b : Option (List ℕ)) → AppendsFront a b (take h.free h.bytes.items) → SendsInPart history h a b
-  breaks_first a b part = let s = settles_somehow history h.replies.items h.bytes.items o.fits in sends_less s.0 s.1 a b part
+  pub breaks_first : (a b : Option (List ℕ)) → AppendsFront a b (take h.free h.bytes.items) → SendsInPart replies history h a b
+  breaks_first a b part = let s = settles_somehow replies history laws h.replies.items h.bytes.items o.fits in sends_less s.0 s.1 a b part
 
   -- memory was refused for what is told
-  pub breaks_there : (a b : Option (List ℕ)) → Appends a b (take h.free h.bytes.items) → SendsInPart history h a b
+  pub breaks_there : (a b : Option (List ℕ)) → Appends a b (take h.free h.bytes.items) → SendsInPart replies history h a b
   breaks_there a b whole = breaks_first a b (record { front = take h.free h.bytes.items; rest = []; is = sym (append-nil (take h.free h.bytes.items)); appends = whole })
 
   -- all were written
-  pub sends_free : (a b : Option (List ℕ)) → h.latest ≡ None → Appends a b (take h.free h.bytes.items) → SendsSettled history h a b
+  pub sends_free : (a b : Option (List ℕ)) → h.latest ≡ None → Appends a b (take h.free h.bytes.items) → SendsSettled replies history h a b
   sends_free a b none whole = let f = free_so none in record { text = h.bytes.items; settles = f.0; sent = subst (Appends a b) f.1 whole }
 
 -- ---- in two pieces, the first of which goes out before the wait
 
-module _ (h : ReplyBatch CommitPlace) (o : IsInOrder h) (front : List ℕ) (is : front ≡ take h.free h.bytes.items) where
+module _ (replies : Answering) (laws : IsLawful replies) (h : ReplyBatch CommitPlace) (o : IsInOrder h) (front : List ℕ) (is : front ≡ take h.free h.bytes.items) where
   -- the first were not all written
-  pub breaks_before : (history : List Entry) (a b : Option (List ℕ)) → AppendsFront a b front → SendsInPart history h a b
-  breaks_before history a b part = breaks_first history h o a b (record { front = part.front; rest = part.rest; is = sym is ∙ part.is; appends = part.appends })
+  pub breaks_before : (history : List Entry) (a b : Option (List ℕ)) → AppendsFront a b front → SendsInPart replies history h a b
+  breaks_before history a b part = breaks_first replies laws history h o a b (record { front = part.front; rest = part.rest; is = sym is ∙ part.is; appends = part.appends })
 
   -- nothing is waited for
-  pub sends_unwaited : (history : List Entry) (a b : Option (List ℕ)) → h.latest ≡ None → Appends a b front → SendsSettled history h a b
-  sends_unwaited history a b none whole = sends_free history h o a b none (subst (Appends a b) is whole)
+  pub sends_unwaited : (history : List Entry) (a b : Option (List ℕ)) → h.latest ≡ None → Appends a b front → SendsSettled replies history h a b
+  sends_unwaited history a b none whole = sends_free replies laws history h o a b none (subst (Appends a b) is whole)
 
   module _ (history : List Entry) (a b c : Option (List ℕ)) (one : Appends a b front) where
     first_sent : Appends a b (take h.free h.bytes.items)
@@ -254,53 +254,53 @@ module _ (h : ReplyBatch CommitPlace) (o : IsInOrder h) (front : List ℕ) (is :
 
     -- the wait ended with a mark: all are told as they are held
     module _ (receipt : CommitPlace) (waits : h.latest ≡ Some receipt) (low : receipt.count ≤ floor history) (back : List ℕ) (behind : back ≡ drop h.free h.bytes.items) where
-      pub waited_whole : Appends b c back → SendsSettled history h a c
-      waited_whole two = sends_whole history h o h.bytes.items (covered_so history h o receipt waits low) a b c first_sent (subst (Appends b c) behind two)
+      pub waited_whole : Appends b c back → SendsSettled replies history h a c
+      waited_whole two = sends_whole replies laws history h o h.bytes.items (covered_so replies laws history h o receipt waits low) a b c first_sent (subst (Appends b c) behind two)
 
-      pub waited_part : AppendsFront b c back → SendsInPart history h a c
+      pub waited_part : AppendsFront b c back → SendsInPart replies history h a c
       waited_part two =
-          sends_front history h o h.bytes.items (covered_so history h o receipt waits low) a b c first_sent
+          sends_front replies laws history h o h.bytes.items (covered_so replies laws history h o receipt waits low) a b c first_sent
           (record { front = two.front; rest = two.rest; is = sym behind ∙ two.is; appends = two.appends })
 
     -- the wait was refused
-    pub refused_whole : SendsBehind history h b c → SendsSettled history h a c
-    refused_whole two = sends_whole history h o two.text two.settles a b c first_sent two.sent
+    pub refused_whole : SendsBehind replies history h b c → SendsSettled replies history h a c
+    refused_whole two = sends_whole replies laws history h o two.text two.settles a b c first_sent two.sent
 
-    pub refused_part : SendsBehindInPart history h b c → SendsInPart history h a c
-    refused_part two = sends_front history h o two.text two.settles a b c first_sent two.sent
+    pub refused_part : SendsBehindInPart replies history h b c → SendsInPart replies history h a c
+    refused_part two = sends_front replies laws history h o two.text two.settles a b c first_sent two.sent
 
 -- memory was refused for what is told
-pub sends_none_behind : (history : List Entry) (h : ReplyBatch CommitPlace) (b : Option (List ℕ)) → IsInOrder h → SendsBehindInPart history h b b
-sends_none_behind history h b o =
-    let s = settles_somehow history h.replies.items h.bytes.items o.fits in
+pub sends_none_behind : (replies : Answering) (laws : IsLawful replies) (history : List Entry) (h : ReplyBatch CommitPlace) (b : Option (List ℕ)) → IsInOrder h → SendsBehindInPart replies history h b b
+sends_none_behind replies laws history h b o =
+    let s = settles_somehow replies history laws h.replies.items h.bytes.items o.fits in
     record { text = s.0; settles = s.1; sent = record { front = []; rest = drop h.free s.0; is = refl; appends = Appends-nil b } }
 
-pub sends_behind : (history : List Entry) (h : ReplyBatch CommitPlace) (text back : List ℕ) (b c : Option (List ℕ)) → Settles history h.replies.items h.bytes.items text → back ≡ drop h.free text → Appends b c back → SendsBehind history h b c
-sends_behind history h text back b c settles is two = record { text = text; settles = settles; sent = subst (Appends b c) is two }
+pub sends_behind : (replies : Answering) (history : List Entry) (h : ReplyBatch CommitPlace) (text back : List ℕ) (b c : Option (List ℕ)) → Settles replies history h.replies.items h.bytes.items text → back ≡ drop h.free text → Appends b c back → SendsBehind replies history h b c
+sends_behind replies history h text back b c settles is two = record { text = text; settles = settles; sent = subst (Appends b c) is two }
 
-pub sends_part_behind : (history : List Entry) (h : ReplyBatch CommitPlace) (text back : List ℕ) (b c : Option (List ℕ)) → Settles history h.replies.items h.bytes.items text → back ≡ drop h.free text → AppendsFront b c back
-    → SendsBehindInPart history h b c
-sends_part_behind history h text back b c settles is two =
+pub sends_part_behind : (replies : Answering) (history : List Entry) (h : ReplyBatch CommitPlace) (text back : List ℕ) (b c : Option (List ℕ)) → Settles replies history h.replies.items h.bytes.items text → back ≡ drop h.free text → AppendsFront b c back
+    → SendsBehindInPart replies history h b c
+sends_part_behind replies history h text back b c settles is two =
     record { text = text; settles = settles; sent = record { front = two.front; rest = two.rest; is = sym is ∙ two.is; appends = two.appends } }
 
 -- ---- calls that are done, and held
 
-module _ (version : FormatVersion) (tells : Time → Type 0) (verifier : List ℕ) (rs : List (List ℕ)) (start middle : SessionState) (hs : List BatchEntry) (text : List ℕ) (h : AllReplies (IsHeld version tells verifier) rs (doing start hs) (doing middle []) text) where
+module _ (replies : Answering) (tells : Time → Type 0) (laws : IsLawful replies) (rs : List (List ℕ)) (start middle : SessionState) (hs : List BatchEntry) (text : List ℕ) (h : AllReplies (IsHeld replies tells) rs (doing start hs) (doing middle []) text) where
   -- one more
-  pub holds_one : (r : List ℕ) (call : Message) (now : SessionState) (soon : PendingReply CommitPlace) (all : List BatchEntry) → message r ≡ Some call → IsNoWaitReply version tells verifier call middle now soon → all ≡ hs ++ held_of call.xid soon ∷ []
-      → AllReplies (IsHeld version tells verifier) (rs ++ r ∷ []) (doing start all) (doing now []) (text ++ soon.reply.items)
+  pub holds_one : (r : List ℕ) (call : Message) (now : SessionState) (soon : PendingReply CommitPlace) (all : List BatchEntry) → message r ≡ Some call → IsNoWaitReply replies tells call middle now soon → all ≡ hs ++ held_of call.xid soon ∷ []
+      → AllReplies (IsHeld replies tells) (rs ++ r ∷ []) (doing start all) (doing now []) (text ++ soon.reply.items)
   holds_one r call now soon all is done e =
       let known = held_of call.xid soon in
-      let held : IsHeld version tells verifier call (doing middle (known ∷ [])) (doing now []) soon.reply.items = record { soon = soon; done = done; known = refl; is = refl } in
-      subst (λ (b : List BatchEntry). AllReplies (IsHeld version tells verifier) (rs ++ r ∷ []) (doing start b) (doing now []) (text ++ soon.reply.items)) (sym e)
-      (one_more (IsHeld version tells verifier) rs r call (doing start (hs ++ known ∷ [])) (doing middle (known ∷ [])) (doing now []) text soon.reply.items
-      (one_behind version tells verifier known rs (doing start hs) (doing middle []) text h) is held)
+      let held : IsHeld replies tells call (doing middle (known ∷ [])) (doing now []) soon.reply.items = record { soon = soon; done = done; known = refl; is = refl } in
+      subst (λ (b : List BatchEntry). AllReplies (IsHeld replies tells) (rs ++ r ∷ []) (doing start b) (doing now []) (text ++ soon.reply.items)) (sym e)
+      (one_more (IsHeld replies tells) rs r call (doing start (hs ++ known ∷ [])) (doing middle (known ∷ [])) (doing now []) text soon.reply.items
+      (one_behind replies tells laws known rs (doing start hs) (doing middle []) text h) is held)
 
   -- nobody waited for them
-  pub told_somehow : total hs ≡ length text → (history : List Entry) → (all : List ℕ) × AllReplies (IsReply version tells verifier history) rs start middle all
+  pub told_somehow : total hs ≡ length text → (history : List Entry) → (all : List ℕ) × AllReplies (IsReplyBy replies tells history) rs start middle all
   told_somehow fits history =
-      let s = settles_somehow history hs text fits in
-      (s.0, replies_told version tells verifier history rs (doing start hs) (doing middle []) text s.0 h refl s.1)
+      let s = settles_somehow replies history laws hs text fits in
+      (s.0, replies_told replies tells laws history rs (doing start hs) (doing middle []) text s.0 h refl s.1)
 
 -- so many bytes more
 pub fits_one : (hs others : List BatchEntry) (text : List ℕ) (xid : ℕ) (soon : PendingReply CommitPlace) → total hs ≡ length text → others ≡ hs ++ held_of xid soon ∷ [] → total others ≡ length (text ++ soon.reply.items)
@@ -310,25 +310,25 @@ fits_one hs others text xid soon fits e =
 
 -- ---- marks along the way
 
-pub all_grow : (version : FormatVersion) (tells : Time → Type 0) (verifier : List ℕ) (history : List Entry) (rs : List (List ℕ)) (old new : SessionState) (text : List ℕ) → AllReplies (IsReply version tells verifier history) rs old new text → floor old.seen ≤ floor new.seen
-all_grow version tells verifier history rs old new text h = (replies_grow version tells verifier rs old new text history (all_are_replies (IsReply version tells verifier history) rs old new text h)).1
+pub all_grow : (replies : Answering) (tells : Time → Type 0) (laws : IsLawful replies) (history : List Entry) (rs : List (List ℕ)) (old new : SessionState) (text : List ℕ) → AllReplies (IsReplyBy replies tells history) rs old new text → floor old.seen ≤ floor new.seen
+all_grow replies tells laws history rs old new text h = all_replies_grow replies tells laws history rs old new text h
 
-pub turn_grows : (version : FormatVersion) (tells : Time → Type 0) (verifier : List ℕ) (history : List Entry) (turn : Turn) (old new : Stream) (before now : SessionState) (held holds : List ℕ) (count counted : ℕ)
-    → EndsTurn (IsReply version tells verifier history) turn old new before now held holds count counted → floor before.seen ≤ floor now.seen
-turn_grows version tells verifier history turns.Emptied old new before now held holds count counted e = all_grow version tells verifier history old.records before now e.text e.replied
-turn_grows version tells verifier history turns.Filled old new before now held holds count counted e = all_grow version tells verifier history e.answered before now e.text e.replied
-turn_grows version tells verifier history turns.Stopped old new before now held holds count counted e = all_grow version tells verifier history e.answered before now e.text e.replied
+pub turn_grows : (replies : Answering) (tells : Time → Type 0) (laws : IsLawful replies) (history : List Entry) (turn : Turn) (old new : Stream) (before now : SessionState) (held holds : List ℕ) (count counted : ℕ)
+    → EndsTurn (IsReplyBy replies tells history) turn old new before now held holds count counted → floor before.seen ≤ floor now.seen
+turn_grows replies tells laws history turns.Emptied old new before now held holds count counted e = all_grow replies tells laws history old.records before now e.text e.replied
+turn_grows replies tells laws history turns.Filled old new before now held holds count counted e = all_grow replies tells laws history e.answered before now e.text e.replied
+turn_grows replies tells laws history turns.Stopped old new before now held holds count counted e = all_grow replies tells laws history e.answered before now e.text e.replied
 
 -- a connection so far stays so
-pub so_far_stays : (version : FormatVersion) (tells : Time → Type 0) (verifier : List ℕ) (history longer : List Entry) (from left held holds : Option (List ℕ)) (waiting : Stream) (start now : SessionState) (count : ℕ) → floor history ≤ floor longer
-    → SoFar (IsReply version tells verifier history) from left held holds waiting start now count → SoFar (IsReply version tells verifier longer) from left held holds waiting start now count
-so_far_stays version tells verifier history longer from left held holds waiting start now count grows h = record {
+pub so_far_stays : (replies : Answering) (tells : Time → Type 0) (laws : IsLawful replies) (history longer : List Entry) (from left held holds : Option (List ℕ)) (waiting : Stream) (start now : SessionState) (count : ℕ) → floor history ≤ floor longer
+    → SoFar (IsReplyBy replies tells history) from left held holds waiting start now count → SoFar (IsReplyBy replies tells longer) from left held holds waiting start now count
+so_far_stays replies tells laws history longer from left held holds waiting start now count grows h = record {
   input = h.input;
   text = h.text;
   read = h.read;
   wrote = h.wrote;
   answered = h.answered;
-  replied = replies_stay version tells verifier history longer h.answered start now h.text grows h.replied;
+  replied = replies_stay replies tells laws history longer h.answered start now h.text grows h.replied;
   is = h.is;
   none = h.none;
   counts = h.counts;
@@ -336,45 +336,45 @@ so_far_stays version tells verifier history longer from left held holds waiting 
 }
 
 -- the same where more was answered since
-pub so_far_grown : (version : FormatVersion) (tells : Time → Type 0) (verifier : List ℕ) (from left held holds : Option (List ℕ)) (waiting : Stream) (start middle now : SessionState) (count : ℕ) (rs : List (List ℕ)) (text : List ℕ)
-    → AllReplies (IsReply version tells verifier now.seen) rs middle now text → SoFar (IsReply version tells verifier middle.seen) from left held holds waiting start middle count
-    → SoFar (IsReply version tells verifier now.seen) from left held holds waiting start middle count
-so_far_grown version tells verifier from left held holds waiting start middle now count rs text replied h =
-    so_far_stays version tells verifier middle.seen now.seen from left held holds waiting start middle count (all_grow version tells verifier now.seen rs middle now text replied) h
+pub so_far_grown : (replies : Answering) (tells : Time → Type 0) (laws : IsLawful replies) (from left held holds : Option (List ℕ)) (waiting : Stream) (start middle now : SessionState) (count : ℕ) (rs : List (List ℕ)) (text : List ℕ)
+    → AllReplies (IsReplyBy replies tells now.seen) rs middle now text → SoFar (IsReplyBy replies tells middle.seen) from left held holds waiting start middle count
+    → SoFar (IsReplyBy replies tells now.seen) from left held holds waiting start middle count
+so_far_grown replies tells laws from left held holds waiting start middle now count rs text replied h =
+    so_far_stays replies tells laws middle.seen now.seen from left held holds waiting start middle count (all_grow replies tells laws now.seen rs middle now text replied) h
 
 -- memory was refused in a turn
-pub loses_turn : (version : FormatVersion) (tells : Time → Type 0) (verifier : List ℕ) (old mid : Stream) (before between now : SessionState) (held half : Option (List ℕ)) (count sofar : ℕ)
-    → SentSome (IsReply version tells verifier between.seen) old mid before between held half count sofar → Lost (IsReply version tells verifier now.seen) mid between now → SentInPart (IsReply version tells verifier now.seen) old before now held half
-loses_turn version tells verifier old mid before between now held half count sofar h e =
-    loses (IsReply version tells verifier now.seen) old mid before between now held half count sofar
-    (sent_stays version tells verifier between.seen now.seen old mid before between held half count sofar (all_grow version tells verifier now.seen e.answered between now e.text e.replied) h) e
+pub loses_turn : (replies : Answering) (tells : Time → Type 0) (laws : IsLawful replies) (old mid : Stream) (before between now : SessionState) (held half : Option (List ℕ)) (count sofar : ℕ)
+    → SentSome (IsReplyBy replies tells between.seen) old mid before between held half count sofar → Lost (IsReplyBy replies tells now.seen) mid between now → SentInPart (IsReplyBy replies tells now.seen) old before now held half
+loses_turn replies tells laws old mid before between now held half count sofar h e =
+    loses (IsReplyBy replies tells now.seen) old mid before between now held half count sofar
+    (sent_stays replies tells laws between.seen now.seen old mid before between held half count sofar (all_grow replies tells laws now.seen e.answered between now e.text e.replied) h) e
 
 -- A turn behind others, whose replies are held and then sent
-module _ (version : FormatVersion) (tells : Time → Type 0) (verifier : List ℕ) (turn : Turn) (old mid new : Stream) (before between done now : SessionState) (held half : Option (List ℕ)) (h : ReplyBatch CommitPlace) (count sofar counted : ℕ)
-    (so_far : SentSome (IsReply version tells verifier between.seen) old mid before between held half count sofar)
-    (come : EndsTurn (IsHeld version tells verifier) turn mid new (doing between h.replies.items) (doing done []) [] h.bytes.items sofar counted)
+module _ (replies : Answering) (tells : Time → Type 0) (laws : IsLawful replies) (turn : Turn) (old mid new : Stream) (before between done now : SessionState) (held half : Option (List ℕ)) (h : ReplyBatch CommitPlace) (count sofar counted : ℕ)
+    (so_far : SentSome (IsReplyBy replies tells between.seen) old mid before between held half count sofar)
+    (come : EndsTurn (IsHeld replies tells) turn mid new (doing between h.replies.items) (doing done []) [] h.bytes.items sofar counted)
     (more : OnlyExtends done now) (quiet : h.replies.items ≡ [] → now ≡ done) where
-  module _ (text : List ℕ) (settles : Settles now.seen h.replies.items h.bytes.items text) where
-    told_so : EndsTurn (IsReply version tells verifier now.seen) turn mid new between now [] text sofar counted
-    told_so = turn_told version tells verifier now.seen mid new between done now h.replies.items h.bytes.items text sofar counted settles more quiet turn come
+  module _ (text : List ℕ) (settles : Settles replies now.seen h.replies.items h.bytes.items text) where
+    told_so : EndsTurn (IsReplyBy replies tells now.seen) turn mid new between now [] text sofar counted
+    told_so = turn_told replies tells laws now.seen mid new between done now h.replies.items h.bytes.items text sofar counted settles more quiet turn come
 
-    kept_so : SentSome (IsReply version tells verifier now.seen) old mid before between held half count sofar
-    kept_so = sent_stays version tells verifier between.seen now.seen old mid before between held half count sofar (turn_grows version tells verifier now.seen turn mid new between now [] text sofar counted told_so) so_far
+    kept_so : SentSome (IsReplyBy replies tells now.seen) old mid before between held half count sofar
+    kept_so = sent_stays replies tells laws between.seen now.seen old mid before between held half count sofar (turn_grows replies tells laws now.seen turn mid new between now [] text sofar counted told_so) so_far
 
-  pub more_of_turn : (holds : Option (List ℕ)) → turn ≡ turns.Filled → SendsSettled now.seen h half holds → SentSome (IsReply version tells verifier now.seen) old new before now held holds count counted
-  more_of_turn holds is s = sends_more (IsReply version tells verifier now.seen) turn old mid new before between now held half [] s.text s.text count sofar counted (kept_so s.text s.settles) refl refl (told_so s.text s.settles) holds is s.sent
+  pub more_of_turn : (holds : Option (List ℕ)) → turn ≡ turns.Filled → SendsSettled replies now.seen h half holds → SentSome (IsReplyBy replies tells now.seen) old new before now held holds count counted
+  more_of_turn holds is s = sends_more (IsReplyBy replies tells now.seen) turn old mid new before between now held half [] s.text s.text count sofar counted (kept_so s.text s.settles) refl refl (told_so s.text s.settles) holds is s.sent
 
-  pub all_of_turn : (holds : Option (List ℕ)) → turn ≡ turns.Emptied → SendsSettled now.seen h half holds → Sent (IsReply version tells verifier now.seen) old new before now held holds count counted
-  all_of_turn holds is s = sends_all (IsReply version tells verifier now.seen) turn old mid new before between now held half [] s.text s.text count sofar counted (kept_so s.text s.settles) refl refl (told_so s.text s.settles) holds is s.sent
+  pub all_of_turn : (holds : Option (List ℕ)) → turn ≡ turns.Emptied → SendsSettled replies now.seen h half holds → Sent (IsReplyBy replies tells now.seen) old new before now held holds count counted
+  all_of_turn holds is s = sends_all (IsReplyBy replies tells now.seen) turn old mid new before between now held half [] s.text s.text count sofar counted (kept_so s.text s.settles) refl refl (told_so s.text s.settles) holds is s.sent
 
-  pub stopped_turn : (holds : Option (List ℕ)) → turn ≡ turns.Stopped → SendsSettled now.seen h half holds → SentUpToBad (IsReply version tells verifier now.seen) old before now held holds count counted
-  stopped_turn holds is s = sends_up_to_bad (IsReply version tells verifier now.seen) turn old mid new before between now held half [] s.text s.text count sofar counted (kept_so s.text s.settles) refl refl (told_so s.text s.settles) holds is s.sent
+  pub stopped_turn : (holds : Option (List ℕ)) → turn ≡ turns.Stopped → SendsSettled replies now.seen h half holds → SentUpToBad (IsReplyBy replies tells now.seen) old before now held holds count counted
+  stopped_turn holds is s = sends_up_to_bad (IsReplyBy replies tells now.seen) turn old mid new before between now held half [] s.text s.text count sofar counted (kept_so s.text s.settles) refl refl (told_so s.text s.settles) holds is s.sent
 
-  pub part_of_turn : (holds : Option (List ℕ)) → SendsInPart now.seen h half holds → SentInPart (IsReply version tells verifier now.seen) old before now held holds
-  part_of_turn holds s = breaks_off (IsReply version tells verifier now.seen) turn old mid new before between now held half [] s.text s.text count sofar counted (kept_so s.text s.settles) refl refl (told_so s.text s.settles) holds s.sent
+  pub part_of_turn : (holds : Option (List ℕ)) → SendsInPart replies now.seen h half holds → SentInPart (IsReplyBy replies tells now.seen) old before now held holds
+  part_of_turn holds s = breaks_off (IsReplyBy replies tells now.seen) turn old mid new before between now held half [] s.text s.text count sofar counted (kept_so s.text s.settles) refl refl (told_so s.text s.settles) holds s.sent
 
   pub fewer_of_turn : turn ≡ turns.Filled → length new.records < length mid.records
   fewer_of_turn is =
-      let e : Filled (IsHeld version tells verifier) mid new (doing between h.replies.items) (doing done []) [] h.bytes.items sofar counted =
-      subst (λ (t : Turn). EndsTurn (IsHeld version tells verifier) t mid new (doing between h.replies.items) (doing done []) [] h.bytes.items sofar counted) is come in
+      let e : Filled (IsHeld replies tells) mid new (doing between h.replies.items) (doing done []) [] h.bytes.items sofar counted =
+      subst (λ (t : Turn). EndsTurn (IsHeld replies tells) t mid new (doing between h.replies.items) (doing done []) [] h.bytes.items sofar counted) is come in
       fewer_wait mid new e.answered e.rest e.some

@@ -8,61 +8,20 @@ use Rattle.journal_world.specs.Histories.{Entry, commits_of, count, floor}
 use Rattle.journal_world.specs.Histories.Entry.{commit}
 use Rattle.journal_world.proofs.Marks.{floor-append-le}
 use Rattle.journal_history.specs.Tokens.{SessionState, OnlyExtends}
-use Rattle.journal_core.specs.Causes.{CauseState}
 use Rattle.journal_inode.specs.declared.version.FormatVersion.{FormatVersion}
 use Rattle.journal_inode.specs.declared.node.Time.{Time}
-use Rattle.journal_filestore.specs.declared.fault.Fault.{Fault}
-use Rattle.journal_filestore.specs.declared.fault.Fault.TheVariants.{Refused, Unsure}
-use Rattle.journal_filestore.specs.declared.status.Status.{Status}
-use Rattle.journal_filestore.specs.Files.{Files}
 use Rattle.journal_rpc.specs.declared.replies.CallRefused.{CallRefused}
 use Rattle.journal_rpc.specs.Calls.{Message, message}
-use Rattle.journal_nfs3.specs.Arguments.{Operation, Null, GetAttributes, SetAttributes, Lookup, Read, Write, Create, Remove, Commit}
-use Rattle.journal_nfs3.specs.Handles.{FileHandle}
+use Rattle.journal_nfs3.specs.Arguments.{Operation}
 use Rattle.journal_nfs3.specs.Results.{Results}
 use Rattle.journal_nfs3.specs.Calls.{asks}
-use Rattle.journal_nfs3.specs.Served.{Standing, marked, awaiting, IsAnsweredAs, TellsOutcome, Performs, ServesAs, has_to_wait, is_accepted, CommitsOnceAt, IsMarked}
+use Rattle.journal_nfs3.specs.Served.{marked, has_to_wait, is_accepted, CommitsOnceAt, IsMarked}
 use Rattle.journal_nfs3.specs.Answers.{ServesCall}
 use Rattle.journal_nfs3.proofs.Marked.{HasMarked, serves_marked_in}
-use Rattle.journal_server.specs.Output.{IsReply, IsRepliedUnlessBad, RepliesUpToBad, AllReplies}
+use Rattle.journal_server.specs.Protocols.{Answering, IsLawful}
+use Rattle.journal_server.specs.NineLaws.{Grows, grows-same, grows-trans, call_grows}
+use Rattle.journal_server.specs.Output.{IsReplyBy, IsReply, IsRepliedUnlessBad, RepliesUpToBad, AllReplies}
 use Rattle.journal_server.proofs.Answering.{then_replies}
-
-abbrev Grows : SessionState → SessionState → Type 0
-Grows old new = IsPrefix old.seen new.seen
-
-grows-same : (old new : SessionState) → new ≡ old → Grows old new
-grows-same old new e = ([], append-nil old.seen ∙ ap (λ (s : SessionState). s.seen) (sym e))
-
-grows-trans : (old mid new : SessionState) → Grows old mid → Grows mid new → Grows old new
-grows-trans old mid new p q = (p.0 ++ q.0, sym (append_assoc old.seen p.0 q.0) ∙ ap (λ (h : List Entry). h ++ q.0) p.1 ∙ q.1)
-
-answer_grows : {A : Type 0} (version : FormatVersion) (standing : Standing) (w : Bool) (case : Files → Result A Status → Files → Type 0) (old new : SessionState) (answer : Result (Result A Status) (Fault CauseState)) → IsAnsweredAs version standing w case old new answer → Grows old new
-answer_grows version standing w case old new (Ok v) d = d.made.extends
-answer_grows version standing w case old new (Err (Refused why)) d = d.0.seen
-answer_grows version (marked history) w case old new (Err (Unsure why)) d = d.1.2.extends
-answer_grows version (awaiting wait) w case old new (Err (Unsure why)) d = absurd d
-
-tells_grows : {A : Type 0} (version : FormatVersion) (standing : Standing) (handle : Option FileHandle) (w : Bool) (case : FileHandle → Files → Result A Status → Files → Type 0) (old new : SessionState) (outcome : _) → TellsOutcome version standing handle w case old new outcome → Grows old new
-tells_grows version standing None w case old new outcome h = grows-same old new h.1
-tells_grows version standing (Some handle) w case old new outcome h = answer_grows version standing w (case handle) old new h.0 h.1
-
-performs_grows : {A : Type 0} (version : FormatVersion) (standing : Standing) (handle : Option FileHandle) (w : Bool) (case : FileHandle → Files → Result A Status → Files → Type 0) (as_results : _) (old new : SessionState) (r : Results) → Performs version standing handle w case as_results old r new → Grows old new
-performs_grows version standing handle w case as_results old new r h = tells_grows version standing handle w case old new h.0 h.1
-
-serves_grows : (version : FormatVersion) (standing : Standing) (verifier : List ℕ) (now : Time) (operation : Operation) (old new : SessionState) (r : Results) → ServesAs version standing verifier now operation old r new → Grows old new
-serves_grows version standing verifier now Null old new r h = grows-same old new h.1
-serves_grows version standing verifier now (GetAttributes k) old new r h = performs_grows version standing _ _ _ _ old new r h
-serves_grows version standing verifier now (SetAttributes k a guard) old new r h = performs_grows version standing _ _ _ _ old new r h
-serves_grows version standing verifier now (Lookup e) old new r h = performs_grows version standing _ _ _ _ old new r h
-serves_grows version standing verifier now (Read k offset n) old new r h = performs_grows version standing _ _ _ _ old new r h
-serves_grows version standing verifier now (Write k offset n how bytes) old new r h = performs_grows version standing _ _ _ _ old new r h
-serves_grows version standing verifier now (Create e how) old new r h = performs_grows version standing _ _ _ _ old new r h
-serves_grows version standing verifier now (Remove e) old new r h = performs_grows version standing _ _ _ _ old new r h
-serves_grows version standing verifier now (Commit k offset n) old new r h = performs_grows version standing _ _ _ _ old new r h
-
-call_grows : (version : FormatVersion) (standing : Standing) (verifier : List ℕ) (now : Time) (asked : Result Operation CallRefused) (old new : SessionState) (outcome : Result Results CallRefused) → ServesCall version standing verifier now asked old outcome new → Grows old new
-call_grows version standing verifier now (Err why) old new outcome h = grows-same old new h.1
-call_grows version standing verifier now (Ok operation) old new outcome h = serves_grows version standing verifier now operation old new h.0 h.2
 
 module _ (version : FormatVersion) (tells : Time → Type 0) (verifier : List ℕ) (history : List Entry) where
   reply_grows : (call : Message) (old new : SessionState) (text : List ℕ) → IsReply version tells verifier history call old new text → Grows old new
@@ -135,3 +94,16 @@ all_are_replies answers records old new text h =
     subst (λ (rs : List (List ℕ)). RepliesUpToBad answers rs old new text) (append-nil records)
     (subst (λ (t : List ℕ). RepliesUpToBad answers (records ++ []) old new t) (append-nil text)
     (then_replies answers records [] old new new text [] h (refl, refl)))
+
+-- ---- of any protocol
+
+pub all_replies_grow : (replies : Answering) (tells : Time → Type 0) (laws : IsLawful replies) (history : List Entry) (rs : List (List ℕ)) (old new : SessionState) (text : List ℕ) → AllReplies (IsReplyBy replies tells history) rs old new text → floor old.seen ≤ floor new.seen
+all_replies_grow replies tells laws history rs old new text h = floor_grows old new (all rs old text h)
+  where
+    all : (qs : List (List ℕ)) (from : SessionState) (t : List ℕ) → AllReplies (IsReplyBy replies tells history) qs from new t → Grows from new
+    all [] from t k = grows-same from new k.0
+    all (q ∷ qs) from t k =
+        let one = k.2 in
+        let reply = one.3 in
+        let first : Grows from one.0 = grows-trans from reply.done one.0 (laws.grows (marked history) reply.moment k.0 from reply.done one.1 reply.answers) reply.later.seen in
+        grows-trans from one.0 new first (all qs one.0 one.2 one.4)

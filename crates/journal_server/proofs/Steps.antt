@@ -136,17 +136,17 @@ alone f (u ∷ us) (suc port) v q e all =
     let b = alone f us port v (λ j y h. q (suc j) y h) e (omega arith) in
     omega arith
 
-pub learns : {T : Type 0} → (port : ℕ) (v : PassState) → v.parts ≡ 5 → Learns (IsBalanced {T = T}) port v (λ items. (x : ℕ) → times x v.put ≡ times x v.taken + times x (numbers items))
+pub learns : {T : Type 0} → (port : ℕ) (v : PassState) → v.parts ≡ 65 → Learns (IsBalanced {T = T}) port v (λ items. (x : ℕ) → times x v.put ≡ times x v.taken + times x (numbers items))
 learns port v all items views b at k =
     let p = alone (λ u. times k u.put) views port v (λ j u e none. ap (times k) (b.2 j u e none).0) at (b.0 ∙ sym all) in
     let t = alone (λ u. times k u.taken) views port v (λ j u e none. ap (times k) (b.2 j u e none).1) at (b.0 ∙ sym all) in
     let q = b.1 k in
     omega arith
 
-pub begins : (T : Type 0) → IsBalanced {T = T} [] (pass_state 5 [] [] ∷ [])
-begins T = (refl, (λ k. refl), idle_set (pass_state 5 [] [] ∷ []) 0 (pass_state 5 [] []) (λ none. absurd (omega arith)) (λ j u e none. only j u e none)) where
-  only : (j : ℕ) (u : PassState) → get_elem? (pass_state 5 [] [] ∷ []) j ≡ some u → u.parts ≡ 0 → (u.put ≡ []) × (u.taken ≡ [])
-  only zero u e none = let s : 5 ≡ u.parts = ap (λ (y : PassState). y.parts) (some-injective (pass_state 5 [] []) u e) in absurd (omega arith)
+pub begins : (T : Type 0) → IsBalanced {T = T} [] (pass_state 65 [] [] ∷ [])
+begins T = (refl, (λ k. refl), idle_set (pass_state 65 [] [] ∷ []) 0 (pass_state 65 [] []) (λ none. absurd (omega arith)) (λ j u e none. only j u e none)) where
+  only : (j : ℕ) (u : PassState) → get_elem? (pass_state 65 [] [] ∷ []) j ≡ some u → u.parts ≡ 0 → (u.put ≡ []) × (u.taken ≡ [])
+  only zero u e none = let s : 65 ≡ u.parts = ap (λ (y : PassState). y.parts) (some-injective (pass_state 65 [] []) u e) in absurd (omega arith)
   only (suc j) u e none = absurd (some-ne-none u (sym e))
 
 pub numbers_of_append : {N : Type 0} (about : N → ℕ) (ns ms : List N) → numbers_by about (ns ++ ms) ≡ numbers_by about ns ++ numbers_by about ms

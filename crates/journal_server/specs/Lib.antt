@@ -1,7 +1,10 @@
 pub mod Connections
+pub mod PoolSizes
 pub mod ReplyBatches
 pub mod Queues
+pub mod NineLaws
 pub mod Output
+pub mod Protocols
 pub mod Refusals
 pub mod Sending
 pub mod Serving

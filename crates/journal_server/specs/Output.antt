@@ -9,14 +9,23 @@ use Rattle.journal_inode.specs.declared.node.Time.{Time}
 use Rattle.journal_nfs3.specs.Calls.{asks}
 use Rattle.journal_nfs3.specs.Served.{marked}
 use Rattle.journal_nfs3.specs.Answers.{AnswersAs}
+use Rattle.journal_server.specs.Protocols.{Answering}
 
 -- The text is the reply to the call at some moment that the clock may tell. What of it is to be stable is marked in the history. The session has then seen what the call came to, or more
-pub record IsReply (version : FormatVersion) (tells : Time → Type 0) (verifier : List ℕ) (history : List Entry) (call : Message) (old new : SessionState) (text : List ℕ) : Type 0 where
+pub record IsReplyBy (replies : Answering) (tells : Time → Type 0) (history : List Entry) (call : Message) (old new : SessionState) (text : List ℕ) : Type 0 where
   pub moment : Time
   pub told : tells moment
   pub done : SessionState
-  pub answers : AnswersAs version (marked history) verifier moment call.xid (asks call.asked) old done text
+  pub answers : replies (marked history) moment call old done text
   pub later : OnlyExtends done new
+
+-- what the nine procedures of NFS answer
+abbrev pub nine : FormatVersion → List ℕ → Answering
+nine version verifier standing now call old new text = AnswersAs version standing verifier now call.xid (asks call.asked) old new text
+
+-- the same of these
+abbrev pub IsReply : FormatVersion → (Time → Type 0) → List ℕ → List Entry → Message → SessionState → SessionState → List ℕ → Type 0
+IsReply version tells verifier history call old new text = IsReplyBy (nine version verifier) tells history call old new text
 
 -- the complete records of some bytes, however they were cut into pieces
 abbrev pub records_of : List ℕ → List (List ℕ)

@@ -56,10 +56,10 @@ total f (v ∷ vs) = f v + total f vs
 abbrev pub IdleIsEmpty : List PassState → Type 0
 IdleIsEmpty views = (port : ℕ) (v : PassState) → get_elem? views port ≡ some v → v.parts ≡ 0 → (v.put ≡ []) × (v.taken ≡ [])
 
--- the passes have five parts, and each number was put as often as it was taken or stands in the queue
+-- the passes have 65 parts, and each number was put as often as it was taken or stands in the queue
 abbrev pub IsBalanced : {T : Type 0} → List (Job T) → List PassState → Type 0
 IsBalanced items views =
-    (total (λ v. v.parts) views ≡ 5)
+    (total (λ v. v.parts) views ≡ 65)
     × ((x : ℕ) → total (λ v. times x v.put) views ≡ total (λ v. times x v.taken) views + times x (numbers items))
     × IdleIsEmpty views
 
@@ -69,9 +69,10 @@ IsBalanced items views =
 abbrev pub IsFresh : {T : Type 0} → (Pass (Job T) PassState → Type 0) → Pass (Job T) PassState → Type 0
 IsFresh is_seat pass = is_seat pass × (view pass ≡ pass_state 1 [] [])
 
--- the pass before any part of it is cut off: one for each worker, and one for who hands the connections out
+-- the pass before any part of it is cut off: one for each of the most workers, and one for who
+-- hands the connections out
 abbrev pub IsUncut : {T : Type 0} → (Pass (Job T) PassState → Type 0) → Pass (Job T) PassState → Type 0
-IsUncut is_seat pass = is_seat pass × (view pass ≡ pass_state 5 [] [])
+IsUncut is_seat pass = is_seat pass × (view pass ≡ pass_state 65 [] [])
 
 -- What a worker gives back: it has put nothing, and there is a note of each connection that it took, unless memory was refused
 abbrev pub IsWork : {T N : Type 0} → (Pass (Job T) PassState → Type 0) → (N → ℕ) → Work T N → Type 0

@@ -1,15 +1,15 @@
 -- Replies that are held back, and what is told of them.
-use Rattle.std.specs.Prelude.{◌≡◌, ◌≢◌, ◌≤◌, ℕ, ◌+◌, List, [], ◌∷◌, ◌++◌, length, drop, Option, Some, None, ◌⊎◌}
+use Rattle.std.specs.Prelude.{◌≡◌, ◌≢◌, ◌≤◌, ℕ, ◌+◌, List, [], ◌∷◌, ◌++◌, length, drop, Option, Some, None, ◌⊎◌, IfSome}
 use Rattle.std.specs.Io.KnownBytes.{Appends}
 use Rattle.journal_world.specs.Histories.{Entry, floor}
 use Rattle.journal_history.specs.Tokens.{SessionState, CommitPlace}
-use Rattle.journal_inode.specs.declared.version.FormatVersion.{FormatVersion}
 use Rattle.journal_inode.specs.declared.node.Time.{Time}
 use Rattle.journal_rpc.specs.Calls.{Message}
 use Rattle.journal_nfs3.specs.declared.pending.ReplyWait.{ReplyWait}
 use Rattle.journal_nfs3.specs.declared.pending.PendingReply.{PendingReply}
-use Rattle.journal_nfs3.specs.Calls.{asks}
-use Rattle.journal_nfs3.specs.Answers.{AnswersNoWait, TakesPlace}
+use Rattle.journal_nfs3.specs.Served.{awaiting}
+use Rattle.journal_nfs3.specs.Answers.{pending_wait_for}
+use Rattle.journal_server.specs.Protocols.{Answering, IsAwaitedCall, StandsInFor}
 use Rattle.journal_server.specs.declared.reply_batch.BatchWait.{BatchWait}
 use Rattle.journal_server.specs.declared.reply_batch.BatchEntry.{BatchEntry}
 use Rattle.journal_server.specs.declared.reply_batch.ReplyBatch.{ReplyBatch}
@@ -27,10 +27,11 @@ abbrev pub held_of : ℕ → PendingReply CommitPlace → BatchEntry
 held_of xid soon = record { length = length soon.reply.items; wait = wait_of xid soon.wait }
 
 -- the call was done at a moment that the clock may tell, up to its commit
-pub record IsNoWaitReply (version : FormatVersion) (tells : Time → Type 0) (verifier : List ℕ) (call : Message) (old new : SessionState) (soon : PendingReply CommitPlace) : Type 0 where
+pub record IsNoWaitReply (replies : Answering) (tells : Time → Type 0) (call : Message) (old new : SessionState) (soon : PendingReply CommitPlace) : Type 0 where
   pub moment : Time
   pub told : tells moment
-  pub answers : AnswersNoWait version verifier moment call.xid (asks call.asked) old new soon
+  pub answers : replies (awaiting (pending_wait_for soon.wait)) moment call old new soon.reply.items
+  pub awaited : IfSome soon.wait (λ awaited. IsAwaitedCall awaited.procedure call)
 
 -- what a session has seen, and what is known of the replies behind that are held
 pub record Doing : Type 0 where
@@ -41,9 +42,9 @@ abbrev pub doing : SessionState → List BatchEntry → Doing
 doing session behind = record { session = session; behind = behind }
 
 -- The text is the reply to the call as it is held, and what is known of it is the first that is left
-pub record IsHeld (version : FormatVersion) (tells : Time → Type 0) (verifier : List ℕ) (call : Message) (old new : Doing) (text : List ℕ) : Type 0 where
+pub record IsHeld (replies : Answering) (tells : Time → Type 0) (call : Message) (old new : Doing) (text : List ℕ) : Type 0 where
   pub soon : PendingReply CommitPlace
-  pub done : IsNoWaitReply version tells verifier call old.session new.session soon
+  pub done : IsNoWaitReply replies tells call old.session new.session soon
   pub known : old.behind ≡ held_of call.xid soon ∷ new.behind
   pub is : text ≡ soon.reply.items
 
@@ -85,41 +86,41 @@ pub record IsInOrder (h : ReplyBatch CommitPlace) : Type 0 where
 -- ---- what is told
 
 -- A reply is told as it is held where nothing is owed for it, or where a mark of the history covers it; and else by a text that takes its place
-abbrev pub SettlesOne : List Entry → Option BatchWait → List ℕ → List ℕ → Type 0
-SettlesOne history None reply text = text ≡ reply
-SettlesOne history (Some wait) reply text = ((wait.commits ≤ floor history) × (text ≡ reply)) ⊎ TakesPlace wait.xid wait.procedure text
+abbrev pub SettlesOne : Answering → List Entry → Option BatchWait → List ℕ → List ℕ → Type 0
+SettlesOne replies history None reply text = text ≡ reply
+SettlesOne replies history (Some wait) reply text = ((wait.commits ≤ floor history) × (text ≡ reply)) ⊎ StandsInFor replies wait.xid wait.procedure text
 
 -- the first of the replies is told so, and the others go on from there
-abbrev pub SettlesThen : List Entry → BatchEntry → List ℕ → List ℕ → (List ℕ → List ℕ → Type 0) → Type 0
-SettlesThen history h bytes text goes_on =
+abbrev pub SettlesThen : Answering → List Entry → BatchEntry → List ℕ → List ℕ → (List ℕ → List ℕ → Type 0) → Type 0
+SettlesThen replies history h bytes text goes_on =
     (reply : List ℕ) × (more : List ℕ) × (told : List ℕ) × (rest : List ℕ)
-    × (bytes ≡ reply ++ more) × (length reply ≡ h.length) × SettlesOne history h.wait reply told × goes_on more rest × (text ≡ told ++ rest)
+    × (bytes ≡ reply ++ more) × (length reply ≡ h.length) × SettlesOne replies history h.wait reply told × goes_on more rest × (text ≡ told ++ rest)
 
 -- The text is what is told of these replies, which are held as these bytes
-abbrev pub Settles : List Entry → List BatchEntry → List ℕ → List ℕ → Type 0
-Settles history [] bytes text = (bytes ≡ []) × (text ≡ [])
-Settles history (h ∷ hs) bytes text = SettlesThen history h bytes text (λ more rest. Settles history hs more rest)
+abbrev pub Settles : Answering → List Entry → List BatchEntry → List ℕ → List ℕ → Type 0
+Settles replies history [] bytes text = (bytes ≡ []) × (text ≡ [])
+Settles replies history (h ∷ hs) bytes text = SettlesThen replies history h bytes text (λ more rest. Settles replies history hs more rest)
 
 -- what is told of the replies that are held was sent
-pub record SendsSettled (history : List Entry) (h : ReplyBatch CommitPlace) (held holds : Option (List ℕ)) : Type 0 where
+pub record SendsSettled (replies : Answering) (history : List Entry) (h : ReplyBatch CommitPlace) (held holds : Option (List ℕ)) : Type 0 where
   pub text : List ℕ
-  pub settles : Settles history h.replies.items h.bytes.items text
+  pub settles : Settles replies history h.replies.items h.bytes.items text
   pub sent : Appends held holds text
 
 -- a front of it was
-pub record SendsInPart (history : List Entry) (h : ReplyBatch CommitPlace) (held holds : Option (List ℕ)) : Type 0 where
+pub record SendsInPart (replies : Answering) (history : List Entry) (h : ReplyBatch CommitPlace) (held holds : Option (List ℕ)) : Type 0 where
   pub text : List ℕ
-  pub settles : Settles history h.replies.items h.bytes.items text
+  pub settles : Settles replies history h.replies.items h.bytes.items text
   pub sent : AppendsFront held holds text
 
 -- what is told of those behind the first was sent
-pub record SendsBehind (history : List Entry) (h : ReplyBatch CommitPlace) (held holds : Option (List ℕ)) : Type 0 where
+pub record SendsBehind (replies : Answering) (history : List Entry) (h : ReplyBatch CommitPlace) (held holds : Option (List ℕ)) : Type 0 where
   pub text : List ℕ
-  pub settles : Settles history h.replies.items h.bytes.items text
+  pub settles : Settles replies history h.replies.items h.bytes.items text
   pub sent : Appends held holds (drop h.free text)
 
 -- a front of it was
-pub record SendsBehindInPart (history : List Entry) (h : ReplyBatch CommitPlace) (held holds : Option (List ℕ)) : Type 0 where
+pub record SendsBehindInPart (replies : Answering) (history : List Entry) (h : ReplyBatch CommitPlace) (held holds : Option (List ℕ)) : Type 0 where
   pub text : List ℕ
-  pub settles : Settles history h.replies.items h.bytes.items text
+  pub settles : Settles replies history h.replies.items h.bytes.items text
   pub sent : AppendsFront held holds (drop h.free text)

@@ -1,11 +1,13 @@
 // A connection, from its first byte to its end.
 ghost use Rattle.std.specs.Prelude.{◌≡◌, ◌<◌, ◌^◌, true, IsTrue, length, IfOk, OnErr};
 ghost use Rattle.journal_world.specs.Histories.{is_fenced};
-ghost use Rattle.journal_server.specs.Output.{IsReply, RepliesUpToBad, records_of, answered_of};
+ghost use Rattle.journal_server.specs.Output.{IsReply, IsReplyBy, RepliesUpToBad, records_of, answered_of};
 ghost use Rattle.journal_server.specs.Connections.{Exchanges, IsEnd, Closes, IsBeginning, IsBefore};
 ghost use Rattle.journal_server.specs.Serving.{Finished, Failed};
 
+use crate::files::NineProcedures;
 use crate::pieces::answer_piece;
+use crate::protocol::Protocol;
 use crate::reply_batch::ReplyBatch;
 use crate::service::{Clock, Service};
 use crate::streams::read_piece;
@@ -64,8 +66,9 @@ pub enum ConnFault {
     NoMemory,
 }
 
-/// Answers the calls that the reader gives, in order, up to the first bad record, each at the clock's moment behind the
-/// gate, which it passes as `number` with the count of the calls before it. The replies go to the writer.
+/// Answers the calls that the reader gives by the nine procedures of NFS version 3, in order, up to
+/// the first bad record, each at the clock's moment behind the gate, which it passes as `number`
+/// with the count of the calls before it. The replies go to the writer.
 ///
 /// It reads at most 128 KiB at once, and answers all calls that are complete then, in turns of at most 64 KiB or 1024
 /// replies, before it reads on. Of a turn it does all calls, and waits once until the last of those is stable that are to be:
@@ -121,11 +124,65 @@ pub fn serve<
     ensures given_up { OnErr result (Exchanges (R.remaining reader.old) (R.remaining reader.new) (W.contents writer.old) (W.contents writer.new)
         (λ input text. IsBefore session.new (λ last. IsBeginning (IsReply V.VERSION (C.tells clock.now) verifier.0 last.seen) (records_of input) session.old last text))) }
 {
+    let protocol = NineProcedures { verifier };
+    serve_protocol(
+        rt, alloc, reader, writer, files, &protocol, session, clock, gate, number,
+    )
+}
+
+/// Answers the calls that the reader gives by a protocol, as `serve` does by the nine procedures of
+/// NFS version 3.
+pub fn serve_protocol<
+    'b,
+    R: Read,
+    W: Write,
+    D: BlockDisk,
+    J: Naming,
+    V: Version,
+    P: Protocol<V>,
+    C: Clock,
+    G: Gate,
+    H: Wait,
+>(
+    rt: &H,
+    alloc: Global,
+    reader: &mut R,
+    writer: &mut W,
+    files: &FileStore<'b, D, J, V>,
+    protocol: &P,
+    session: &mut Session<'b, J, SoundFiles<V>>,
+    clock: &C,
+    gate: &G,
+    number: u64,
+) -> Result<Served, ConnFault>
+    // What was written is the replies to the records of what was read, in order, up to the first that is no call. Each
+    // is its call's reply at a moment of the clock, between the history that the session had seen after the reply before it
+    // and the one that it saw then. A change that has to be stable is marked in the history that the session had seen after
+    // the last reply. It has only seen more since, the fence.
+    ensures replies { IfOk result (λ served. Exchanges (R.remaining reader.old) (R.remaining reader.new) (W.contents writer.old) (W.contents writer.new)
+        (λ input text. IsBefore session.new (λ last. RepliesUpToBad (IsReplyBy (P.answers protocol.now) (C.tells clock.now) last.seen) (records_of input) session.old last text))) }
+
+    // They are counted.
+    ensures counted { IfOk result (λ served. Exchanges (R.remaining reader.old) (R.remaining reader.new) (W.contents writer.old) (W.contents writer.new)
+        (λ input text. answered_of (records_of input) < 2 ^ 64 → served.answered ≡ answered_of (records_of input))) }
+
+    // Each end comes only where it holds.
+    ensures ended { IfOk result (λ served. Exchanges (R.remaining reader.old) (R.remaining reader.new) (W.contents writer.old) (W.contents writer.new)
+        (λ input text. IsEnd served.end input (R.remaining reader.new))) }
+
+    // The fence stands where it says so.
+    ensures fenced { IfOk result (λ served. IsTrue served.fenced → is_fenced session.new.number session.new.seen ≡ true) }
+
+    // Where it gave up, what was written is a beginning of the replies to a front of the records of what was read, and
+    // the session has seen what these come to, with the marks of what was written, and then at most more.
+    ensures given_up { OnErr result (Exchanges (R.remaining reader.old) (R.remaining reader.new) (W.contents writer.old) (W.contents writer.new)
+        (λ input text. IsBefore session.new (λ last. IsBeginning (IsReplyBy (P.answers protocol.now) (C.tells clock.now) last.seen) (records_of input) session.old last text))) }
+{
     let service = Service {
         alloc,
         files,
+        protocol,
         clock,
-        verifier,
         gate,
         number,
     };
@@ -150,19 +207,20 @@ fn answer_to_end<
     D: BlockDisk,
     J: Naming,
     V: Version,
+    P: Protocol<V>,
     C: Clock,
     G: Gate,
     H: Wait,
 >(
     rt: &H,
-    service: &Service<'_, 'b, D, J, V, C, G>,
+    service: &Service<'_, 'b, D, J, V, P, C, G>,
     session: &mut Session<'b, J, SoundFiles<V>>,
     reader: &mut R,
     writer: &mut W,
 ) -> Result<Ended, ConnFault>
-    ensures finished { IfOk result (λ ended. Finished (IsReply V.VERSION (C.tells service.now.clock.now) service.now.verifier.0 session.new.seen)
+    ensures finished { IfOk result (λ ended. Finished (IsReplyBy (P.answers service.now.protocol.now) (C.tells service.now.clock.now) session.new.seen)
         (R.remaining reader.old) (R.remaining reader.new) (W.contents writer.old) (W.contents writer.new) session.old session.new ended.answered ended.end) }
-    ensures given_up { OnErr result (Failed (IsReply V.VERSION (C.tells service.now.clock.now) service.now.verifier.0 session.new.seen)
+    ensures given_up { OnErr result (Failed (IsReplyBy (P.answers service.now.protocol.now) (C.tells service.now.clock.now) session.new.seen)
         (R.remaining reader.old) (R.remaining reader.new) (W.contents writer.old) (W.contents writer.new) session.old session.new) }
 {
     let Ok(mut buffer) = vec![in service.alloc; 0u8; PIECE_BYTES] else {
@@ -179,21 +237,22 @@ fn answer_all<
     D: BlockDisk,
     J: Naming,
     V: Version,
+    P: Protocol<V>,
     C: Clock,
     G: Gate,
     H: Wait,
 >(
     rt: &H,
-    service: &Service<'_, 'b, D, J, V, C, G>,
+    service: &Service<'_, 'b, D, J, V, P, C, G>,
     session: &mut Session<'b, J, SoundFiles<V>>,
     reader: &mut R,
     writer: &mut W,
     buffer: &mut [u8],
 ) -> Result<Ended, ConnFault>
     requires { 0 < length buffer.old }
-    ensures finished { IfOk result (λ ended. Finished (IsReply V.VERSION (C.tells service.now.clock.now) service.now.verifier.0 session.new.seen)
+    ensures finished { IfOk result (λ ended. Finished (IsReplyBy (P.answers service.now.protocol.now) (C.tells service.now.clock.now) session.new.seen)
         (R.remaining reader.old) (R.remaining reader.new) (W.contents writer.old) (W.contents writer.new) session.old session.new ended.answered ended.end) }
-    ensures given_up { OnErr result (Failed (IsReply V.VERSION (C.tells service.now.clock.now) service.now.verifier.0 session.new.seen)
+    ensures given_up { OnErr result (Failed (IsReplyBy (P.answers service.now.protocol.now) (C.tells service.now.clock.now) session.new.seen)
         (R.remaining reader.old) (R.remaining reader.new) (W.contents writer.old) (W.contents writer.new) session.old session.new) }
 {
     let mut records = Records::new(service.alloc);

@@ -1,10 +1,17 @@
-//! Connections of the file service: calls come in, and their replies go out.
+//! Connections of a service over a journal: calls come in, and their replies go out.
 //!
-//! `serve` answers the calls of one connection, over any reader and any writer. It reads pieces into one buffer, does the
-//! calls that are complete, in order, waits once until the last of those is stable that are to be, and sends all their
-//! replies, before it reads on. So a client that sends many calls without waiting gets its replies together, no reply waits
-//! for a further call, and few are kept for a client that reads none.
-//! `specs/Output.antt` says which text belongs to which input, `specs/ReplyBatches.antt` what is told of replies that are held back, and `specs/Connections.antt` when a connection ends.
+//! What a call is answered is a `Protocol`'s matter: it does a call on the files up to its commit,
+//! and says which wait comes before the reply may be sent. `NineProcedures` is the protocol of the
+//! file service, and `serve`, `run_workers` and `serve_all` answer by it. `serve_protocol`,
+//! `run_protocol` and `serve_all_by` answer by any, with as many workers as are asked for.
+//!
+//! `serve` answers the calls of one connection, over any reader and any writer. It reads pieces
+//! into one buffer, does the calls that are complete, in order, waits once until the last of those
+//! is stable that are to be, and sends all their replies, before it reads on. So a client that
+//! sends many calls without waiting gets its replies together, no reply waits for a further call,
+//! and few are kept for a client that reads none. `specs/Protocols.antt` says what holds of each
+//! protocol, `specs/Output.antt` which text belongs to which input, `specs/ReplyBatches.antt` what
+//! is told of replies that are held back, and `specs/Connections.antt` when a connection ends.
 //!
 //! `run_workers` hands connections to four threads, by a queue that holds sixteen. A worker serves
 //! one connection at a time, so a peer that is slow or dead holds back its own worker alone.
@@ -16,8 +23,10 @@
 
 mod adapters;
 mod connection;
+mod files;
 mod laws;
 mod pieces;
+mod protocol;
 mod queue;
 mod reply_batch;
 mod replying;
@@ -27,9 +36,13 @@ mod streams;
 mod tcp;
 mod workers;
 
-pub use connection::{ConnFault, End, Served, serve};
+pub use connection::{ConnFault, End, Served, serve, serve_protocol};
+pub use files::NineProcedures;
 pub use laws::what_was_stable_stays_stable;
+pub use protocol::Protocol;
 pub use service::Clock;
 pub use source::{Connection, Source};
 pub use tcp::{Listening, Peer, Port, WaitingConnections};
-pub use workers::{Outcome, run_workers, serve_all};
+pub use workers::{
+    MOST_WORKERS, Outcome, PoolSize, run_protocol, run_workers, serve_all, serve_all_by,
+};

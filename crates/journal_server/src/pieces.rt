@@ -2,10 +2,11 @@
 ghost use Rattle.std.specs.Prelude.{◌≡◌, ◌≢◌, ◌<◌, [], length, IfOk, OnErr, MatchBool};
 ghost use Rattle.journal_rpc.specs.Stream.{after};
 ghost use Rattle.journal_rpc.specs.declared.part.Part.TheVariants.{TooLong};
-ghost use Rattle.journal_server.specs.Output.{IsReply};
+ghost use Rattle.journal_server.specs.Output.{IsReplyBy};
 ghost use Rattle.journal_server.specs.Sending.{Takes, StreamGoesOn, EndsBad, SentInPart};
 
 use crate::connection::ConnFault;
+use crate::protocol::Protocol;
 use crate::reply_batch::ReplyBatch;
 use crate::replying::answer_and_send;
 use crate::service::{Clock, Service};
@@ -37,13 +38,14 @@ pub(crate) fn answer_piece<
     D: BlockDisk,
     J: Naming,
     V: Version,
+    P: Protocol<V>,
     C: Clock,
     G: Gate,
     H: Wait,
     W: Write,
 >(
     rt: &H,
-    service: &Service<'_, 'b, D, J, V, C, G>,
+    service: &Service<'_, 'b, D, J, V, P, C, G>,
     session: &mut Session<'b, J, SoundFiles<V>>,
     records: &mut Records,
     batch: &mut ReplyBatch<Receipt<'b, J, SoundFiles<V>>>,
@@ -54,11 +56,11 @@ pub(crate) fn answer_piece<
     requires none { records.old.records ≡ [] }
     requires short { records.old.part ≢ TooLong }
     ensures sent { IfOk result (λ goes_on. MatchBool goes_on
-        (StreamGoesOn (IsReply V.VERSION (C.tells service.now.clock.now) service.now.verifier.0 session.new.seen) (after records.old piece.now) records.new
+        (StreamGoesOn (IsReplyBy (P.answers service.now.protocol.now) (C.tells service.now.clock.now) session.new.seen) (after records.old piece.now) records.new
         session.old session.new (W.contents writer.old) (W.contents writer.new) answered.old answered.new)
-        (EndsBad (IsReply V.VERSION (C.tells service.now.clock.now) service.now.verifier.0 session.new.seen) (after records.old piece.now) records.new
+        (EndsBad (IsReplyBy (P.answers service.now.protocol.now) (C.tells service.now.clock.now) session.new.seen) (after records.old piece.now) records.new
         session.old session.new (W.contents writer.old) (W.contents writer.new) answered.old answered.new)) }
-    ensures in_part { OnErr result (SentInPart (IsReply V.VERSION (C.tells service.now.clock.now) service.now.verifier.0 session.new.seen)
+    ensures in_part { OnErr result (SentInPart (IsReplyBy (P.answers service.now.protocol.now) (C.tells service.now.clock.now) session.new.seen)
         (after records.old piece.now) session.old session.new (W.contents writer.old) (W.contents writer.new)) }
 {
     let mut rest = piece;

@@ -1,7 +1,8 @@
 // The queue of connections, and what is known of it.
 //
-// Each thread has a pass, which says what the thread has put into the queue and taken from it. The rule ties all passes
-// to what stands in the queue. A pass counts for some parts of a whole of five, one for each thread, so that whoever has
+// Each thread has a pass, which says what the thread has put into the queue and taken from it. The
+// rule ties all passes to what stands in the queue. A pass counts for some parts of a whole of 65,
+// one for each of the most workers and one for who hands the connections out, so that whoever has
 // all parts, at the end, knows that nothing else was put or taken.
 
 use crossbeam_channel::protocol::{Join, Lesson, Outcome, Protocol, Split};
@@ -31,7 +32,7 @@ impl<T> Protocol<Job<T>, PassState> for Balance {
 
     ghost holds = { IsBalanced };
 
-    ghost first = { pass_state 5 [] [] };
+    ghost first = { pass_state 65 [] [] };
 }
 
 // Cuts a part off a pass, and puts passes together.

@@ -7,14 +7,15 @@ ghost use Rattle.journal_server.specs.ReplyBatches.{held_of, total, IsInOrder, S
 ghost use Rattle.journal_server.specs.Sending.{AppendsFront};
 
 use crate::connection::ConnFault;
+use crate::protocol::Protocol;
 use crate::service::{Clock, Service};
 use crate::streams::write_whole;
 use journal_daemon::Gate;
 use journal_disk::BlockDisk;
 use journal_history::{Naming, Receipt, Session};
 use journal_inode::{SoundFiles, Version};
-use journal_nfs3::{PendingReply, Procedure, ReplyWait, refused_reply};
-use journal_world::Refusal;
+use journal_nfs3::{PendingReply, Procedure, ReplyWait};
+use journal_world::{MapRule, Refusal};
 use std::alloc::{AllocError, Global};
 use std::io::Write;
 use std::sync::Wait;
@@ -53,9 +54,9 @@ pub(crate) struct ReplyBatch<P> {
     pub latest: Option<P>,
 }
 
-impl<'b, J: Naming, V: Version> ReplyBatch<Receipt<'b, J, SoundFiles<V>>> {
+impl<'b, J: Naming, R: MapRule> ReplyBatch<Receipt<'b, J, R>> {
     // Nothing is held, and there is room for what is known of the replies of a turn.
-    pub fn new(alloc: Global) -> Result<ReplyBatch<Receipt<'b, J, SoundFiles<V>>>, AllocError> {
+    pub fn new(alloc: Global) -> Result<ReplyBatch<Receipt<'b, J, R>>, AllocError> {
         Ok(ReplyBatch {
             bytes: Vec::new(alloc),
             replies: Vec::with_capacity(alloc, REPLIES_AT_ONCE)?,
@@ -95,7 +96,7 @@ impl<'b, J: Naming, V: Version> ReplyBatch<Receipt<'b, J, SoundFiles<V>>> {
     pub fn add_reply(
         &mut self,
         xid: u32,
-        soon: PendingReply<Receipt<'b, J, SoundFiles<V>>>,
+        soon: PendingReply<Receipt<'b, J, R>>,
     ) -> Result<(), AllocError>
         requires room { vec_len self.old.replies < vec_capacity self.old.replies }
         ensures bytes { OnOk result (self.new.bytes.items ≡ self.old.bytes.items ++ soon.entry.reply.items) }
@@ -128,10 +129,10 @@ impl<'b, J: Naming, V: Version> ReplyBatch<Receipt<'b, J, SoundFiles<V>>> {
 }
 
 // The later of the two receipts that are waited for. Each commit is counted after those before it, so it is the second one.
-fn later<'b, J: Naming, V: Version>(
-    latest: Option<Receipt<'b, J, SoundFiles<V>>>,
-    receipt: Receipt<'b, J, SoundFiles<V>>,
-) -> Receipt<'b, J, SoundFiles<V>>
+fn later<'b, J: Naming, R: MapRule>(
+    latest: Option<Receipt<'b, J, R>>,
+    receipt: Receipt<'b, J, R>,
+) -> Receipt<'b, J, R>
     ensures covers { receipt.entry.count ≤ result.count }
     ensures others { IfSome latest.entry (λ before. before.count ≤ result.count) }
 {
@@ -148,20 +149,21 @@ pub(crate) fn send_batch<
     D: BlockDisk,
     J: Naming,
     V: Version,
+    P: Protocol<V>,
     C: Clock,
     G: Gate,
     H: Wait,
     W: Write,
 >(
     rt: &H,
-    service: &Service<'_, 'b, D, J, V, C, G>,
+    service: &Service<'_, 'b, D, J, V, P, C, G>,
     session: &mut Session<'b, J, SoundFiles<V>>,
     batch: &ReplyBatch<Receipt<'b, J, SoundFiles<V>>>,
     writer: &mut W,
 ) -> Result<(), ConnFault>
     requires { IsInOrder batch.now }
-    ensures sent { OnOk result (SendsSettled session.new.seen batch.now (W.contents writer.old) (W.contents writer.new)) }
-    ensures in_part { OnErr result (SendsInPart session.new.seen batch.now (W.contents writer.old) (W.contents writer.new)) }
+    ensures sent { OnOk result (SendsSettled (P.answers service.now.protocol.now) session.new.seen batch.now (W.contents writer.old) (W.contents writer.new)) }
+    ensures in_part { OnErr result (SendsInPart (P.answers service.now.protocol.now) session.new.seen batch.now (W.contents writer.old) (W.contents writer.new)) }
     ensures extends { OnlyExtends session.old session.new }
     ensures quiet { batch.now.replies.items ≡ [] → session.new ≡ session.old }
 {
@@ -172,24 +174,34 @@ pub(crate) fn send_batch<
     };
     match service.files.journal().wait_stable(rt, session, receipt) {
         Ok(_note) => send(writer, wait),
-        Err(why) => send_refused(service.alloc, session, batch, &why, writer),
+        Err(why) => send_refused(service, session, batch, &why, writer),
     }
 }
 
 // Sends the replies after those that went out before the wait, which was refused.
-fn send_refused<'b, J: Naming, V: Version, E, W: Write>(
-    alloc: Global,
+fn send_refused<
+    'b,
+    D: BlockDisk,
+    J: Naming,
+    V: Version,
+    P: Protocol<V>,
+    C: Clock,
+    G: Gate,
+    E,
+    W: Write,
+>(
+    service: &Service<'_, 'b, D, J, V, P, C, G>,
     session: &mut Session<'b, J, SoundFiles<V>>,
     batch: &ReplyBatch<Receipt<'b, J, SoundFiles<V>>>,
     why: &Refusal<E>,
     writer: &mut W,
 ) -> Result<(), ConnFault>
     requires { IsInOrder batch.now }
-    ensures sent { OnOk result (SendsBehind session.new.seen batch.now (W.contents writer.old) (W.contents writer.new)) }
-    ensures in_part { OnErr result (SendsBehindInPart session.new.seen batch.now (W.contents writer.old) (W.contents writer.new)) }
+    ensures sent { OnOk result (SendsBehind (P.answers service.now.protocol.now) session.new.seen batch.now (W.contents writer.old) (W.contents writer.new)) }
+    ensures in_part { OnErr result (SendsBehindInPart (P.answers service.now.protocol.now) session.new.seen batch.now (W.contents writer.old) (W.contents writer.new)) }
     ensures extends { OnlyExtends session.old session.new }
 {
-    let Ok(told) = settled(alloc, session, batch, why) else {
+    let Ok(told) = settled(service, session, batch, why) else {
         return Err(ConnFault::NoMemory);
     };
     let (_free, behind) = told.split_at(batch.free);
@@ -209,22 +221,22 @@ fn send<W: Write>(writer: &mut W, bytes: &[u8]) -> Result<(), ConnFault>
 
 // What is sent where the wait was refused: each reply as it is held where its mark stands or it has no wait, and
 // else its refusal.
-fn settled<'b, J: Naming, V: Version, E>(
-    alloc: Global,
+fn settled<'b, D: BlockDisk, J: Naming, V: Version, P: Protocol<V>, C: Clock, G: Gate, E>(
+    service: &Service<'_, 'b, D, J, V, P, C, G>,
     session: &mut Session<'b, J, SoundFiles<V>>,
     batch: &ReplyBatch<Receipt<'b, J, SoundFiles<V>>>,
     why: &Refusal<E>,
 ) -> Result<Vec<u8>, AllocError>
     requires { total batch.now.replies.items ≡ length batch.now.bytes.items }
-    ensures settles { IfOk result (λ told. Settles session.new.seen batch.now.replies.items batch.now.bytes.items told.items) }
+    ensures settles { IfOk result (λ told. Settles (P.answers service.now.protocol.now) session.new.seen batch.now.replies.items batch.now.bytes.items told.items) }
     ensures extends { OnlyExtends session.old session.new }
 {
-    let mut told = Vec::with_capacity(alloc, batch.bytes.len())?;
+    let mut told = Vec::with_capacity(service.alloc, batch.bytes.len())?;
     let mut replies = &batch.replies[..];
     let mut bytes = &batch.bytes[..];
     while let Some((held, others)) = replies.split_first() {
         let (reply, more) = bytes.split_at(held.length);
-        append_reply(alloc, session, &held.wait, reply, why, &mut told)?;
+        append_reply(service, session, &held.wait, reply, why, &mut told)?;
         replies = others;
         bytes = more;
     }
@@ -232,15 +244,15 @@ fn settled<'b, J: Naming, V: Version, E>(
 }
 
 // Adds a reply to those before it, as it is held or as refused.
-fn append_reply<'b, J: Naming, V: Version, E>(
-    alloc: Global,
+fn append_reply<'b, D: BlockDisk, J: Naming, V: Version, P: Protocol<V>, C: Clock, G: Gate, E>(
+    service: &Service<'_, 'b, D, J, V, P, C, G>,
     session: &mut Session<'b, J, SoundFiles<V>>,
     wait: &Option<BatchWait>,
     reply: &[u8],
     why: &Refusal<E>,
     told: &mut Vec<u8>,
 ) -> Result<(), AllocError>
-    ensures settles { OnOk result ((text : List ℕ) × SettlesOne session.new.seen wait.now reply.now text × (told.new.items ≡ told.old.items ++ text)) }
+    ensures settles { OnOk result ((text : List ℕ) × SettlesOne (P.answers service.now.protocol.now) session.new.seen wait.now reply.now text × (told.new.items ≡ told.old.items ++ text)) }
     ensures extends { OnlyExtends session.old session.new }
 {
     let Some(wait) = wait else {
@@ -249,8 +261,7 @@ fn append_reply<'b, J: Naming, V: Version, E>(
     if session.is_stable(wait.commits) {
         return told.extend_from_slice(reply);
     }
-    match refused_reply::<E, ()>(alloc, wait.xid, wait.procedure, why) {
-        Ok(refusal) => told.extend_from_slice(&refusal),
-        Err(_) => Err(AllocError),
-    }
+    let protocol = service.protocol;
+    let refusal = protocol.refused_reply(service.alloc, wait.xid, wait.procedure, why)?;
+    told.extend_from_slice(&refusal)
 }

@@ -1,13 +1,14 @@
 // Answering the records of a connection, in order.
 ghost use Rattle.std.specs.Prelude.{◌≡◌, [], List, MatchBool, IfOk, OnOk, OnErr};
 ghost use Rattle.journal_world.specs.Histories.{Entry};
-ghost use Rattle.journal_server.specs.Output.{IsReply};
+ghost use Rattle.journal_server.specs.Output.{IsReplyBy};
 ghost use Rattle.journal_server.specs.ReplyBatches.{IsHeld, IsInOrder, doing};
 ghost use Rattle.journal_server.specs.Sending.{EndsTurn, Lost, Sent, SentUpToBad, SentInPart};
 
 use crate::connection::ConnFault;
+use crate::protocol::Protocol;
 use crate::reply_batch::{ReplyBatch, send_batch};
-use crate::service::{Clock, Service};
+use crate::service::{Clock, Service, answer_no_wait};
 use journal_daemon::Gate;
 use journal_disk::BlockDisk;
 use journal_history::{Naming, Receipt, Session};
@@ -30,18 +31,27 @@ pub(crate) enum Turn {
 
 // Answers the records that wait up to their commits, in order, holds the replies, and counts them, until there are enough
 // to be sent.
-pub(crate) fn answer_waiting<'b, D: BlockDisk, J: Naming, V: Version, C: Clock, G: Gate, H: Wait>(
+pub(crate) fn answer_waiting<
+    'b,
+    D: BlockDisk,
+    J: Naming,
+    V: Version,
+    P: Protocol<V>,
+    C: Clock,
+    G: Gate,
+    H: Wait,
+>(
     rt: &H,
-    service: &Service<'_, 'b, D, J, V, C, G>,
+    service: &Service<'_, 'b, D, J, V, P, C, G>,
     session: &mut Session<'b, J, SoundFiles<V>>,
     records: &mut Records,
     batch: &mut ReplyBatch<Receipt<'b, J, SoundFiles<V>>>,
     answered: &mut u64,
 ) -> Result<Turn, AllocError>
-    ensures answered { IfOk result (λ turn. EndsTurn (IsHeld V.VERSION (C.tells service.now.clock.now) service.now.verifier.0) turn
+    ensures answered { IfOk result (λ turn. EndsTurn (IsHeld (P.answers service.now.protocol.now) (C.tells service.now.clock.now)) turn
         records.old records.new (doing session.old batch.new.replies.items) (doing session.new []) [] batch.new.bytes.items answered.old answered.new) }
     ensures in_order { OnOk result (IsInOrder batch.new) }
-    ensures lost { OnErr result ((history : List Entry) → Lost (IsReply V.VERSION (C.tells service.now.clock.now) service.now.verifier.0 history)
+    ensures lost { OnErr result ((history : List Entry) → Lost (IsReplyBy (P.answers service.now.protocol.now) (C.tells service.now.clock.now) history)
         records.old session.old session.new) }
 {
     batch.clear();
@@ -51,7 +61,7 @@ pub(crate) fn answer_waiting<'b, D: BlockDisk, J: Naming, V: Version, C: Clock, 
         };
         // The room is made before the call is done.
         batch.make_room()?;
-        let soon = service.answer_no_wait(rt, session, &call, *answered)?;
+        let soon = answer_no_wait(rt, service, session, &call, *answered)?;
         batch.add_reply(call.xid, soon)?;
         *answered = answered.saturating_add(1);
         if batch.is_full() {
@@ -68,13 +78,14 @@ pub(crate) fn answer_and_send<
     D: BlockDisk,
     J: Naming,
     V: Version,
+    P: Protocol<V>,
     C: Clock,
     G: Gate,
     H: Wait,
     W: Write,
 >(
     rt: &H,
-    service: &Service<'_, 'b, D, J, V, C, G>,
+    service: &Service<'_, 'b, D, J, V, P, C, G>,
     session: &mut Session<'b, J, SoundFiles<V>>,
     records: &mut Records,
     batch: &mut ReplyBatch<Receipt<'b, J, SoundFiles<V>>>,
@@ -82,11 +93,11 @@ pub(crate) fn answer_and_send<
     writer: &mut W,
 ) -> Result<bool, ConnFault>
     ensures sent { IfOk result (λ good. MatchBool good
-        (Sent (IsReply V.VERSION (C.tells service.now.clock.now) service.now.verifier.0 session.new.seen) records.old records.new
+        (Sent (IsReplyBy (P.answers service.now.protocol.now) (C.tells service.now.clock.now) session.new.seen) records.old records.new
         session.old session.new (W.contents writer.old) (W.contents writer.new) answered.old answered.new)
-        (SentUpToBad (IsReply V.VERSION (C.tells service.now.clock.now) service.now.verifier.0 session.new.seen) records.old
+        (SentUpToBad (IsReplyBy (P.answers service.now.protocol.now) (C.tells service.now.clock.now) session.new.seen) records.old
         session.old session.new (W.contents writer.old) (W.contents writer.new) answered.old answered.new)) }
-    ensures in_part { OnErr result (SentInPart (IsReply V.VERSION (C.tells service.now.clock.now) service.now.verifier.0 session.new.seen) records.old
+    ensures in_part { OnErr result (SentInPart (IsReplyBy (P.answers service.now.protocol.now) (C.tells service.now.clock.now) session.new.seen) records.old
         session.old session.new (W.contents writer.old) (W.contents writer.new)) }
 {
     loop {

@@ -1,8 +1,10 @@
-// Four workers, and who hands connections to them.
-ghost use Rattle.std.specs.Prelude.{◌≡◌, ◌-◌, ◌<◌, ◌+◌, ◌++◌, [], ℕ, true, Some, Ok, IfOk, IfErr, OnOk, IfSome, length};
+// Workers, and who hands connections to them.
+ghost use Rattle.std.specs.Prelude.{◌≡◌, ◌-◌, ◌<◌, ◌≤◌, ◌+◌, ◌++◌, [], ℕ, true, Some, Ok, IfOk, IfErr, OnOk, IfSome, length};
 ghost use Rattle.std.specs.List.{All};
 ghost use Rattle.crossbeam_channel.specs.Claims.{view, IsSeatAt};
 ghost use Rattle.crossbeam_channel.specs.Ends.{sends_on, receives_on};
+ghost use Rattle.journal_server.specs.declared.workers.TheConstants.{MOST_WORKERS};
+ghost use Rattle.journal_server.specs.PoolSizes.{IsPoolSize};
 ghost use Rattle.journal_server.specs.Queues.{pass_state, both, below, numbers_by, outcome_numbers, times, HasEachOnce, IsFresh, IsWork, IsUncut};
 ghost use Rattle.std.specs.Option.{ForSome};
 ghost use Rattle.journal_core.specs.declared.refusal_number.RefusalNumber.TheVariants.{J11};
@@ -10,7 +12,9 @@ ghost use Rattle.journal_core.specs.Causes.{IsUnexplained};
 ghost use Rattle.journal_server.specs.Refusals.{IsWorkersRefusal};
 
 use crate::adapters::{Incoming, Outgoing};
-use crate::connection::{ConnFault, Served, serve};
+use crate::connection::{ConnFault, Served, serve_protocol};
+use crate::files::NineProcedures;
+use crate::protocol::Protocol;
 use crate::queue::{Balance, Cut, Drains, Job, PassState, Puts, QueueReceiver, QueueSender, Takes};
 use crate::service::Clock;
 use crate::source::{Connection, Source};
@@ -29,11 +33,24 @@ use std::sync::{Mutex, Wait};
 use std::thread;
 use std::thread::{Promise, PromisedHandle, Scope, Threads};
 
-// How many workers there are. The queue's rule counts their parts.
-const WORKERS: u64 = 4;
+/// The most workers that there may be. The queue's rule has a part for each of them.
+pub const MOST_WORKERS: u64 = 64;
 
-// How many connections wait for a worker at most.
-const WAITING: usize = 16;
+/// How many workers serve the connections of a source, and how many connections wait for one of
+/// them at most.
+#[derive(Clone, Copy, Debug, PartialEq, Eq)]
+pub struct PoolSize {
+    /// The workers, at least one and at most `MOST_WORKERS`.
+    pub workers: u64,
+    /// The connections that may wait in the queue, at least one. Further ones wait with the source.
+    pub waiting: usize,
+}
+
+// Four workers, and sixteen connections that wait.
+const FOUR_WORKERS: PoolSize = PoolSize {
+    workers: 4,
+    waiting: 16,
+};
 
 /// How a connection ended: served to its end, or given up.
 pub type Outcome = Result<Served, ConnFault>;
@@ -88,50 +105,51 @@ struct Refused<'b, J: Naming, V: Version> {
 }
 
 // What the workers share.
-struct WorkerContext<'s, 'b, D: BlockDisk, J: Naming, V: Version, C: Clock, G: Gate> {
+struct WorkerContext<'s, 'b, D: BlockDisk, J: Naming, V: Version, P, C: Clock, G: Gate> {
     alloc: Global,
     files: &'s FileStore<'b, D, J, V>,
+    protocol: &'s P,
     clock: &'s C,
-    verifier: Verifier,
     gate: &'s G,
     refused: Mutex<Refused<'b, J, V>>,
 }
 
-impl<'s, 'b, D: BlockDisk, J: Naming, V: Version, C: Clock, G: Gate> Drop
-    for WorkerContext<'s, 'b, D, J, V, C, G> {
+impl<'s, 'b, D: BlockDisk, J: Naming, V: Version, P, C: Clock, G: Gate> Drop
+    for WorkerContext<'s, 'b, D, J, V, P, C, G> {
     fn drop(self) {
         let WorkerContext {
             alloc: _,
             files: _,
+            protocol: _,
             clock: _,
-            verifier: _,
             gate: _,
             refused: _,
         } = self;
     }
 }
 
-impl<'s, 'b, D: BlockDisk, J: Naming, V: Version, C: Clock, G: Gate> WorkerContext<
+impl<'s, 'b, D: BlockDisk, J: Naming, V: Version, P, C: Clock, G: Gate> WorkerContext<
     's,
     'b,
     D,
     J,
     V,
+    P,
     C,
     G,
 > {
     fn new(
         alloc: Global,
         files: &'s FileStore<'b, D, J, V>,
+        protocol: &'s P,
         clock: &'s C,
-        verifier: Verifier,
         gate: &'s G,
     ) -> Self {
         WorkerContext {
             alloc,
             files,
+            protocol,
             clock,
-            verifier,
             gate,
             refused: Mutex::new(Refused { cause: None }),
         }
@@ -156,11 +174,21 @@ impl<'s, 'b, D: BlockDisk, J: Naming, V: Version, C: Clock, G: Gate> WorkerConte
     }
 }
 
-impl<'s, 'b, D: BlockDisk, J: Naming, V: Version, C: Clock, G: Gate, S: Connection + Drop> Serve<S>
-    for WorkerContext<'s, 'b, D, J, V, C, G> {
+impl<
+    's,
+    'b,
+    D: BlockDisk,
+    J: Naming,
+    V: Version,
+    P: Protocol<V>,
+    C: Clock,
+    G: Gate,
+    S: Connection + Drop,
+> Serve<S> for WorkerContext<'s, 'b, D, J, V, P, C, G> {
     fn serve<H: Wait>(&self, rt: &H, number: u64, connection: S) -> Option<Outcome> {
         connection.begin();
-        let (files, clock, gate) = (self.files, self.clock, self.gate);
+        let (files, protocol) = (self.files, self.protocol);
+        let (clock, gate) = (self.clock, self.gate);
         let mut session = match files.journal().session(rt) {
             Ok(session) => session,
             Err(why) => {
@@ -170,15 +198,15 @@ impl<'s, 'b, D: BlockDisk, J: Naming, V: Version, C: Clock, G: Gate, S: Connecti
                 return None;
             }
         };
-        let outcome = serve(
+        let outcome = serve_protocol(
             rt,
             self.alloc,
             &mut Incoming(&connection),
             &mut Outgoing(&connection),
             files,
+            protocol,
             &mut session,
             clock,
-            self.verifier,
             gate,
             number,
         );
@@ -254,9 +282,10 @@ fn hand_out<I: Source, H: Wait>(
 ) -> Option<u64>
 where
     I::Connection: Drop,
-    requires { IsSeatAt (sends_on queue.now) pass.old × (view pass.old ≡ pass_state 1 [] []) }
+    requires seat { IsSeatAt (sends_on queue.now) pass.old }
+    requires idle { (0 < (view pass.old).parts) × ((view pass.old).put ≡ []) × ((view pass.old).taken ≡ []) }
     ensures seat { IsSeatAt (sends_on queue.now) pass.new }
-    ensures part { ((view pass.new).parts ≡ 1) × ((view pass.new).taken ≡ []) }
+    ensures part { ((view pass.new).parts ≡ (view pass.old).parts) × ((view pass.new).taken ≡ []) }
     ensures put { IfSome result (λ n. (view pass.new).put ≡ below n) }
     ensures given { IfSome result (λ n. I.given source.new ≡ I.given source.old + n) }
 {
@@ -285,13 +314,18 @@ fn stop<S: Drop, H: Wait>(rt: &H, queue: &QueueSender<S>, pass: &mut Pass<Job<S>
     let _ = queue.send_as::<Puts, H>(rt, pass, Job::Stop);
 }
 
-// Tells all workers to end.
-fn stop_all<S: Drop, H: Wait>(rt: &H, queue: &QueueSender<S>, pass: &mut Pass<Job<S>, PassState>)
+// Tells so many workers to end.
+fn stop_all<S: Drop, H: Wait>(
+    rt: &H,
+    queue: &QueueSender<S>,
+    pass: &mut Pass<Job<S>, PassState>,
+    count: u64,
+)
     requires { IsSeatAt (sends_on queue.now) pass.old × (0 < (view pass.old).parts) }
     ensures seat { IsSeatAt (sends_on queue.now) pass.new }
     ensures same { view pass.new ≡ view pass.old }
 {
-    for _ in 0..WORKERS {
+    for _ in 0..count {
         stop(rt, queue, pass);
     }
 }
@@ -355,7 +389,7 @@ fn is_drained<S: Drop, H: Wait>(
     queue: &QueueReceiver<S>,
     pass: &mut Pass<Job<S>, PassState>,
 ) -> bool
-    requires { IsSeatAt (receives_on queue.now) pass.old × ((view pass.old).parts ≡ 5) }
+    requires { IsSeatAt (receives_on queue.now) pass.old × ((view pass.old).parts ≡ 65) }
     ensures { result ≡ true → (x : ℕ) → times x (view pass.old).put ≡ times x (view pass.old).taken }
 {
     queue.try_recv_as::<Drains, H>(rt, pass).is_err()
@@ -396,15 +430,17 @@ where
     ensures numbered { IfOk result.0 (λ outcomes. HasEachOnce (outcome_numbers outcomes.items) (I.given result.1 - I.given source)) }
     ensures refusal { IfErr result.0 IsWorkersRefusal }
 {
-    let context = WorkerContext::new(alloc, files, clock, verifier, gate);
-    let Ended {
-        notes,
+    let protocol = NineProcedures { verifier };
+    run_protocol(
+        rt,
+        alloc,
         source,
-        context,
-    } = run_pool::<I, WorkerContext<'s, 'b, D, J, V, C, G>, (u64, Outcome), H>(
-        rt, alloc, source, context,
-    );
-    (context.end(rt, notes), source)
+        files,
+        &protocol,
+        clock,
+        gate,
+        FOUR_WORKERS,
+    )
 }
 
 /// Serves all connections of the source as `run_workers` does, and forgets how each ended: what it keeps of a connection
@@ -436,12 +472,103 @@ where
     ensures served { IfOk result.0 (λ served. served ≡ I.given result.1 - I.given source) }
     ensures refusal { IfErr result.0 IsWorkersRefusal }
 {
-    let context = WorkerContext::new(alloc, files, clock, verifier, gate);
+    let protocol = NineProcedures { verifier };
+    serve_all_by(
+        rt,
+        alloc,
+        source,
+        files,
+        &protocol,
+        clock,
+        gate,
+        FOUR_WORKERS,
+    )
+}
+
+/// Serves all connections of the source by a protocol, as `run_workers` does by the nine procedures
+/// of NFS version 3, by as many workers as the size says, while at most as many connections wait as
+/// it says.
+pub fn run_protocol<
+    's,
+    'b,
+    I: Source + Drop,
+    D: BlockDisk + Send,
+    J: Naming + Send + Sync,
+    V: Version + Send + Sync,
+    P: Protocol<V> + Sync,
+    C: Clock + Sync,
+    G: Gate + Sync,
+    H: Threads + Wait + Sync,
+>(
+    rt: &H,
+    alloc: Global,
+    source: I,
+    files: &'s FileStore<'b, D, J, V>,
+    protocol: &'s P,
+    clock: &'s C,
+    gate: &'s G,
+    size: PoolSize,
+) -> (
+    Result<Vec<(u64, Outcome)>, Refusal<Cause<'b, J, SoundFiles<V>>>>,
+    I,
+)
+where
+    I::Connection: Drop + Send,
+    requires size { IsPoolSize size }
+    ensures numbered { IfOk result.0 (λ outcomes. HasEachOnce (outcome_numbers outcomes.items) (I.given result.1 - I.given source)) }
+    ensures refusal { IfErr result.0 IsWorkersRefusal }
+{
+    let context = WorkerContext::new(alloc, files, protocol, clock, gate);
     let Ended {
         notes,
         source,
         context,
-    } = run_pool::<I, WorkerContext<'s, 'b, D, J, V, C, G>, Tick, H>(rt, alloc, source, context);
+    } = run_pool::<I, WorkerContext<'s, 'b, D, J, V, P, C, G>, (u64, Outcome), H>(
+        rt, alloc, source, context, size,
+    );
+    (context.end(rt, notes), source)
+}
+
+/// Serves all connections of the source as `run_protocol` does, and forgets how each ended: what it
+/// keeps of a connection takes no memory, however many there are.
+///
+/// Answers how many there were, each served once, or what `run_protocol` is refused by.
+pub fn serve_all_by<
+    's,
+    'b,
+    I: Source + Drop,
+    D: BlockDisk + Send,
+    J: Naming + Send + Sync,
+    V: Version + Send + Sync,
+    P: Protocol<V> + Sync,
+    C: Clock + Sync,
+    G: Gate + Sync,
+    H: Threads + Wait + Sync,
+>(
+    rt: &H,
+    alloc: Global,
+    source: I,
+    files: &'s FileStore<'b, D, J, V>,
+    protocol: &'s P,
+    clock: &'s C,
+    gate: &'s G,
+    size: PoolSize,
+) -> (Result<u64, Refusal<Cause<'b, J, SoundFiles<V>>>>, I)
+where
+    I::Connection: Drop + Send,
+    requires size { IsPoolSize size }
+    // Each connection that the source gave was served, and no more.
+    ensures served { IfOk result.0 (λ served. served ≡ I.given result.1 - I.given source) }
+    ensures refusal { IfErr result.0 IsWorkersRefusal }
+{
+    let context = WorkerContext::new(alloc, files, protocol, clock, gate);
+    let Ended {
+        notes,
+        source,
+        context,
+    } = run_pool::<I, WorkerContext<'s, 'b, D, J, V, P, C, G>, Tick, H>(
+        rt, alloc, source, context, size,
+    );
     match context.end(rt, notes) {
         Ok(ticks) => (Ok(ticks.len() as u64), source),
         Err(why) => (Err(why), source),
@@ -455,16 +582,17 @@ struct Ended<I, K, N> {
     context: K,
 }
 
-// Serves the connections of the source by four workers. It is refused where a thread or memory was, or where a connection
-// could not be begun.
+// Serves the connections of the source by as many workers as are asked for. It is refused where a
+// thread or memory was, or where a connection could not be begun.
 fn run_pool<
     I: Source + Drop,
     K: Serve<I::Connection> + Sync,
     N: Note + Drop + Send,
     H: Threads + Wait + Sync,
->(rt: &H, alloc: Global, source: I, context: K) -> Ended<I, K, N>
+>(rt: &H, alloc: Global, source: I, context: K, size: PoolSize) -> Ended<I, K, N>
 where
     I::Connection: Drop + Send,
+    requires { IsPoolSize size }
     ensures { IfOk result.notes (λ notes. HasEachOnce (numbers_by N.about notes.items) (I.given result.source - I.given source)) }
 {
     let Ok((sender, receiver, mut pass)) = bounded_with::<
@@ -472,14 +600,23 @@ where
         PassState,
         Balance,
         Global,
-    >(alloc, WAITING) else {
+    >(alloc, size.waiting) else {
         return Ended {
             notes: Err(AllocError),
             source,
             context,
         };
     };
-    let (notes, source) = in_threads(rt, alloc, source, &context, &sender, &receiver, pass);
+    let (notes, source) = in_threads(
+        rt,
+        alloc,
+        source,
+        &context,
+        &sender,
+        &receiver,
+        pass,
+        size.workers,
+    );
     Ended {
         notes,
         source,
@@ -502,9 +639,11 @@ fn in_threads<
     sender: &'s QueueSender<I::Connection>,
     queue: &'s QueueReceiver<I::Connection>,
     pass: Pass<Job<I::Connection>, PassState>,
+    count: u64,
 ) -> (Result<Vec<N>, AllocError>, I)
 where
     I::Connection: Drop + Send,
+    requires few { count ≤ MOST_WORKERS }
     requires pass { IsUncut (IsSeatAt (sends_on sender.now)) pass }
     requires same { receives_on queue.now ≡ sends_on sender.now }
     ensures { IfOk result.0 (λ notes. HasEachOnce (numbers_by N.about notes.items) (I.given result.1 - I.given source)) }
@@ -513,20 +652,22 @@ where
         thread::scope_env(),
         rt,
         |scope| -> (Result<Vec<N>, AllocError>, I)
-            requires { IsUncut (IsSeatAt (sends_on sender.now)) pass × (receives_on queue.now ≡ sends_on sender.now) }
+            requires { IsUncut (IsSeatAt (sends_on sender.now)) pass × (receives_on queue.now ≡ sends_on sender.now) × (count ≤ MOST_WORKERS) }
             ensures { IfOk result.0 (λ notes. HasEachOnce (numbers_by N.about notes.items) (I.given result.1 - I.given source)) }
         {
             let mut source = source;
             let mut pass = pass;
-            let workers = match spawn_workers(rt, alloc, scope, context, sender, queue, &mut pass) {
+            let workers = match spawn_workers(
+                rt, alloc, scope, context, sender, queue, &mut pass, count,
+            ) {
                 Ok(workers) => workers,
                 Err(refused) => {
-                    stop_all(rt, sender, &mut pass);
+                    stop_all(rt, sender, &mut pass, count);
                     return (Err(refused), source);
                 }
             };
             let given = hand_out(rt, &mut source, sender, &mut pass);
-            stop_all(rt, sender, &mut pass);
+            stop_all(rt, sender, &mut pass, count);
             let notes = join_workers(rt, alloc, sender, queue, pass, workers, given);
             (notes, source)
         },
@@ -552,15 +693,17 @@ fn spawn_workers<
     sender: &QueueSender<S>,
     queue: &'s QueueReceiver<S>,
     pass: &mut Pass<Job<S>, PassState>,
+    count: u64,
 ) -> Result<Vec<Worker<'s, S, N>>, AllocError>
+    requires few { count ≤ MOST_WORKERS }
     requires pass { IsUncut (IsSeatAt (sends_on sender.now)) pass.old }
     requires same { receives_on queue.now ≡ sends_on sender.now }
     ensures seat { IsSeatAt (sends_on sender.now) pass.new × (0 < (view pass.new).parts) }
-    ensures left { OnOk result (view pass.new ≡ pass_state 1 [] []) }
-    ensures workers { IfOk result (λ workers. (length workers.items ≡ WORKERS) × All (λ w. w.promise.0.now ≡ queue.now) workers.items) }
+    ensures left { OnOk result (view pass.new ≡ pass_state (65 - count) [] []) }
+    ensures workers { IfOk result (λ workers. (length workers.items ≡ count) × All (λ w. w.promise.0.now ≡ queue.now) workers.items) }
 {
     let mut workers = Vec::new(alloc);
-    for _begun in 0..WORKERS {
+    for _begun in 0..count {
         workers.reserve(1)?;
         let part = cut(sender, pass);
         let work = move || work_on(rt, alloc, context, queue, part);
@@ -581,8 +724,8 @@ fn join_workers<'l, S: Drop, N: Note + Drop, H: Threads + Wait>(
     given: Option<u64>,
 ) -> Result<Vec<N>, AllocError>
     requires same { receives_on queue.now ≡ sends_on sender.now }
-    requires pass { IsSeatAt (sends_on sender.now) pass × ((view pass).parts ≡ 1) × ((view pass).taken ≡ []) }
-    requires workers { (length workers.items ≡ WORKERS) × All (λ w. w.promise.0.now ≡ queue.now) workers.items }
+    requires pass { IsSeatAt (sends_on sender.now) pass × ((view pass).parts + length workers.items ≡ 65) × (0 < (view pass).parts) × ((view pass).taken ≡ []) }
+    requires workers { All (λ w. w.promise.0.now ≡ queue.now) workers.items }
     requires put { IfSome given (λ n. (view pass).put ≡ below n) }
     ensures { IfOk result (λ notes. (n : ℕ) × (given ≡ Some n) × HasEachOnce (numbers_by N.about notes.items) n) }
 {

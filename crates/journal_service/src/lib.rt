@@ -24,4 +24,4 @@ pub use checking::check;
 pub use fault::ServiceFault;
 pub use file::format;
 pub use migrating::migrate;
-pub use serving::{Service, serve};
+pub use serving::{Endpoint, Service, export, serve};

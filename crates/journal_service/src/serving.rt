@@ -8,15 +8,15 @@ use crate::mounting::{Tried, mount, slot_cell};
 use crate::printing::{give_up, print_line};
 use crate::{clock, file};
 use journal_daemon::OpenGate;
-use journal_disk::FileDisk;
+use journal_disk::{BlockDisk, FileDisk};
 use journal_filestore::FileStore;
 use journal_history::{Book, Naming};
 use journal_inode::{SoundFiles, Version, VersionOne, VersionTwo};
 use journal_lockmap::SlotCell;
-use journal_nfs3::Verifier;
+use journal_mount3::Exported;
 use journal_program::{Daemon, Settled};
-use journal_server::{Listening, WaitingConnections, serve_all};
-use journal_world::{Refusal, Refused};
+use journal_server::{Listening, PoolSize, WaitingConnections, serve_all, serve_all_by};
+use journal_world::{Layout, Refusal, Refused};
 use std::alloc::Global;
 use std::fs::{File, Files};
 use std::io::Write;
@@ -38,11 +38,77 @@ pub struct Service<'w> {
     pub connections: u64,
 }
 
+/// Where a file service that clients mount is reached.
+#[derive(Clone, Copy)]
+pub struct Endpoint {
+    /// The address of this machine to which connections come. Whoever reaches it reads and writes
+    /// all files.
+    pub address: Ipv4Addr,
+    /// The port, or 0 for one that is free.
+    pub port: u16,
+}
+
+// Which programs are served.
+#[derive(Clone, Copy)]
+enum Programs {
+    // The nine procedures of NFS.
+    Nine,
+    // NFS and MOUNT, so that clients mount the files.
+    Both,
+}
+
+// What is served, and where.
+#[derive(Clone, Copy)]
+struct Plan {
+    address: Ipv4Addr,
+    port: u16,
+    connections: u64,
+    programs: Programs,
+}
+
+// The workers of a service that clients mount: a client has a connection as long as it has the
+// files mounted.
+const MOUNT_WORKERS: PoolSize = PoolSize {
+    workers: 16,
+    waiting: 16,
+};
+
+/// Serves the files of the disk, of either version, so that clients mount them, until the program
+/// is ended: NFS and MOUNT in their versions 3. It prints the port before the first connection is
+/// taken. Else it does as `serve`, and is refused as that is.
+pub fn export<
+    R: Files<File = File>
+        + Net<Listener = TcpListener, Stream = TcpStream>
+        + Clock
+        + Threads
+        + Wait
+        + Sync,
+    O: Write,
+    E: Write,
+>(
+    rt: &R,
+    alloc: Global,
+    disk: Settled,
+    endpoint: Endpoint,
+    output: &mut O,
+    faults: &mut E,
+) -> Result<(), ServiceFault> {
+    let Endpoint { address, port } = endpoint;
+    let plan = Plan {
+        address,
+        port,
+        connections: u64::MAX,
+        programs: Programs::Both,
+    };
+    carry_out(rt, alloc, disk, plan, output, faults)
+}
+
 /// Serves the files of the disk in the file, of either version, and prints the port before the
 /// first connection is taken, and how many were taken once all is stable and the disk is given up.
 /// Where the clock cannot be read, that is told as a fault, and the disk is served all the same.
 ///
-/// Refused as a mount is: J7 `BadLog` where its log is not well formed, J8 `BadSuper` where its files are sound in no version.
+/// Refused as a mount is: J7 `BadLog` where its log is not well formed, J8 `BadSuper` where its
+/// files are sound in no version.
 pub fn serve<
     R: Files<File = File>
         + Net<Listener = TcpListener, Stream = TcpStream>
@@ -59,14 +125,46 @@ pub fn serve<
     output: &mut O,
     faults: &mut E,
 ) -> Result<(), ServiceFault> {
-    let disk = file::open(rt, service.path)?;
-    let disk = match serve_in::<VersionTwo, R, O, E>(rt, alloc, disk, service, output, faults)? {
+    let Service {
+        path,
+        port,
+        connections,
+    } = service;
+    let plan = Plan {
+        address: Ipv4Addr::LOCALHOST,
+        port,
+        connections,
+        programs: Programs::Nine,
+    };
+    let disk = file::open(rt, path)?;
+    carry_out(rt, alloc, disk, plan, output, faults)
+}
+
+// Serves the files of the disk as planned, and gives it up.
+fn carry_out<
+    R: Files<File = File>
+        + Net<Listener = TcpListener, Stream = TcpStream>
+        + Clock
+        + Threads
+        + Wait
+        + Sync,
+    O: Write,
+    E: Write,
+>(
+    rt: &R,
+    alloc: Global,
+    disk: Settled,
+    plan: Plan,
+    output: &mut O,
+    faults: &mut E,
+) -> Result<(), ServiceFault> {
+    let disk = match serve_in::<VersionTwo, R, O, E>(rt, alloc, disk, plan, output, faults)? {
         Tried::Sound(disk) => disk,
         Tried::Other(disk) => {
-            serve_in::<VersionOne, R, O, E>(rt, alloc, disk, service, output, faults)?.sound()?
+            serve_in::<VersionOne, R, O, E>(rt, alloc, disk, plan, output, faults)?.sound()?
         }
     };
-    give_up(file::settled(disk)?, output, "served", service.connections)
+    give_up(file::settled(disk)?, output, "served", plan.connections)
 }
 
 // Serves the files of the disk, where they are sound in a version, and gives it up.
@@ -79,25 +177,17 @@ fn serve_in<
     rt: &R,
     alloc: Global,
     settled: Settled,
-    service: Service<'_>,
+    plan: Plan,
     output: &mut O,
     faults: &mut E,
 ) -> Result<Tried<FileDisk>, ServiceFault> {
     let book: Book<SoundFiles<V>> = Book::open::<()>().unwrap();
     let cell = slot_cell(alloc)?;
-    serve_mounted::<Brand, V, R, O, E>(
-        rt,
-        alloc,
-        &book,
-        cell,
-        settled.disk(),
-        service,
-        output,
-        faults,
-    )
+    serve_mounted::<Brand, V, R, O, E>(rt, alloc, &book, cell, settled.disk(), plan, output, faults)
 }
 
-// Mounts the disk, serves its files, and gives it up, with all commits stable. Of two faults the first is told.
+// Mounts the disk, serves its files, and gives it up, with all commits stable. Of two faults the
+// first is told.
 fn serve_mounted<
     J: Naming + Send + Sync,
     V: Version + Send + Sync,
@@ -110,7 +200,7 @@ fn serve_mounted<
     book: &Book<SoundFiles<V>>,
     cell: SlotCell,
     disk: FileDisk,
-    service: Service<'_>,
+    plan: Plan,
     output: &mut O,
     faults: &mut E,
 ) -> Result<Tried<FileDisk>, ServiceFault>
@@ -118,12 +208,19 @@ fn serve_mounted<
     requires cell { cell ≡ J.cell }
     requires layout { J.layout ≡ files disk.size }
 {
+    let Some(layout) = Layout::new(disk.size()) else {
+        // It is refused as a mount refuses it.
+        return Ok(Tried::Other(Settled::unwritten(disk)));
+    };
     let files: FileStore<FileDisk, J, V> = match mount(alloc, book, cell, disk)? {
         Tried::Sound(files) => files,
         Tried::Other(disk) => return Ok(Tried::Other(disk)),
     };
-    let verifier = verifier_of(clock::moment_of_mount(rt, faults));
-    let served = serve_beside_daemon(rt, alloc, &files, service, verifier, output);
+    let exported = Exported {
+        verifier: verifier_of(clock::moment_of_mount(rt, faults)),
+        layout,
+    };
+    let served = serve_beside_daemon(rt, alloc, &files, exported, plan, output);
     let closed = close(rt, files);
     served?;
     Ok(Tried::Sound(closed?))
@@ -140,8 +237,8 @@ fn serve_beside_daemon<
     rt: &R,
     alloc: Global,
     files: &FileStore<'b, FileDisk, J, V>,
-    service: Service<'_>,
-    verifier: Verifier,
+    exported: Exported,
+    plan: Plan,
     output: &mut O,
 ) -> Result<(), ServiceFault> {
     let daemon = Daemon::new();
@@ -152,7 +249,7 @@ fn serve_beside_daemon<
             let runs = scope.spawn(|| daemon.run(rt, files.journal())).is_ok()
                 && daemon.is_running(rt);
             let served = if runs {
-                listen(rt, alloc, files, service, verifier, output)
+                listen(rt, alloc, files, exported, plan, output)
             } else {
                 Err(ServiceFault::Refused(Refusal::NoMemory))
             };
@@ -175,11 +272,11 @@ fn listen<
     rt: &R,
     alloc: Global,
     files: &FileStore<'b, FileDisk, J, V>,
-    service: Service<'_>,
-    verifier: Verifier,
+    exported: Exported,
+    plan: Plan,
     output: &mut O,
 ) -> Result<(), ServiceFault> {
-    let Ok(listener) = TcpListener::bind(rt, (Ipv4Addr::LOCALHOST, service.port)) else {
+    let Ok(listener) = TcpListener::bind(rt, (plan.address, plan.port)) else {
         return Err(ServiceFault::CannotListen);
     };
     let Ok(there) = listener.local_addr() else {
@@ -187,9 +284,33 @@ fn listen<
     };
     print_line(output, "listening", u64::from(there.port()))?;
     let waiting = WaitingConnections::new();
-    let source = Listening::new(rt, listener, service.connections, &waiting);
+    let source = Listening::new(rt, listener, plan.connections, &waiting);
     let clock = WallClock(rt);
-    let (served, source) = serve_all(rt, alloc, source, files, &clock, verifier, &OpenGate);
+    let (served, source) = match plan.programs {
+        Programs::Nine => {
+            serve_all(
+                rt,
+                alloc,
+                source,
+                files,
+                &clock,
+                exported.verifier,
+                &OpenGate,
+            )
+        }
+        Programs::Both => {
+            serve_all_by(
+                rt,
+                alloc,
+                source,
+                files,
+                &exported,
+                &clock,
+                &OpenGate,
+                MOUNT_WORKERS,
+            )
+        }
+    };
     if source.has_failed() {
         return Err(ServiceFault::CannotListen);
     }

@@ -19,9 +19,13 @@ use std::sync::atomic::{AtomicBool, Ordering};
 // A handle is twelve bytes. FILE is file 2 in its first life, AGAIN in its second, and LOST in one that it has not had;
 // OTHER is file 3 in its first life, and STRANGE names no inode.
 //
-// Attributes are type, mode, links, owner and group; size, bytes used, device, file system and number, in two words each; and
-// three times. Before a change stand a size and two times. LOOKS and USED are what stands before and behind the size of file
-// 2; AT_5 is the time (5, 0) thrice, AT_6 is (6, 7), and so on.
+// DOT, DOTS and IS_2 are the entries of a listing for the root itself, for what is above it, and
+// for file 2. MNT is of version 3 of program 100005.
+//
+// Attributes are type, mode, links, owner and group; size, bytes used, device, file system and
+// number, in two words each; and three times; ROOT_IS has those of the root but for the times.
+// Before a change stand a size and two times. LOOKS and USED are what stands before and behind the
+// size of file 2; AT_5 is the time (5, 0) thrice, AT_6 is (6, 7), and so on.
 const NAMES: &str = "
 NULL: 1 0 2 0x186a3 3 0 0 0 0 0
 GETATTR: 1 0 2 0x186a3 3 1 0 0 0 0
@@ -32,6 +36,14 @@ WRITE: 1 0 2 0x186a3 3 7 0 0 0 0
 CREATE: 1 0 2 0x186a3 3 8 0 0 0 0
 REMOVE: 1 0 2 0x186a3 3 12 0 0 0 0
 COMMIT: 1 0 2 0x186a3 3 21 0 0 0 0
+ACCESS: 1 0 2 0x186a3 3 4 0 0 0 0
+MKDIR: 1 0 2 0x186a3 3 9 0 0 0 0
+READDIR: 1 0 2 0x186a3 3 16 0 0 0 0
+READDIRPLUS: 1 0 2 0x186a3 3 17 0 0 0 0
+FSSTAT: 1 0 2 0x186a3 3 18 0 0 0 0
+FSINFO: 1 0 2 0x186a3 3 19 0 0 0 0
+PATHCONF: 1 0 2 0x186a3 3 20 0 0 0 0
+MNT: 1 0 2 0x186a5 3 1 0 0 0 0
 DONE: 1 1 0 0 0 0
 GARBAGE: 1 1 0 0 0 4
 UNAVAILABLE: 1 1 0 0 0 3
@@ -53,6 +65,10 @@ SIZE_4097: 0 0 0 1 0 4097 0 0
 UNTIMELY: 0 0 0 0 0 2 0 1000000000
 ROOT_LOOKS: 2 0x1ed 2 0 0 0 0 0 0 0 0 0 1 0 1 0 0 0 0 0 0
 ROOT_WAS: 0 0 0 0 0 0
+ROOT_IS: 2 0x1ed 2 0 0 0 0 0 0 0 0 0 1 0 1
+DOT: 1 0 1 1 0x2e000000 0 1
+DOTS: 1 0 1 2 0x2e2e0000 0 2
+IS_2: 1 0 2 4 0x66303032 0 3
 LOOKS: 1 0x1a4 1 0 0
 USED: 0 4096 0 0 0 1 0 2
 AT_5: 5 0 5 0 5 0
@@ -166,7 +182,7 @@ pub(crate) fn reply<'b, D: BlockDisk, J: Naming, V: Version, W: Wait>(
 }
 
 // Whether a reply is this message as a record of one fragment.
-fn is_record_of(reply: &[u8], message: &[u8]) -> bool {
+pub(crate) fn is_record_of(reply: &[u8], message: &[u8]) -> bool {
     let Ok(length) = u32::try_from(message.len()) else {
         return false;
     };
@@ -282,7 +298,7 @@ fn is_line<'b, D: BlockDisk, J: Naming, V: Version, W: Wait>(
 }
 
 // The seconds and nanoseconds of a line that says a moment.
-fn moment_of(line: &str) -> Option<(u32, u32)> {
+pub(crate) fn moment_of(line: &str) -> Option<(u32, u32)> {
     let (secs, nanos) = line.strip_prefix("at ")?.split_once(' ')?;
     Some((number_of(secs)?, number_of(nanos)?))
 }

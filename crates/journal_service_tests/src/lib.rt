@@ -14,6 +14,8 @@ mod asserts;
 #[cfg(test)]
 mod calls;
 #[cfg(test)]
+mod exported;
+#[cfg(test)]
 mod filestore;
 #[cfg(test)]
 mod memory;

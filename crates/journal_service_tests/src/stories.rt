@@ -1,5 +1,6 @@
 // What is done with a store that another function owns.
 use crate::calls::{ask, ask_cut};
+use crate::exported::ask_exported;
 use crate::filestore::{fill_all, storm};
 use crate::memory::{Scarce, run_scarce};
 use crate::nfs3::{Cause, call_while, fail_behind};
@@ -21,6 +22,8 @@ pub(crate) enum Story {
     Table(&'static str),
     // The calls of a table with their arguments cut.
     Cut(&'static str),
+    // The calls of a table to both programs.
+    Exported(&'static str),
     // An errand, with who keeps the log beside it.
     Beside(Errand),
     // A file is made, and then the calls of a table while there is such a cause.
@@ -44,6 +47,8 @@ pub(crate) enum Story {
 pub(crate) enum Errand {
     // The calls of a table.
     Table(&'static str),
+    // The calls of a table to both programs.
+    Exported(&'static str),
     // Four threads make files and remove them.
     Storm,
     // Files are made until no block is free.
@@ -64,6 +69,7 @@ pub(crate) fn tell<
     match *story {
         Story::Table(table) => ask(rt, alloc, files, table),
         Story::Cut(table) => ask_cut(rt, alloc, files, table),
+        Story::Exported(table) => ask_exported(rt, alloc, files, table),
         Story::Beside(errand) => beside(rt, alloc, files, errand),
         Story::While(cause, table) => call_while(rt, alloc, files, cause, table),
         Story::Connections(table) => serve_all(rt, alloc, files, table),
@@ -83,6 +89,7 @@ pub(crate) fn run<'b, J: Naming + Send + Sync, H: Threads + Wait + Sync>(
 ) -> Told {
     match errand {
         Errand::Table(table) => ask(rt, alloc, files, table),
+        Errand::Exported(table) => ask_exported(rt, alloc, files, table),
         Errand::Storm => storm(rt, alloc, files),
         Errand::Fill => fill_all(rt, alloc, files),
         Errand::Moments => write_in_one_piece(rt, alloc, files),

@@ -23,16 +23,16 @@ returns-then-count-eq0-clause-finished g c =
 pub returns-in_err-goes_on-clause-given_up : goal.returns-in_err-goes_on-clause-given_up
 returns-in_err-goes_on-clause-given_up g c =
     let sent = c.in_err-goes_on.ensures.in_part in
-    on_err _ _ (breaks _ _ _ _ _ _ _ _ _ _ _ _ _ _ 0 (so_far_grown _ _ _ _ _ _ _ _ _ _ _ _ _ _ sent.replied c.loop.invariant.0) c.in-Ok-read_piece.ensures.piece refl sent)
+    on_err _ _ (breaks _ _ _ _ _ _ _ _ _ _ _ _ _ _ 0 (so_far_grown _ _ (g.met.P.Protocol.lawful c.args.service.now.protocol.now) _ _ _ _ _ _ _ _ _ _ _ sent.replied c.loop.invariant.0) c.in-Ok-read_piece.ensures.piece refl sent)
 
 pub returns-then-not-goes_on-clause-finished : goal.returns-then-not-goes_on-clause-finished
 returns-then-not-goes_on-clause-finished g c =
-    ends_with_bad _ _ _ _ _ _ _ _ _ _ _ _ _ _ _ _ _ c.loop.invariant.0 c.in-Ok-read_piece.ensures.piece (on_false _ _ _ c.if-not-goes_on.true c.in_ok-goes_on.ensures.sent)
+    ends_with_bad _ _ (g.met.P.Protocol.lawful c.args.service.now.protocol.now) _ _ _ _ _ _ _ _ _ _ _ _ _ _ c.loop.invariant.0 c.in-Ok-read_piece.ensures.piece (on_false _ _ _ c.if-not-goes_on.true c.in_ok-goes_on.ensures.sent)
 
 pub loop-preserved : goal.loop-preserved
 loop-preserved g c =
     let sent = on_true _ _ _ c.if-not-goes_on.false c.in_ok-goes_on.ensures.sent in (
-      goes_on _ _ _ _ _ _ _ _ _ _ _ _ _ _ _ (so_far_grown _ _ _ _ _ _ _ _ _ _ _ _ _ _ sent.0.replied c.loop.invariant.0) c.in-Ok-read_piece.ensures.piece _ refl sent.1 sent.0,
+      goes_on _ _ _ _ _ _ _ _ _ _ _ _ _ _ _ (so_far_grown _ _ (g.met.P.Protocol.lawful c.args.service.now.protocol.now) _ _ _ _ _ _ _ _ _ _ _ sent.0.replied c.loop.invariant.0) c.in-Ok-read_piece.ensures.piece _ refl sent.1 sent.0,
       c.read_piece.auto.buffer ∙ c.loop.invariant.1,
     )
 

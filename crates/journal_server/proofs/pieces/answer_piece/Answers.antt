@@ -19,17 +19,17 @@ returns-in_default-clause-in_part g c =
 pub returns-in_err-good-clause-in_part : goal.returns-in_err-good-clause-in_part
 returns-in_err-good-clause-in_part g c =
     let i = c.loop-rest.invariant in
-    on_err _ _ (piece_breaks _ _ _ c.in-Ok.taken _ _ _ _ _ _ _ _ _ _ _ _ _ _ i.2 i.1 c.in-Ok.ensures c.in_err-good.ensures.in_part)
+    on_err _ _ (piece_breaks _ _ (g.met.P.Protocol.lawful c.args.service.now.protocol.now) c.in-Ok.taken _ _ _ _ _ _ _ _ _ _ _ _ _ _ i.2 i.1 c.in-Ok.ensures c.in_err-good.ensures.in_part)
 
 pub returns-then-not-good-clause-sent : goal.returns-then-not-good-clause-sent
 returns-then-not-good-clause-sent g c =
     let i = c.loop-rest.invariant in
-    piece_ends_bad _ _ _ c.in-Ok.taken _ _ _ _ _ _ _ _ _ _ _ _ _ _ i.2 i.1 c.in-Ok.ensures _ _ (on_false _ _ _ c.if-not-good.true c.in_ok-good.ensures.sent)
+    piece_ends_bad _ _ (g.met.P.Protocol.lawful c.args.service.now.protocol.now) c.in-Ok.taken _ _ _ _ _ _ _ _ _ _ _ _ _ _ i.2 i.1 c.in-Ok.ensures _ _ (on_false _ _ _ c.if-not-good.true c.in_ok-good.ensures.sent)
 
 pub returns-in-Overlong-clause-sent : goal.returns-in-Overlong-clause-sent
 returns-in-Overlong-clause-sent g c =
     let i = c.loop-rest.invariant in
-    piece_ends_long _ _ _ c.in-Ok.taken _ _ _ _ _ _ _ _ _ _ _ _ _ _ i.2 i.1 c.in-Ok.ensures _ _ c.in-Overlong.is (on_true _ _ _ c.if-not-good.false c.in_ok-good.ensures.sent)
+    piece_ends_long _ _ (g.met.P.Protocol.lawful c.args.service.now.protocol.now) c.in-Ok.taken _ _ _ _ _ _ _ _ _ _ _ _ _ _ i.2 i.1 c.in-Ok.ensures _ _ c.in-Overlong.is (on_true _ _ _ c.if-not-good.false c.in_ok-good.ensures.sent)
 
 pub loop-rest-preserved : goal.loop-rest-preserved
 loop-rest-preserved g c =
@@ -39,8 +39,8 @@ loop-rest-preserved g c =
     let sent = on_true _ _ _ c.if-not-good.false c.in_ok-good.ensures.sent in (
       i.0 ++ take n rest,
       i.1 ∙ ap (λ (r : List ℕ). i.0 ++ r) (sym (take-append-drop n rest) ∙ ap (λ (r : List ℕ). take n rest ++ r) (sym c.split_at.ensures.back)) ∙ sym (append_assoc i.0 (take n rest) c.split_at.result.1.now),
-      piece_goes_on _ _ _ c.in-Ok.taken _ _ _ _ _ _ _ _ _ _ _ _ _ _ i.2 i.1 c.in-Ok.ensures n _ _ c.in-Front.is sent,
-      piece_is_short _ _ _ c.in-Ok.taken _ _ _ _ _ _ _ _ _ _ _ _ _ _ i.2 i.1 c.in-Ok.ensures n _ _ c.in-Front.is sent,
+      piece_goes_on _ _ (g.met.P.Protocol.lawful c.args.service.now.protocol.now) c.in-Ok.taken _ _ _ _ _ _ _ _ _ _ _ _ _ _ i.2 i.1 c.in-Ok.ensures n _ _ c.in-Front.is sent,
+      piece_is_short _ _ (g.met.P.Protocol.lawful c.args.service.now.protocol.now) c.in-Ok.taken _ _ _ _ _ _ _ _ _ _ _ _ _ _ i.2 i.1 c.in-Ok.ensures n _ _ c.in-Front.is sent,
       ap (λ (s : Stream). s.records) sent.rest,
     )
 

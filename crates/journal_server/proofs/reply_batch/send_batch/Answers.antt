@@ -8,32 +8,32 @@ split_at-requires g c = let fits = order_fits c.args.batch.now c.requires in ome
 
 pub returns-in_err-send-clause-in_part : goal.returns-in_err-send-clause-in_part
 returns-in_err-send-clause-in_part g c =
-    on_err _ _ (breaks_before c.args.batch.now c.requires _ (c.split_at.ensures.front ∙ ap (take c.args.batch.now.free) c.deref.ensures.value) _ _ _ c.in_err-send.ensures.failed)
+    on_err _ _ (breaks_before (g.P.Protocol.answers c.args.service.now.protocol.now) (g.met.P.Protocol.lawful c.args.service.now.protocol.now) c.args.batch.now c.requires _ (c.split_at.ensures.front ∙ ap (take c.args.batch.now.free) c.deref.ensures.value) _ _ _ c.in_err-send.ensures.failed)
 
 pub returns-in_default-clause-sent : goal.returns-in_default-clause-sent
 returns-in_default-clause-sent g c =
-    sends_unwaited c.args.batch.now c.requires _ (c.split_at.ensures.front ∙ ap (take c.args.batch.now.free) c.deref.ensures.value) _ _ _ c.in_default.is c.in_ok-send.ensures.whole
+    sends_unwaited (g.P.Protocol.answers c.args.service.now.protocol.now) (g.met.P.Protocol.lawful c.args.service.now.protocol.now) c.args.batch.now c.requires _ (c.split_at.ensures.front ∙ ap (take c.args.batch.now.free) c.deref.ensures.value) _ _ _ c.in_default.is c.in_ok-send.ensures.whole
 
 pub returns-in-Ok-clause-sent : goal.returns-in-Ok-clause-sent
 returns-in-Ok-clause-sent g c =
     let stable = c.in-Ok.ensures.stable in
     on_ok_then _ _ c.send-in-Ok.ensures.whole
-    (waited_whole c.args.batch.now c.requires _ (c.split_at.ensures.front ∙ ap (take c.args.batch.now.free) c.deref.ensures.value) c.wait_stable.new.session.seen _ _ _ c.in_ok-send.ensures.whole
+    (waited_whole (g.P.Protocol.answers c.args.service.now.protocol.now) (g.met.P.Protocol.lawful c.args.service.now.protocol.now) c.args.batch.now c.requires _ (c.split_at.ensures.front ∙ ap (take c.args.batch.now.free) c.deref.ensures.value) c.wait_stable.new.session.seen _ _ _ c.in_ok-send.ensures.whole
     c.in-Some.receipt c.in-Some.is (omega (arith, stable.covers, stable.marked)) _ (c.split_at.ensures.back ∙ ap (drop c.args.batch.now.free) c.deref.ensures.value))
 
 pub returns-in-Ok-clause-in_part : goal.returns-in-Ok-clause-in_part
 returns-in-Ok-clause-in_part g c =
     let stable = c.in-Ok.ensures.stable in
     on_err_then _ _ c.send-in-Ok.ensures.failed
-    (waited_part c.args.batch.now c.requires _ (c.split_at.ensures.front ∙ ap (take c.args.batch.now.free) c.deref.ensures.value) c.wait_stable.new.session.seen _ _ _ c.in_ok-send.ensures.whole
+    (waited_part (g.P.Protocol.answers c.args.service.now.protocol.now) (g.met.P.Protocol.lawful c.args.service.now.protocol.now) c.args.batch.now c.requires _ (c.split_at.ensures.front ∙ ap (take c.args.batch.now.free) c.deref.ensures.value) c.wait_stable.new.session.seen _ _ _ c.in_ok-send.ensures.whole
     c.in-Some.receipt c.in-Some.is (omega (arith, stable.covers, stable.marked)) _ (c.split_at.ensures.back ∙ ap (drop c.args.batch.now.free) c.deref.ensures.value))
 
 pub returns-in-Err-clause-sent : goal.returns-in-Err-clause-sent
 returns-in-Err-clause-sent g c =
     on_ok_then _ _ c.send_refused.ensures.sent
-    (refused_whole c.args.batch.now c.requires _ (c.split_at.ensures.front ∙ ap (take c.args.batch.now.free) c.deref.ensures.value) _ _ _ _ c.in_ok-send.ensures.whole)
+    (refused_whole (g.P.Protocol.answers c.args.service.now.protocol.now) (g.met.P.Protocol.lawful c.args.service.now.protocol.now) c.args.batch.now c.requires _ (c.split_at.ensures.front ∙ ap (take c.args.batch.now.free) c.deref.ensures.value) _ _ _ _ c.in_ok-send.ensures.whole)
 
 pub returns-in-Err-clause-in_part : goal.returns-in-Err-clause-in_part
 returns-in-Err-clause-in_part g c =
     on_err_then _ _ c.send_refused.ensures.in_part
-    (refused_part c.args.batch.now c.requires _ (c.split_at.ensures.front ∙ ap (take c.args.batch.now.free) c.deref.ensures.value) _ _ _ _ c.in_ok-send.ensures.whole)
+    (refused_part (g.P.Protocol.answers c.args.service.now.protocol.now) (g.met.P.Protocol.lawful c.args.service.now.protocol.now) c.args.batch.now c.requires _ (c.split_at.ensures.front ∙ ap (take c.args.batch.now.free) c.deref.ensures.value) _ _ _ _ c.in_ok-send.ensures.whole)

@@ -3,9 +3,9 @@ use Rattle.journal_server.proofs.Sends.{free_fits, sends_none_behind}
 use Rattle.journal_server.proofs.reply_batch.send_refused.Goals as goal
 
 pub returns-in_default-clause-in_part : goal.returns-in_default-clause-in_part
-returns-in_default-clause-in_part g c = sends_none_behind _ c.args.batch.now _ c.requires
+returns-in_default-clause-in_part g c = sends_none_behind (g.P.Protocol.answers c.args.service.now.protocol.now) (g.met.P.Protocol.lawful c.args.service.now.protocol.now) _ c.args.batch.now _ c.requires
 
 pub split_at-requires : goal.split_at-requires
 split_at-requires g c =
-    let fits = free_fits _ c.args.batch.now c.requires c.in-Ok.told.items c.in-Ok.ensures.settles in
+    let fits = free_fits (g.P.Protocol.answers c.args.service.now.protocol.now) (g.met.P.Protocol.lawful c.args.service.now.protocol.now) _ c.args.batch.now c.requires c.in-Ok.told.items c.in-Ok.ensures.settles in
     omega (arith, fits, ap length c.deref.ensures.value)

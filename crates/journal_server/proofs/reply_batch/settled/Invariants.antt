@@ -8,7 +8,7 @@ abbrev pub invariant-loop-held : goal.invariant-loop-held
 invariant-loop-held g l =
     (total l.replies ≡ length l.bytes)
     × OnlyExtends l.fn.session l.session
-    × ToldSoFar l.fn.batch.replies.items l.fn.batch.bytes.items l.session l.replies l.bytes l.told.items
+    × ToldSoFar (g.P.Protocol.answers l.fn.service.protocol.now) l.fn.batch.replies.items l.fn.batch.bytes.items l.session l.replies l.bytes l.told.items
 
 abbrev pub decreases-loop-held : goal.decreases-loop-held
 decreases-loop-held g l = length l.replies

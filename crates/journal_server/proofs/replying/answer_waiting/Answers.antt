@@ -5,7 +5,7 @@ use Rattle.journal_rpc.specs.Calls.{message}
 use Rattle.journal_rpc.specs.CallViews.{message_of}
 use Rattle.journal_rpc.proofs.Streams.{on_err}
 use Rattle.journal_server.specs.declared.reply_batch.BatchEntry.{BatchEntry}
-use Rattle.journal_server.specs.Output.{IsReply}
+use Rattle.journal_server.specs.Output.{IsReplyBy}
 use Rattle.journal_server.specs.ReplyBatches.{IsHeld, doing, held_of}
 use Rattle.journal_server.specs.Sending.{Filled, Lost}
 use Rattle.journal_server.proofs.Answering.{one_more}
@@ -36,7 +36,7 @@ loop-record-preserved g c =
     let known = c.in_ok-add_reply.ensures.replies ∙ ap (λ (hs : List BatchEntry). hs ++ held_of call.xid soon ∷ []) c.make_room.ensures.replies in (
       i.0 ++ r ∷ [],
       i.1 ++ soon.reply.items,
-      holds_one _ _ _ i.0 c.args.session.now c.loop-record.session c.loop-record.batch.replies.items i.1 i.2 r call c.answer_no_wait.new.session soon _ is c.in_ok-soon.ensures.reply known,
+      holds_one _ _ (g.met.P.Protocol.lawful c.args.service.now.protocol.now) i.0 c.args.session.now c.loop-record.session c.loop-record.batch.replies.items i.1 i.2 r call c.answer_no_wait.new.session soon _ is c.in_ok-soon.ensures.reply known,
       c.in_ok-add_reply.ensures.bytes ∙ ap (λ (w : List ℕ). w ++ soon.reply.items) (c.make_room.ensures.bytes ∙ i.3),
       i.4 ∙ ap (λ (s : Stream). record s { records = i.0 ++ s.records }) next
           ∙ ap (λ (rs : List (List ℕ)). record c.next.new.self { records = rs }) (sym (append_assoc i.0 (r ∷ []) c.next.new.self.records)),
@@ -49,8 +49,8 @@ returns-in_err-make_room-clause-lost g c =
     let i = c.loop-record.invariant in
     let r = c.in-Some.record in
     let next : c.loop-record.records ≡ record c.next.new.self { records = r ∷ c.next.new.self.records } = c.in-Some.ensures in
-    let refused : (history : List Entry) → Lost (IsReply g.V.Version.VERSION (g.C.Clock.tells c.args.service.now.clock.now) c.args.service.now.verifier.0 history) c.args.records.now c.args.session.now c.loop-record.session = λ history.
-    let all = told_somehow _ _ _ i.0 c.args.session.now c.loop-record.session c.loop-record.batch.replies.items i.1 i.2 (i.6.fits ∙ ap length i.3) history in
+    let refused : (history : List Entry) → Lost (IsReplyBy (g.P.Protocol.answers c.args.service.now.protocol.now) (g.C.Clock.tells c.args.service.now.clock.now) history) c.args.records.now c.args.session.now c.loop-record.session = λ history.
+    let all = told_somehow _ _ (g.met.P.Protocol.lawful c.args.service.now.protocol.now) i.0 c.args.session.now c.loop-record.session c.loop-record.batch.replies.items i.1 i.2 (i.6.fits ∙ ap length i.3) history in
     record {
       text = all.0;
       answered = i.0;
@@ -67,8 +67,8 @@ returns-in_err-soon-clause-lost g c =
     let call = message_of c.in-Some-read_call.call in
     let is : message r ≡ Some call = ap message (sym c.as_bytes.ensures) ∙ c.in-Some-read_call.ensures.reading in
     let next : c.loop-record.records ≡ record c.next.new.self { records = r ∷ c.next.new.self.records } = c.in-Some.ensures in
-    let refused : (history : List Entry) → Lost (IsReply g.V.Version.VERSION (g.C.Clock.tells c.args.service.now.clock.now) c.args.service.now.verifier.0 history) c.args.records.now c.args.session.now c.answer_no_wait.new.session = λ history.
-    let all = told_somehow _ _ _ i.0 c.args.session.now c.loop-record.session c.loop-record.batch.replies.items i.1 i.2 (i.6.fits ∙ ap length i.3) history in
+    let refused : (history : List Entry) → Lost (IsReplyBy (g.P.Protocol.answers c.args.service.now.protocol.now) (g.C.Clock.tells c.args.service.now.clock.now) history) c.args.records.now c.args.session.now c.answer_no_wait.new.session = λ history.
+    let all = told_somehow _ _ (g.met.P.Protocol.lawful c.args.service.now.protocol.now) i.0 c.args.session.now c.loop-record.session c.loop-record.batch.replies.items i.1 i.2 (i.6.fits ∙ ap length i.3) history in
     let lost = c.in_err-soon.ensures.lost history in
     record {
       text = all.0 ++ lost.0;
@@ -87,9 +87,9 @@ returns-in_err-add_reply-clause-lost g c =
     let is : message r ≡ Some call = ap message (sym c.as_bytes.ensures) ∙ c.in-Some-read_call.ensures.reading in
     let next : c.loop-record.records ≡ record c.next.new.self { records = r ∷ c.next.new.self.records } = c.in-Some.ensures in
     let soon = c.in_ok-soon.soon in
-    let refused : (history : List Entry) → Lost (IsReply g.V.Version.VERSION (g.C.Clock.tells c.args.service.now.clock.now) c.args.service.now.verifier.0 history) c.args.records.now c.args.session.now c.answer_no_wait.new.session = λ history.
-    let held = holds_one _ _ _ i.0 c.args.session.now c.loop-record.session c.loop-record.batch.replies.items i.1 i.2 r call c.answer_no_wait.new.session soon _ is c.in_ok-soon.ensures.reply refl in
-    let all = told_somehow _ _ _ (i.0 ++ r ∷ []) c.args.session.now c.answer_no_wait.new.session _ (i.1 ++ soon.reply.items) held (fits_one c.loop-record.batch.replies.items _ i.1 call.xid soon (i.6.fits ∙ ap length i.3) refl) history in
+    let refused : (history : List Entry) → Lost (IsReplyBy (g.P.Protocol.answers c.args.service.now.protocol.now) (g.C.Clock.tells c.args.service.now.clock.now) history) c.args.records.now c.args.session.now c.answer_no_wait.new.session = λ history.
+    let held = holds_one _ _ (g.met.P.Protocol.lawful c.args.service.now.protocol.now) i.0 c.args.session.now c.loop-record.session c.loop-record.batch.replies.items i.1 i.2 r call c.answer_no_wait.new.session soon _ is c.in_ok-soon.ensures.reply refl in
+    let all = told_somehow _ _ (g.met.P.Protocol.lawful c.args.service.now.protocol.now) (i.0 ++ r ∷ []) c.args.session.now c.answer_no_wait.new.session _ (i.1 ++ soon.reply.items) held (fits_one c.loop-record.batch.replies.items _ i.1 call.xid soon (i.6.fits ∙ ap length i.3) refl) history in
     record {
       text = all.0;
       answered = i.0 ++ r ∷ [];
@@ -108,11 +108,11 @@ returns-then-is_full-clause-answered g c =
     let next : c.loop-record.records ≡ record c.next.new.self { records = r ∷ c.next.new.self.records } = c.in-Some.ensures in
     let soon = c.in_ok-soon.soon in
     let known = c.in_ok-add_reply.ensures.replies ∙ ap (λ (hs : List BatchEntry). hs ++ held_of call.xid soon ∷ []) c.make_room.ensures.replies in
-    let filled : Filled (IsHeld g.V.Version.VERSION (g.C.Clock.tells c.args.service.now.clock.now) c.args.service.now.verifier.0) c.args.records.now c.next.new.self
+    let filled : Filled (IsHeld (g.P.Protocol.answers c.args.service.now.protocol.now) (g.C.Clock.tells c.args.service.now.clock.now)) c.args.records.now c.next.new.self
     (doing c.args.session.now c.add_reply.new.self.replies.items) (doing c.answer_no_wait.new.session []) [] c.add_reply.new.self.bytes.items c.args.answered.now c.saturating_add.result = record {
       text = i.1 ++ soon.reply.items;
       answered = i.0 ++ r ∷ [];
-      replied = holds_one _ _ _ i.0 c.args.session.now c.loop-record.session c.loop-record.batch.replies.items i.1 i.2 r call c.answer_no_wait.new.session soon _ is c.in_ok-soon.ensures.reply known;
+      replied = holds_one _ _ (g.met.P.Protocol.lawful c.args.service.now.protocol.now) i.0 c.args.session.now c.loop-record.session c.loop-record.batch.replies.items i.1 i.2 r call c.answer_no_wait.new.session soon _ is c.in_ok-soon.ensures.reply known;
       is = c.in_ok-add_reply.ensures.bytes ∙ ap (λ (w : List ℕ). w ++ soon.reply.items) (c.make_room.ensures.bytes ∙ i.3);
       some = snoc_some i.0 r;
       rest = i.4 ∙ ap (λ (s : Stream). record s { records = i.0 ++ s.records }) next

@@ -7,7 +7,7 @@ use Rattle.journal_server.proofs.replying.answer_waiting.Given as goal
 abbrev pub invariant-loop-record : goal.invariant-loop-record
 invariant-loop-record g l =
     (answered : List (List ℕ)) × (text : List ℕ)
-    × AllReplies (IsHeld g.V.Version.VERSION (g.C.Clock.tells l.service.clock.now) l.service.verifier.0) answered (doing l.fn.session l.batch.replies.items) (doing l.session []) text
+    × AllReplies (IsHeld (g.P.Protocol.answers l.service.protocol.now) (g.C.Clock.tells l.service.clock.now)) answered (doing l.fn.session l.batch.replies.items) (doing l.session []) text
     × (l.batch.bytes.items ≡ text)
     × (l.fn.records ≡ record l.records { records = answered ++ l.records.records })
     × GrowsBy l.fn.answered (length answered) l.answered

@@ -10,7 +10,7 @@ use Rattle.journal_server.proofs.workers.join_workers.Given as goal
 abbrev pub invariant-loop-worker : goal.invariant-loop-worker
 invariant-loop-worker g l = record {
   seat : IsSeatAt (sends_on l.sender) l.pass;
-  parts : (view l.pass).parts + length (into_iter_items l.worker-iterator) ≡ 5;
+  parts : (view l.pass).parts + length (into_iter_items l.worker-iterator) ≡ 65;
   some : 0 < (view l.pass).parts;
   put : (view l.pass).put ≡ (view l.fn.pass).put;
   taken : (view l.pass).taken ≡ numbers_by g.N.Note.about l.notes.items;

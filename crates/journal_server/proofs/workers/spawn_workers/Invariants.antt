@@ -8,7 +8,7 @@ use Rattle.journal_server.proofs.workers.spawn_workers.Given as goal
 abbrev pub invariant-loop-begun : goal.invariant-loop-begun
 invariant-loop-begun g l = record {
   seat : IsSeatAt (sends_on l.sender) l.pass;
-  parts : (view l.pass).parts + l._begun ≡ 5;
+  parts : (view l.pass).parts + l._begun ≡ 65;
   put : (view l.pass).put ≡ [];
   taken : (view l.pass).taken ≡ [];
   number : length l.workers.items ≡ l._begun;

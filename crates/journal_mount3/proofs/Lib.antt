@@ -1,0 +1,14 @@
+pub mod Filling
+pub mod Before
+pub mod Alike
+pub mod Lengths
+pub mod RootTimes
+pub mod Answering
+pub mod Counting
+pub mod Short
+pub mod Spelling
+pub mod Finding
+pub mod Seeing
+pub mod Telling
+pub mod Deciding
+pub mod Written

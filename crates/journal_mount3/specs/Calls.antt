@@ -1,0 +1,71 @@
+-- What a call asks of the two programs, or why it is refused (RFC 5531, section 9; RFC 1813,
+-- section 3.3 and appendix I).
+use Rattle.std.specs.Prelude.{ℕ, ◌==◌, if◌then◌else◌, List, Option, Some, None, Result, Ok, Err}
+use Rattle.journal_rpc.specs.declared.replies.CallRefused.{CallRefused}
+use Rattle.journal_rpc.specs.declared.replies.CallRefused.TheVariants.{RpcMismatch, ProgramUnavailable, ProgramMismatch, ProcedureUnavailable, GarbageArguments}
+use Rattle.journal_rpc.specs.Calls.{Asked, OtherVersion, Procedure}
+use Rattle.journal_nfs3.specs.Arguments.{Operation, operation_of}
+use Rattle.journal_nfs3.specs.Calls.{called}
+use Rattle.journal_nfs3.specs.Procedures.{procedure_of}
+use Rattle.journal_nfs3.specs.Whole.{whole}
+use Rattle.journal_mount3.specs.declared.arguments.Query as code_query
+use Rattle.journal_mount3.specs.declared.arguments.MountCall as code_mount
+use Rattle.journal_mount3.specs.declared.arguments.Requested as code_requested
+use Rattle.journal_mount3.specs.declared.arguments.Requested.TheVariants as code_requests
+use Rattle.journal_mount3.specs.declared.procedure.QueryProcedure.{QueryProcedure}
+use Rattle.journal_mount3.specs.declared.procedure.MountProcedure.{MountProcedure}
+use Rattle.journal_mount3.specs.Procedures.{query_procedure_of, mount_procedure_of}
+use Rattle.journal_mount3.specs.Arguments.{Query, query_of, query_arguments, MountCall, mount_call_of, mount_arguments}
+
+-- What is asked: one of the nine procedures, or another of the programs'
+pub data Requested : Type 0 where
+  nine : Operation → Requested
+  query : Query → Requested
+  mount : MountCall → Requested
+
+abbrev pub refusable : {T : Type 0} → (T → Requested) → Option T → Result Requested CallRefused
+refusable as_request None = Err GarbageArguments
+refusable as_request (Some x) = Ok (as_request x)
+
+abbrev pub asks_nine : Result Operation CallRefused → Result Requested CallRefused
+asks_nine (Ok operation) = Ok (nine operation)
+asks_nine (Err why) = Err why
+
+-- NFS: a procedure that only tells of the files, or else what journal_nfs3 makes of the number
+abbrev pub asks_query : Option QueryProcedure → ℕ → List ℕ → Result Requested CallRefused
+asks_query (Some procedure) number arguments = refusable query (whole (query_arguments procedure) arguments)
+asks_query None number arguments = asks_nine (called (procedure_of number) arguments)
+
+abbrev pub asks_files : ℕ → List ℕ → Result Requested CallRefused
+asks_files number arguments = asks_query (query_procedure_of number) number arguments
+
+-- MOUNT
+abbrev pub asks_mount : Option MountProcedure → List ℕ → Result Requested CallRefused
+asks_mount None arguments = Err ProcedureUnavailable
+asks_mount (Some procedure) arguments = refusable mount (whole (mount_arguments procedure) arguments)
+
+-- The program is looked at first, and then its version, which is 3 of each
+abbrev pub asks : Asked → Result Requested CallRefused
+asks OtherVersion = Err RpcMismatch
+asks (Procedure program version procedure arguments) =
+    if program == 100005 then (if version == 3 then asks_mount (mount_procedure_of procedure) arguments else Err (ProgramMismatch 3))
+    else if program == 100003 then (if version == 3 then asks_files procedure arguments else Err (ProgramMismatch 3))
+    else Err ProgramUnavailable
+
+-- what the code's answers stand for
+abbrev pub request_of : code_requested.Requested → Requested
+request_of (code_requests.Nine operation) = nine (operation_of operation)
+request_of (code_requests.Query q) = query (query_of q)
+request_of (code_requests.Mount c) = mount (mount_call_of c)
+
+abbrev pub decided : Result code_requested.Requested CallRefused → Result Requested CallRefused
+decided (Ok requested) = Ok (request_of requested)
+decided (Err why) = Err why
+
+abbrev pub found_query : Option code_query.Query → Option Query
+found_query None = None
+found_query (Some q) = Some (query_of q)
+
+abbrev pub found_mount : Option code_mount.MountCall → Option MountCall
+found_mount None = None
+found_mount (Some c) = Some (mount_call_of c)

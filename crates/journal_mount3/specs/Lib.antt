@@ -1,0 +1,14 @@
+pub mod Procedures
+pub mod Arguments
+pub mod Calls
+pub mod Entries
+pub mod Roots
+pub mod Results
+pub mod Mounts
+pub mod Listings
+pub mod Served
+pub mod Answers
+pub mod CodeViews
+pub mod Routing
+pub mod Growing
+pub mod Lawful

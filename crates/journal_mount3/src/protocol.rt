@@ -1,0 +1,46 @@
+// NFS and MOUNT as a protocol of a server.
+use crate::replying::{Exported, answer_no_wait};
+use journal_disk::BlockDisk;
+use journal_filestore::FileStore;
+use journal_history::{Naming, Receipt, Session};
+use journal_inode::{SoundFiles, Version};
+use journal_nfs3::{PendingReply, Procedure};
+use journal_rpc::Call;
+use journal_server::Protocol;
+use journal_world::{Moment, Refusal};
+use std::alloc::{AllocError, Global};
+use std::sync::Wait;
+
+impl<V: Version> Protocol<V> for Exported {
+    ghost use Rattle.journal_mount3.specs.Answers.{both_programs};
+    ghost use Rattle.journal_mount3.specs.Lawful.{both_lawful};
+
+    ghost answers = { λ p. both_programs V.VERSION p.layout.blocks p.verifier.0 };
+
+    ghost lawful = { λ p. both_lawful V.VERSION p.layout.blocks p.verifier.0 };
+
+    fn answer_no_wait<'b, D: BlockDisk, J: Naming, W: Wait>(
+        &self,
+        rt: &W,
+        alloc: Global,
+        session: &mut Session<'b, J, SoundFiles<V>>,
+        call: &Call<'_>,
+        files: &FileStore<'b, D, J, V>,
+        moment: Moment,
+    ) -> Result<PendingReply<Receipt<'b, J, SoundFiles<V>>>, AllocError> {
+        answer_no_wait(rt, alloc, session, call, files, self, moment)
+    }
+
+    fn refused_reply<E>(
+        &self,
+        alloc: Global,
+        xid: u32,
+        procedure: Procedure,
+        why: &Refusal<E>,
+    ) -> Result<Vec<u8>, AllocError> {
+        match journal_nfs3::refused_reply::<E, ()>(alloc, xid, procedure, why) {
+            Ok(reply) => Ok(reply),
+            Err(_) => Err(AllocError),
+        }
+    }
+}

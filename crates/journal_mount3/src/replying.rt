@@ -1,0 +1,163 @@
+// The reply to a call of either program.
+ghost use Rattle.std.specs.Prelude.{◌≡◌, ◌<◌, ◌^◌, ℕ, List, length, Ok, IfOk, IfSome, OnErr};
+ghost use Rattle.std.specs.Result.{ForOk};
+ghost use Rattle.journal_world.specs.Histories.{Entry};
+ghost use Rattle.journal_rpc.specs.CallViews.{asked_of, message_of};
+ghost use Rattle.journal_filestore.specs.Handles.{time_of};
+ghost use Rattle.journal_nfs3.specs.Served.{marked, awaiting};
+ghost use Rattle.journal_nfs3.specs.Answers.{pending_wait_for};
+ghost use Rattle.journal_server.specs.Protocols.{IsAwaitedCall};
+ghost use Rattle.journal_nfs3.specs.Arguments.{operation_of};
+ghost use Rattle.journal_nfs3.specs.Calls.{asks as asks_nine};
+ghost use Rattle.journal_mount3.specs.Calls.{nine, asks};
+ghost use Rattle.journal_mount3.specs.Answers.{AnswersBoth, Comes};
+ghost use Rattle.journal_mount3.specs.CodeViews.{told_text, texts_of, reply_wait_of, IsWaitFor};
+
+use crate::arguments::Requested;
+use crate::decision::decide;
+use crate::results::Told;
+use crate::root::results_at;
+use crate::serving::{serve_mount, serve_query};
+use journal_disk::BlockDisk;
+use journal_filestore::{FileStore, PendingWait};
+use journal_history::{Naming, Receipt, Session};
+use journal_inode::{SoundFiles, Time, Version};
+use journal_nfs3::{
+    FormatResults, Operation, Pending, PendingReply, ReplyWait, Results, Verifier, serve_no_wait,
+};
+use journal_rpc::{Call, CallRefused, write_reply};
+use journal_world::{Layout, Moment};
+use std::alloc::{AllocError, Global};
+use std::sync::Wait;
+
+// Room for a reply, beside the bytes that are read and the entries that are listed.
+const REPLY_BYTES: usize = 256;
+
+/// Both programs: what is told with each WRITE and COMMIT, and the layout of the disk that the
+/// files are on.
+#[derive(Clone, Copy, Debug)]
+pub struct Exported {
+    /// The verifier.
+    pub verifier: Verifier,
+    /// The layout of the disk.
+    pub layout: Layout,
+}
+
+// The reply to a call up to its commit, and the wait before it may be sent.
+pub(crate) fn answer_no_wait<'b, D: BlockDisk, J: Naming, V: Version, W: Wait>(
+    rt: &W,
+    alloc: Global,
+    session: &mut Session<'b, J, SoundFiles<V>>,
+    call: &Call<'_>,
+    files: &FileStore<'b, D, J, V>,
+    exported: &Exported,
+    moment: Moment,
+) -> Result<PendingReply<Receipt<'b, J, SoundFiles<V>>>, AllocError>
+    ensures answered { IfOk result (λ soon. AnswersBoth V.VERSION exported.now.layout.blocks exported.now.verifier.0 (awaiting (pending_wait_for soon.wait))
+        (time_of moment) (message_of call.now) session.old session.new soon.reply.items) }
+    ensures awaited { IfOk result (λ soon. IfSome soon.wait (λ awaited. IsAwaitedCall awaited.procedure (message_of call.now))) }
+    ensures lost { OnErr result ((history : List Entry) → (reply : List ℕ) × AnswersBoth V.VERSION exported.now.layout.blocks exported.now.verifier.0
+        (marked history) (time_of moment) (message_of call.now) session.old session.new reply) }
+{
+    let Pending { value, wait } = run_no_wait(rt, alloc, session, call, files, exported, moment);
+    let reply = write_reply(alloc, call.xid, &value, room_for(&value))?;
+    let wait = awaited(&value, wait);
+    Ok(PendingReply { reply, wait })
+}
+
+// What a call comes to that is not waited for.
+fn run_no_wait<'b, D: BlockDisk, J: Naming, V: Version, W: Wait>(
+    rt: &W,
+    alloc: Global,
+    session: &mut Session<'b, J, SoundFiles<V>>,
+    call: &Call<'_>,
+    files: &FileStore<'b, D, J, V>,
+    exported: &Exported,
+    moment: Moment,
+) -> Pending<Result<Told, CallRefused>, Receipt<'b, J, SoundFiles<V>>>
+    ensures comes { Comes V.VERSION exported.now.layout.blocks (awaiting result.wait) exported.now.verifier.0 (time_of moment) (asks (asked_of call.now.asked))
+        session.old (texts_of result.value) session.new }
+    ensures short { ForOk result.value (λ r. length (told_text r) < 2 ^ 30) }
+    ensures wait { IsWaitFor result.value result.wait (asks_nine (asked_of call.now.asked)) }
+{
+    let layout = exported.layout;
+    match decide(call) {
+        Err(why) => return Pending::ready(Err(why)),
+        Ok(Requested::Mount(call)) => return Pending::ready(Ok(Told::Mount(serve_mount(&call)))),
+        Ok(Requested::Query(query)) => {
+            let now = Time::at(moment);
+            let results = serve_query(rt, alloc, session, files, layout, &query, now);
+            return Pending::ready(Ok(Told::Query(files.version(), results)));
+        }
+        Ok(Requested::Nine(operation)) => {
+            return serve_nine(rt, session, files, &operation, moment, exported.verifier);
+        }
+    }
+}
+
+// One of the nine procedures, with the moment as the root's times.
+fn serve_nine<'b, D: BlockDisk, J: Naming, V: Version, W: Wait>(
+    rt: &W,
+    session: &mut Session<'b, J, SoundFiles<V>>,
+    files: &FileStore<'b, D, J, V>,
+    operation: &Operation<'_>,
+    moment: Moment,
+    verifier: Verifier,
+) -> Pending<Result<Told, CallRefused>, Receipt<'b, J, SoundFiles<V>>>
+    ensures comes { (blocks : ℕ) → Comes V.VERSION blocks (awaiting result.wait) verifier.0 (time_of moment) (Ok (nine (operation_of operation.now)))
+        session.old (texts_of result.value) session.new }
+    ensures short { ForOk result.value (λ r. length (told_text r) < 2 ^ 30) }
+    ensures wait { IsWaitFor result.value result.wait (Ok (operation_of operation.now)) }
+{
+    let Pending {
+        value: results,
+        wait,
+    } = serve_no_wait(rt, session, files, operation, moment, verifier);
+    let plain = FormatResults {
+        version: files.version(),
+        results,
+    };
+    plain.prove_grammar();
+    let FormatResults { version, results } = plain;
+    let results = FormatResults {
+        version,
+        results: results_at(Time::at(moment), results),
+    };
+    results.prove_grammar();
+    Pending {
+        value: Ok(Told::Nine(results)),
+        wait,
+    }
+}
+
+// The wait, with the procedure of the results that wait.
+fn awaited<P: Drop>(
+    outcome: &Result<Told, CallRefused>,
+    wait: PendingWait<P>,
+) -> Option<ReplyWait<P>>
+    ensures { result ≡ reply_wait_of outcome.now wait }
+{
+    match (outcome, wait) {
+        (Ok(Told::Nine(results)), PendingWait::Wait(receipt)) => Some(ReplyWait {
+            procedure: results.procedure(),
+            receipt,
+        }),
+        _ => None,
+    }
+}
+
+// The room that is reserved for a reply.
+fn room_for(outcome: &Result<Told, CallRefused>) -> usize {
+    match outcome {
+        Ok(
+            Told::Nine(
+                FormatResults {
+                    results: Results::Read(Ok(portion)),
+                    ..
+                },
+            ),
+        ) => REPLY_BYTES + portion.bytes().len(),
+        Ok(Told::Query(_, results)) => REPLY_BYTES + results.room(),
+        _ => REPLY_BYTES,
+    }
+}

@@ -1,0 +1,41 @@
+-- What a protocol answers, whatever the protocol.
+use Rattle.std.specs.Prelude.{◌≡◌, ◌≤◌, ℕ, List}
+use mathlib.Core.List.{IsPrefix}
+use Rattle.journal_world.specs.Histories.{Entry, floor}
+use Rattle.journal_history.specs.Tokens.{SessionState, CommitPlace}
+use Rattle.journal_inode.specs.declared.node.Time.{Time}
+use Rattle.journal_rpc.specs.Calls.{Message}
+use Rattle.journal_filestore.specs.declared.pending_wait.PendingWait.{PendingWait}
+use Rattle.journal_filestore.specs.declared.pending_wait.PendingWait.TheVariants.{Wait}
+use Rattle.journal_filestore.specs.Done.{IsWaitOver}
+use Rattle.journal_nfs3.specs.declared.procedure.Procedure.{Procedure}
+use Rattle.journal_nfs3.specs.Calls.{asks}
+use Rattle.journal_nfs3.specs.Served.{Standing, marked, awaiting}
+use Rattle.journal_nfs3.specs.Answers.{IsCallOf}
+
+-- Which text is the reply to a call at a moment, from what the session had seen to what it has seen
+-- then, and how far the reply is
+abbrev pub Answering : Type 1
+Answering = Standing → Time → Message → SessionState → SessionState → List ℕ → Type 0
+
+-- the call is of this procedure of the nine
+abbrev pub IsAwaitedCall : Procedure → Message → Type 0
+IsAwaitedCall procedure call = IsCallOf procedure (asks call.asked)
+
+-- The text may stand in place of a reply to a call with this number and of this procedure that
+-- waits: it says that it is not known to be stable
+abbrev pub StandsInFor : Answering → ℕ → Procedure → List ℕ → Type 0
+StandsInFor answers xid procedure text =
+    (now : Time) (call : Message) (old new : SessionState) (receipt : CommitPlace) (soon : List ℕ) (history : List Entry)
+    → call.xid ≡ xid → IsAwaitedCall procedure call → answers (awaiting (Wait receipt)) now call old new soon → answers (marked history) now call old new text
+
+-- What holds of the replies of each protocol
+pub record IsLawful (answers : Answering) : Type 0 where
+  -- the session has seen all that it had seen
+  pub grows : (standing : Standing) (now : Time) (call : Message) (old new : SessionState) (text : List ℕ) → answers standing now call old new text → IsPrefix old.seen new.seen
+  -- a reply that waits is the call's reply once a mark covers its receipt
+  pub paid : (now : Time) (call : Message) (old new then : SessionState) (wait : PendingWait CommitPlace) (text : List ℕ) → answers (awaiting wait) now call old new text → IsWaitOver wait then → answers (marked then.seen) now call old new text
+  -- and stays so in each history that has greater marks
+  pub stays : (now : Time) (call : Message) (old new : SessionState) (history longer : List Entry) (text : List ℕ) → answers (marked history) now call old new text → floor history ≤ floor longer → answers (marked longer) now call old new text
+  -- of each call that waits some text says that it is not known to be stable
+  pub refusable : (xid : ℕ) (procedure : Procedure) → (text : List ℕ) × StandsInFor answers xid procedure text
