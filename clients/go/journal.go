@@ -33,9 +33,10 @@ const (
 
 // Address is an object: its block, and its first bit there.
 //
-// Block 514 has bits, at each bit below 32768, each a byte 0 or 1. Blocks 515 to 530 have objects
-// of 128 bytes, at multiples of 1024. Blocks 513, and 531 to the last, are objects of 4096 bytes,
-// at bit 0. Blocks 0 to 512 are the journal's own.
+// Blocks 0 to 512 are the journal's own. What the others have follows from the regions that the
+// service was given. Without them block 514 has bits, at each bit below 32768, each a byte 0 or 1.
+// Blocks 515 to 530 have objects of 128 bytes, at multiples of 1024. Blocks 513, and 531 to the
+// last, are objects of 4096 bytes, at bit 0.
 type Address struct {
 	Block uint64
 	Bit   uint32

@@ -1,8 +1,8 @@
-"""A port over a map in memory, for the tests of the clients: port_in_memory.py SOCKET.
+"""A port over a map in memory, for the tests of the clients: port_in_memory.py SOCKET [BLOCKS REGION..].
 
 It is written from docs/PROTOCOL.md alone, and knows nothing of the journal. It answers as the page
 says, keeps nothing, and refuses to stop. Its first line of output is the TCP port of this machine
-at which it listens too.
+at which it listens too. BLOCKS and the regions are as of `jnl serve`, 513:block and so on.
 """
 
 import socket
@@ -10,11 +10,11 @@ import struct
 import sys
 import threading
 
-BLOCKS = 700
 VERSION = 1
 MAX_RECORD, MAX_PARTS, MAX_ADDRESSES, MAX_VALUE, MAX_BLOCKS_WRITTEN = 2097152, 4096, 256, 4096, 128
 HELLO, COMMIT, READ, FLUSH, STAT, STOP = range(6)
 COMPARE, WRITE = range(2)
+SIZES = {"bit": 1, "block": 4096, **{f"record{8 << i}": 8 << i for i in range(9)}}
 
 
 class Malformed(Exception):
@@ -25,19 +25,26 @@ class Refused(Exception):
     """Nothing was done, for a reason that has this status."""
 
 
-def size_of(block: int) -> int:
-    """How many bytes the objects of a block have, or 0 where it has none."""
-    if block == 514:
-        return 1
-    if 515 <= block < 531:
-        return 128
-    return 4096 if block == 513 or 531 <= block < BLOCKS else 0
+class Layout:
+    """How many blocks there are, and what the objects of each have."""
+
+    def __init__(self, blocks: int, *regions: str):
+        self.blocks = blocks
+        self.regions = [(int(first), SIZES[kind]) for first, kind in (r.split(":") for r in regions)]
+
+    def size_of(self, block: int) -> int:
+        """How many bytes the objects of a block have, or 0 where it has none."""
+        if block >= self.blocks:
+            return 0
+        return ([0] + [size for first, size in self.regions if first <= block])[-1]
+
+    def check_address(self, block: int, bit: int) -> None:
+        size = self.size_of(block)
+        if size == 0 or bit >= 32768 or bit % (1 if size == 1 else 8 * size):
+            raise Refused(2)
 
 
-def check_address(block: int, bit: int) -> None:
-    size = size_of(block)
-    if size == 0 or bit >= 32768 or bit % {1: 1, 128: 1024, 4096: 32768}[size]:
-        raise Refused(2)
+OF_FILES = Layout(700, "513:block", "514:bit", "515:record128", "531:block")
 
 
 def word(n: int) -> bytes:
@@ -82,18 +89,19 @@ class Reader:
 
 
 class Port:
-    def __init__(self) -> None:
+    def __init__(self, layout: Layout = OF_FILES) -> None:
+        self.layout = layout
         self.lock = threading.Lock()
         self.objects: dict = {}
         self.commits = 0
 
     def get(self, address: tuple) -> bytes:
-        return self.objects.get(address, bytes(size_of(address[0])))
+        return self.objects.get(address, bytes(self.layout.size_of(address[0])))
 
     def commit(self, parts: list) -> bytes:
         for action, address, value in parts:
-            check_address(*address)
-            size = size_of(address[0])
+            self.layout.check_address(*address)
+            size = self.layout.size_of(address[0])
             if action == WRITE and (len(value) != size or size == 1 and value[0] > 1):
                 raise Refused(3)
         if any(self.get(a) != value for action, a, value in parts if action == COMPARE):
@@ -107,7 +115,7 @@ class Port:
 
     def values(self, addresses: list) -> bytes:
         for address in addresses:
-            check_address(*address)
+            self.layout.check_address(*address)
         found = [self.get(address) for address in addresses]
         return word(len(found)) + b"".join(word(len(v)) + v + bytes(-len(v) % 4) for v in found)
 
@@ -118,7 +126,7 @@ class Port:
             reader.end()
             if version != VERSION:
                 raise Refused(69)
-            return word(VERSION) + hyper(BLOCKS)
+            return word(VERSION) + hyper(self.layout.blocks)
         if operation == COMMIT:
             reader.word(1)
             parts = [reader.part() for _ in range(reader.word(MAX_PARTS))]
@@ -187,4 +195,5 @@ def listen(port: Port, path: str) -> None:
 
 
 if __name__ == "__main__":
-    listen(Port(), sys.argv[1])
+    path, *words = sys.argv[1:]
+    listen(Port(Layout(int(words[0]), *words[1:])) if words else Port(), path)

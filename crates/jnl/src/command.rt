@@ -1,10 +1,14 @@
 // The command line.
 
 use crate::fault::Fault;
+use crate::regions::AskedLayout;
 use crate::serving::Service;
 use clap::{Arg, ArgAction, ArgMatches, Command, value_parser};
 use journal_form::LogForm;
+use journal_service::Endpoint;
+use journal_world::SLOTS;
 use std::alloc::{AllocError, Global};
+use std::net::Ipv4Addr;
 
 const ABOUT: &str = "A transactional block journal on a disk in a file";
 
@@ -12,7 +16,10 @@ const STATUSES: &str =
     "Exit status:\n  0  it was done\n  1  it was not done, or not to its end; standard error has the reason\n  2  the words are no command";
 
 const SERVE_NOTES: &str =
-    "Only the owner of the socket can open it. A socket whose program is gone is replaced, and anything else at PATH is refused. The port of --tcp has no access check: each program on this machine can read and write the disk there, but not end the service.\n\nThe first lines of the output say where it listens. jnl stop ends it once all commits are stable. A signal ends it as a crash does: each commit that was answered as stable stands.\n\nA disk of the file service is refused.";
+    "Only the owner of the socket can open it. A socket whose program is gone is replaced, and anything else at PATH is refused. The port of --tcp has no access check: each program on this machine can read and write the disk there, but not end the service.\n\nThe first lines of the output say where it listens. jnl stop ends it once all commits are stable. A signal ends it as a crash does: each commit that was answered as stable stands.\n\nA disk of the file service is refused.\n\nKIND is bit, block, or a record of so many bytes: record8, record16, record32, record64, record128, record256, record512, record1024, record2048. A region goes to the block before the next one, and the last to the end of the disk. FIRST rises from one region to the next. Without --region the disk has 532 to 33299 blocks, and the regions 513:block 514:bit 515:record128 531:block. The disk does not tell its regions: name the same each time. Another number of slots may be named each time.";
+
+const NFS_NOTES: &str =
+    "A client mounts /files, or /, by version 3 of NFS and of MOUNT, which are both on this port:\n  mount -t nfs -o vers=3,nolock,proto=tcp,port=P,mountproto=tcp,mountport=P HOST:/files DIRECTORY\n\nThe service looks at no credential. Whoever reaches the address reads and writes all files: each program on this machine, and with another address than 127.0.0.1 each machine of the network too.\n\nThe first line of the output says at which port it listens. It serves until it is ended. A signal ends it as a crash does: all that was answered as stable stands, and a client sends its other writes again once the disk is served anew.\n\njtool format makes a disk of the file service. Any other is refused.";
 
 // The names of the arguments.
 const FILE: &str = "FILE";
@@ -26,6 +33,14 @@ const SOCKET: &str = "socket";
 const TCP: &str = "tcp";
 
 const CONNECTIONS: &str = "connections";
+
+const REGION: &str = "region";
+
+const SLOTS_WORD: &str = "slots";
+
+const PORT: &str = "port";
+
+const ADDRESS: &str = "address";
 
 // How many connections are served at once where no number is given.
 const DEFAULT_CONNECTIONS: u64 = 64;
@@ -45,6 +60,8 @@ pub enum Subcommand<'w> {
     Serve(Service<'w>),
     /// End the service at a socket.
     Stop { socket: &'w str },
+    /// Serve the files of the disk in a file so that clients mount them.
+    Nfs { path: &'w str, endpoint: Endpoint },
 }
 
 impl<'w> Subcommand<'w> {
@@ -70,6 +87,7 @@ impl<'w> Subcommand<'w> {
             "stop" => Ok(Subcommand::Stop {
                 socket: word(given, SOCKET)?,
             }),
+            "nfs" => parse_nfs(given),
             _ => Err(Fault::NoCommand),
         }
     }
@@ -106,6 +124,7 @@ fn parse_seal<'w>(given: &ArgMatches<'w>) -> Result<Subcommand<'w>, Fault<'w>> {
 }
 
 fn parse_serve<'w>(given: &ArgMatches<'w>) -> Result<Subcommand<'w>, Fault<'w>> {
+    let slots = given.get_one::<u16>(SLOTS_WORD).unwrap_or(SLOTS);
     Ok(Subcommand::Serve(Service {
         path: word(given, FILE)?,
         socket: word(given, SOCKET)?,
@@ -113,7 +132,22 @@ fn parse_serve<'w>(given: &ArgMatches<'w>) -> Result<Subcommand<'w>, Fault<'w>> 
         connections: given
             .get_one::<u64>(CONNECTIONS)
             .unwrap_or(DEFAULT_CONNECTIONS),
+        layout: AskedLayout::parse(given.get_strs(REGION), slots)?,
     }))
+}
+
+fn parse_nfs<'w>(given: &ArgMatches<'w>) -> Result<Subcommand<'w>, Fault<'w>> {
+    let text = word(given, ADDRESS)?;
+    let Ok(address) = text.parse::<Ipv4Addr>() else {
+        return Err(Fault::NoAddress { text });
+    };
+    let Some(port) = given.get_one::<u16>(PORT) else {
+        return Err(Fault::NoCommand);
+    };
+    Ok(Subcommand::Nfs {
+        path: word(given, FILE)?,
+        endpoint: Endpoint { address, port },
+    })
 }
 
 // The grammar of the command line, from which its help is printed.
@@ -131,7 +165,8 @@ fn command<'w>(alloc: Global) -> Result<Command<'w>, AllocError> {
         .subcommand(check_command(alloc)?)?
         .subcommand(seal_command(alloc)?)?
         .subcommand(serve_command(alloc)?)?
-        .subcommand(stop_command(alloc)?)
+        .subcommand(stop_command(alloc)?)?
+        .subcommand(nfs_command(alloc)?)
 }
 
 fn create_command<'w>(alloc: Global) -> Result<Command<'w>, AllocError> {
@@ -139,12 +174,12 @@ fn create_command<'w>(alloc: Global) -> Result<Command<'w>, AllocError> {
         .long(BLOCKS)
         .value_name("N")
         .required(true)
-        .value_parser(value_parser!(u64).range(532..=33299))
-        .help("How many blocks of 4096 bytes the disk has, 532 to 33299");
+        .value_parser(value_parser!(u64).range(532..=1099511627776))
+        .help("How many blocks of 4096 bytes the disk has, 532 to 1099511627776");
     Command::new(alloc, "create")
         .about("Makes an empty disk with a sealed log in a new file")
         .after_help(
-            "Refused where FILE is there. When it is done, FILE's name and the room of the log are stable.",
+            "Refused where FILE is there. When it is done, FILE's name and the room of the log are stable. The other blocks take room once they are written. A disk of more than 33299 blocks is served with --region alone.",
         )
         .arg(file_arg(alloc, "The file to make"))?
         .arg(blocks)
@@ -196,19 +231,54 @@ fn serve_command<'w>(alloc: Global) -> Result<Command<'w>, AllocError> {
         .value_parser(value_parser!(u64).range(1..=64))
         .default_value("64")
         .help("How many connections are served at once, 1 to 64; further ones wait");
+    let region = Arg::new(alloc, REGION)
+        .long(REGION)
+        .value_name("FIRST:KIND")
+        .action(ArgAction::Append)
+        .help("The kind of the objects from block FIRST on; up to eight times, the first from 513");
+    let slots = Arg::new(alloc, SLOTS_WORD)
+        .long(SLOTS_WORD)
+        .value_name("S")
+        .value_parser(value_parser!(u16).range(1..=65521))
+        .default_value("257")
+        .help("How many locks the objects share, an odd number up to 65521");
     Command::new(alloc, "serve")
         .about("Serves a disk to programs in any language, by the protocol of docs/PROTOCOL.md")
         .after_help(SERVE_NOTES)
         .arg(file_arg(alloc, "The file of the disk"))?
         .arg(socket_arg(alloc, "The socket to make"))?
         .arg(port)?
-        .arg(connections)
+        .arg(connections)?
+        .arg(region)?
+        .arg(slots)
 }
 
 fn stop_command<'w>(alloc: Global) -> Result<Command<'w>, AllocError> {
     Command::new(alloc, "stop")
         .about("Ends the service at a socket, once all its commits are stable")
         .arg(socket_arg(alloc, "The socket of the service"))
+}
+
+fn nfs_command<'w>(alloc: Global) -> Result<Command<'w>, AllocError> {
+    let port = Arg::new(alloc, PORT)
+        .long(PORT)
+        .value_name("P")
+        .required(true)
+        .value_parser(value_parser!(u16))
+        .help("The port to listen on, or 0 for one that is free");
+    let address = Arg::new(alloc, ADDRESS)
+        .long(ADDRESS)
+        .value_name("A")
+        .default_value("127.0.0.1")
+        .help(
+            "The address of this machine to listen on; whoever reaches it reads and writes all files",
+        );
+    Command::new(alloc, "nfs")
+        .about("Serves the files of a disk so that a Linux machine mounts them")
+        .after_help(NFS_NOTES)
+        .arg(file_arg(alloc, "The file of the disk"))?
+        .arg(port)?
+        .arg(address)
 }
 
 // The socket that a subcommand is for.

@@ -1,4 +1,6 @@
 // What the subcommands do with disks in files.
+ghost use Rattle.std.specs.Prelude.{◌≤◌, ◌↔◌, IsTrue, IfOk};
+ghost use Rattle.journal_world.specs.declared.layout.TheConstants.{MIN_BLOCKS, MAX_BLOCKS, MAX_LAYOUT_BLOCKS};
 
 use crate::checking::sound_version;
 use crate::fault::Fault;
@@ -6,13 +8,14 @@ use journal_disk::{BlockDisk, FileDisk};
 use journal_form::{Inspected, LogForm, change_form, inspect};
 use journal_inode::FormatVersion;
 use journal_program::{create_new_disk, open_settled, open_to_check};
-use journal_world::{Layout, Refused};
+use journal_world::{MAX_BLOCKS, MAX_LAYOUT_BLOCKS, MIN_BLOCKS, Refused};
 use std::alloc::Global;
 use std::fs;
 use std::fs::{File, Files};
 use std::io::Write;
 
-/// Makes an empty disk of this number of blocks in a new file at the path. Its log is sealed.
+/// Makes an empty disk of this number of blocks, 532 to 2^40, in a new file at the path. Its log is
+/// sealed.
 ///
 /// Refused where anything is at the path, which stays as it is. Where it is refused later, the new
 /// file is removed.
@@ -22,7 +25,7 @@ pub fn create<'w, R: Files<File = File>>(
     path: &'w str,
     blocks: u64,
 ) -> Result<(), Fault<'w>> {
-    if Layout::new(blocks).is_none() {
+    if !is_disk_size(blocks) {
         return Err(Fault::NoDisk { path, blocks });
     }
     let disk = match create_new_disk(rt, path, blocks) {
@@ -105,18 +108,24 @@ pub fn open<'w, R: Files<File = File>>(rt: &R, path: &'w str) -> Result<FileDisk
     }
 }
 
-/// Reads what the disk that was opened from the path is. Nothing is written to it.
+/// Reads what the disk that was opened from the path is. Nothing is written to it. One of more than
+/// 33299 blocks has no files, whatever its blocks have.
 pub fn inspect_disk<'w>(
     alloc: Global,
     path: &'w str,
     disk: FileDisk,
-) -> Result<Inspected<FileDisk>, Fault<'w>> {
+) -> Result<Inspected<FileDisk>, Fault<'w>>
+    ensures { IfOk result (λ told. IsTrue told.has_files → told.disk.size ≤ MAX_BLOCKS) }
+{
     let blocks = disk.size();
-    if Layout::new(blocks).is_none() {
+    if !is_disk_size(blocks) {
         return Err(Fault::NoDisk { path, blocks });
     }
     match inspect(alloc, disk) {
-        Ok(inspected) => Ok(inspected),
+        Ok(told) => {
+            let has_files = told.has_files && told.disk.size() <= MAX_BLOCKS;
+            Ok(Inspected { has_files, ..told })
+        }
         Err(Refused { refusal, .. }) => Err(Fault::Refused { path, why: refusal }),
     }
 }
@@ -144,6 +153,13 @@ fn inspect_file<'w, R: Files<File = File>, E: Write>(
     inspect_disk(alloc, path, opened.disk.disk())
 }
 
+// Whether a disk of some layout has so many blocks.
+fn is_disk_size(blocks: u64) -> bool
+    ensures { IsTrue result ↔ ((MIN_BLOCKS ≤ blocks) × (blocks ≤ MAX_LAYOUT_BLOCKS)) }
+{
+    (MIN_BLOCKS..=MAX_LAYOUT_BLOCKS).contains(&blocks)
+}
+
 // Gives the log of the disk this form, and answers the form that it had.
 fn give_form<'w>(
     alloc: Global,
@@ -152,7 +168,7 @@ fn give_form<'w>(
     form: LogForm,
 ) -> Result<LogForm, Fault<'w>> {
     let blocks = disk.size();
-    if Layout::new(blocks).is_none() {
+    if !is_disk_size(blocks) {
         return Err(Fault::NoDisk { path, blocks });
     }
     match change_form(alloc, disk, form) {

@@ -2,7 +2,10 @@
 ghost use Rattle.std.specs.Prelude.{◌≤◌};
 
 use journal_records::Refused as Answered;
-use journal_world::{MAX_BLOCKS, MIN_BLOCKS, Refusal};
+use journal_service::ServiceFault;
+use journal_world::{
+    MAX_BLOCKS, MAX_LAYOUT_BLOCKS, MAX_SLOTS, MIN_BLOCKS, REGIONS, Refusal, SUPERBLOCK,
+};
 use std::alloc::AllocError;
 use std::io;
 use std::io::{ErrorKind, Write};
@@ -14,14 +17,28 @@ pub enum Fault<'w> {
     Words(clap::Error),
     /// The words are no command.
     NoCommand,
+    /// This text is no address of version 4 of IP.
+    NoAddress { text: &'w str },
+    /// This text is no region.
+    NoRegion { text: &'w str },
+    /// There are more regions than a layout has.
+    TooManyRegions,
+    /// The regions do not begin at block 513, or do not rise.
+    BadRegions,
+    /// This number of slots is even, or too large.
+    BadSlots { slots: u16 },
     /// The file at the path cannot be used, for the system's reason.
     File { path: &'w str, why: io::Error },
     /// The file at the path has this number of blocks, which no disk has.
     NoDisk { path: &'w str, blocks: u64 },
+    /// The disk in the file at the path has more blocks than one with the layout of files.
+    NeedsRegions { path: &'w str, blocks: u64 },
     /// The disk in the file at the path was refused.
     Refused { path: &'w str, why: Refusal<()> },
     /// The disk in the file at the path is one of the file service.
     HasFiles { path: &'w str },
+    /// The disk in the file at the path is none of the file service.
+    HasNoFiles { path: &'w str },
     /// The port cannot be had, or the system refuses connections.
     CannotListen,
     /// The service at the socket gave no answer, or one that is none to what it was asked.
@@ -40,6 +57,19 @@ impl<'w> Fault<'w> {
         Fault::Refused {
             path,
             why: why.with_cause(()),
+        }
+    }
+
+    /// The disk in the file at the path was not served to the end.
+    pub fn unserved(path: &'w str, why: ServiceFault) -> Fault<'w> {
+        match why {
+            ServiceFault::BadFile => Fault::File {
+                path,
+                why: io::Error::from(ErrorKind::Other),
+            },
+            ServiceFault::CannotListen => Fault::CannotListen,
+            ServiceFault::Refused(why) => Fault::Refused { path, why },
+            ServiceFault::CannotWrite => Fault::CannotWrite,
         }
     }
 
@@ -66,11 +96,19 @@ impl<'w> Fault<'w> {
         // Where even this cannot be printed, the status is all that is left to say.
         let _ = self.print(faults);
         match self {
-            Fault::Words(_) | Fault::NoCommand => 2,
+            Fault::Words(_)
+            | Fault::NoCommand
+            | Fault::NoAddress { .. }
+            | Fault::NoRegion { .. }
+            | Fault::TooManyRegions
+            | Fault::BadRegions
+            | Fault::BadSlots { .. } => 2,
             Fault::File { .. }
             | Fault::NoDisk { .. }
+            | Fault::NeedsRegions { .. }
             | Fault::Refused { .. }
             | Fault::HasFiles { .. }
+            | Fault::HasNoFiles { .. }
             | Fault::CannotListen
             | Fault::NoAnswer { .. }
             | Fault::NotStopped { .. }
@@ -86,13 +124,35 @@ impl<'w> Fault<'w> {
                 faults,
                 "jnl: this is no command; jnl --help prints all of them"
             ),
+            Fault::NoAddress { text } => {
+                writeln!(faults, "jnl: {text} is no address like 127.0.0.1")
+            }
+            Fault::NoRegion { text } => writeln!(
+                faults,
+                "jnl: {text} is no region like 513:block, 514:bit or 515:record64"
+            ),
+            Fault::TooManyRegions => {
+                writeln!(faults, "jnl: a layout has at most {REGIONS} regions")
+            }
+            Fault::BadRegions => writeln!(
+                faults,
+                "jnl: the first region begins at block {SUPERBLOCK}, and each other one above the one before it"
+            ),
+            Fault::BadSlots { slots } => writeln!(
+                faults,
+                "jnl: the number of slots is odd and at most {MAX_SLOTS}, and not {slots}"
+            ),
             Fault::File { path, why } if why.kind() == ErrorKind::WouldBlock => {
                 writeln!(faults, "jnl: {path} is used by another program")
             }
             Fault::File { path, why } => writeln!(faults, "jnl: cannot use {path}: {why}"),
             Fault::NoDisk { path, blocks } => writeln!(
                 faults,
-                "jnl: {path} has {blocks} blocks, and a disk has {MIN_BLOCKS} to {MAX_BLOCKS}"
+                "jnl: {path} has {blocks} blocks, and a disk has {MIN_BLOCKS} to {MAX_LAYOUT_BLOCKS}"
+            ),
+            Fault::NeedsRegions { path, blocks } => writeln!(
+                faults,
+                "jnl: {path} has {blocks} blocks, and more than {MAX_BLOCKS} are served by --region alone"
             ),
             Fault::Refused { path, why } => {
                 writeln!(faults, "jnl: {path} is refused: {}", why.name())
@@ -100,6 +160,10 @@ impl<'w> Fault<'w> {
             Fault::HasFiles { path } => writeln!(
                 faults,
                 "jnl: {path} is a disk of the file service, whose files would not stay sound"
+            ),
+            Fault::HasNoFiles { path } => writeln!(
+                faults,
+                "jnl: {path} is no disk of the file service, which jtool format makes"
             ),
             Fault::CannotListen => writeln!(faults, "jnl: cannot listen"),
             Fault::NoAnswer { socket } => {

@@ -1,7 +1,8 @@
 //! The journal at the command line. `jnl create` makes an empty disk in a file, `jnl info` prints
 //! what a disk is, `jnl check` whether it is sound, and `jnl seal` gives its log the form with one
 //! barrier a group, or the plain form again. `jnl serve` serves a disk to programs in any language,
-//! and `jnl stop` ends such a service. `jnl --help` is the manual.
+//! and `jnl stop` ends such a service. `jnl nfs` serves the files of a disk of the file service so
+//! that a Linux machine mounts them. `jnl --help` is the manual.
 #![tactic(auto)]
 
 ghost use Rattle.std.specs.Prelude.{◌≤◌};
@@ -9,10 +10,12 @@ ghost use Rattle.std.specs.Prelude.{◌≤◌};
 mod checking;
 mod command;
 mod disks;
+mod exporting;
 mod fault;
 mod listener;
 mod peer;
 mod queue;
+mod regions;
 mod serving;
 mod socket;
 mod stopping;
@@ -80,6 +83,9 @@ fn obey<
         Subcommand::Seal { path, form } => disks::seal(rt, alloc, path, form, output),
         Subcommand::Serve(service) => serving::serve(rt, alloc, service, output),
         Subcommand::Stop { socket } => stopping::stop(rt, alloc, socket),
+        Subcommand::Nfs { path, endpoint } => {
+            exporting::export(rt, alloc, path, endpoint, output, faults)
+        }
     }
 }
 

@@ -1,10 +1,12 @@
 // A disk is served to programs in any language.
-ghost use Rattle.std.specs.Prelude.{◌≡◌};
-ghost use Rattle.journal_world.specs.Files.{files};
+ghost use Rattle.std.specs.Prelude.{◌≡◌, IfOk};
+ghost use Rattle.journal_world.specs.Files.{shape};
+ghost use Rattle.jnl.specs.Layouts.{asked_shape};
 
 use crate::disks::{inspect_disk, open, print_line};
 use crate::fault::Fault;
 use crate::listener::Listener;
+use crate::regions::AskedLayout;
 use crate::socket;
 use crate::working::{FileJournal, Listeners, OpenDisk, Workers, WorkersFault};
 use journal_disk::{BlockDisk, FileDisk};
@@ -12,7 +14,7 @@ use journal_history::{Book, Naming};
 use journal_lockmap::SlotCell;
 use journal_program::Daemon;
 use journal_twophase::{Journal, MAX_CACHED_BLOCKS};
-use journal_world::{AnyMap, Refused};
+use journal_world::{AnyMap, Layout, Refused};
 use std::alloc::Global;
 use std::fs::{File, Files};
 use std::io::Write;
@@ -34,6 +36,15 @@ pub struct Service<'w> {
     pub port: Option<u16>,
     /// How many connections are served at once.
     pub connections: u64,
+    /// The layout of the disk, whatever number of blocks it has.
+    pub layout: AskedLayout,
+}
+
+// A disk, and the layout by which it is opened.
+#[derive(Drop)]
+struct LaidOut {
+    layout: Layout,
+    disk: FileDisk,
 }
 
 /// Serves the disk in the file until a client ends the service. Prints where it listens before the
@@ -41,7 +52,8 @@ pub struct Service<'w> {
 /// is gone.
 ///
 /// Refused where another program uses the disk, where the disk is one of the file service, whose
-/// files would not stay sound, and as the opening of the journal is. Nothing listens then.
+/// files would not stay sound, where the layout is not one of so many blocks, and as the opening of
+/// the journal is. Nothing listens then.
 pub fn serve<
     'w,
     R: Files<File = File>
@@ -57,11 +69,28 @@ pub fn serve<
     if inspected.has_files {
         return Err(Fault::HasFiles { path: service.path });
     }
+    let disk = lay_out(inspected.disk, service)?;
     let listeners = open_listeners(rt, alloc, service, output)?;
-    let served = serve_disk(rt, alloc, inspected.disk, service, &listeners, output);
+    let served = serve_disk(rt, alloc, disk, service, &listeners, output);
     socket::remove(rt, service.socket);
     served?;
     print_line(output, "stopped", "")
+}
+
+// The disk with the layout that is asked for. One that is a disk has too many blocks where it is
+// refused.
+fn lay_out<'w>(disk: FileDisk, service: Service<'w>) -> Result<LaidOut, Fault<'w>>
+    ensures { IfOk result (λ laid. shape laid.layout
+        ≡ asked_shape service.entry.layout.regions service.entry.layout.slots disk.size) }
+{
+    let blocks = disk.size();
+    match service.layout.layout(blocks) {
+        Some(layout) => Ok(LaidOut { layout, disk }),
+        None => Err(Fault::NeedsRegions {
+            path: service.path,
+            blocks,
+        }),
+    }
 }
 
 // Opens the port, where one is asked for, and the socket.
@@ -109,7 +138,7 @@ fn open_port<'w, R: Net<Listener = TcpListener, Stream = TcpStream>, O: Write>(
 fn serve_disk<'w, R: Clock + Threads + Wait + Sync, O: Write>(
     rt: &R,
     alloc: Global,
-    disk: FileDisk,
+    disk: LaidOut,
     service: Service<'w>,
     listeners: &Listeners,
     output: &mut O,
@@ -129,17 +158,17 @@ fn serve_book<'w, J: Naming + Send + Sync, R: Clock + Threads + Wait + Sync, O: 
     alloc: Global,
     book: &Book<AnyMap>,
     cell: SlotCell,
-    disk: FileDisk,
+    disk: LaidOut,
     service: Service<'w>,
     listeners: &Listeners,
     output: &mut O,
 ) -> Result<(), Fault<'w>>
     requires book { book.now ≡ J.book }
     requires cell { cell ≡ J.cell }
-    requires layout { J.layout ≡ files disk.size }
+    requires layout { shape disk.layout ≡ J.layout }
 {
-    let blocks = disk.size();
-    let opened = Journal::open_with_cache(alloc, book, cell, disk, &AnyMap, MAX_CACHED_BLOCKS);
+    let LaidOut { layout, disk } = disk;
+    let opened = Journal::open_layout(alloc, book, cell, layout, disk, &AnyMap, MAX_CACHED_BLOCKS);
     let journal: FileJournal<J> = match opened {
         Ok(journal) => journal,
         Err(Refused { refusal, .. }) => return Err(Fault::refused(service.path, refusal)),
@@ -147,7 +176,7 @@ fn serve_book<'w, J: Naming + Send + Sync, R: Clock + Threads + Wait + Sync, O: 
     let open = OpenDisk {
         alloc,
         journal: &journal,
-        blocks,
+        blocks: layout.blocks,
     };
     let served = serve_beside_daemon(rt, &open, service, listeners, output);
     drop(open);

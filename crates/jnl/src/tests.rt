@@ -1,4 +1,5 @@
 // The program from end to end, with files in the folder for temporary files.
+mod asked;
 mod service;
 
 use crate::run;
@@ -18,6 +19,9 @@ use std::test::Fail;
 use std::thread::Threads;
 use std::time::Clock;
 use std::{env, fs, io};
+
+// An address that no machine has.
+const ELSEWHERE: &str = "203.0.113.1";
 
 // What stands for the file's path among words.
 const FILE: &str = "FILE";
@@ -163,8 +167,41 @@ fn a_disk_is_created_inspected_and_sealed(rt: HostRuntime) -> Result<(), Fail> {
             (&["info", FILE], "blocks 600\nlog plain\nfiles no\n", 0),
             (&["seal", FILE], "sealed\n", 0),
             (&["check", FILE], "sound\n", 0),
+            (&["nfs", FILE, "--port", "0"], "", 1),
+            (&["nfs", FILE], "", 2),
+            (&["nfs", FILE, "--port", "65536"], "", 2),
+            (&["nfs", FILE, "--port", "0", "--address", "here"], "", 2),
             (&["--version"], "jnl 1.0\n", 0),
             (&["unseal", FILE], "", 2),
+        ],
+    )
+}
+
+#[test]
+fn a_large_disk_is_served_by_regions_alone(rt: HostRuntime) -> Result<(), Fail> {
+    at_file(
+        &rt,
+        "jnl_test_large",
+        false,
+        &[
+            (&["create", FILE, "--blocks", "1099511627777"], "", 2),
+            (&["create", FILE, "--blocks", "67108864"], "", 0),
+            (
+                &["info", FILE],
+                "blocks 67108864\nlog sealed\nfiles no\n",
+                0,
+            ),
+            (&["check", FILE], "sound\n", 0),
+            (&["seal", FILE, "--undo"], "plain\n", 0),
+            (&["nfs", FILE, "--port", "0"], "", 1),
+            (&["serve", FILE, "--socket", "/nowhere/s"], "", 1),
+            (
+                &["serve", FILE, "--socket", "s", "--region", "514:bit"],
+                "",
+                2,
+            ),
+            (&["serve", FILE, "--socket", "s", "--slots", "256"], "", 2),
+            (&["serve", FILE, "--socket", "s", "--slots", "65523"], "", 2),
         ],
     )
 }
@@ -180,6 +217,7 @@ fn a_disk_of_the_file_service_keeps_its_files(rt: HostRuntime) -> Result<(), Fai
             (&["seal", FILE], "sealed\n", 0),
             (&["check", FILE], "sound version 2\n", 0),
             (&["serve", FILE, "--socket", "/nowhere/s"], "", 1),
+            (&["nfs", FILE, "--port", "0", "--address", ELSEWHERE], "", 1),
             (&["seal", FILE, "--undo"], "plain\n", 0),
             (&["check", FILE], "sound version 2\n", 0),
         ],

@@ -1,6 +1,6 @@
 // Disks in files.
 ghost use Rattle.std.specs.Prelude.{◌≤◌};
-ghost use Rattle.journal_world.specs.declared.layout.TheConstants.{MIN_BLOCKS, MAX_BLOCKS};
+ghost use Rattle.journal_world.specs.declared.layout.TheConstants.{MIN_BLOCKS, MAX_LAYOUT_BLOCKS};
 
 use crate::room::{sync_folder, take_room};
 use crate::settled::Settled;
@@ -25,7 +25,7 @@ pub fn create_new_disk<R: Files<File = File>>(
     path: &str,
     blocks: u64,
 ) -> io::Result<FileDisk>
-    requires { (MIN_BLOCKS ≤ blocks) × (blocks ≤ MAX_BLOCKS) }
+    requires { (MIN_BLOCKS ≤ blocks) × (blocks ≤ MAX_LAYOUT_BLOCKS) }
 {
     let file = open_file(rt, OpenOptions::new().write(true).create_new(true), path)?;
     lock(&file, RangeLock::Exclusive)?;
@@ -45,7 +45,7 @@ pub fn create_new_disk<R: Files<File = File>>(
 /// Refused where another program has its lock, before its content is gone, and for the system's
 /// reason.
 pub fn create_disk<R: Files<File = File>>(rt: &R, path: &str, blocks: u64) -> io::Result<FileDisk>
-    requires { (MIN_BLOCKS ≤ blocks) × (blocks ≤ MAX_BLOCKS) }
+    requires { (MIN_BLOCKS ≤ blocks) × (blocks ≤ MAX_LAYOUT_BLOCKS) }
 {
     // It is not truncated as it is opened, since it is not locked yet.
     let file = open_file(rt, OpenOptions::new().write(true).create(true), path)?;
@@ -56,7 +56,7 @@ pub fn create_disk<R: Files<File = File>>(rt: &R, path: &str, blocks: u64) -> io
 
 // Makes a file that is locked one of so many blocks of zeros.
 fn fill<R: Files<File = File>>(rt: &R, path: &str, file: &File, blocks: u64) -> io::Result<()>
-    requires { (MIN_BLOCKS ≤ blocks) × (blocks ≤ MAX_BLOCKS) }
+    requires { (MIN_BLOCKS ≤ blocks) × (blocks ≤ MAX_LAYOUT_BLOCKS) }
 {
     file.set_len(0)?;
     file.set_len(blocks * BLOCK_BYTES as u64)?;

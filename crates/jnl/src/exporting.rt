@@ -1,0 +1,57 @@
+// The files of a disk are served so that clients mount them.
+
+use crate::disks::{inspect_disk, open};
+use crate::fault::Fault;
+use journal_program::Settled;
+use journal_service::Endpoint;
+use std::alloc::Global;
+use std::fs::{File, Files};
+use std::io::Write;
+use std::net::{Net, TcpListener, TcpStream};
+use std::sync::Wait;
+use std::thread::Threads;
+use std::time::Clock;
+
+/// Serves the files of the disk in the file, of either version, so that clients mount them, until
+/// the program is ended. Prints the port before the first connection is accepted. Where the address
+/// is not one that this machine alone reaches, the first line of `faults` says what that means.
+///
+/// Refused where another program uses the disk, where it is no disk of the file service, where its
+/// files are sound in no version, and where the address or the port is not to be had. Nothing
+/// listens then, and nothing was written to the disk.
+pub fn export<
+    'w,
+    R: Files<File = File>
+        + Net<Listener = TcpListener, Stream = TcpStream>
+        + Clock
+        + Threads
+        + Wait
+        + Sync,
+    O: Write,
+    E: Write,
+>(
+    rt: &R,
+    alloc: Global,
+    path: &'w str,
+    endpoint: Endpoint,
+    output: &mut O,
+    faults: &mut E,
+) -> Result<(), Fault<'w>> {
+    let inspected = inspect_disk(alloc, path, open(rt, path)?)?;
+    if !inspected.has_files {
+        return Err(Fault::HasNoFiles { path });
+    }
+    if !endpoint.address.is_loopback() {
+        // The service does not depend on whether the warning can be printed.
+        let _ = writeln!(
+            faults,
+            "jnl: whoever reaches {} reads and writes all files of {path}",
+            endpoint.address
+        );
+    }
+    let disk = Settled::unwritten(inspected.disk);
+    match journal_service::export(rt, alloc, disk, endpoint, output, faults) {
+        Ok(()) => Ok(()),
+        Err(why) => Err(Fault::unserved(path, why)),
+    }
+}
