@@ -1,4 +1,6 @@
-"""A port over a map in memory, for the tests of the clients: port_in_memory.py SOCKET [BLOCKS REGION..].
+"""A port over a map in memory, for the tests of the clients.
+
+    port_in_memory.py SOCKET [BLOCKS REGION..]
 
 It is written from docs/PROTOCOL.md alone, and knows nothing of the journal. It answers as the page
 says, keeps nothing, and refuses to stop. Its first line of output is the TCP port of this machine
@@ -30,7 +32,8 @@ class Layout:
 
     def __init__(self, blocks: int, *regions: str):
         self.blocks = blocks
-        self.regions = [(int(first), SIZES[kind]) for first, kind in (r.split(":") for r in regions)]
+        words = [region.split(":") for region in regions]
+        self.regions = [(int(first), SIZES[kind]) for first, kind in words]
 
     def size_of(self, block: int) -> int:
         """How many bytes the objects of a block have, or 0 where it has none."""
