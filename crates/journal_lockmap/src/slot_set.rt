@@ -63,8 +63,11 @@ impl SlotSet {
         ensures room { length self.new ≡ length self.old }
     {
         let place = usize::from(slot);
-        let was = self.flags[place];
+        // Where it is none, no memory is written, which other threads may have near them.
+        if !self.flags[place] {
+            return false;
+        }
         self.flags[place] = false;
-        was
+        true
     }
 }
