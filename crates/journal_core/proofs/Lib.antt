@@ -9,6 +9,7 @@ pub mod Counting
 pub mod Holding
 pub mod Running
 pub mod Events
+pub mod Beginning
 pub mod Between
 pub mod HoldRuns
 pub mod Answering
