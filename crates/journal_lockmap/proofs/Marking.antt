@@ -29,14 +29,6 @@ module _ (flags : List Bool) (slot : ℕ) (within : slot < length flags) where
       by true is = ap (is_in (set flags slot false)) (sym (eqb-true slot other is)) ∙ get_or-set_same flags slot false false within ∙ sym (ap (λ (b : Bool). not b && is_in flags other) is)
       by false is = get_or-set_other flags slot other false false (λ same. eqb-false slot other is (sym same)) ∙ sym (ap (λ (b : Bool). not b && is_in flags other) is)
 
--- a slot that is none of them is taken out by doing nothing
-pub removed_none : (flags : List Bool) (slot : ℕ) → is_in flags slot ≡ false → (other : ℕ) → is_in flags other ≡ (not (slot == other) && is_in flags other)
-removed_none flags slot none other = by (slot == other) refl
-  where
-    by : (b : Bool) → (slot == other) ≡ b → is_in flags other ≡ (not (slot == other) && is_in flags other)
-    by true is = ap (is_in flags) (sym (eqb-true slot other is)) ∙ none ∙ sym (ap (λ (b : Bool). not b && is_in flags other) is)
-    by false is = sym (ap (λ (b : Bool). not b && is_in flags other) is)
-
 -- Those of the writes that are not left are marked, in a flag for each slot
 abbrev pub AreMarkedBut : Shape → List Pair → List Pair → List Bool → Type 0
 AreMarkedBut layout writes left flags =

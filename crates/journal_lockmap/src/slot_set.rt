@@ -63,7 +63,7 @@ impl SlotSet {
         ensures room { length self.new ≡ length self.old }
     {
         let place = usize::from(slot);
-        // Where it is none, no memory is written, which other threads may have near them.
+        // A flag that is not set is not written: another processor may have its line of memory.
         if !self.flags[place] {
             return false;
         }
