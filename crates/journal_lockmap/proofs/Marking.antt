@@ -1,6 +1,6 @@
 -- The slots of a commit's writes are marked, one write after the other, and taken out as what is
 -- held is gone through.
-use Rattle.std.proofs.Common.{◌≡◌, ◌≢◌, ◌<◌, ◌==◌, ◌||◌, ◌&&◌, ℕ, zero, suc, Bool, true, false, not, List, [], ◌∷◌, length, set, replicate, refl, sym, ap, ◌∙◌, get_or-set_same, get_or-set_other}
+use Rattle.std.proofs.Common.{◌≡◌, ◌<◌, ◌==◌, ◌||◌, ◌&&◌, ℕ, zero, suc, Bool, true, false, not, List, [], ◌∷◌, length, set, replicate, refl, sym, ap, ◌∙◌, get_or-set_same, get_or-set_other}
 use Rattle.std.proofs.Math.Bool.{or-false}
 use Rattle.std.proofs.lemmas.Bool.{eqb-true, eqb-false}
 use Rattle.journal_world.specs.Addresses.{slot_of, Shape}

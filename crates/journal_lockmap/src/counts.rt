@@ -8,12 +8,12 @@ ghost use Rattle.journal_lockmap.specs.Numbers.{Agree, AreApart, AreNone, HoldsS
 use crate::cell::{Cell, SlotPass};
 use crate::held::Held;
 use crate::keeper::Keeper;
-use crate::slot_set::SlotSet;
+use crate::slot_set::{kept_flags, mark_writes, unmark};
 use crate::slots::Slots;
 use crate::steps::make;
 use crate::token::Token;
 use journal_history::{Naming, SessionCell, SessionCounts};
-use journal_world::{Layout, Objects};
+use journal_world::{Layout, Objects, SLOTS};
 use std::alloc::{AllocError, Global};
 use std::marker::Model;
 use std::sync::Wait;
@@ -59,13 +59,15 @@ impl SlotCell {
 pub struct SlotCounts<J: Naming> {
     keeper: Keeper<J>,
     layout: Layout,
-    // The slots that a commit writes, while it is counted. It is kept from one commit to the next,
-    // so that none has to make it, however many slots there are.
-    written: SlotSet,
+    // A flag for each slot, which marks those that a commit writes while it is counted. They are
+    // kept from one commit to the next, so that none has to make them, however many slots there
+    // are. There are none where a commit has them on its stack.
+    written: Vec<bool>,
 }
 
 impl<J: Naming> Model for SlotCounts<J> {
-    ghost use Rattle.std.specs.Prelude.{◌≡◌, ℕ, List, length};
+    ghost use Rattle.std.specs.Prelude.{◌≡◌, ◌≢◌, ℕ, List, length};
+    ghost use Rattle.journal_world.specs.declared.layout.TheConstants.{SLOTS};
     ghost use Rattle.journal_world.specs.Files.{shape};
     ghost use Rattle.journal_lockmap.specs.Numbers.{AreNone};
 
@@ -73,7 +75,7 @@ impl<J: Naming> Model for SlotCounts<J> {
 
     ghost view = { λ c. c.keeper };
 
-    ghost invariant = { λ c. (shape c.layout ≡ J.layout) × AreNone c.written × (length c.written ≡ J.layout.slots) };
+    ghost invariant = { λ c. (shape c.layout ≡ J.layout) × AreNone c.written.items × (J.layout.slots ≢ SLOTS → length c.written.items ≡ J.layout.slots) };
 }
 
 impl<J: Naming> SlotCounts<J> {
@@ -103,7 +105,7 @@ impl<J: Naming> SlotCounts<J> {
             free.push(Some(Token::new(slot, token)))?;
         }
         let keeper = Keeper::new(cell, keeper);
-        let written = SlotSet::new(alloc, layout.slots)?;
+        let written = kept_flags(alloc, layout.slots)?;
         let counts = SlotCounts {
             keeper,
             layout,
@@ -140,13 +142,44 @@ impl<J: Naming> SlotCounts<J> {
             layout,
             written,
         } = self;
-        written.insert_all(layout, writes);
-        for i in 0..held.len() {
-            if written.remove(held[i].slot()) {
-                keeper.touch(rt, &mut held[i]);
-            } else {
-                keeper.verify_token(rt, &mut held[i]);
-            }
+        if layout.slots == SLOTS {
+            // On the thread's own stack: flags that all threads share wander from one processor to
+            // the next. Most layouts have so few slots.
+            let mut flags = [false; SLOTS as usize];
+            count_marked(rt, keeper, layout, &mut flags, held, writes);
+        } else {
+            count_marked(rt, keeper, layout, written, held, writes);
+        }
+    }
+}
+
+// Counts one more commit, by a flag for each slot. None is marked before it, and none after it. In
+// between those are that the commit writes and whose turn among what is held has not come.
+fn count_marked<J: Naming, W: Wait>(
+    rt: &W,
+    keeper: &mut Keeper<J>,
+    layout: &Layout,
+    flags: &mut [bool],
+    held: &mut [Held<J>],
+    writes: &Objects,
+)
+    requires layout { shape layout.now ≡ J.layout }
+    requires none { AreNone flags.old }
+    requires room { length flags.old ≡ J.layout.slots }
+    requires apart { AreApart held.old }
+    requires covered { HoldsSlots J.layout held.old writes.now }
+    ensures counts { CountsWrites J.layout writes.now keeper.old keeper.new }
+    ensures agree { Agree keeper.new held.new }
+    ensures slots { slots_of held.new ≡ slots_of held.old }
+    ensures none { AreNone flags.new }
+    ensures room { length flags.new ≡ length flags.old }
+{
+    mark_writes(flags, layout, writes);
+    for i in 0..held.len() {
+        if unmark(flags, held[i].slot()) {
+            keeper.touch(rt, &mut held[i]);
+        } else {
+            keeper.verify_token(rt, &mut held[i]);
         }
     }
 }

@@ -1,73 +1,57 @@
-// Some of the slots.
-ghost use Rattle.std.specs.Prelude.{◌≡◌, ◌<◌, ◌==◌, ◌||◌, ◌&&◌, not, ℕ, IfOk, length};
+// Some of the slots, as a flag for each. To mark one, and to ask for one, takes the same time
+// however many there are.
+ghost use Rattle.std.specs.Prelude.{◌≡◌, ◌≢◌, ◌<◌, ◌==◌, ◌||◌, ◌&&◌, not, ℕ, IfOk, length};
+ghost use Rattle.journal_world.specs.declared.layout.TheConstants.{SLOTS};
 ghost use Rattle.journal_world.specs.Addresses.{slot_of};
 ghost use Rattle.journal_world.specs.Files.{shape};
 ghost use Rattle.journal_lockmap.specs.Numbers.{is_in, AreNone, MarksWrites};
 
-use journal_world::{Layout, Objects};
+use journal_world::{Layout, Objects, SLOTS};
 use std::alloc::{AllocError, Global};
-use std::marker::Model;
 
-/// Some of the slots, as a flag for each. To add one or to take one out takes the same time however
-/// many there are.
-#[derive(Drop)]
-pub(crate) struct SlotSet {
-    flags: Vec<bool>,
+// The flags that are kept for so many slots, of which none is marked. Where there are `SLOTS`, no
+// flag is kept: a commit has them on its stack.
+pub(crate) fn kept_flags(alloc: Global, slots: u16) -> Result<Vec<bool>, AllocError>
+    ensures none { IfOk result (λ flags. AreNone flags.items) }
+    ensures room { IfOk result (λ flags. slots ≢ SLOTS → length flags.items ≡ slots) }
+{
+    let kept = if slots == SLOTS { 0 } else { slots };
+    vec![in alloc; false; usize::from(kept)]
 }
 
-impl Model for SlotSet {
-    ghost use Rattle.std.specs.Prelude.{Bool, List};
-
-    ghost Value = { List Bool };
-
-    ghost view = { λ set. set.flags.items };
+// Marks the slots of these writes, where none is marked yet.
+pub(crate) fn mark_writes(flags: &mut [bool], layout: &Layout, writes: &Objects)
+    requires none { AreNone flags.old }
+    requires room { length flags.old ≡ layout.now.slots }
+    ensures marks { MarksWrites (shape layout.now) flags.new writes.now }
+    ensures room { length flags.new ≡ length flags.old }
+{
+    for (addr, _) in writes.iter() {
+        mark(flags, layout.slot_of(*addr));
+    }
 }
 
-impl SlotSet {
-    // None of so many slots.
-    pub(crate) fn new(alloc: Global, slots: u16) -> Result<SlotSet, AllocError>
-        ensures none { IfOk result AreNone }
-        ensures room { IfOk result (λ set. length set ≡ slots) }
-    {
-        Ok(SlotSet {
-            flags: vec![in alloc; false; usize::from(slots)]?,
-        })
-    }
+// Marks a slot.
+fn mark(flags: &mut [bool], slot: u16)
+    requires in_range { slot < length flags.old }
+    ensures only { (other : ℕ) → is_in flags.new other ≡ ((slot == other) || is_in flags.old other) }
+    ensures room { length flags.new ≡ length flags.old }
+{
+    flags[usize::from(slot)] = true;
+}
 
-    // Adds the slots of these writes, where there is none yet.
-    pub(crate) fn insert_all(&mut self, layout: &Layout, writes: &Objects)
-        requires none { AreNone self.old }
-        requires room { length self.old ≡ layout.now.slots }
-        ensures marks { MarksWrites (shape layout.now) self.new writes.now }
-        ensures room { length self.new ≡ length self.old }
-    {
-        for (addr, _) in writes.iter() {
-            self.insert(layout.slot_of(*addr));
-        }
+// Takes the mark of a slot away, and says whether there was one.
+pub(crate) fn unmark(flags: &mut [bool], slot: u16) -> bool
+    requires in_range { slot < length flags.old }
+    ensures was { result ≡ is_in flags.old slot }
+    ensures only { (other : ℕ) → is_in flags.new other ≡ (not (slot == other) && is_in flags.old other) }
+    ensures room { length flags.new ≡ length flags.old }
+{
+    let place = usize::from(slot);
+    // Where there is none, no flag is written: other threads may have the kept ones near them.
+    if !flags[place] {
+        return false;
     }
-
-    // Adds a slot.
-    fn insert(&mut self, slot: u16)
-        requires in_range { slot < length self.old }
-        ensures only { (other : ℕ) → is_in self.new other ≡ ((slot == other) || is_in self.old other) }
-        ensures room { length self.new ≡ length self.old }
-    {
-        self.flags[usize::from(slot)] = true;
-    }
-
-    // Takes a slot out, and says whether it was one of them.
-    pub(crate) fn remove(&mut self, slot: u16) -> bool
-        requires in_range { slot < length self.old }
-        ensures was { result ≡ is_in self.old slot }
-        ensures only { (other : ℕ) → is_in self.new other ≡ (not (slot == other) && is_in self.old other) }
-        ensures room { length self.new ≡ length self.old }
-    {
-        let place = usize::from(slot);
-        // A flag that is not set is not written: another processor may have its line of memory.
-        if !self.flags[place] {
-            return false;
-        }
-        self.flags[place] = false;
-        true
-    }
+    flags[place] = false;
+    true
 }

@@ -1,8 +1,0 @@
-use Rattle.std.proofs.Common.{◌<◌, Bool, List, length, sym, subst}
-use Rattle.journal_lockmap.proofs.Marking.{removed}
-use Rattle.journal_lockmap.proofs.slot_set.SlotSet.remove.Goals as goal
-
-pub returns-clause-only : goal.returns-clause-only
-returns-clause-only c =
-    let within : c.args.slot < length c.self.inside.flags.items = subst (λ (l : List Bool). c.args.slot < length l) (sym c.self.view_is) c.requires.in_range in
-    rw (c.from-place.ensures, ← c.self.view_is) (removed c.self.inside.flags.items c.args.slot within)
