@@ -6,7 +6,7 @@ ghost use Rattle.journal_world.specs.Maps.{is_value_at, is_object};
 ghost use Rattle.journal_object.specs.Objects.{object_of, with_object_of, object_at, with_object_at, size_at, ChangesOnly, OverwritesMap};
 
 use journal_block::Block;
-use journal_world::{Addr, BLOCK_BITS, BLOCK_BYTES, Kind, Layout, Refusal};
+use journal_world::{Addr, BLOCK_BYTES, Layout, Refusal};
 
 /// Reads into `out` the object that the address names, where `block` is its block: one byte, 0 or 1,
 /// for a bit, the bytes of its size for a record, 4096 for a block.
@@ -33,8 +33,25 @@ pub fn load<C>(layout: &Layout, block: &Block, addr: Addr, out: &mut [u8]) -> Re
     if out.len() != kind.bytes() {
         return Err(Refusal::BadSize);
     }
-    read(kind, block, addr.off as usize, out);
+    load_valid(layout, block, addr, out);
     Ok(())
+}
+
+/// Reads into `out` the object that a valid address names, where `block` is its block and `out` has
+/// the object's length. That length tells a bit from other objects, so nothing is looked up: the
+/// layout stands in the contract alone.
+pub fn load_valid(layout: &Layout, block: &Block, addr: Addr, out: &mut [u8])
+    requires valid { IsTrue (is_valid (shape layout.now) addr) }
+    requires size { length out.old ≡ size_at (shape layout.now) addr }
+    ensures loaded { out.new ≡ object_at (shape layout.now) block.now addr }
+    ensures object { IsTrue (is_object (shape layout.now) (addr, out.new)) }
+{
+    let off = addr.off as usize;
+    if out.len() == 1 {
+        out[0] = u8::from(block.bit(off));
+    } else {
+        out.copy_from_slice(&block.as_bytes()[off / 8..off / 8 + out.len()]);
+    }
 }
 
 /// Overwrites the object that the address names by a value, where `block` is its block. No other bit
@@ -69,40 +86,24 @@ pub fn store<C>(
     if !kind.admits(value) {
         return Err(Refusal::BadSize);
     }
-    write(kind, block, addr.off as usize, value);
+    store_valid(layout, block, addr, value);
     Ok(())
 }
 
-// Reads the object of a kind that begins at bit `off`.
-fn read(kind: Kind, block: &Block, off: usize, out: &mut [u8])
-    requires inside { off < BLOCK_BITS }
-    requires multiple { off % bits_of kind ≡ 0 }
-    requires size { length out.old ≡ bytes_of kind }
-    ensures object { out.new ≡ object_of (Some kind) block.now off }
-    ensures block { IsTrue (is_value_of Kind.Block block.now) }
-{
-    let bytes = block.as_bytes();
-    match kind {
-        Kind::Bit => out[0] = u8::from(block.bit(off)),
-        Kind::Record(size) => out.copy_from_slice(&bytes[off / 8..off / 8 + size.bytes()]),
-        Kind::Block => out.copy_from_slice(bytes),
-    }
-}
-
-// Overwrites the object of a kind that begins at bit `off`.
-fn write(kind: Kind, block: &mut Block, off: usize, value: &[u8])
-    requires inside { off < BLOCK_BITS }
-    requires multiple { off % bits_of kind ≡ 0 }
-    requires value { IsTrue (is_value_of kind value.now) }
-    ensures stored { block.new ≡ with_object_of (Some kind) block.old off value.now }
-    ensures changed { object_of (Some kind) block.new off ≡ value.now }
-    ensures others { (k : ℕ) → k < BLOCK_BITS → k % bits_of kind ≡ 0 → k ≢ off
-        → object_of (Some kind) block.new k ≡ object_of (Some kind) block.old k }
+/// Overwrites the object that a valid address names by a value of its kind, where `block` is its
+/// block. No other bit of the block changes. The value's length tells a bit from other objects, so
+/// nothing is looked up: the layout stands in the contract alone.
+pub fn store_valid(layout: &Layout, block: &mut Block, addr: Addr, value: &[u8])
+    requires object { IsTrue (is_object (shape layout.now) (addr, value.now)) }
+    ensures stored { block.new ≡ with_object_at (shape layout.now) block.old addr value.now }
+    ensures only { ChangesOnly (shape layout.now) block.old block.new addr value.now }
+    ensures map { OverwritesMap (shape layout.now) block.old block.new addr value.now }
     ensures size { length block.new ≡ BLOCK_BYTES }
 {
-    match kind {
-        Kind::Bit => block.set_bit(off, value[0] == 1),
-        Kind::Record(_) => block.copy_range(off / 8, value),
-        Kind::Block => block.copy_range(0, value),
+    let off = addr.off as usize;
+    if value.len() == 1 {
+        block.set_bit(off, value[0] == 1);
+    } else {
+        block.copy_range(off / 8, value);
     }
 }
