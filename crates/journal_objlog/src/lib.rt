@@ -12,7 +12,6 @@
 
 mod group;
 mod object_log;
-mod read;
 mod rules;
 mod spares;
 mod staged_updates;

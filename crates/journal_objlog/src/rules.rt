@@ -11,9 +11,9 @@ ghost use Rattle.journal_objlog.specs.MapLaws.{map_of-objects};
 ghost use Rattle.journal_objlog.specs.Reading.{OnlyReadSince, IsBlockOf};
 
 use crate::object_log::ObjectLog;
-use crate::read::load_object;
 use journal_block::Block;
 use journal_disk::BlockDisk;
+use journal_object::load_valid;
 use journal_world::{Addr, Kind, Layout, MapRule, ObjectReader, Refusal, Value};
 use std::alloc::Global;
 use std::marker::{Brand, Model, PhantomData};
@@ -201,7 +201,7 @@ impl<D: BlockDisk> ObjectLog<D> {
         ensures object { IsTrue (is_object (shape layout.now) (addr, into.new)) }
     {
         let _ = &self.wal;
-        load_object(layout, block, addr, into);
+        load_valid(layout, block, addr, into);
     }
 
     // A log that was not read since.

@@ -7,7 +7,7 @@ ghost use Rattle.journal_objlog.specs.Staging.{first_update, first_bytes, with_f
 
 use crate::spares::Spares;
 use journal_block::Update;
-use journal_object::store;
+use journal_object::store_valid;
 use journal_world::{Addr, Layout, Value};
 use std::alloc::{AllocError, Global};
 use std::marker::Model;
@@ -66,7 +66,7 @@ impl StagedUpdates {
     {
         let last = self.updates.len() - 1;
         let first = &mut self.updates[last];
-        store::<()>(layout, &mut first.bytes, addr, value.bytes()).unwrap();
+        store_valid(layout, &mut first.bytes, addr, value.bytes());
     }
 
     /// The updates, in order.

@@ -9,8 +9,8 @@ ghost use Rattle.journal_object.specs.Objects.{size_at};
 ghost use Rattle.journal_wal.specs.Tails.{empty_tail};
 ghost use Rattle.journal_objlog.specs.ObjectTails.{known_updates, known_at};
 
-use crate::read::load_object;
 use journal_block::{Block, Update};
+use journal_object::load_valid;
 use journal_wal::Tail;
 use journal_world::{Addr, Layout, Refusal};
 use std::alloc::Global;
@@ -84,7 +84,7 @@ impl ObjectTail {
         let Some(block) = self.get(fetched, addr.block) else {
             return Ok(false);
         };
-        load_object(layout, block, addr, into);
+        load_valid(layout, block, addr, into);
         Ok(true)
     }
 

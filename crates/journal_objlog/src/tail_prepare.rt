@@ -16,7 +16,7 @@ use crate::spares::Spares;
 use crate::tail::ObjectTail;
 use crate::writes::{Places, check_writes, is_block};
 use journal_block::Update;
-use journal_object::store;
+use journal_object::store_valid;
 use journal_world::{Addr, Layout, Objects, Refusal, Value};
 use std::marker::Model;
 
@@ -156,7 +156,7 @@ impl ObjectTail {
     {
         if let Some(position) = self.tail.place_in_tail(addr.block) {
             let block = self.tail.tail_block(position);
-            store::<()>(layout, block, addr, value.bytes()).unwrap();
+            store_valid(layout, block, addr, value.bytes());
         }
     }
 

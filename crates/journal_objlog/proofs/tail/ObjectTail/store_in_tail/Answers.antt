@@ -13,14 +13,14 @@ returns-in-Some c =
     let t = c.self.inside.tail in
     ap (λ (l : LogState). record t { log = l })
     (stored_there n t.log c.place_in_tail.ensures.sound c.args.addr c.args.value.now c.in-Some.position c.in-Some.ensures.place
-    c.tail_block-block.result.now c.store.new.block c.tail_block-block.ensures.content
+    c.tail_block-block.result.now c.store_valid.new.block c.tail_block-block.ensures.content
     stored)
     ∙ ap (λ (s : TailState). record s { log = stored_log n ((c.args.addr, c.args.value.now) ∷ []) s.log }) c.self.view_is
   where
     n : Shape
     n = shape c.args.layout.now
 
-    stored : c.store.new.block ≡ with_object_at n c.tail_block-block.result.now c.args.addr c.args.value.now
+    stored : c.store_valid.new.block ≡ with_object_at n c.tail_block-block.result.now c.args.addr c.args.value.now
     stored = search rules
 
 pub returns-in_default : goal.returns-in_default
