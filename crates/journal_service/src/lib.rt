@@ -18,6 +18,7 @@ mod file;
 mod migrating;
 mod mounting;
 mod printing;
+mod programs;
 mod serving;
 
 pub use checking::check;

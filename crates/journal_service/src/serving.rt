@@ -6,6 +6,7 @@ use crate::clock::{WallClock, verifier_of};
 use crate::fault::ServiceFault;
 use crate::mounting::{Tried, mount, slot_cell};
 use crate::printing::{give_up, print_line};
+use crate::programs::Programs;
 use crate::{clock, file};
 use journal_daemon::OpenGate;
 use journal_disk::{BlockDisk, FileDisk};
@@ -15,7 +16,7 @@ use journal_inode::{SoundFiles, Version, VersionOne, VersionTwo};
 use journal_lockmap::SlotCell;
 use journal_mount3::Exported;
 use journal_program::{Daemon, Settled};
-use journal_server::{Listening, PoolSize, WaitingConnections, serve_all, serve_all_by};
+use journal_server::{Listening, NineProcedures, Protocol, WaitingConnections, serve_all_by};
 use journal_world::{Layout, Refusal, Refused};
 use std::alloc::Global;
 use std::fs::{File, Files};
@@ -48,30 +49,13 @@ pub struct Endpoint {
     pub port: u16,
 }
 
-// Which programs are served.
-#[derive(Clone, Copy)]
-enum Programs {
-    // The nine procedures of NFS.
-    Nine,
-    // NFS and MOUNT, so that clients mount the files.
-    Both,
-}
-
-// What is served, and where.
+// Where connections come from, and how many are served.
 #[derive(Clone, Copy)]
 struct Plan {
     address: Ipv4Addr,
     port: u16,
     connections: u64,
-    programs: Programs,
 }
-
-// The workers of a service that clients mount: a client has a connection as long as it has the
-// files mounted.
-const MOUNT_WORKERS: PoolSize = PoolSize {
-    workers: 16,
-    waiting: 16,
-};
 
 /// Serves the files of the disk, of either version, so that clients mount them, until the program
 /// is ended: NFS and MOUNT in their versions 3. It prints the port before the first connection is
@@ -98,9 +82,8 @@ pub fn export<
         address,
         port,
         connections: u64::MAX,
-        programs: Programs::Both,
     };
-    carry_out(rt, alloc, disk, plan, output, faults)
+    carry_out::<Exported, R, O, E>(rt, alloc, disk, plan, output, faults)
 }
 
 /// Serves the files of the disk in the file, of either version, and prints the port before the
@@ -134,14 +117,14 @@ pub fn serve<
         address: Ipv4Addr::LOCALHOST,
         port,
         connections,
-        programs: Programs::Nine,
     };
     let disk = file::open(rt, path)?;
-    carry_out(rt, alloc, disk, plan, output, faults)
+    carry_out::<NineProcedures, R, O, E>(rt, alloc, disk, plan, output, faults)
 }
 
 // Serves the files of the disk as planned, and gives it up.
 fn carry_out<
+    P: Programs + Protocol<VersionTwo> + Protocol<VersionOne> + Sync + Drop,
     R: Files<File = File>
         + Net<Listener = TcpListener, Stream = TcpStream>
         + Clock
@@ -158,10 +141,10 @@ fn carry_out<
     output: &mut O,
     faults: &mut E,
 ) -> Result<(), ServiceFault> {
-    let disk = match serve_in::<VersionTwo, R, O, E>(rt, alloc, disk, plan, output, faults)? {
+    let disk = match serve_in::<P, VersionTwo, R, O, E>(rt, alloc, disk, plan, output, faults)? {
         Tried::Sound(disk) => disk,
         Tried::Other(disk) => {
-            serve_in::<VersionOne, R, O, E>(rt, alloc, disk, plan, output, faults)?.sound()?
+            serve_in::<P, VersionOne, R, O, E>(rt, alloc, disk, plan, output, faults)?.sound()?
         }
     };
     give_up(file::settled(disk)?, output, "served", plan.connections)
@@ -169,6 +152,7 @@ fn carry_out<
 
 // Serves the files of the disk, where they are sound in a version, and gives it up.
 fn serve_in<
+    P: Programs + Protocol<V> + Sync + Drop,
     V: Version + Send + Sync,
     R: Net<Listener = TcpListener, Stream = TcpStream> + Clock + Threads + Wait + Sync,
     O: Write,
@@ -183,12 +167,22 @@ fn serve_in<
 ) -> Result<Tried<FileDisk>, ServiceFault> {
     let book: Book<SoundFiles<V>> = Book::open::<()>().unwrap();
     let cell = slot_cell(alloc)?;
-    serve_mounted::<Brand, V, R, O, E>(rt, alloc, &book, cell, settled.disk(), plan, output, faults)
+    serve_mounted::<P, Brand, V, R, O, E>(
+        rt,
+        alloc,
+        &book,
+        cell,
+        settled.disk(),
+        plan,
+        output,
+        faults,
+    )
 }
 
 // Mounts the disk, serves its files, and gives it up, with all commits stable. Of two faults the
 // first is told.
 fn serve_mounted<
+    P: Programs + Protocol<V> + Sync + Drop,
     J: Naming + Send + Sync,
     V: Version + Send + Sync,
     R: Net<Listener = TcpListener, Stream = TcpStream> + Clock + Threads + Wait + Sync,
@@ -216,11 +210,8 @@ fn serve_mounted<
         Tried::Sound(files) => files,
         Tried::Other(disk) => return Ok(Tried::Other(disk)),
     };
-    let exported = Exported {
-        verifier: verifier_of(clock::moment_of_mount(rt, faults)),
-        layout,
-    };
-    let served = serve_beside_daemon(rt, alloc, &files, exported, plan, output);
+    let programs = P::on(layout, verifier_of(clock::moment_of_mount(rt, faults)));
+    let served = serve_beside_daemon(rt, alloc, &files, &programs, plan, output);
     let closed = close(rt, files);
     served?;
     Ok(Tried::Sound(closed?))
@@ -229,6 +220,7 @@ fn serve_mounted<
 // Serves while the daemon runs, and ends it. All commits are stable then.
 fn serve_beside_daemon<
     'b,
+    P: Programs + Protocol<V> + Sync,
     J: Naming + Send + Sync,
     V: Version + Send + Sync,
     R: Net<Listener = TcpListener, Stream = TcpStream> + Clock + Threads + Wait + Sync,
@@ -237,7 +229,7 @@ fn serve_beside_daemon<
     rt: &R,
     alloc: Global,
     files: &FileStore<'b, FileDisk, J, V>,
-    exported: Exported,
+    programs: &P,
     plan: Plan,
     output: &mut O,
 ) -> Result<(), ServiceFault> {
@@ -249,7 +241,7 @@ fn serve_beside_daemon<
             let runs = scope.spawn(|| daemon.run(rt, files.journal())).is_ok()
                 && daemon.is_running(rt);
             let served = if runs {
-                listen(rt, alloc, files, exported, plan, output)
+                listen(rt, alloc, files, programs, plan, output)
             } else {
                 Err(ServiceFault::Refused(Refusal::NoMemory))
             };
@@ -264,6 +256,7 @@ fn serve_beside_daemon<
 // Serves the connections that come to the port.
 fn listen<
     'b,
+    P: Programs + Protocol<V> + Sync,
     J: Naming + Send + Sync,
     V: Version + Send + Sync,
     R: Net<Listener = TcpListener, Stream = TcpStream> + Clock + Threads + Wait + Sync,
@@ -272,7 +265,7 @@ fn listen<
     rt: &R,
     alloc: Global,
     files: &FileStore<'b, FileDisk, J, V>,
-    exported: Exported,
+    programs: &P,
     plan: Plan,
     output: &mut O,
 ) -> Result<(), ServiceFault> {
@@ -286,31 +279,10 @@ fn listen<
     let waiting = WaitingConnections::new();
     let source = Listening::new(rt, listener, plan.connections, &waiting);
     let clock = WallClock(rt);
-    let (served, source) = match plan.programs {
-        Programs::Nine => {
-            serve_all(
-                rt,
-                alloc,
-                source,
-                files,
-                &clock,
-                exported.verifier,
-                &OpenGate,
-            )
-        }
-        Programs::Both => {
-            serve_all_by(
-                rt,
-                alloc,
-                source,
-                files,
-                &exported,
-                &clock,
-                &OpenGate,
-                MOUNT_WORKERS,
-            )
-        }
-    };
+    let pool = programs.pool();
+    let (served, source) = serve_all_by(
+        rt, alloc, source, files, programs, &clock, &OpenGate, pool,
+    );
     if source.has_failed() {
         return Err(ServiceFault::CannotListen);
     }

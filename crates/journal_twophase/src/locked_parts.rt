@@ -201,7 +201,7 @@ impl<'b, D: BlockDisk, R: MapRule, J: Naming> LockedParts<'b, D, R, J> {
             if let Some(guard) = self.memory.try_lock() {
                 return guard;
             }
-            for _ in 0..(1u32 << turn.min(6)) {
+            for _ in 0..(1u32 << turn.min(7)) {
                 spin_loop();
             }
         }

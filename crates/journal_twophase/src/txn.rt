@@ -1,7 +1,7 @@
 // Open transactions.
-ghost use Rattle.std.specs.Prelude.{◌≡◌, ◌⊎◌, ◌<◌, [], ◌∷◌, ◌++◌, ℕ, List, length, IsTrue, IfSome, IfOk, IfErr, OnOk, OnErr, IsOkUnless, option_copied, if◌then◌else◌};
+ghost use Rattle.std.specs.Prelude.{◌≡◌, ◌⊎◌, ◌<◌, [], ◌∷◌, ◌++◌, ℕ, List, length, Some, IsTrue, IfSome, IfOk, IfErr, OnOk, OnErr, IsOkUnless, option_copied, if◌then◌else◌};
 ghost use mathlib.Core.List.{IsPrefix};
-ghost use Rattle.journal_world.specs.Addresses.{is_valid, slot_of as slot_number};
+ghost use Rattle.journal_world.specs.Addresses.{is_valid, kind_of, bytes_of, slot_of as slot_number};
 ghost use Rattle.journal_world.specs.Maps.{is_object, value_among, Agrees};
 ghost use Rattle.journal_object.specs.Objects.{size_at};
 ghost use Rattle.journal_world.specs.Histories.{is_trusted, latest};
@@ -13,7 +13,7 @@ use journal_core::Transaction;
 use journal_disk::BlockDisk;
 use journal_history::{Front, Naming, Session};
 use journal_lockmap::{Held, LockMap};
-use journal_world::{Addr, MapRule, Refusal, Value};
+use journal_world::{Addr, Kind, MapRule, Refusal, Value};
 use std::alloc::{AllocError, AllocFailed, Global};
 use std::marker::Model;
 use std::sync::Wait;
@@ -96,15 +96,15 @@ impl<'j, 'b, D: BlockDisk, R: MapRule, J: Naming> Txn<'j, 'b, D, R, J> {
         ensures same { OnErr result (self.new ≡ self.old) }
     {
         let journal = self.journal;
-        if !journal.layout.is_valid(addr) {
+        let Some(kind) = journal.layout.kind_at(addr) else {
             return Err(self.unless_ended(rt, Refusal::BadAddress));
-        }
+        };
         let took = match self.take(rt, journal.slot_of(addr)) {
             Ok(took) => took,
             Err(Refusal::NoMemory) => return Err(self.no_memory(rt, addr)),
             Err(refusal) => return Err(self.unless_ended(rt, refusal)),
         };
-        let answer = self.find_value(rt, addr);
+        let answer = self.find_value(rt, addr, kind);
         if answer.is_err() {
             self.give_back(rt, took);
         }
@@ -146,9 +146,15 @@ impl<'j, 'b, D: BlockDisk, R: MapRule, J: Naming> Txn<'j, 'b, D, R, J> {
         }
     }
 
-    // Its own overwrite, else what the map gives, which it remembers.
-    fn find_value<W: Wait>(&mut self, rt: &W, addr: Addr) -> Result<Value, JournalRefusal<'b, J, R>>
+    // Its own overwrite, else what the map gives, which it remembers. `kind` is that of the address's object.
+    fn find_value<W: Wait>(
+        &mut self,
+        rt: &W,
+        addr: Addr,
+        kind: Kind,
+    ) -> Result<Value, JournalRefusal<'b, J, R>>
         requires valid { IsTrue (is_valid J.layout addr) }
+        requires kind { kind_of J.layout addr.block ≡ Some kind }
         requires slot { IsTrue (holds self.old.held (slot_number J.layout addr)) }
         ensures reads { IfOk result (λ value. ReadsValue self.old addr value self.new) }
         ensures object { IfOk result (λ value. IsTrue (is_object J.layout (addr, value))) }
@@ -163,22 +169,17 @@ impl<'j, 'b, D: BlockDisk, R: MapRule, J: Naming> Txn<'j, 'b, D, R, J> {
             journal.core.check_running(rt)?;
             return Ok(own.clone()?);
         }
-        match self.room_for(addr) {
+        match self.room_for(kind) {
             Ok(room) => self.read_map(rt, addr, room),
             Err(_) => Err(self.no_memory(rt, addr)),
         }
     }
 
-    // Zeros in the number of bytes that the address's object has.
-    fn room_for(&self, addr: Addr) -> Result<Vec<u8>, AllocError>
-        ensures { IfOk result (λ room. length room.items ≡ size_at J.layout addr) }
+    // Zeros in the number of bytes that an object of the kind has.
+    fn room_for(&self, kind: Kind) -> Result<Vec<u8>, AllocError>
+        ensures { IfOk result (λ room. length room.items ≡ bytes_of kind) }
     {
-        let journal = self.journal;
-        let size = match journal.layout.kind(addr.block) {
-            Some(kind) => kind.bytes(),
-            None => 0,
-        };
-        Ok(vec![in self.alloc; 0u8; size]?)
+        Ok(vec![in self.alloc; 0u8; kind.bytes()]?)
     }
 
     // What the map gives, which it remembers. Only the look-up has the core's lock: the value's memory is made outside
