@@ -8,25 +8,26 @@ use Rattle.journal_world.specs.Maps.{Pair, Transaction}
 use Rattle.journal_world.specs.Histories.{Entry, commits_of, is_fenced}
 use Rattle.journal_memlog.specs.Logs.{tail_of}
 use Rattle.journal_memlog.specs.Laws.{tail_of-appended}
-use Rattle.journal_wal.specs.Tails.{TailState, cut_points}
+use Rattle.journal_tail.specs.Tails.{TailState, cut_points}
 use Rattle.journal_objlog.specs.ObjectLogs.{OnlyReads as OnlyReadsLog}
-use Rattle.journal_objlog.specs.Writes.{fresh_among}
+use Rattle.journal_tail.specs.Writes.{fresh_among}
 use Rattle.journal_objlog.proofs.Openings.{OnlyReads-refl}
 use Rattle.journal_history.specs.Tokens.{SessionState, OnlyExtends, CommitPlace, IsReceiptFor, made, next_transaction as numbered}
-use Rattle.journal_core.specs.Causes.{CauseState}
-use Rattle.journal_core.specs.Ledgers.{IsUnknown}
-use Rattle.journal_core.specs.Transactions.{TransactionState}
-use Rattle.journal_core.specs.Outsets.{Outset, CanCommit, IsCommitRefusal as IsRefusedFrom}
-use Rattle.journal_core.specs.Durables.{DurableState, IsCallRefusal}
-use Rattle.journal_core.specs.Volatiles.{VolatileState, IsVolatile}
-use Rattle.journal_core.specs.VolatileCommits.{IsCommitted as IsCommittedIn, with_room}
-use Rattle.journal_core.specs.Pairs.{Tied}
-use Rattle.journal_core.specs.Cores.{CoreState, IsPair, IsRunning, OnlyReads, core_of, outset, is_faulted}
+use Rattle.journal_memory.specs.Causes.{CauseState}
+use Rattle.journal_memory.specs.Ledgers.{IsUnknown}
+use Rattle.journal_memory.specs.Transactions.{TransactionState}
+use Rattle.journal_memory.specs.Outsets.{Outset, CanCommit, IsCommitRefusal as IsRefusedFrom}
+use Rattle.journal_parts.specs.Durables.{DurableState, IsCallRefusal}
+use Rattle.journal_memory.specs.Volatiles.{VolatileState, IsVolatile}
+use Rattle.journal_memory.specs.VolatileCommits.{IsCommitted as IsCommittedIn, with_room}
+use Rattle.journal_parts.specs.Pairs.{Tied}
+use Rattle.journal_parts.specs.Cores.{CoreState, IsPair, IsRunning, OnlyReads, core_of, outset, is_faulted}
 use Rattle.journal_core.specs.Steps.{IsDeviceRefusal}
 use Rattle.journal_core.specs.Commits.{IsCommitted, IsCommitRefusal}
-use Rattle.journal_core.proofs.Committing.{commits_from}
-use Rattle.journal_core.proofs.Pairing.{tied_committed}
-use Rattle.journal_core.proofs.Joining.{failed, fails_as}
+use Rattle.journal_memory.proofs.Committing.{commits_from}
+use Rattle.journal_parts.proofs.Pairing.{tied_committed}
+use Rattle.journal_parts.proofs.Faults.{failed}
+use Rattle.journal_core.proofs.Joining.{fails_as}
 
 module _ (layout : Shape) (v : VolatileState) (d : DurableState) (pair : IsPair layout v d) (w : VolatileState) where
   -- it was committed in memory, and the disk was read at most

@@ -3,8 +3,8 @@
 use Rattle.std.proofs.Common.{◌≡◌, ◌+◌, ◌*◌, ◌%◌, ℕ, Bool, true, IsTrue, inr, ap, sym, subst, List, [], ◌∷◌, Option, Some, None, Ok, refl}
 use mathlib.Core.List.{IsPrefix}
 use Rattle.journal_world.specs.declared.address.Addr.{Addr}
-use Rattle.journal_core.specs.declared.step.LogStep.{LogStep}
-use Rattle.journal_core.specs.declared.step.LogStep.TheVariants.{Cut, Put, Logged, Marked}
+use Rattle.journal_parts.specs.declared.step.LogStep.{LogStep}
+use Rattle.journal_parts.specs.declared.step.LogStep.TheVariants.{Cut, Put, Logged, Marked}
 use Rattle.journal_world.specs.declared.layout.TheConstants.{BLOCK_BITS, SLOTS}
 use Rattle.journal_world.specs.Addresses.{Value, slot_of, Shape}
 use Rattle.journal_world.specs.Files.{files}
@@ -13,10 +13,10 @@ use Rattle.journal_world.specs.Histories.{opened}
 use Rattle.journal_block.specs.Block.{Bytes}
 use Rattle.journal_disk.specs.Disks.{DiskState}
 use Rattle.journal_history.specs.Tokens.{SessionState, next_transaction}
-use Rattle.journal_core.specs.Durables.{FetchedState}
-use Rattle.journal_core.specs.Cores.{CoreState, Crashes, disk_of}
-use Rattle.journal_core.specs.Transactions.{TransactionState, begun, Overwrites}
-use Rattle.journal_core.specs.Openings.{Begins}
+use Rattle.journal_memory.specs.Fetches.{FetchedState}
+use Rattle.journal_parts.specs.Cores.{CoreState, Crashes, disk_of}
+use Rattle.journal_memory.specs.Transactions.{TransactionState, begun, Overwrites}
+use Rattle.journal_parts.specs.Openings.{Begins}
 use Rattle.journal_core.specs.Interleavings.{Event, Mount, Machine, mounted, with_core, with_transaction, with_slot, with_fetched, ended, FetchesBlocks, CommitsTransaction, LogsStep, Joins, OverwritesUnderSlot, Run, holds}
 use Rattle.journal_core.specs.Outcomes.{Answer, IsLeftBetween, HoldsImage, is_actor}
 use Rattle.journal_core.specs.Interleavings.Event.{joins, fetches, begins, takes, overwrites, logs, crashes, opens}

@@ -18,21 +18,23 @@ use Rattle.journal_block.specs.Block.{Bytes}
 use Rattle.journal_disk.specs.Disks.{DiskState, Past}
 use Rattle.journal_disk.specs.Images.{IsImage, EveryImage}
 use Rattle.journal_objlog.specs.Maps.{OpensAs}
-use Rattle.journal_objlog.proofs.MapsOfBlocks.{same_objects}
+use Rattle.journal_tail.proofs.MapsOfBlocks.{same_objects}
 use Rattle.journal_history.specs.Tokens.{SessionState, made, next_transaction, Commits, CommitPlace}
 use Rattle.journal_wal.specs.declared.step.GroupStep.{GroupStep}
 use Rattle.journal_wal.specs.declared.step.InstallStep.{InstallStep}
-use Rattle.journal_core.specs.declared.step.LogStep.{LogStep}
-use Rattle.journal_core.specs.declared.step.LogStep.TheVariants.{Marked}
-use Rattle.journal_core.specs.Causes.{CauseState}
-use Rattle.journal_core.specs.Ledgers.{LedgerState}
-use Rattle.journal_core.specs.Cores.{Leaves}
-use Rattle.journal_core.specs.Fences.{AddsFence}
-use Rattle.journal_core.specs.Durables.{DurableState, FetchedState, IsFetched, IsBlockAfter, disk_of, Leaves as LeavesDurable}
-use Rattle.journal_core.specs.Volatiles.{VolatileState, IsVolatile}
-use Rattle.journal_core.specs.Transactions.{TransactionState, ReadResultState, begun}
-use Rattle.journal_core.specs.Pairs.{IsMarkDue, MarksBoth, MarksAll}
-use Rattle.journal_core.specs.Holds.{IsBetween, FindsInMemory, LacksBlock, RefusesRead, AnswersRead, CommitsInMemory, LacksBlocks, RefusesCommit, KeepsCopies, AnswersSession, FencesSession, AnswersFence, Stops, FetchesBlocks, AnswersFetch, AnswersGroupCall, AnswersHomeCall, MarksOrCuts, AnswersMarkOrCut, Trims, NotesFault}
+use Rattle.journal_parts.specs.declared.step.LogStep.{LogStep}
+use Rattle.journal_parts.specs.declared.step.LogStep.TheVariants.{Marked}
+use Rattle.journal_memory.specs.Causes.{CauseState}
+use Rattle.journal_memory.specs.Ledgers.{LedgerState}
+use Rattle.journal_parts.specs.Cores.{Leaves}
+use Rattle.journal_memory.specs.Fences.{AddsFence}
+use Rattle.journal_parts.specs.Durables.{DurableState, disk_of, Leaves as LeavesDurable}
+use Rattle.journal_memory.specs.Fetches.{FetchedState, IsFetched, IsBlockAfter}
+use Rattle.journal_memory.specs.Volatiles.{VolatileState, IsVolatile}
+use Rattle.journal_memory.specs.Transactions.{TransactionState, ReadResultState, begun}
+use Rattle.journal_parts.specs.Pairs.{IsMarkDue, MarksBoth, MarksAll}
+use Rattle.journal_parts.specs.Holds.{IsBetween, FetchesBlocks, AnswersFetch, AnswersGroupCall, AnswersHomeCall, MarksOrCuts, AnswersMarkOrCut, Trims, NotesFault}
+use Rattle.journal_memory.specs.VolatileHolds.{FindsInMemory, LacksBlock, RefusesRead, AnswersRead, CommitsInMemory, LacksBlocks, RefusesCommit, KeepsCopies, AnswersSession, FencesSession, AnswersFence, Stops}
 use Rattle.journal_core.specs.Outcomes.{Answer, Tells, TellsAll, HoldsImage}
 use Rattle.journal_core.specs.Outcomes.Answer.{nothing, value, committed, marked, fenced, waited, imaged, crashed, reopened}
 use Rattle.journal_core.specs.TwoLocks.{Event, Parts, history_of, Mount, Machine, mounted, holds, with_parts, with_volatile, with_durable, with_transaction, with_slot, with_fetched, ended, keeping, layout_of, BeginsApart, Ignores, BeginsTransaction, TakesSlot, ReadsUnderSlot, OverwritesUnderSlot, Finishes, MakesFence, MarksOrCutsBoth, WaitsFor, Flushes, TakesImage, HappensUp, HappensDown, Happens, Run, HasHistory, IsUndisturbed, StaysFetched}
@@ -40,9 +42,9 @@ use Rattle.journal_core.specs.TwoLocks.Event.{begins, takes, reads, overwrites, 
 use Rattle.journal_core.specs.TwoLocks.Event.{commits as finishes}
 use Rattle.journal_core.specs.TwoLocks.Machine.{up, down}
 use Rattle.journal_core.proofs.Holding.{IsSound, begun_sound, sound_held, keeps_taken, keeps_given, sound_marked, sound_fenced, sound_committed, sound_read, sound_overwritten, is_holder}
-use Rattle.journal_core.proofs.Fronts.{at-layout, at-longer, count-longer, trusted-longer}
-use Rattle.journal_core.proofs.Pairing.{begins_not, leaves_history, made_in}
-use Rattle.journal_core.proofs.Between.{between_fetch, between_group, between_home, between_mark_or_cut, between_trimmed, between_noted, between_commit, between_roomed, between_copied, between_counted, between_fenced, fetch_honest, group_honest, home_honest, mark_or_cut_honest}
+use Rattle.journal_memory.proofs.Fronts.{at-layout, at-longer, count-longer, trusted-longer}
+use Rattle.journal_parts.proofs.Pairing.{begins_not, leaves_history, made_in}
+use Rattle.journal_parts.proofs.Between.{between_fetch, between_group, between_home, between_mark_or_cut, between_trimmed, between_noted, between_commit, between_roomed, between_copied, between_counted, between_fenced, fetch_honest, group_honest, home_honest, mark_or_cut_honest}
 
 -- What holds of two parts whose locks are free
 pub record IsRunning (rule : Map → Type 0) (p : Parts) : Type 0 where

@@ -3,12 +3,12 @@ use Rattle.std.proofs.Common.{◌≡◌, ◌⊎◌, inl, inr, ⊎_elim, ◌<◌,
 use Rattle.std.proofs.lemmas.Bool.{false≢true, cases_lt}
 use Rattle.std.proofs.lemmas.List.{drop_all, drop-drop}
 use Rattle.journal_world.specs.Addresses.{Shape}
-use Rattle.journal_core.specs.Causes.{CauseState}
+use Rattle.journal_memory.specs.Causes.{CauseState}
 use Rattle.journal_world.specs.declared.refusal.Refusal.{Refusal}
 use Rattle.journal_world.specs.declared.refusal.Refusal.TheVariants.{NoMemory, BadAddress, BadSize, TooLarge, Busy, DeviceFailed, BadLog, BadSuper, Stale, Stranger, Worn, Full, Closed, Fenced}
 use Rattle.journal_world.specs.Histories.{is_trusted, count, floor}
 use Rattle.journal_disk.specs.Images.{EveryImage}
-use Rattle.journal_core.proofs.Fronts.{trusted-longer}
+use Rattle.journal_memory.proofs.Fronts.{trusted-longer}
 use Rattle.journal_block.specs.declared.update.Update.{Update}
 use Rattle.journal_block.specs.Block.{Bytes}
 use Rattle.journal_disk.specs.Disks.{DiskEvent, DiskState}
@@ -16,23 +16,24 @@ use Rattle.journal_disk.specs.Laws.{leaves_also}
 use Rattle.journal_memlog.specs.Logs.{LogState, next_position, tail_of}
 use Rattle.journal_wal.specs.Wal.{WalState, Logging, log_blocks, log_end, log_sync, log_spent, Installing, install_none, install_homes, install_start, install_sync, install_spent, log_steps, log_steps_by, log_call_by, install_steps_by, with_room, free_positions, TriesDueCall, InstallMoves, Frees}
 use Rattle.journal_wal.specs.Groups.{FitsGroup}
-use Rattle.journal_wal.specs.Tails.{DropsCuts}
+use Rattle.journal_tail.specs.Tails.{DropsCuts}
 use Rattle.journal_wal.specs.declared.step.GroupStep.TheVariants.{Put as GroupPut, Logged as GroupLogged}
 use Rattle.journal_wal.specs.declared.step.InstallStep.{InstallStep}
 use Rattle.journal_wal.specs.declared.step.InstallStep.TheVariants.{Freed}
 use Rattle.journal_objlog.specs.ObjectLogs.{IsCutLogged, KeepsMaps, OnlyReads as OnlyReadsLog, is_faulted as is_log_faulted, end_of, disk_of as log_disk}
 use Rattle.journal_objlog.proofs.StepsOfMaps.{KeepsMaps-refl}
-use Rattle.journal_core.specs.declared.step.LogStep.{LogStep}
-use Rattle.journal_core.specs.declared.step.LogStep.TheVariants.{Idle, Cut, Put, Logged, Marked}
-use Rattle.journal_core.specs.Ledgers.{IsMarkRefusal}
-use Rattle.journal_core.specs.Durables.{DurableState, IsDurable, IsFault, IsCallRefusal, IsRoomRefusal, is_faulted, disk_of, Leaves, Crashes as CrashesDurable, LogAnswers as DurableAnswers, InstallAnswers as DurableInstalls, IsInstallRefusal as IsDurableRefusal, LeavesLog as DurableLeaves}
-use Rattle.journal_core.specs.Volatiles.{VolatileState, IsVolatile, outset_of}
-use Rattle.journal_core.specs.Pairs.{Tied, IsMarkDue, IsCutDue, IsRestDue, IsNothingDue, CutsBoth, MarksBoth, MarksAll, DoesWhatIsDue, IsUntied, IsCutRefusal, IsMarkingRefusal, IsRestRefusal, IsDueRefusal}
-use Rattle.journal_core.specs.Cores.{CoreState, IsPair, IsRunning, core_of, outset, with_wal, Crashes, Leaves as LeavesHistory, disk_of as core_disk}
+use Rattle.journal_parts.specs.declared.step.LogStep.{LogStep}
+use Rattle.journal_parts.specs.declared.step.LogStep.TheVariants.{Idle, Cut, Put, Logged, Marked}
+use Rattle.journal_memory.specs.Ledgers.{IsMarkRefusal}
+use Rattle.journal_parts.specs.Durables.{DurableState, IsDurable, IsFault, IsCallRefusal, IsRoomRefusal, is_faulted, disk_of, Leaves, Crashes as CrashesDurable, LogAnswers as DurableAnswers, InstallAnswers as DurableInstalls, IsInstallRefusal as IsDurableRefusal, LeavesLog as DurableLeaves}
+use Rattle.journal_memory.specs.Volatiles.{VolatileState, IsVolatile, outset_of}
+use Rattle.journal_parts.specs.Pairs.{Tied, IsMarkDue, IsCutDue, IsRestDue, IsNothingDue, CutsBoth, MarksBoth, MarksAll, DoesWhatIsDue, IsUntied, IsCutRefusal, IsMarkingRefusal, IsRestRefusal, IsDueRefusal}
+use Rattle.journal_parts.specs.Cores.{CoreState, IsPair, IsRunning, core_of, outset, with_wal, Crashes, Leaves as LeavesHistory, disk_of as core_disk}
 use Rattle.journal_core.specs.Steps.{GoesOnLogging, EndsCycle, CutsGroup, HasLogged, HasUnmarked, MarksDue, LogAnswers, IsLogRefusal, LeavesLog, TriesToLog, IsDeviceRefusal, InstallAnswers, IsInstallRefusal}
-use Rattle.journal_core.proofs.Enduring.{StaysCut, crashes_noted}
-use Rattle.journal_core.proofs.CallsOfLogs.{stays_install, stays_read}
-use Rattle.journal_core.proofs.Pairing.{begins_not, leaves_history, made_in, place_of, tied_stays}
+use Rattle.journal_parts.proofs.Enduring.{StaysCut, crashes_noted}
+use Rattle.journal_parts.proofs.CallsOfLogs.{stays_install, stays_read}
+use Rattle.journal_parts.proofs.Pairing.{begins_not, leaves_history, made_in, place_of, tied_stays}
+use Rattle.journal_parts.proofs.Faults.{failed, volatile_failed}
 
 -- ---- of every pair
 
@@ -63,23 +64,6 @@ crashes_pair layout v w d e pair now crash = record {
 -- where no device call was made
 pub crashes_memory : (layout : Shape) (v w : VolatileState) (d : DurableState) → IsPair layout v d → IsPair layout w d → Crashes (core_of v d) (core_of w d)
 crashes_memory layout v w d pair now = crashes_pair layout v w d d pair now (crashes_noted layout d d d pair.durable refl pair.durable refl)
-
--- the volatile part has noted a fault
-abbrev pub failed : VolatileState → VolatileState
-failed v = record v { faulted = true }
-
-pub volatile_failed : (layout : Shape) (v : VolatileState) → IsVolatile layout v → IsVolatile layout (failed v)
-volatile_failed layout v kept = record {
-  size = kept.size;
-  begun = kept.begun;
-  on_disk = kept.on_disk;
-  made = kept.made;
-  cut_to_next = kept.cut_to_next;
-  small = kept.small;
-  cuts = λ k c lt. let was = kept.cuts k c lt in record { above = was.above; below = was.below; earlier = was.earlier };
-  updates = λ trusted. let has = kept.updates trusted in record { since = has.since; since_last = has.since_last };
-  known = kept.known;
-}
 
 tied_failed : (v : VolatileState) (d : DurableState) → Tied v d → Tied (failed v) d
 tied_failed v d tied = record {

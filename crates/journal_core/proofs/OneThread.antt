@@ -6,16 +6,17 @@ use Rattle.journal_world.specs.declared.refusal.Refusal.TheVariants.{NoMemory, B
 use Rattle.journal_world.specs.Addresses.{Shape}
 use Rattle.journal_world.specs.Histories.{count}
 use Rattle.journal_wal.specs.Wal.{log_steps}
-use Rattle.journal_core.specs.declared.step.LogStep.{LogStep}
-use Rattle.journal_core.specs.declared.step.LogStep.TheVariants.{Idle, Cut, Put, Logged, Marked}
-use Rattle.journal_core.specs.Causes.{CauseState}
-use Rattle.journal_core.specs.Volatiles.{VolatileState, IsVolatile}
-use Rattle.journal_core.specs.Durables.{DurableState, Crashes, is_faulted, IsInstallRefusal as IsDurableRefusal}
-use Rattle.journal_core.specs.Pairs.{IsMarkDue, MarksBoth, MarksAll, DoesWhatIsDue}
-use Rattle.journal_core.specs.Cores.{IsPair, IsRunning, core_of}
+use Rattle.journal_parts.specs.declared.step.LogStep.{LogStep}
+use Rattle.journal_parts.specs.declared.step.LogStep.TheVariants.{Idle, Cut, Put, Logged, Marked}
+use Rattle.journal_memory.specs.Causes.{CauseState}
+use Rattle.journal_memory.specs.Volatiles.{VolatileState, IsVolatile}
+use Rattle.journal_parts.specs.Durables.{DurableState, Crashes, is_faulted, IsInstallRefusal as IsDurableRefusal}
+use Rattle.journal_parts.specs.Pairs.{IsMarkDue, MarksBoth, MarksAll, DoesWhatIsDue}
+use Rattle.journal_parts.specs.Cores.{IsPair, IsRunning, core_of}
 use Rattle.journal_core.specs.Steps.{LogAnswers, IsLogRefusal, LeavesLog, TriesToLog, IsInstallRefusal}
-use Rattle.journal_core.specs.Holds.{AnswersMarkOrCut}
-use Rattle.journal_core.proofs.Joining.{failed, pair_due, due_done, due_fault, due_refused, due_roomed, roomed_leaves, roomed_tries, roomed_fault, install_fails, install_unmade}
+use Rattle.journal_parts.specs.Holds.{AnswersMarkOrCut}
+use Rattle.journal_parts.proofs.Faults.{failed}
+use Rattle.journal_core.proofs.Joining.{pair_due, due_done, due_fault, due_refused, due_roomed, roomed_leaves, roomed_tries, roomed_fault, install_fails, install_unmade}
 
 module _ (n : Shape) (v : VolatileState) (d : DurableState) (pair : IsPair n v d) (running : IsRunning (core_of v d)) (none : log_steps d.objects ≡ 0) (w : VolatileState) (e : DurableState) where
   -- a stop is no hold of both

@@ -7,14 +7,14 @@ use mathlib.Core.List.{IsPrefix}
 use Rattle.journal_world.specs.declared.address.Addr.{Addr}
 use Rattle.journal_world.specs.declared.refusal.Refusal.{Refusal}
 use Rattle.journal_world.specs.declared.refusal.Refusal.TheVariants.{NoMemory, BadAddress, BadSize, TooLarge, Busy, DeviceFailed, BadLog, BadSuper, Stale, Stranger, Worn, Full, Closed, Fenced}
-use Rattle.journal_core.specs.Causes.{CauseState}
-use Rattle.journal_core.specs.Transactions.{TransactionState}
-use Rattle.journal_core.specs.Outsets.{Outset, MayRead, IsCheckRefusal}
-use Rattle.journal_core.specs.Durables.{FetchedState}
-use Rattle.journal_core.specs.Volatiles.{VolatileState, IsReadRefusal as IsRefusedIn, outset_of}
-use Rattle.journal_core.specs.Cores.{CoreState, outset}
+use Rattle.journal_memory.specs.Causes.{CauseState}
+use Rattle.journal_memory.specs.Transactions.{TransactionState}
+use Rattle.journal_memory.specs.Outsets.{Outset, MayRead, IsCheckRefusal}
+use Rattle.journal_memory.specs.Fetches.{FetchedState}
+use Rattle.journal_memory.specs.Volatiles.{VolatileState, IsReadRefusal as IsRefusedIn, outset_of}
+use Rattle.journal_parts.specs.Cores.{CoreState, outset}
 use Rattle.journal_core.specs.Steps.{IsReadRefusal}
-use Rattle.journal_core.proofs.Pairing.{begins_not}
+use Rattle.journal_parts.proofs.Pairing.{begins_not}
 
 -- by what is known before the value is looked for
 check_refused : (layout : Shape) (c : CoreState) (t : TransactionState) (a : Addr) (why : Refusal CauseState) → IsCheckRefusal layout (outset c) t a why → IsReadRefusal layout c t a c why

@@ -8,8 +8,8 @@ use Rattle.journal_world.specs.declared.address.Addr.{Addr}
 use Rattle.journal_world.specs.declared.refusal.Refusal.{Refusal}
 use Rattle.journal_world.specs.declared.refusal.Refusal.TheVariants.{NoMemory, BadAddress, BadSize, TooLarge, Busy, DeviceFailed, BadLog, BadSuper, Stale, Stranger, Worn, Full, Closed, Fenced}
 use Rattle.journal_wal.specs.declared.step.InstallStep.{InstallStep}
-use Rattle.journal_core.specs.declared.step.LogStep.{LogStep}
-use Rattle.journal_core.specs.declared.step.LogStep.TheVariants.{Marked}
+use Rattle.journal_parts.specs.declared.step.LogStep.{LogStep}
+use Rattle.journal_parts.specs.declared.step.LogStep.TheVariants.{Marked}
 use Rattle.journal_world.specs.Addresses.{slot_of, Shape}
 use Rattle.journal_world.specs.Maps.{Map, Pair, Transaction, SameMap, value_at}
 use Rattle.journal_world.specs.Histories.{Entry, opened, is_trusted, latest, commits_of, at, Follows, IsTrueTo, IsLegal}
@@ -22,15 +22,15 @@ use Rattle.journal_block.specs.Block.{Bytes}
 use Rattle.journal_disk.specs.Disks.{DiskState, Past}
 use Rattle.journal_disk.specs.Images.{IsImage, EveryImage}
 use Rattle.journal_objlog.specs.Maps.{OpensAs}
-use Rattle.journal_objlog.proofs.MapsOfBlocks.{same_objects}
+use Rattle.journal_tail.proofs.MapsOfBlocks.{same_objects}
 use Rattle.journal_history.specs.Tokens.{SessionState, made, next_transaction, Commits}
-use Rattle.journal_core.specs.Causes.{CauseState}
-use Rattle.journal_core.specs.Durables.{FetchedState, IsFetched, IsBlockAfter}
-use Rattle.journal_core.specs.Cores.{CoreState, Leaves, Crashes}
-use Rattle.journal_core.specs.Transactions.{TransactionState, begun}
+use Rattle.journal_memory.specs.Causes.{CauseState}
+use Rattle.journal_memory.specs.Fetches.{FetchedState, IsFetched, IsBlockAfter}
+use Rattle.journal_parts.specs.Cores.{CoreState, Leaves, Crashes}
+use Rattle.journal_memory.specs.Transactions.{TransactionState, begun}
 use Rattle.journal_core.specs.Steps.{Marks, IsInstallRefusal}
 use Rattle.journal_core.specs.FenceSteps.{AddsFence, AnswersFence}
-use Rattle.journal_core.specs.Openings.{Begins}
+use Rattle.journal_parts.specs.Openings.{Begins}
 use Rattle.journal_core.specs.Interleavings.{Event, Mount, Machine, mounted, holds, with_core, with_transaction, with_slot, with_fetched, ended, keeping, layout_of, FindsValue, ReadsValue, IsUnread, CommitsTransaction, RefusesCommit, LogsStep, AnswersLog, AnswersInstall, AnswersSession, AnswersFetch, Ignores, BeginsTransaction, TakesSlot, ReadsUnderSlot, OverwritesUnderSlot, Finishes, MakesLogStep, MakesFence, HappensUp, HappensDown, Happens, Run, HasHistory, IsUndisturbed, StaysFetched}
 use Rattle.journal_core.specs.Outcomes.{Answer, Tells, TellsAll, HoldsImage}
 use Rattle.journal_core.specs.Interleavings.Event.{begins, takes, reads, overwrites, aborts, fetches, joins, fences, stops, logs, installs, crashes, opens}
@@ -38,9 +38,9 @@ use Rattle.journal_core.specs.Interleavings.Event.{commits as finishes}
 use Rattle.journal_core.specs.Outcomes.Answer.{nothing, value, committed, marked, fenced, waited, imaged, crashed, reopened}
 use Rattle.journal_core.specs.Interleavings.Machine.{up, down}
 use Rattle.journal_core.proofs.Holding.{IsSound, begun_sound, sound_held, keeps_taken, keeps_given, sound_marked, sound_fenced, sound_committed, sound_read, sound_overwritten, is_holder}
-use Rattle.journal_core.specs.Cores.{disk_of}
-use Rattle.journal_core.proofs.Fronts.{at-layout, at-longer, count-longer, trusted-longer}
-use Rattle.journal_core.proofs.Pairing.{begins_not}
+use Rattle.journal_parts.specs.Cores.{disk_of}
+use Rattle.journal_memory.proofs.Fronts.{at-layout, at-longer, count-longer, trusted-longer}
+use Rattle.journal_parts.proofs.Pairing.{begins_not}
 
 -- What holds of every core that runs
 pub record IsRunning (rule : Map → Type 0) (c : CoreState) : Type 0 where

@@ -7,12 +7,12 @@ use Rattle.journal_block.specs.declared.update.Update.{Update}
 use Rattle.journal_block.specs.Updates.{updates_block}
 use Rattle.journal_memlog.specs.Logs.{absorbed}
 use Rattle.journal_objlog.specs.ObjectLogs.{OnlyReads as OnlyReadsLog}
-use Rattle.journal_objlog.specs.Writes.{writes_block, written_blocks}
+use Rattle.journal_tail.specs.Writes.{writes_block, written_blocks}
 use Rattle.journal_history.specs.Tokens.{SessionState, next_transaction as numbered, Commits}
-use Rattle.journal_core.specs.Causes.{CauseState}
-use Rattle.journal_core.specs.Transactions.{TransactionState}
-use Rattle.journal_core.specs.Outsets.{CanCommit as CanCommitFrom, IsCommitRefusal as IsRefusedFrom}
-use Rattle.journal_core.specs.Cores.{CoreState, ObjectsState, outset}
+use Rattle.journal_memory.specs.Causes.{CauseState}
+use Rattle.journal_memory.specs.Transactions.{TransactionState}
+use Rattle.journal_memory.specs.Outsets.{CanCommit as CanCommitFrom, IsCommitRefusal as IsRefusedFrom}
+use Rattle.journal_parts.specs.Cores.{CoreState, ObjectsState, outset}
 use Rattle.journal_core.specs.Steps.{IsStopped, IsDeviceRefusal}
 
 -- The disk was only read, and one update of each block that is written was appended to the tail, and no other

@@ -3,9 +3,9 @@ use Rattle.std.specs.Prelude.{ℕ, ◌≡◌, ◌⊎◌, ◌+◌, ◌++◌, ◌�
 use Rattle.journal_world.specs.declared.refusal.Refusal.{Refusal}
 use Rattle.journal_world.specs.Histories.{is_fenced}
 use Rattle.journal_world.specs.Histories.Entry.{fence}
-use Rattle.journal_core.specs.Causes.{CauseState}
-use Rattle.journal_core.specs.Fences.{IsFenceRefusal as IsRefusedFrom}
-use Rattle.journal_core.specs.Cores.{CoreState, Crashes, outset}
+use Rattle.journal_memory.specs.Causes.{CauseState}
+use Rattle.journal_memory.specs.Fences.{IsFenceRefusal as IsRefusedFrom}
+use Rattle.journal_parts.specs.Cores.{CoreState, Crashes, outset}
 
 -- The fence was added to the history, and nothing else was done. No session gets the number from then on
 pub record AddsFence (session : ℕ) (old new : CoreState) : Type 0 where

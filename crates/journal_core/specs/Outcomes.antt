@@ -9,7 +9,7 @@ use Rattle.journal_block.specs.Block.{Bytes}
 use Rattle.journal_disk.specs.Disks.{Past, DiskState, IsSettled}
 use Rattle.journal_disk.specs.Images.{IsImage}
 use Rattle.journal_disk.specs.Moments.{Extends}
-use Rattle.journal_core.specs.Cores.{Leaves}
+use Rattle.journal_parts.specs.Cores.{Leaves}
 
 -- What is answered: a value, a commit, a mark, a fence, that so many commits are marked, an image
 -- of the disk, or nothing, where nothing is asked or it is refused; that the mount ended by a

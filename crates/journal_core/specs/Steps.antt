@@ -12,14 +12,14 @@ use Rattle.journal_wal.specs.Groups.{FitsGroup, TakesGroup}
 use Rattle.journal_objlog.specs.ObjectLogs.{KeepsMaps}
 use Rattle.journal_history.specs.Tokens.{SessionState}
 use Rattle.journal_wal.specs.declared.step.InstallStep.{InstallStep}
-use Rattle.journal_core.specs.declared.step.LogStep.{LogStep}
-use Rattle.journal_core.specs.declared.step.LogStep.TheVariants.{Idle, Cut, Put, Logged, Marked}
-use Rattle.journal_core.specs.declared.refusal_number.RefusalNumber.TheVariants.{J6, J13}
-use Rattle.journal_core.specs.Causes.{CauseState, IsUnexplained}
-use Rattle.journal_core.specs.Transactions.{TransactionState}
-use Rattle.journal_core.specs.Ledgers.{IsBehind, IsNumberRefusal, IsStaleRefusal, IsMarkRefusal}
-use Rattle.journal_core.specs.Outsets.{IsEndRefusal as IsEndOf, MayRead as MayReadFrom}
-use Rattle.journal_core.specs.Cores.{CoreState, is_faulted, IsRunning, disk_of, Crashes, tail_length, start_of, end_of, with_wal, outset}
+use Rattle.journal_parts.specs.declared.step.LogStep.{LogStep}
+use Rattle.journal_parts.specs.declared.step.LogStep.TheVariants.{Idle, Cut, Put, Logged, Marked}
+use Rattle.journal_memory.specs.declared.refusal_number.RefusalNumber.TheVariants.{J6, J13}
+use Rattle.journal_memory.specs.Causes.{CauseState, IsUnexplained}
+use Rattle.journal_memory.specs.Transactions.{TransactionState}
+use Rattle.journal_memory.specs.Ledgers.{IsBehind, IsNumberRefusal, IsStaleRefusal, IsMarkRefusal}
+use Rattle.journal_memory.specs.Outsets.{IsEndRefusal as IsEndOf, MayRead as MayReadFrom}
+use Rattle.journal_parts.specs.Cores.{CoreState, is_faulted, IsRunning, disk_of, Crashes, tail_length, start_of, end_of, with_wal, outset}
 
 -- The logger
 

@@ -16,17 +16,19 @@ use Rattle.journal_objlog.specs.ObjectLogs.{end_of}
 use Rattle.journal_history.specs.Tokens.{SessionState, next_transaction}
 use Rattle.journal_wal.specs.declared.step.GroupStep.{GroupStep}
 use Rattle.journal_wal.specs.declared.step.InstallStep.{InstallStep}
-use Rattle.journal_core.specs.declared.step.LogStep.{LogStep}
-use Rattle.journal_core.specs.declared.step.LogStep.TheVariants.{Marked}
-use Rattle.journal_core.specs.Causes.{CauseState}
-use Rattle.journal_core.specs.Cores.{core_of}
-use Rattle.journal_core.specs.Transactions.{TransactionState, ReadResultState, begun, AreUnmoved, Remembers, Overwrites}
-use Rattle.journal_core.specs.Ledgers.{IsBehind}
-use Rattle.journal_core.specs.Fences.{AddsFence}
-use Rattle.journal_core.specs.Durables.{DurableState, FetchedState, IsBlockAfter, Crashes, disk_of}
-use Rattle.journal_core.specs.Volatiles.{VolatileState, IsFrontRefusal}
-use Rattle.journal_core.specs.Openings.{Begins}
-use Rattle.journal_core.specs.Holds.{IsBetween, FindsInMemory, AnswersRead, CommitsInMemory, LacksBlocks, RefusesCommit, KeepsCopies, AnswersSession, FencesSession, AnswersFence, Stops, AnswersWait, AnswersFlush, AnswersShow, AnswersFetch, AnswersGroupCall, AnswersHomeCall, MarksOrCuts, AnswersMarkOrCut, Trims, NotesFault, ShowsDisk, RefusesDisk}
+use Rattle.journal_parts.specs.declared.step.LogStep.{LogStep}
+use Rattle.journal_parts.specs.declared.step.LogStep.TheVariants.{Marked}
+use Rattle.journal_memory.specs.Causes.{CauseState}
+use Rattle.journal_parts.specs.Cores.{core_of}
+use Rattle.journal_memory.specs.Transactions.{TransactionState, ReadResultState, begun, AreUnmoved, Remembers, Overwrites}
+use Rattle.journal_memory.specs.Ledgers.{IsBehind}
+use Rattle.journal_memory.specs.Fences.{AddsFence}
+use Rattle.journal_parts.specs.Durables.{DurableState, Crashes, disk_of}
+use Rattle.journal_memory.specs.Fetches.{FetchedState, IsBlockAfter}
+use Rattle.journal_memory.specs.Volatiles.{VolatileState, IsFrontRefusal}
+use Rattle.journal_parts.specs.Openings.{Begins}
+use Rattle.journal_parts.specs.Holds.{IsBetween, AnswersFetch, AnswersGroupCall, AnswersHomeCall, MarksOrCuts, AnswersMarkOrCut, Trims, NotesFault, ShowsDisk, RefusesDisk}
+use Rattle.journal_memory.specs.VolatileHolds.{FindsInMemory, AnswersRead, CommitsInMemory, LacksBlocks, RefusesCommit, KeepsCopies, AnswersSession, FencesSession, AnswersFence, Stops, AnswersWait, AnswersFlush, AnswersShow}
 use Rattle.journal_core.specs.Outcomes.{Answer, TellsAll, IsLeftBetween, HoldsImage, is_actor}
 use Rattle.journal_core.specs.Outcomes.Answer.{nothing, value, committed, marked, fenced, waited, imaged, crashed, reopened}
 

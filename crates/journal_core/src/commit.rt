@@ -4,20 +4,20 @@ ghost use Rattle.journal_world.specs.Maps.{Map, Agrees, overwritten};
 ghost use Rattle.journal_world.specs.Histories.{is_trusted, latest};
 ghost use Rattle.journal_history.specs.Tokens.{next_transaction, OnlyExtends, IsReceiptFor};
 ghost use Rattle.journal_lockmap.specs.Numbers.{AreApart, HoldsSlots, slots_of};
-ghost use Rattle.journal_core.specs.SlotCounts.{AgreeWith, AreUnder};
-ghost use Rattle.journal_core.specs.Transactions.{AreUnmoved};
-ghost use Rattle.journal_core.specs.Cores.{Crashes, IsRunning, OnlyReads};
-ghost use Rattle.journal_core.specs.Ledgers.{ShowsLonger};
+ghost use Rattle.journal_memory.specs.SlotCounts.{AgreeWith, AreUnder};
+ghost use Rattle.journal_memory.specs.Transactions.{AreUnmoved};
+ghost use Rattle.journal_parts.specs.Cores.{Crashes, IsRunning, OnlyReads};
+ghost use Rattle.journal_memory.specs.Ledgers.{ShowsLonger};
 ghost use Rattle.journal_core.specs.Commits.{IsCommitted, CanCommit, IsCommitRefusal};
 ghost use Rattle.journal_core.specs.Interleavings.{AnswersCommit};
 
-use crate::cause::Cause;
+use crate::pair_commit::commit_step;
 use crate::state::Core;
-use crate::transaction::Transaction;
 use journal_disk::BlockDisk;
 use journal_history::{Naming, Receipt, Session};
 use journal_lockmap::Held;
-use journal_objlog::Spares;
+use journal_memory::{Cause, Transaction};
+use journal_tail::Spares;
 use journal_world::{MapRule, Refusal};
 use std::sync::Wait;
 
@@ -107,6 +107,15 @@ impl<'b, D: BlockDisk, R: MapRule, J: Naming> Core<'b, D, R, J> {
             volatile,
             ..
         } = self;
-        durable.commit_step(rt, alloc, volatile, session, transaction, held, spares)
+        commit_step(
+            rt,
+            alloc,
+            durable,
+            volatile,
+            session,
+            transaction,
+            held,
+            spares,
+        )
     }
 }

@@ -2,13 +2,13 @@
 ghost use Rattle.std.specs.Prelude.{◌≡◌, true, IfErr, OnOk, OnErr};
 ghost use Rattle.journal_world.specs.Histories.{is_fenced};
 ghost use Rattle.journal_history.specs.Tokens.{OnlyExtends};
-ghost use Rattle.journal_core.specs.Cores.{Crashes};
+ghost use Rattle.journal_parts.specs.Cores.{Crashes};
 ghost use Rattle.journal_core.specs.FenceSteps.{SetsFence, IsFenceRefusal, AnswersFence};
 
-use crate::cause::Cause;
 use crate::state::Core;
 use journal_disk::BlockDisk;
 use journal_history::{Naming, Session};
+use journal_memory::Cause;
 use journal_world::{MapRule, Refusal};
 use std::sync::Wait;
 

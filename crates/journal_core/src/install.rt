@@ -1,13 +1,14 @@
 // A step of the installer.
 ghost use Rattle.std.specs.Prelude.{IfOk, IfErr, OnOk, OnErr};
-ghost use Rattle.journal_core.specs.Cores.{Crashes, IsRunning};
+ghost use Rattle.journal_parts.specs.Cores.{Crashes, IsRunning};
 ghost use Rattle.journal_core.specs.Steps.{InstallAnswers, IsInstallRefusal, LeavesLog, TriesToInstall};
 ghost use Rattle.journal_core.specs.Interleavings.{AnswersInstall};
 
-use crate::cause::Cause;
+use crate::pair_steps::install_step;
 use crate::state::Core;
 use journal_disk::BlockDisk;
 use journal_history::Naming;
+use journal_memory::Cause;
 use journal_wal::InstallStep;
 use journal_world::{MapRule, Refusal};
 
@@ -33,6 +34,6 @@ impl<'b, D: BlockDisk, R: MapRule, J: Naming> Core<'b, D, R, J> {
             volatile,
             ..
         } = self;
-        durable.install_step(volatile)
+        install_step(durable, volatile)
     }
 }

@@ -3,9 +3,9 @@ ghost use Rattle.std.specs.Prelude.{ℕ, ◌≡◌, List, Some, IsTrue, All};
 ghost use Rattle.journal_world.specs.Histories.{IsLegal, Entry};
 ghost use Rattle.journal_world.specs.Addresses.{Shape};
 ghost use Rattle.journal_disk.specs.Disks.{DiskState};
-ghost use Rattle.journal_core.specs.Transactions.{TransactionState};
+ghost use Rattle.journal_memory.specs.Transactions.{TransactionState};
 ghost use Rattle.journal_core.specs.Outcomes.{Answer, TellsAll};
-ghost use Rattle.journal_core.specs.Holds.{IsBetween};
+ghost use Rattle.journal_parts.specs.Holds.{IsBetween};
 ghost use Rattle.journal_core.specs.TwoLocks.Machine.{up};
 ghost use Rattle.journal_core.specs.TwoLocks.{Event, Machine, Mount, Parts, history_of, layout_of, mounted, BeginsApart, Run, HasHistory, IsUndisturbed, StaysFetched};
 

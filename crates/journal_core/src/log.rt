@@ -1,14 +1,15 @@
 // A step of the logger, or a mark.
 ghost use Rattle.std.specs.Prelude.{IfOk, IfErr, OnOk, OnErr};
-ghost use Rattle.journal_core.specs.Cores.{Crashes, IsRunning};
+ghost use Rattle.journal_parts.specs.Cores.{Crashes, IsRunning};
 ghost use Rattle.journal_core.specs.Steps.{LogAnswers, IsLogRefusal, LeavesLog, TriesToLog};
 ghost use Rattle.journal_core.specs.Interleavings.{AnswersLog};
 
-use crate::cause::Cause;
+use crate::pair_steps::log_step;
 use crate::state::Core;
-use crate::step::LogStep;
 use journal_disk::BlockDisk;
 use journal_history::Naming;
+use journal_memory::Cause;
+use journal_parts::LogStep;
 use journal_world::{MapRule, Refusal};
 
 impl<'b, D: BlockDisk, R: MapRule, J: Naming> Core<'b, D, R, J> {
@@ -35,6 +36,6 @@ impl<'b, D: BlockDisk, R: MapRule, J: Naming> Core<'b, D, R, J> {
             volatile,
             ..
         } = self;
-        durable.log_step(volatile)
+        log_step(durable, volatile)
     }
 }

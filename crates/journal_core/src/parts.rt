@@ -1,19 +1,19 @@
 // The core's two parts, apart: for a lock of each.
 ghost use Rattle.std.specs.Prelude.{◌≡◌};
-ghost use Rattle.journal_core.specs.Cores.{IsPair, core_of};
-ghost use Rattle.journal_core.specs.Holds.{IsBetween};
+ghost use Rattle.journal_parts.specs.Cores.{IsPair, core_of};
+ghost use Rattle.journal_parts.specs.Holds.{IsBetween};
 
-use crate::durable::Durable;
 use crate::state::Core;
-use crate::volatile::Volatile;
 use journal_disk::BlockDisk;
 use journal_history::Naming;
+use journal_memory::Volatile;
+use journal_parts::Durable;
 use journal_world::MapRule;
 
 impl<'b, D: BlockDisk, R: MapRule, J: Naming> Core<'b, D, R, J> {
     /// Its two parts, for a lock of each. What ties them is asked for by none of their own calls: each looks at what it
     /// needs of the other where both are held.
-    #[tactic(auto, using(crate::proofs::Between::between_pair))]
+    #[tactic(auto, using(journal_parts::proofs::Between::between_pair))]
     pub fn into_parts(self) -> (Durable<'b, D, R, J>, Volatile<'b, R, J>)
         ensures parts { core_of result.1 result.0 ≡ self.entry }
         ensures pair { IsPair J.layout result.1 result.0 }

@@ -2,15 +2,15 @@
 ghost use Rattle.std.specs.Prelude.{◌≡◌, ◌≤◌, ◌^◌, ◌+◌, ◌↔◌, [], length, IsTrue, IfOk, IfErr, OnOk, OnErr};
 ghost use Rattle.journal_world.specs.Histories.{floor};
 ghost use Rattle.journal_history.specs.Tokens.{IsExact, OnlyExtends};
-ghost use Rattle.journal_core.specs.Waits.{MayWait, IsWaitRefusal};
-ghost use Rattle.journal_core.specs.Cores.{Crashes, outset};
+ghost use Rattle.journal_memory.specs.Waits.{MayWait, IsWaitRefusal};
+ghost use Rattle.journal_parts.specs.Cores.{Crashes, outset};
 ghost use Rattle.journal_core.specs.Steps.{BeginsSession, Stops, IsSessionRefusal, IsShowRefusal};
 ghost use Rattle.journal_core.specs.Interleavings.{AnswersSession};
 
-use crate::cause::Cause;
 use crate::state::Core;
 use journal_disk::BlockDisk;
 use journal_history::{Naming, Session};
+use journal_memory::Cause;
 use journal_world::{MapRule, Refusal};
 use std::sync::Wait;
 

@@ -3,37 +3,20 @@ ghost use Rattle.std.specs.Prelude.{ℕ, ◌≡◌, IsTrue, IfErr, OnOk};
 ghost use Rattle.journal_world.specs.Histories.{opened, is_trusted, count, floor};
 ghost use Rattle.journal_disk.specs.Images.{EveryImage};
 ghost use Rattle.journal_history.specs.Soundness.{IsSound};
-ghost use Rattle.journal_core.specs.SlotCounts.{AgreeWith};
-ghost use Rattle.journal_core.specs.Cores.{Leaves, Crashes, IsRunning, disk_of, start_of, end_of};
+ghost use Rattle.journal_memory.specs.SlotCounts.{AgreeWith};
+ghost use Rattle.journal_parts.specs.Cores.{Leaves, Crashes, IsRunning, disk_of, start_of, end_of};
 ghost use Rattle.journal_core.specs.Steps.{IsEndRefusal};
 
-use crate::cause::Cause;
-use crate::durable::Durable;
-use crate::volatile::Volatile;
 use journal_block::Update;
 use journal_disk::{BlockDisk, MemDisk};
 use journal_history::{Front, Naming};
 use journal_lockmap::Held;
+use journal_memory::{Cause, Volatile};
+use journal_parts::{Durable, Stat};
 use journal_world::{MapRule, Refusal};
 use std::alloc::Global;
 use std::marker::Model;
 use std::sync::Wait;
-
-/// The history's length and the sessions' numbers stay below this.
-pub(crate) const MAX_HISTORY_LENGTH: u64 = 1 << 62;
-
-/// The numbers of a mount.
-#[derive(Clone, Copy, Debug, PartialEq, Eq)]
-pub struct Stat {
-    /// How many commits the history has.
-    pub commits: u64,
-    /// How many of them are marked as stable.
-    pub floor: u64,
-    /// Where the log on the disk starts, as last synced: a position.
-    pub start: u64,
-    /// Where it ends.
-    pub end: u64,
-}
 
 /// The core of a journal, lent the book of its history.
 #[derive(Drop)]
@@ -46,7 +29,7 @@ pub struct Core<'b, D: BlockDisk, R: MapRule, J: Naming> {
 }
 
 impl<'b, D: BlockDisk, R: MapRule, J: Naming> Model for Core<'b, D, R, J> {
-    ghost use Rattle.journal_core.specs.Cores.{CoreState, IsCore, core_of};
+    ghost use Rattle.journal_parts.specs.Cores.{CoreState, IsCore, core_of};
 
     ghost Value = { CoreState };
 
@@ -65,10 +48,10 @@ impl<'b, D: BlockDisk, R: MapRule, J: Naming> Core<'b, D, R, J> {
           end = end_of self.now.objects;
         } }
     {
-        let (start, end) = self.durable.objects.log_range();
+        let (start, end) = self.durable.log_range();
         Stat {
-            commits: self.volatile.ledger.count(),
-            floor: self.volatile.ledger.floor(),
+            commits: self.volatile.commits(),
+            floor: self.volatile.floor(),
             start,
             end,
         }
@@ -102,7 +85,7 @@ impl<'b, D: BlockDisk, R: MapRule, J: Naming> Core<'b, D, R, J> {
         ensures trusted { is_trusted self.now.history ≡ (disk_of self.now).honest }
         ensures sound { IsSound R.statement self.now.history }
     {
-        self.volatile.ledger.front()
+        self.volatile.front()
     }
 
     /// The disk, lent. Where it was honest and settled when it was opened, each image that a crash may leave of it

@@ -2,9 +2,9 @@
 ghost use Rattle.std.specs.Prelude.{IsOkUnless};
 
 use crate::steps::{Gate, INSTALLER, LOGGER, OneStep, run};
-use journal_core::Cause;
 use journal_disk::BlockDisk;
 use journal_history::Naming;
+use journal_memory::Cause;
 use journal_twophase::{Journal, JournalRefusal};
 use journal_world::{MapRule, Refusal, Step};
 use std::rt::Clock;

@@ -8,7 +8,7 @@ use Rattle.journal_world.specs.declared.moment.TheConstants.{MAX_NANOS}
 use Rattle.journal_world.specs.Addresses.{Shape}
 use Rattle.journal_world.specs.Maps.{Map}
 use Rattle.journal_twophase.specs.Transactions.{TxnState}
-use Rattle.journal_wal.specs.declared.limits.TheConstants.{MAX_UPDATES}
+use Rattle.journal_tail.specs.declared.limits.TheConstants.{MAX_UPDATES}
 use Rattle.journal_inode.specs.declared.version.FormatVersion.{FormatVersion}
 use Rattle.journal_inode.specs.declared.node.Time.{Time}
 use Rattle.journal_inode.specs.declared.node.FileNode.{FileNode}

@@ -8,7 +8,7 @@ use Rattle.journal_world.specs.declared.layout.TheConstants.{BLOCK_BYTES, FIRST_
 use Rattle.journal_world.specs.Addresses.{Value, Shape}
 use Rattle.journal_world.specs.Maps.{Map}
 use Rattle.journal_twophase.specs.Transactions.{TxnState}
-use Rattle.journal_wal.specs.declared.limits.TheConstants.{MAX_UPDATES}
+use Rattle.journal_tail.specs.declared.limits.TheConstants.{MAX_UPDATES}
 use Rattle.journal_inode.specs.declared.version.FormatVersion.{FormatVersion}
 use Rattle.journal_inode.specs.Places.{Object, IsOnDisk, is_same_object, object}
 use Rattle.journal_inode.specs.Places.Object.{superblock, bit, inode, block}

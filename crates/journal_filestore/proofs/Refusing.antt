@@ -18,11 +18,11 @@ use Rattle.journal_world.proofs.Lookups.{same_addr}
 use Rattle.journal_inode.specs.declared.place.TheConstants.{INODES}
 use Rattle.journal_inode.specs.Places.{HasFiles, addr_of}
 use Rattle.journal_inode.specs.Places.Object.{bit, inode, block}
-use Rattle.journal_wal.specs.declared.limits.TheConstants.{MAX_UPDATES}
-use Rattle.journal_objlog.specs.Writes.{writes_block, written_blocks}
+use Rattle.journal_tail.specs.declared.limits.TheConstants.{MAX_UPDATES}
+use Rattle.journal_tail.specs.Writes.{writes_block, written_blocks}
 use Rattle.journal_history.specs.Tokens.{SessionState}
-use Rattle.journal_core.specs.Causes.{CauseState}
-use Rattle.journal_core.specs.Transactions.{TransactionState}
+use Rattle.journal_memory.specs.Causes.{CauseState}
+use Rattle.journal_memory.specs.Transactions.{TransactionState}
 use Rattle.journal_twophase.specs.Transactions.{TxnState, IsReadRefusal, IsOverwriteRefusal}
 use Rattle.journal_twophase.specs.Commits.{IsCommitRefusal}
 use Rattle.journal_filestore.specs.Faults.{IsFilesRefusal, IsAttemptEnd, fault_at}

@@ -5,8 +5,8 @@ use Rattle.journal_world.specs.declared.layout.TheConstants.{FIRST_DATA, BLOCK_B
 use Rattle.journal_world.specs.declared.address.Addr.{Addr}
 use Rattle.journal_world.specs.Addresses.{Value, is_same, Shape}
 use Rattle.journal_world.specs.Maps.{Map, Pair, Agrees, SamePairs, value_among, value_at, overwritten}
-use Rattle.journal_wal.specs.declared.limits.TheConstants.{MAX_UPDATES}
-use Rattle.journal_objlog.specs.Writes.{written_blocks}
+use Rattle.journal_tail.specs.declared.limits.TheConstants.{MAX_UPDATES}
+use Rattle.journal_tail.specs.Writes.{written_blocks}
 use Rattle.journal_twophase.specs.Transactions.{TxnState}
 use Rattle.journal_inode.specs.declared.version.FormatVersion.{FormatVersion}
 use Rattle.journal_inode.specs.declared.node.FileNode.{FileNode}

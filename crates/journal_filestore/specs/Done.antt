@@ -7,7 +7,7 @@ use Rattle.journal_world.specs.declared.refusal.Refusal.{Refusal}
 use Rattle.journal_world.specs.Histories.{Entry, commits_of, count, floor, is_trusted, at, latest}
 use Rattle.journal_world.specs.Histories.Entry.{commit}
 use Rattle.journal_history.specs.Tokens.{SessionState, OnlyExtends, IsExact, CommitPlace}
-use Rattle.journal_core.specs.Causes.{CauseState}
+use Rattle.journal_memory.specs.Causes.{CauseState}
 use Rattle.journal_twophase.specs.Transactions.{TxnState, core_of}
 use Rattle.journal_twophase.specs.Commits.{IsCommitted}
 use Rattle.journal_inode.specs.declared.version.FormatVersion.{FormatVersion}

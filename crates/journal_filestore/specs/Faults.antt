@@ -3,8 +3,8 @@ use Rattle.journal_world.specs.declared.address.Addr.{Addr}
 use Rattle.journal_world.specs.declared.refusal.Refusal.{Refusal}
 use Rattle.journal_world.specs.declared.refusal.Refusal.TheVariants.{NoMemory, BadAddress, Busy, DeviceFailed, Stale, Stranger, Worn, Closed, Fenced}
 use Rattle.journal_history.specs.Tokens.{SessionState}
-use Rattle.journal_core.specs.declared.refusal_number.RefusalNumber.TheVariants.{J6, J9, J10, J11, J13}
-use Rattle.journal_core.specs.Causes.{CauseState, IsUnexplained}
+use Rattle.journal_memory.specs.declared.refusal_number.RefusalNumber.TheVariants.{J6, J9, J10, J11, J13}
+use Rattle.journal_memory.specs.Causes.{CauseState, IsUnexplained}
 use Rattle.journal_twophase.specs.Journals.{IsShown}
 use Rattle.journal_twophase.specs.Waits.{IsWaitRefusal}
 use Rattle.journal_filestore.specs.declared.fault.Fault.{Fault}

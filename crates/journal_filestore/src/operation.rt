@@ -8,10 +8,10 @@ ghost use Rattle.journal_filestore.specs.Faults.{IsAttemptEnd, fault_at};
 
 use crate::block_reservation::BlockReservation;
 use crate::store::{Answer, FileTxn};
-use journal_core::Cause;
 use journal_disk::BlockDisk;
 use journal_history::Naming;
 use journal_inode::{SoundFiles, Version};
+use journal_memory::Cause;
 use journal_world::{Addr, Refusal};
 use std::alloc::AllocError;
 use std::sync::Wait;

@@ -1,8 +1,8 @@
 // The wait that is pending for an operation that is committed.
 use crate::store::Answer;
-use journal_core::Cause;
 use journal_history::Receipt;
 use journal_inode::{SoundFiles, VersionOne};
+use journal_memory::Cause;
 use journal_world::Refusal;
 
 /// The wait that is pending for a committed operation, before it may be answered.

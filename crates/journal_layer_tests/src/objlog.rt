@@ -14,7 +14,8 @@ use crate::world::regions::{FILES, InUse, WHOLE, regions};
 use crate::world::{Bit127IsSet, FirstBitIsClear};
 use journal_block::{Block, Update};
 use journal_disk::{BlockDisk, MemDisk};
-use journal_objlog::{ObjectLog, ObjectTail, Preparation, Spares};
+use journal_objlog::ObjectLog;
+use journal_tail::{ObjectTail, Preparation, Spares};
 use journal_wal::{GroupStep, InstallStep};
 use journal_world::{Addr, Layout, MapRule, Objects, Refusal, Value};
 use std::alloc::Global;
@@ -36,7 +37,7 @@ struct Pair {
 impl Model for Pair {
     ghost use Rattle.std.specs.Prelude.{◌≡◌};
     ghost use Rattle.journal_wal.specs.Wal.{size_of, tail_length};
-    ghost use Rattle.journal_objlog.specs.ObjectTails.{blocks_of};
+    ghost use Rattle.journal_tail.specs.ObjectTails.{blocks_of};
 
     ghost Value = { Unit {0} };
 

@@ -4,13 +4,15 @@
 ghost use Rattle.std.specs.Prelude.{◌≡◌, ◌≤◌, ◌<◌, ◌^◌, length, IfOk};
 ghost use Rattle.journal_disk.specs.Disks.{IsSettled};
 ghost use Rattle.journal_memlog.specs.Logs.{fresh_count, tail_of};
-ghost use Rattle.journal_wal.specs.Wal.{AreHomes, IsAtRest, size_of};
+ghost use Rattle.journal_tail.specs.Homes.{AreHomes};
+ghost use Rattle.journal_wal.specs.Wal.{IsAtRest, size_of};
 
 use crate::asserts::wants;
 use crate::runs::{DEVICE_FAILED, Run, Wrong, block_with, called, is_refused, number, told};
 use journal_block::{Block, Update};
 use journal_disk::{BlockDisk, MemDisk};
-use journal_wal::{GroupStep, InstallStep, Tail, Wal};
+use journal_tail::Tail;
+use journal_wal::{GroupStep, InstallStep, Wal};
 use journal_world::{MIN_BLOCKS, Refusal};
 use std::alloc::Global;
 use std::marker::Model;

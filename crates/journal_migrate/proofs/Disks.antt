@@ -8,8 +8,8 @@ use Rattle.journal_disk.specs.Disks.{DiskState, Past}
 use Rattle.journal_disk.specs.Images.{EveryImage, reading}
 use Rattle.journal_disk.specs.Laws.{reading_is_image}
 use Rattle.journal_objlog.specs.Maps.{OpensAs}
-use Rattle.journal_objlog.proofs.MapsOfBlocks.{same_objects}
-use Rattle.journal_core.specs.Openings.{HoldsMap}
+use Rattle.journal_tail.proofs.MapsOfBlocks.{same_objects}
+use Rattle.journal_parts.specs.Openings.{HoldsMap}
 use Rattle.journal_inode.specs.declared.version.FormatVersion.TheVariants.{One, Two}
 use Rattle.journal_filestore.specs.Files.{Files, files_of}
 use Rattle.journal_migrate.specs.Either.{HasEitherFiles}

@@ -12,7 +12,7 @@ use Rattle.journal_world.specs.declared.refusal.Refusal.TheVariants.{NoMemory, B
 use Rattle.journal_disk.specs.Disks.{DiskState, Keeps, HasFailed}
 use Rattle.journal_memlog.specs.Logs.{next_position}
 use Rattle.journal_wal.specs.Wal.{WalState, Installing, install_none, install_homes, install_start, install_sync, install_spent, log_steps, install_steps_by}
-use Rattle.journal_objlog.specs.Writes.{fresh_among, written_blocks}
+use Rattle.journal_tail.specs.Writes.{fresh_among, written_blocks}
 use Rattle.journal_inode.specs.declared.version.FormatVersion.TheVariants.{Two}
 use Rattle.journal_inode.specs.Places.{addr_of, object}
 use Rattle.journal_inode.specs.Places.Object.{superblock}
@@ -20,16 +20,16 @@ use Rattle.journal_inode.specs.Sound.{HasSoundFiles}
 use Rattle.journal_inode.proofs.Upgrading.{Sound-upgraded}
 use Rattle.journal_lockmap.specs.Numbers.{HeldState, slots_of, is_held, HoldsSlots, AreApart}
 use Rattle.journal_history.specs.Tokens.{SessionState, next_transaction}
-use Rattle.journal_core.specs.declared.refusal_number.RefusalNumber.TheVariants.{J9}
-use Rattle.journal_core.specs.Causes.{CauseState, IsExplained}
-use Rattle.journal_core.specs.Ledgers.{IsUnknown, IsStale, IsBehind, IsNumberRefusal}
-use Rattle.journal_core.specs.Outsets.{IsWorn, IsFull}
-use Rattle.journal_core.specs.Cores.{CoreState, IsRunning, OnlyReads, disk_of, is_faulted, next_of, outset, tail_length}
-use Rattle.journal_core.specs.SlotCounts.{AgreeWith, IsUnder, AreUnder}
-use Rattle.journal_core.specs.Transactions.{TransactionState}
-use Rattle.journal_core.proofs.Remembering.{of_both}
+use Rattle.journal_memory.specs.declared.refusal_number.RefusalNumber.TheVariants.{J9}
+use Rattle.journal_memory.specs.Causes.{CauseState, IsExplained}
+use Rattle.journal_memory.specs.Ledgers.{IsUnknown, IsStale, IsBehind, IsNumberRefusal}
+use Rattle.journal_memory.specs.Outsets.{IsWorn, IsFull}
+use Rattle.journal_parts.specs.Cores.{CoreState, IsRunning, OnlyReads, disk_of, is_faulted, next_of, outset, tail_length}
+use Rattle.journal_memory.specs.SlotCounts.{AgreeWith, IsUnder, AreUnder}
+use Rattle.journal_memory.specs.Transactions.{TransactionState}
+use Rattle.journal_memory.proofs.Remembering.{of_both}
 use Rattle.journal_core.specs.Steps.{BeginsSession, MayRead, IsReadRefusal}
-use Rattle.journal_core.specs.Openings.{Begins}
+use Rattle.journal_parts.specs.Openings.{Begins}
 use Rattle.journal_core.specs.Commits.{IsCommitted, CanCommit, IsCommitRefusal}
 use Rattle.journal_filestore.specs.Files.{Files}
 use Rattle.journal_migrate.specs.Either.{HasEitherFiles}

@@ -6,7 +6,7 @@ use Rattle.journal_world.specs.Histories.{Entry}
 use Rattle.journal_world.specs.Histories.Entry.{opening, commit, stable}
 use Rattle.journal_disk.specs.Disks.{Past}
 use Rattle.journal_disk.specs.Images.{EveryImage}
-use Rattle.journal_core.specs.Cores.{Leaves}
+use Rattle.journal_parts.specs.Cores.{Leaves}
 use Rattle.journal_migrate.specs.Holding.{OpensWith, LeavesMaps}
 
 -- the opened map, and nothing else

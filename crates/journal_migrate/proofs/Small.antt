@@ -3,7 +3,7 @@ use Rattle.std.proofs.Common.{◌≡◌, ◌≤◌, ◌||◌, Bool, true, false,
 use Rattle.journal_world.specs.Maps.{Pair, SamePairs}
 use Rattle.journal_block.specs.declared.update.Update.{Update}
 use Rattle.journal_memlog.specs.Logs.{absorbed}
-use Rattle.journal_objlog.specs.Writes.{writes_block, written_blocks, fresh_among}
+use Rattle.journal_tail.specs.Writes.{writes_block, written_blocks, fresh_among}
 use Rattle.journal_filestore.proofs.Refusing.{written-few}
 
 or-false : (b : Bool) → (b || false) ≡ b

@@ -6,10 +6,10 @@ use Rattle.journal_world.specs.Histories.{count, floor}
 use Rattle.journal_world.specs.Histories.Entry.{stable}
 use Rattle.journal_disk.specs.Disks.{HasFailed}
 use Rattle.journal_wal.specs.Wal.{WalState, Installing, install_none, install_homes, install_start, install_sync, install_spent, log_steps, install_steps, free_positions, distinct_blocks, logged_updates}
-use Rattle.journal_core.specs.declared.refusal_number.RefusalNumber.TheVariants.{J6}
-use Rattle.journal_core.specs.Causes.{CauseState, IsUnexplained}
-use Rattle.journal_core.specs.Ledgers.{IsStale}
-use Rattle.journal_core.specs.Cores.{CoreState, IsRunning, disk_of, tail_length}
+use Rattle.journal_memory.specs.declared.refusal_number.RefusalNumber.TheVariants.{J6}
+use Rattle.journal_memory.specs.Causes.{CauseState, IsUnexplained}
+use Rattle.journal_memory.specs.Ledgers.{IsStale}
+use Rattle.journal_parts.specs.Cores.{CoreState, IsRunning, disk_of, tail_length}
 
 -- up to where is installed, or this where nothing is
 abbrev pub upto_of : Installing → ℕ → ℕ

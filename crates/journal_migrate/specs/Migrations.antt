@@ -7,9 +7,9 @@ use Rattle.journal_disk.specs.Disks.{DiskState, HasFailed}
 use Rattle.journal_disk.specs.Images.{reading}
 use Rattle.journal_circ.specs.Log.{end_in}
 use Rattle.journal_inode.specs.declared.version.FormatVersion.TheVariants.{Two}
-use Rattle.journal_core.specs.declared.refusal_number.RefusalNumber.TheVariants.{J6, J9, J11}
-use Rattle.journal_core.specs.Causes.{CauseState, IsUnexplained, IsExplained}
-use Rattle.journal_core.specs.Openings.{IsInRange, IsOpenRefusal, OnlyReadsDisk}
+use Rattle.journal_memory.specs.declared.refusal_number.RefusalNumber.TheVariants.{J6, J9, J11}
+use Rattle.journal_memory.specs.Causes.{CauseState, IsUnexplained, IsExplained}
+use Rattle.journal_parts.specs.Openings.{IsInRange, IsOpenRefusal, OnlyReadsDisk}
 use Rattle.journal_filestore.specs.Files.{Files}
 use Rattle.journal_migrate.specs.Either.{HasEitherFiles}
 use Rattle.journal_migrate.specs.Holding.{HoldsFilesOf, HoldsFiles}

@@ -5,7 +5,7 @@ use Rattle.journal_world.specs.Maps.{SamePairs}
 use Rattle.journal_world.specs.Histories.{Entry, is_trusted, latest}
 use Rattle.journal_inode.specs.Places.{addr_of, object}
 use Rattle.journal_inode.specs.Places.Object.{superblock}
-use Rattle.journal_core.specs.Transactions.{TransactionState}
+use Rattle.journal_memory.specs.Transactions.{TransactionState}
 
 -- the lowest byte of its version, which is all that the two versions differ by
 abbrev pub version_byte : Value → ℕ

@@ -1,12 +1,14 @@
 // One commit becomes stable.
 ghost use Rattle.std.specs.Prelude.{◌≡◌, IsTrue, IfOk, IfErr, OnOk, OnErr, false};
 ghost use Rattle.journal_disk.specs.Disks.{Keeps};
-ghost use Rattle.journal_core.specs.Cores.{disk_of};
+ghost use Rattle.journal_parts.specs.Cores.{disk_of};
 ghost use Rattle.journal_migrate.specs.Marking.{AwaitsMark, AddsMark, ComesNearer, IsRunningRefusal};
 
-use journal_core::{Cause, Core, LogStep};
+use journal_core::Core;
 use journal_disk::BlockDisk;
 use journal_history::Naming;
+use journal_memory::Cause;
+use journal_parts::LogStep;
 use journal_world::{MapRule, Refusal};
 
 /// Makes steps of the logger until the one commit is marked that is not, and a step of the installer where there is none,

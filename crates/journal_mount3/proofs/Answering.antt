@@ -5,8 +5,8 @@ use Rattle.journal_world.specs.declared.refusal.Refusal.{Refusal}
 use Rattle.journal_world.specs.declared.refusal.Refusal.TheVariants.{Busy, DeviceFailed, NoMemory, BadAddress, BadSize, TooLarge, BadLog, BadSuper, Stale, Stranger, Worn, Full, Closed, Fenced}
 use Rattle.journal_world.specs.Histories.{Entry}
 use Rattle.journal_history.specs.Tokens.{SessionState, CommitPlace}
-use Rattle.journal_core.specs.declared.refusal_number.RefusalNumber.TheVariants.{J6}
-use Rattle.journal_core.specs.Causes.{CauseState, unexplained}
+use Rattle.journal_memory.specs.declared.refusal_number.RefusalNumber.TheVariants.{J6}
+use Rattle.journal_memory.specs.Causes.{CauseState, unexplained}
 use Rattle.journal_inode.specs.declared.node.Time.{Time}
 use Rattle.journal_inode.specs.declared.version.FormatVersion.{FormatVersion}
 use Rattle.journal_rpc.specs.declared.replies.CallRefused.{CallRefused}

@@ -7,7 +7,7 @@ use mathlib.Core.List.{IsPrefix}
 use Rattle.journal_world.specs.declared.refusal.Refusal.{Refusal}
 use Rattle.journal_world.specs.declared.refusal.Refusal.TheVariants.{NoMemory}
 use Rattle.journal_history.specs.Tokens.{SessionState, OnlyExtends}
-use Rattle.journal_core.specs.Causes.{CauseState}
+use Rattle.journal_memory.specs.Causes.{CauseState}
 use Rattle.journal_inode.specs.declared.version.FormatVersion.{FormatVersion}
 use Rattle.journal_filestore.specs.declared.fault.Fault.TheVariants.{Refused}
 use Rattle.journal_filestore.specs.declared.reply.Attributes.{Attributes}

@@ -3,7 +3,7 @@ use Rattle.std.proofs.Common.{◌≡◌, ℕ, ◌+◌, ◌≤◌, take, Bool, tr
 use Rattle.std.specs.Result.{is_ok}
 use Rattle.journal_world.specs.Histories.{Entry, count, floor}
 use Rattle.journal_history.specs.Tokens.{SessionState}
-use Rattle.journal_core.specs.Causes.{CauseState}
+use Rattle.journal_memory.specs.Causes.{CauseState}
 use Rattle.journal_inode.specs.declared.version.FormatVersion.{FormatVersion}
 use Rattle.journal_inode.specs.declared.node.Time.{Time}
 use Rattle.journal_filestore.specs.declared.fault.Fault.{Fault}

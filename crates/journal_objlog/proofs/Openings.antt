@@ -10,12 +10,14 @@ use Rattle.journal_disk.specs.Images.{EveryImage}
 use Rattle.journal_disk.specs.Moments.{LeavesOnly}
 use Rattle.journal_disk.specs.Laws.{leaves_none, leaves_also}
 use Rattle.journal_circ.specs.StandsFor.{StandsFor}
-use Rattle.journal_wal.specs.Wal.{WalState, size_of, blocks_now, blocks_cut, blocks_logged, SameBlocks, MayStandFor, Crashes, KeepsBlocks, OnlyReads as LogOnlyReads}
-use Rattle.journal_objlog.specs.Maps.{map_of, OpensAs}
+use Rattle.journal_tail.specs.Homes.{SameBlocks}
+use Rattle.journal_wal.specs.Wal.{WalState, size_of, blocks_now, blocks_cut, blocks_logged, MayStandFor, Crashes, KeepsBlocks, OnlyReads as LogOnlyReads}
+use Rattle.journal_tail.specs.Maps.{map_of}
+use Rattle.journal_objlog.specs.Maps.{OpensAs}
 use Rattle.journal_objlog.specs.ObjectLogs.{EachLayout, map_cut, map_logged, MayOpenAs, KeepsMaps, Crashes as MapCrashes, OnlyReads, disk_of}
 use Rattle.journal_objlog.specs.ReadLaws.{now_read}
 use Rattle.journal_objlog.specs.Soundness.{IsObjectLog}
-use Rattle.journal_objlog.proofs.MapsOfBlocks.{law_of, HasObjects-map_of, map_of-same, SameMap-path}
+use Rattle.journal_tail.proofs.MapsOfBlocks.{law_of, HasObjects-map_of, map_of-same, SameMap-path}
 
 -- what stands for blocks opens as their map
 pub opens : (layout : Shape) → (content : Content) (image : List Bytes) → StandsFor layout.blocks content image → OpensAs (map_of layout content) image

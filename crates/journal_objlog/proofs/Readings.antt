@@ -12,7 +12,7 @@ use Rattle.journal_block.specs.Block.{Bytes, bit_of}
 use Rattle.journal_object.specs.Objects.{object_of}
 use Rattle.journal_object.proofs.MapOfBlocks.{valid_block}
 use Rattle.journal_wal.specs.Wal.{WalState, size_of}
-use Rattle.journal_objlog.specs.Maps.{map_of}
+use Rattle.journal_tail.specs.Maps.{map_of}
 use Rattle.journal_objlog.specs.ObjectLogs.{map_now, KeepsMaps, Crashes, OnlyReads, disk_of}
 use Rattle.journal_objlog.specs.ReadLaws.{block_read}
 use Rattle.journal_objlog.specs.Reading.{OnlyReadSince, IsBlockOf}

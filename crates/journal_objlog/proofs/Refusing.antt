@@ -1,5 +1,5 @@
 -- What refusals are, and leave.
-use Rattle.std.proofs.Common.{◌≡◌, ◌∙◌, sym, Result, Ok, Err, IfErr, IsErrAnd, subst}
+use Rattle.std.proofs.Common.{◌≡◌, ◌∙◌, sym, subst}
 use Rattle.journal_wal.specs.Wal.{WalState, size_of}
 use Rattle.journal_objlog.specs.ObjectLogs.{map_now, map_cut, map_logged, KeepsMaps, Crashes as MapCrashes}
 use Rattle.journal_objlog.specs.Soundness.{IsObjectLog}
@@ -12,11 +12,6 @@ keeps_trans a b c size first second = record {
   cut = λ n is. SameMap-trans (map_cut n c) (map_cut n b) (map_cut n a) (second.cut n (is ∙ sym size)) (first.cut n is);
   logged = λ n is. SameMap-trans (map_logged n c) (map_logged n b) (map_logged n a) (second.logged n (is ∙ sym size)) (first.logged n is);
 }
-
--- what the exit of a `?` returns
-pub if_err : {T E : Type 0} (r : Result T E) (Q P : E → Type 0) → IsErrAnd r Q → ((e : E) → Q e → P e) → IfErr r P
-if_err (Ok x) Q P and go = tt
-if_err (Err e) Q P and go = go e and
 
 -- nothing was done
 pub still : (inside now : WalState) → IsObjectLog inside → inside ≡ now → MapCrashes now now

@@ -11,7 +11,7 @@ use Rattle.journal_block.specs.Block.{Bytes}
 use Rattle.journal_object.specs.Objects.{object_at}
 use Rattle.journal_block.specs.Updates.{with_updates}
 use Rattle.journal_wal.specs.Wal.{WalState, size_of, blocks_now, blocks_cut, blocks_logged, Fails, LogAnswers, InstallAnswers, IsInstallRefusal}
-use Rattle.journal_objlog.specs.Maps.{map_of}
+use Rattle.journal_tail.specs.Maps.{map_of}
 use Rattle.journal_objlog.specs.ObjectLogs.{map_now, map_cut, map_logged, KeepsMaps, LogsMaps, disk_of}
 use Rattle.journal_wal.specs.declared.step.GroupStep.{GroupStep}
 use Rattle.journal_wal.specs.declared.step.GroupStep.TheVariants.{Idle, Cut, Put, Logged}
@@ -20,7 +20,7 @@ use Rattle.journal_wal.specs.declared.step.InstallStep.TheVariants.{Idle as Inst
 use Rattle.journal_wal.specs.Groups.{TakesGroup}
 use Rattle.journal_objlog.specs.Groups.{TakesMap}
 use Rattle.journal_world.proofs.SameMaps.{SameMap-refl}
-use Rattle.journal_objlog.proofs.MapsOfBlocks.{law_of, HasObjects-map_of}
+use Rattle.journal_tail.proofs.MapsOfBlocks.{law_of, HasObjects-map_of}
 use Rattle.journal_objlog.proofs.Openings.{same_maps, keeps_maps}
 
 pub KeepsMaps-refl : (w : WalState) → KeepsMaps w w

@@ -6,7 +6,7 @@ use Rattle.journal_block.specs.declared.update.Update.{Update}
 use Rattle.journal_block.specs.Updates.{updated}
 use Rattle.journal_circ.specs.Ring.{home_of}
 use Rattle.journal_wal.specs.Wal.{WalState, tail_length}
-use Rattle.journal_objlog.specs.Maps.{map_of}
+use Rattle.journal_tail.specs.Maps.{map_of}
 use Rattle.journal_objlog.specs.ObjectLogs.{map_now, map_cut, map_logged, IsCutLogged}
 
 -- where the tail is empty, the map at the last cut is the map now

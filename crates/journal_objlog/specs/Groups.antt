@@ -4,7 +4,7 @@ use Rattle.journal_world.specs.Maps.{SameMap}
 use Rattle.journal_block.specs.declared.update.Update.{Update}
 use Rattle.journal_block.specs.Updates.{with_updates}
 use Rattle.journal_wal.specs.Wal.{WalState, size_of, blocks_now}
-use Rattle.journal_objlog.specs.Maps.{map_of}
+use Rattle.journal_tail.specs.Maps.{map_of}
 use Rattle.journal_objlog.specs.ObjectLogs.{EachLayout, map_now, map_cut, map_logged}
 
 -- The map at the cut, which is the map now, is the map with the group's blocks. What is logged stays

@@ -1,13 +1,7 @@
 pub mod Maps
-pub mod MapLaws
 pub mod ObjectLogs
 pub mod ReadLaws
 pub mod CutLaws
 pub mod Reading
-pub mod Writes
-pub mod Applying
 pub mod Soundness
-pub mod Staging
-pub mod Places
-pub mod ObjectTails
 pub mod Groups

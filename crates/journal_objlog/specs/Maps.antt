@@ -1,25 +1,10 @@
--- The map that the blocks of a disk make, and what an image opens as.
-use Rattle.std.specs.Prelude.{◌≡◌, IsTrue, if◌then◌else◌, List, filter}
-use Rattle.journal_world.specs.declared.address.Addr.{Addr}
-use Rattle.journal_world.specs.Addresses.{Value, Shape, kind_of, is_valid}
-use Rattle.journal_world.specs.Maps.{Map, value_at, zeros_at, is_value_at, is_object}
+-- What an image of a disk opens as.
+use Rattle.std.specs.Prelude.{List}
+use Rattle.journal_world.specs.Maps.{Map}
 use Rattle.journal_block.specs.Block.{Bytes}
 use Rattle.journal_block.specs.Updates.{Content}
 use Rattle.journal_circ.specs.StandsFor.{StandsFor}
-use Rattle.journal_object.specs.Objects.{object_at, map_of_blocks}
-
--- the object that a block of these bytes has at the address. Where they are not 4096 bytes, as no block's are, it may be no value: then zeros
-abbrev pub object_or_zeros : Shape → Bytes → Addr → Value
-object_or_zeros layout bytes a =
-    if is_value_at (kind_of layout a.block) (object_at layout bytes a) then object_at layout bytes a else zeros_at (kind_of layout a.block)
-
--- The map gives each valid address the object that its block holds there
-pub record HasObjects (content : Content) (m : Map) : Type 0 where
-  pub values : (a : Addr) → IsTrue (is_valid m.layout a) → value_at m a ≡ object_or_zeros m.layout (content a.block) a
-
--- the map that the blocks of a disk of a layout make
-unfoldable pub map_of : Shape → Content → Map
-map_of layout content = record { layout = layout; pairs = filter (is_object layout) (map_of_blocks layout content).pairs }
+use Rattle.journal_tail.specs.Maps.{HasObjects}
 
 -- A disk that holds this image opens as the map: the image stands for blocks that have its objects
 pub record OpensAs (m : Map) (image : List Bytes) : Type 0 where

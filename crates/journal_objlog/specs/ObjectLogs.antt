@@ -4,16 +4,15 @@ use Rattle.journal_world.specs.declared.refusal.Refusal.{Refusal}
 use Rattle.journal_world.specs.declared.refusal.Refusal.TheVariants.{DeviceFailed}
 use Rattle.journal_world.specs.Addresses.{Shape}
 use Rattle.journal_world.specs.Maps.{Map, SameMap}
-use Rattle.journal_block.specs.declared.update.Update.{Update}
 use Rattle.journal_block.specs.Block.{Bytes}
-use Rattle.journal_block.specs.Updates.{Content}
 use Rattle.journal_disk.specs.Disks.{DiskState, Keeps, HasFailed}
 use Rattle.journal_disk.specs.Images.{EveryImage}
 use Rattle.journal_disk.specs.Moments.{LeavesOnly}
 use Rattle.journal_wal.specs.Wal.{WalState, size_of, blocks_now, blocks_cut, blocks_logged}
 use Rattle.journal_wal.specs.declared.step.GroupStep.{GroupStep}
 use Rattle.journal_wal.specs.declared.step.GroupStep.TheVariants.{Idle, Cut, Put, Logged}
-use Rattle.journal_objlog.specs.Maps.{map_of, OpensAs}
+use Rattle.journal_tail.specs.Maps.{map_of}
+use Rattle.journal_objlog.specs.Maps.{OpensAs}
 
 -- a device call failed
 abbrev pub is_faulted : WalState → Bool
@@ -50,17 +49,6 @@ map_cut layout w = map_of layout (blocks_cut w)
 -- the map at the cut of the last group whose cycle ended
 abbrev pub map_logged : Shape → WalState → Map
 map_logged layout w = map_of layout (blocks_logged w)
-
--- What overwrites look at: the layout, what the blocks hold with all updates, the tail, and the position after it
-pub record Base : Type 0 where
-  pub layout : Shape
-  pub content : Content
-  pub tail : List Update
-  pub next : ℕ
-
--- the map that its blocks make
-abbrev pub map_in : Base → Map
-map_in b = map_of b.layout b.content
 
 -- What a crash may leave opens as the map of the last group whose cycle ended, or as that of the last cut
 abbrev pub MayOpenAs : Shape → WalState → List Bytes → Type 0

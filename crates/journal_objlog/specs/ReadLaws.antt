@@ -6,7 +6,8 @@ use Rattle.journal_block.specs.Updates.{with_updates}
 use Rattle.journal_disk.specs.Disks.{Past, read_of}
 use Rattle.journal_disk.specs.Images.{EveryImage}
 use Rattle.journal_wal.specs.Wal.{WalState, blocks_now}
-use Rattle.journal_objlog.specs.Maps.{map_of, OpensAs}
+use Rattle.journal_tail.specs.Maps.{map_of}
+use Rattle.journal_objlog.specs.Maps.{OpensAs}
 use Rattle.journal_objlog.specs.ObjectLogs.{map_now, OnlyReads, disk_of}
 
 module _ (old new : WalState) (reads : OnlyReads old new) (honest : IsTrue (disk_of old).honest) where

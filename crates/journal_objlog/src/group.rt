@@ -2,9 +2,10 @@
 ghost use Rattle.std.specs.Prelude.{◌≡◌, ◌≤◌, ◌<◌, ◌↔◌, false, true, length, IsTrue, IsErr, OnOk, OnErr, IfOk, IfErr};
 ghost use Rattle.journal_memlog.specs.Logs.{HasDistinctBlocks};
 ghost use Rattle.journal_circ.specs.Ring.{IsFault};
-ghost use Rattle.journal_wal.specs.Wal.{AreHomes, blocks_logged, size_of, tail_length, with_room};
+ghost use Rattle.journal_tail.specs.Homes.{AreHomes};
+ghost use Rattle.journal_wal.specs.Wal.{blocks_logged, size_of, tail_length, with_room};
 ghost use Rattle.journal_wal.specs.Groups.{FitsGroup, HasGroupRoom, TakesGroup, IsGroupRefusal};
-ghost use Rattle.journal_wal.specs.declared.limits.TheConstants.{MAX_TAIL};
+ghost use Rattle.journal_tail.specs.declared.limits.TheConstants.{MAX_TAIL};
 ghost use Rattle.journal_objlog.specs.Groups.{TakesMap};
 ghost use Rattle.journal_objlog.specs.ObjectLogs.{Crashes, OnlyReads, disk_of, is_faulted};
 

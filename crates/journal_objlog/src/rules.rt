@@ -7,7 +7,7 @@ ghost use Rattle.journal_world.specs.Maps.{value_at, is_object};
 ghost use Rattle.journal_object.specs.Objects.{size_at};
 ghost use Rattle.journal_wal.specs.Wal.{size_of, blocks_now};
 ghost use Rattle.journal_objlog.specs.ObjectLogs.{map_now, KeepsMaps, Crashes, OnlyReads, IsLeft, disk_of, is_faulted};
-ghost use Rattle.journal_objlog.specs.MapLaws.{map_of-objects};
+ghost use Rattle.journal_tail.specs.MapLaws.{map_of-objects};
 ghost use Rattle.journal_objlog.specs.Reading.{OnlyReadSince, IsBlockOf};
 
 use crate::object_log::ObjectLog;

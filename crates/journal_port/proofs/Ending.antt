@@ -13,9 +13,9 @@ use Rattle.journal_world.specs.declared.refusal.Refusal.TheVariants.{NoMemory, B
 use Rattle.journal_world.specs.Maps.{Pair, SamePairs}
 use Rattle.journal_world.specs.Histories.{Entry, is_trusted, latest, commits_of}
 use Rattle.journal_history.specs.Tokens.{SessionState, CommitPlace, OnlyExtends}
-use Rattle.journal_core.specs.declared.refusal_number.RefusalNumber.TheVariants.{J10}
-use Rattle.journal_core.specs.Causes.{CauseState, IsExplained}
-use Rattle.journal_core.specs.Transactions.{TransactionState}
+use Rattle.journal_memory.specs.declared.refusal_number.RefusalNumber.TheVariants.{J10}
+use Rattle.journal_memory.specs.Causes.{CauseState, IsExplained}
+use Rattle.journal_memory.specs.Transactions.{TransactionState}
 use Rattle.journal_twophase.specs.Transactions.{TxnState, core_of, begun}
 use Rattle.journal_twophase.specs.Commits.{IsCommitted, IsCommitRefusal, ShowsStrange, ShowsFence}
 use Rattle.journal_records.specs.declared.request.Part.{Part}

@@ -12,7 +12,7 @@ use Rattle.journal_world.specs.declared.refusal.Refusal.TheVariants.{NoMemory, B
 use Rattle.journal_world.specs.Addresses.{Value, slot_of, Shape}
 use Rattle.journal_world.specs.Maps.{Agrees, value_among}
 use Rattle.journal_world.specs.Histories.{is_trusted, latest}
-use Rattle.journal_core.specs.Causes.{CauseState}
+use Rattle.journal_memory.specs.Causes.{CauseState}
 use Rattle.journal_twophase.specs.Transactions.{TxnState, holding, holds, holds_above, with_slot, Learns, ReadsValue, IsBelowHeld}
 use Rattle.journal_twophase.specs.Transactions as twophase
 use Rattle.journal_port.specs.Answers.{IsAddrRefusal, IsReadRefusal}

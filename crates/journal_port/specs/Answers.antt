@@ -7,12 +7,12 @@ use Rattle.journal_world.specs.declared.address.Addr.{Addr}
 use Rattle.journal_world.specs.Addresses.{Value, is_valid, Shape}
 use Rattle.journal_world.specs.Maps.{Map, Pair, SamePairs, Agrees}
 use Rattle.journal_world.specs.Histories.{Entry, is_trusted, is_fenced, latest, count, floor}
-use Rattle.journal_wal.specs.declared.limits.TheConstants.{MAX_UPDATES}
-use Rattle.journal_objlog.specs.Writes.{written_blocks}
+use Rattle.journal_tail.specs.declared.limits.TheConstants.{MAX_UPDATES}
+use Rattle.journal_tail.specs.Writes.{written_blocks}
 use Rattle.journal_history.specs.Tokens.{SessionState, CommitPlace, OnlyExtends}
-use Rattle.journal_core.specs.declared.refusal_number.RefusalNumber.TheVariants.{J6, J9, J11, J13}
-use Rattle.journal_core.specs.Causes.{CauseState, IsUnexplained}
-use Rattle.journal_core.specs.Transactions.{TransactionState}
+use Rattle.journal_memory.specs.declared.refusal_number.RefusalNumber.TheVariants.{J6, J9, J11, J13}
+use Rattle.journal_memory.specs.Causes.{CauseState, IsUnexplained}
+use Rattle.journal_memory.specs.Transactions.{TransactionState}
 use Rattle.journal_twophase.specs.Journals.{IsShown}
 use Rattle.journal_twophase.specs.Transactions.{TxnState, core_of}
 use Rattle.journal_twophase.specs.Commits.{IsCommitted, IsCommitRefusal, ShowsFence, ShowsStrange}

@@ -6,8 +6,8 @@ use Rattle.journal_world.specs.declared.refusal.Refusal.TheVariants.{NoMemory, B
 use Rattle.journal_world.specs.Addresses.{kind_of, is_valid, slot_of, Shape}
 use Rattle.journal_world.specs.Maps.{Map, Pair, SamePairs, value_among, value_at, is_value_at}
 use Rattle.journal_world.specs.Histories.{Entry, is_trusted, latest}
-use Rattle.journal_core.specs.declared.refusal_number.RefusalNumber.TheVariants.{J6, J9, J13}
-use Rattle.journal_core.specs.Causes.{CauseState, IsUnexplained}
+use Rattle.journal_memory.specs.declared.refusal_number.RefusalNumber.TheVariants.{J6, J9, J13}
+use Rattle.journal_memory.specs.Causes.{CauseState, IsUnexplained}
 use Rattle.journal_twophase.specs.Journals.{IsShown}
 use Rattle.journal_twophase.specs.Transactions.{TxnState, holds_above}
 use Rattle.journal_records.specs.declared.request.Action.TheVariants.{Compare, Write}

@@ -8,9 +8,9 @@ ghost use Rattle.journal_records.specs.declared.request.Action.TheVariants.{Comp
 ghost use Rattle.journal_port.specs.Requests.{order_of};
 ghost use Rattle.journal_port.specs.Parts.{Does, IsReady, IsPartFault, IsPartsFault};
 
-use journal_core::Cause;
 use journal_disk::BlockDisk;
 use journal_history::Naming;
+use journal_memory::Cause;
 use journal_records::{Action, Part};
 use journal_twophase::Txn;
 use journal_world::{AnyMap, Refusal};

@@ -5,10 +5,10 @@ ghost use Rattle.journal_disk.specs.Disks.{IsSettled};
 
 use crate::tests::{bytes_of, wants};
 use journal_block::Block;
-use journal_core::Stat;
 use journal_disk::{BlockDisk, DiskFault, MemDisk};
 use journal_history::{Book, Naming};
 use journal_lockmap::SlotCell;
+use journal_parts::Stat;
 use journal_port::{ConnFault, End, Served, Terms, serve};
 use journal_twophase::Journal;
 use journal_world::{AnyMap, Step};

@@ -14,7 +14,7 @@ use Rattle.journal_script.specs.declared.answer.Answer.{Answer}
 use Rattle.journal_script.specs.declared.answer.Answer.TheVariants as answers
 use Rattle.journal_script.specs.declared.client.Crash.{Crash}
 use Rattle.journal_disk.specs.Disks.{IsSettled, Past, DiskState}
-use Rattle.journal_core.specs.Openings.{IsOpenRefusal}
+use Rattle.journal_parts.specs.Openings.{IsOpenRefusal}
 use Rattle.journal_disk.specs.MemDisks.{MemState, state_of, disk_from}
 use Rattle.journal_script.specs.declared.script.Next.{Next}
 use Rattle.journal_script.specs.declared.script.Next.TheVariants as nexts
@@ -25,7 +25,7 @@ use Rattle.journal_script.specs.Downs.{ObeysDown, AnswersDown}
 use Rattle.journal_script.specs.Answers.{Refuses}
 use Rattle.journal_command.specs.Commands.{LineSays}
 use Rattle.journal_script.specs.Transcripts.{Streams, IsAnswerTo, IsOpening, IsOpened, Talks, TakesOneLine, AsksOpening, Prints, ComesTo, ComesToBy, ComesToCrash, Opens, OpensToCrash, RefusesOpening}
-use Rattle.journal_core.specs.Causes.{CauseState}
+use Rattle.journal_memory.specs.Causes.{CauseState}
 use Rattle.journal_script.specs.Clients.{ClientState, IsRefusal, IsRefused, GivesAnswer, Replies, AnswersLine, FlowGoesOn}
 
 -- ---- replies of a journal

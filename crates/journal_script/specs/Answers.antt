@@ -4,7 +4,7 @@ use Rattle.std.specs.List.{flat_map}
 use Rattle.std.specs.Fmt.{decimal}
 use Rattle.journal_world.specs.declared.refusal.Refusal.{Refusal}
 use Rattle.journal_world.specs.Refusals.{refusal_name}
-use Rattle.journal_core.specs.declared.state.Stat.{Stat}
+use Rattle.journal_parts.specs.declared.stat.Stat.{Stat}
 use Rattle.journal_script.specs.declared.answer.Answer.{Answer}
 use Rattle.journal_script.specs.declared.answer.Answer.TheVariants as answers
 use Rattle.journal_command.specs.Values.{text_of}

@@ -8,7 +8,7 @@ use Rattle.journal_world.specs.declared.refusal.Refusal.TheVariants.{NoMemory}
 use Rattle.journal_world.specs.Addresses.{Value, Shape}
 use Rattle.journal_world.specs.Histories.{is_fenced}
 use Rattle.journal_history.specs.Tokens.{SessionState, CommitPlace, OnlyExtends}
-use Rattle.journal_core.specs.Causes.{CauseState}
+use Rattle.journal_memory.specs.Causes.{CauseState}
 use Rattle.journal_twophase.specs.Journals.{IsFenceRefusal, IsLogRefusal, IsInstallRefusal}
 use Rattle.journal_twophase.specs.Transactions.{TxnState, core_of, begun, holding, ReadsValue, Overwrites, IsReadRefusal, IsOverwriteRefusal}
 use Rattle.journal_twophase.specs.Commits.{IsCommitted, ShowsFence, IsTryRefusal}

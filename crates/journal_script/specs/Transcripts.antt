@@ -13,7 +13,7 @@ use Rattle.journal_command.specs.declared.command.Command.TheVariants as command
 use Rattle.journal_world.specs.declared.refusal.Refusal.{Refusal}
 use Rattle.journal_disk.specs.Disks.{Past, DiskState, IsSettled}
 use Rattle.journal_disk.specs.MemDisks.{MemState}
-use Rattle.journal_core.specs.Openings.{IsOpenRefusal}
+use Rattle.journal_parts.specs.Openings.{IsOpenRefusal}
 use Rattle.journal_script.specs.declared.client.Crash.{Crash}
 use Rattle.journal_script.specs.declared.script.Next.{Next}
 use Rattle.journal_script.specs.declared.script.Next.TheVariants as nexts

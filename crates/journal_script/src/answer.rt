@@ -8,7 +8,7 @@ ghost use Rattle.journal_script.specs.Answers.{answer_line, to_no_command, Refus
 ghost use Rattle.journal_command.specs.Values.{text_of};
 
 use journal_command::print_value;
-use journal_core::Stat;
+use journal_parts::Stat;
 use journal_world::{Refusal, Value};
 use std::io;
 use std::io::Write;

@@ -1,8 +1,8 @@
 -- Why connections are not served.
 use Rattle.journal_world.specs.declared.refusal.Refusal.{Refusal}
 use Rattle.journal_world.specs.declared.refusal.Refusal.TheVariants.{NoMemory, Worn}
-use Rattle.journal_core.specs.declared.refusal_number.RefusalNumber.TheVariants.{J11}
-use Rattle.journal_core.specs.Causes.{CauseState, IsUnexplained}
+use Rattle.journal_memory.specs.declared.refusal_number.RefusalNumber.TheVariants.{J11}
+use Rattle.journal_memory.specs.Causes.{CauseState, IsUnexplained}
 
 -- memory or a thread was refused, or the numbers of sessions are worn
 abbrev pub IsWorkersRefusal : Refusal CauseState → Type 0

@@ -7,8 +7,8 @@ ghost use Rattle.journal_server.specs.declared.workers.TheConstants.{MOST_WORKER
 ghost use Rattle.journal_server.specs.PoolSizes.{IsPoolSize};
 ghost use Rattle.journal_server.specs.Queues.{pass_state, both, below, numbers_by, outcome_numbers, times, HasEachOnce, IsFresh, IsWork, IsUncut};
 ghost use Rattle.std.specs.Option.{ForSome};
-ghost use Rattle.journal_core.specs.declared.refusal_number.RefusalNumber.TheVariants.{J11};
-ghost use Rattle.journal_core.specs.Causes.{IsUnexplained};
+ghost use Rattle.journal_memory.specs.declared.refusal_number.RefusalNumber.TheVariants.{J11};
+ghost use Rattle.journal_memory.specs.Causes.{IsUnexplained};
 ghost use Rattle.journal_server.specs.Refusals.{IsWorkersRefusal};
 
 use crate::adapters::{Incoming, Outgoing};
@@ -19,12 +19,12 @@ use crate::queue::{Balance, Cut, Drains, Job, PassState, Puts, QueueReceiver, Qu
 use crate::service::Clock;
 use crate::source::{Connection, Source};
 use crossbeam_channel::{Pass, bounded_with};
-use journal_core::Cause;
 use journal_daemon::Gate;
 use journal_disk::BlockDisk;
 use journal_filestore::FileStore;
 use journal_history::Naming;
 use journal_inode::{SoundFiles, Version};
+use journal_memory::Cause;
 use journal_nfs3::Verifier;
 use journal_world::Refusal;
 use std::alloc::{AllocError, Global};

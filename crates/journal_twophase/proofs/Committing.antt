@@ -9,14 +9,14 @@ use Rattle.journal_world.specs.Histories.Entry.{commit}
 use Rattle.journal_world.proofs.Prefixes.{IsPrefix-trans}
 use Rattle.journal_history.specs.Soundness.{IsSound}
 use Rattle.journal_history.specs.Tokens.{SessionState, CommitPlace, OnlyExtends, next_transaction, Commits, IsReceiptFor}
-use Rattle.journal_core.specs.Causes.{CauseState}
-use Rattle.journal_core.specs.Transactions.{TransactionState}
-use Rattle.journal_core.specs.declared.volatile_commit.CommitStep.{CommitStep}
-use Rattle.journal_core.specs.declared.volatile_commit.CommitStep.TheVariants.{Done, Missing}
-use Rattle.journal_core.specs.Outsets.{CanCommit}
-use Rattle.journal_core.specs.Volatiles.{VolatileState, outset_of}
-use Rattle.journal_core.specs.VolatileCommits.{IfDone}
-use Rattle.journal_core.specs.VolatileCommits.{IsCommitted as IsCommittedInMemory}
+use Rattle.journal_memory.specs.Causes.{CauseState}
+use Rattle.journal_memory.specs.Transactions.{TransactionState}
+use Rattle.journal_memory.specs.declared.volatile_commit.CommitStep.{CommitStep}
+use Rattle.journal_memory.specs.declared.volatile_commit.CommitStep.TheVariants.{Done, Missing}
+use Rattle.journal_memory.specs.Outsets.{CanCommit}
+use Rattle.journal_memory.specs.Volatiles.{VolatileState, outset_of}
+use Rattle.journal_memory.specs.VolatileCommits.{IfDone}
+use Rattle.journal_memory.specs.VolatileCommits.{IsCommitted as IsCommittedInMemory}
 use Rattle.journal_twophase.specs.Journals.{IsKnown}
 use Rattle.journal_twophase.specs.Commits.{IsCommitted}
 use Rattle.journal_twophase.specs.declared.waiting.WaitFault.{WaitFault}

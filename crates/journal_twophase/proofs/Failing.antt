@@ -3,11 +3,11 @@ use Rattle.std.proofs.Common.{◌≡◌, ◌⊎◌, ⊎_elim, ℕ, List, sym, su
 use Rattle.journal_world.specs.declared.refusal.Refusal.{Refusal}
 use Rattle.journal_world.specs.declared.refusal.Refusal.TheVariants.{NoMemory, BadAddress, BadSize, TooLarge, Busy, DeviceFailed, BadLog, BadSuper, Stale, Stranger, Worn, Full, Closed, Fenced}
 use Rattle.journal_world.specs.Histories.{Entry}
-use Rattle.journal_core.specs.Causes.{CauseState}
-use Rattle.journal_core.specs.Ledgers.{IsStale, IsStaleRefusal}
-use Rattle.journal_core.specs.Volatiles.{VolatileState, IsFrontRefusal}
-use Rattle.journal_core.specs.Pairs.{IsUntied, IsMarkedAbove}
-use Rattle.journal_core.specs.Durables.{DurableState, IsCallRefusal, IsInstallRefusal as IsHomeRefusal}
+use Rattle.journal_memory.specs.Causes.{CauseState}
+use Rattle.journal_memory.specs.Ledgers.{IsStale, IsStaleRefusal}
+use Rattle.journal_memory.specs.Volatiles.{VolatileState, IsFrontRefusal}
+use Rattle.journal_parts.specs.Pairs.{IsUntied, IsMarkedAbove}
+use Rattle.journal_parts.specs.Durables.{DurableState, IsCallRefusal, IsInstallRefusal as IsHomeRefusal}
 use Rattle.journal_twophase.specs.Journals.{IsLogRefusal, IsInstallRefusal, IsFetchRefusal, IsCloseRefusal}
 
 call_refused : (d e : DurableState) (why : Refusal CauseState) → IsCallRefusal d e why → IsLogRefusal why

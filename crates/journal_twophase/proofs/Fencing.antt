@@ -4,8 +4,8 @@ use Rattle.journal_world.specs.declared.refusal.Refusal.{Refusal}
 use Rattle.journal_world.specs.declared.refusal.Refusal.TheVariants.{NoMemory, BadAddress, BadSize, TooLarge, Busy, DeviceFailed, BadLog, BadSuper, Stale, Stranger, Worn, Full, Closed, Fenced}
 use Rattle.journal_world.specs.Histories.{Entry}
 use Rattle.journal_history.specs.Tokens.{SessionState}
-use Rattle.journal_core.specs.Causes.{CauseState}
-use Rattle.journal_core.specs.Ledgers.{ShowsLonger}
+use Rattle.journal_memory.specs.Causes.{CauseState}
+use Rattle.journal_memory.specs.Ledgers.{ShowsLonger}
 use Rattle.journal_twophase.specs.Commits.{ShowsFence}
 
 shows : (history : List Entry) (s : SessionState) (why : Refusal CauseState) → ShowsLonger history s why → ShowsFence s why

@@ -16,9 +16,9 @@ use Rattle.journal_world.specs.declared.address.Addr.{Addr}
 use Rattle.journal_world.specs.Addresses.{Value, slot_of, Shape}
 use Rattle.journal_world.specs.Histories.{Entry, touched}
 use Rattle.journal_lockmap.specs.Numbers.{HeldState, slots_of, is_held, HoldsSlots, AreApart}
-use Rattle.journal_core.specs.SlotCounts.{AgreeWith, IsUnder, AreUnder}
-use Rattle.journal_core.specs.Transactions.{TransactionState, ReadResultState, Remembers, Overwrites}
-use Rattle.journal_core.proofs.Remembering.{of_both}
+use Rattle.journal_memory.specs.SlotCounts.{AgreeWith, IsUnder, AreUnder}
+use Rattle.journal_memory.specs.Transactions.{TransactionState, ReadResultState, Remembers, Overwrites}
+use Rattle.journal_memory.proofs.Remembering.{of_both}
 use Rattle.journal_twophase.specs.Transactions.{TxnState, holds, holds_above, with_slot, IsClearOf, KeepsHeld, Finds}
 
 -- a slot is held where its number is among those that are shown

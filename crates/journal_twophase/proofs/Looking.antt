@@ -13,11 +13,11 @@ use Rattle.journal_world.specs.Histories.{Entry, is_trusted, latest}
 use Rattle.journal_world.proofs.Prefixes.{IsPrefix-trans}
 use Rattle.journal_world.proofs.Lookups.{same_addr}
 use Rattle.journal_lockmap.specs.Numbers.{HeldState}
-use Rattle.journal_core.specs.Causes.{CauseState}
-use Rattle.journal_core.specs.SlotCounts.{AgreeWith}
-use Rattle.journal_core.specs.Outsets.{Outset, MayRead}
-use Rattle.journal_core.specs.Transactions.{TransactionState, ReadResultState, Remembers}
-use Rattle.journal_core.proofs.Remembering.{agrees_later}
+use Rattle.journal_memory.specs.Causes.{CauseState}
+use Rattle.journal_memory.specs.SlotCounts.{AgreeWith}
+use Rattle.journal_memory.specs.Outsets.{Outset, MayRead}
+use Rattle.journal_memory.specs.Transactions.{TransactionState, ReadResultState, Remembers}
+use Rattle.journal_memory.proofs.Remembering.{agrees_later}
 use Rattle.journal_twophase.specs.Transactions.{TxnState, core_of, holding, Finds, Learns, IsCheckRefusal, IsReadRefusal}
 
 -- what objects give an address is an object

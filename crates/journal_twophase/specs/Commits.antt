@@ -6,13 +6,13 @@ use Rattle.journal_world.specs.declared.refusal.Refusal.TheVariants.{NoMemory, T
 use Rattle.journal_world.specs.Addresses.{Shape}
 use Rattle.journal_world.specs.Maps.{Map, Agrees}
 use Rattle.journal_world.specs.Histories.{Entry, is_trusted, is_fenced, latest, commits_of}
-use Rattle.journal_objlog.specs.Writes.{written_blocks}
+use Rattle.journal_tail.specs.Writes.{written_blocks}
 use Rattle.journal_history.specs.Tokens.{SessionState, CommitPlace, made, next_transaction, IsExact, Commits, IsReceiptFor}
-use Rattle.journal_core.specs.declared.refusal_number.RefusalNumber.TheVariants.{J6, J9, J10, J11, J12, J13}
-use Rattle.journal_core.specs.Causes.{CauseState, IsUnexplained, IsExplained}
-use Rattle.journal_core.specs.Transactions.{TransactionState}
+use Rattle.journal_memory.specs.declared.refusal_number.RefusalNumber.TheVariants.{J6, J9, J10, J11, J12, J13}
+use Rattle.journal_memory.specs.Causes.{CauseState, IsUnexplained, IsExplained}
+use Rattle.journal_memory.specs.Transactions.{TransactionState}
 use Rattle.journal_twophase.specs.Journals.{IsKnown, IsShown}
-use Rattle.journal_wal.specs.declared.limits.TheConstants.{MAX_UPDATES}
+use Rattle.journal_tail.specs.declared.limits.TheConstants.{MAX_UPDATES}
 
 -- The transaction was committed as the session's next one, with exactly what it read and overwrote
 pub record IsCommitted (rule : Map → Type 0) (layout : Shape) (began : List Entry) (t : TransactionState) (old new : SessionState) (place : CommitPlace) : Type 0 where

@@ -8,10 +8,10 @@ use Rattle.journal_world.specs.Histories.{Entry, opened, is_trusted, IsLegal}
 use Rattle.journal_world.specs.Histories.Entry.{opening}
 use Rattle.journal_disk.specs.Disks.{DiskState}
 use Rattle.journal_history.specs.Soundness.{IsSound}
-use Rattle.journal_core.specs.declared.refusal_number.RefusalNumber.{RefusalNumber}
-use Rattle.journal_core.specs.declared.refusal_number.RefusalNumber.TheVariants.{J6, J9, J11, J13}
-use Rattle.journal_core.specs.Causes.{CauseState, IsUnexplained, IsExplained}
-use Rattle.journal_core.specs.Openings.{HoldsMap, HasSize}
+use Rattle.journal_memory.specs.declared.refusal_number.RefusalNumber.{RefusalNumber}
+use Rattle.journal_memory.specs.declared.refusal_number.RefusalNumber.TheVariants.{J6, J9, J11, J13}
+use Rattle.journal_memory.specs.Causes.{CauseState, IsUnexplained, IsExplained}
+use Rattle.journal_parts.specs.Openings.{HoldsMap, HasSize}
 
 -- A journal, by what is known of it outside its lock
 pub record JournalState : Type 0 where

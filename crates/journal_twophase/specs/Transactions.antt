@@ -8,11 +8,11 @@ use Rattle.journal_world.specs.declared.refusal.Refusal.TheVariants.{NoMemory, B
 use Rattle.journal_world.specs.Addresses.{Value, kind_of, is_valid, slot_of, Shape}
 use Rattle.journal_world.specs.Maps.{Pair, SamePairs, value_among, value_at, is_value_at, is_object}
 use Rattle.journal_world.specs.Histories.{Entry, is_trusted, latest}
-use Rattle.journal_core.specs.declared.refusal_number.RefusalNumber.TheVariants.{J6, J9, J13}
-use Rattle.journal_core.specs.Causes.{CauseState, IsUnexplained, IsExplained}
+use Rattle.journal_memory.specs.declared.refusal_number.RefusalNumber.TheVariants.{J6, J9, J13}
+use Rattle.journal_memory.specs.Causes.{CauseState, IsUnexplained, IsExplained}
 use Rattle.journal_lockmap.specs.Numbers.{HeldState, HoldsSlots, AreApart}
-use Rattle.journal_core.specs.SlotCounts.{AreUnder}
-use Rattle.journal_core.specs.Transactions.{TransactionState, ReadResultState, AreUnmoved}
+use Rattle.journal_memory.specs.SlotCounts.{AreUnder}
+use Rattle.journal_memory.specs.Transactions.{TransactionState, ReadResultState, AreUnmoved}
 
 pub record TxnState : Type 0 where
   -- what its session had seen of the history when it began

@@ -6,9 +6,9 @@ use Rattle.journal_world.specs.Addresses.{Shape}
 use Rattle.journal_world.specs.Maps.{Map}
 use Rattle.journal_world.specs.Histories.{Entry, count, floor}
 use Rattle.journal_history.specs.Tokens.{SessionState, CommitPlace, StableCount, OnlyExtends, IsExact}
-use Rattle.journal_core.specs.declared.refusal_number.RefusalNumber.TheVariants.{J6, J9, J13}
-use Rattle.journal_core.specs.Causes.{CauseState, IsUnexplained}
-use Rattle.journal_core.specs.Transactions.{TransactionState}
+use Rattle.journal_memory.specs.declared.refusal_number.RefusalNumber.TheVariants.{J6, J9, J13}
+use Rattle.journal_memory.specs.Causes.{CauseState, IsUnexplained}
+use Rattle.journal_memory.specs.Transactions.{TransactionState}
 use Rattle.journal_twophase.specs.declared.waiting.WaitFault.{WaitFault}
 use Rattle.journal_twophase.specs.declared.waiting.WaitFault.TheVariants.{Refused, Unsure}
 use Rattle.journal_twophase.specs.Journals.{IsKnown, IsShown}

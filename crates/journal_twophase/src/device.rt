@@ -10,9 +10,9 @@ ghost use Rattle.journal_object.specs.Objects.{size_at};
 ghost use Rattle.journal_disk.specs.Disks.{IsSettled};
 ghost use Rattle.journal_disk.specs.Images.{EveryImage};
 ghost use Rattle.journal_history.specs.Tokens.{OnlyExtends};
-ghost use Rattle.journal_core.specs.Cores.{Leaves};
-ghost use Rattle.journal_core.specs.Durables.{disk_of, is_faulted};
-ghost use Rattle.journal_core.specs.SlotCounts.{AgreeWith, AreUnder};
+ghost use Rattle.journal_parts.specs.Cores.{Leaves};
+ghost use Rattle.journal_parts.specs.Durables.{disk_of, is_faulted};
+ghost use Rattle.journal_memory.specs.SlotCounts.{AgreeWith, AreUnder};
 ghost use Rattle.journal_twophase.specs.Journals.{IsLogRefusal, IsInstallRefusal, IsFetchRefusal, IsCloseRefusal, IsImageRefusal};
 ghost use Rattle.journal_twophase.specs.Transactions.{Finds, KeepsHeld, IsCheckRefusal};
 ghost use Rattle.journal_twophase.specs.Commits.{IsCommitted, ShowsFence, IsTryRefusal};
@@ -21,13 +21,16 @@ use crate::locked_parts::{
     JournalRefusal, LockedParts, UnderMemoryLock, commit_in, is_past_threshold,
 };
 use journal_block::Block;
-use journal_core::{
-    Cause, CommitStep, Durable, Fetched, InstallCall, InstallFault, InstallStep, LogCall, LogStep,
-    ReadResult, RestingLog, Spares, Stat, Transaction, UnnotedFault, Volatile, fetch_buffers,
-};
 use journal_disk::{BlockDisk, MemDisk};
 use journal_history::{Naming, Receipt, Session};
 use journal_lockmap::Held;
+use journal_memory::{
+    Cause, CommitStep, Fetched, ReadResult, Spares, Transaction, Volatile, fetch_buffers,
+};
+use journal_parts::{
+    Durable, InstallCall, InstallFault, InstallStep, LogCall, LogStep, RestingLog, Stat,
+    UnnotedFault,
+};
 use journal_world::{Addr, MapRule, Refusal, Refused};
 use std::rt::Clock;
 use std::sync::{MutexGuard, Wait};

@@ -11,21 +11,20 @@ ghost use Rattle.journal_object.specs.Objects.{size_at};
 ghost use Rattle.journal_world.specs.Histories.{is_trusted, is_fenced, latest};
 ghost use Rattle.journal_disk.specs.Disks.{IsSettled};
 ghost use Rattle.journal_history.specs.Tokens.{made, IsExact, OnlyExtends};
-ghost use Rattle.journal_core.specs.SlotCounts.{AgreeWith, AreUnder};
-ghost use Rattle.journal_core.specs.VolatileCommits.{IfDone, IfMissing};
-ghost use Rattle.journal_core.specs.Openings.{HasWellFormedLog, IsLayoutRefusal, OnlyReadsDisk};
+ghost use Rattle.journal_memory.specs.SlotCounts.{AgreeWith, AreUnder};
+ghost use Rattle.journal_memory.specs.VolatileCommits.{IfDone, IfMissing};
+ghost use Rattle.journal_parts.specs.Openings.{HasWellFormedLog, IsLayoutRefusal, OnlyReadsDisk};
 ghost use Rattle.journal_twophase.specs.Journals.{BeginsWith, IsSessionRefusal, IsFenceRefusal};
 ghost use Rattle.journal_twophase.specs.Transactions.{Finds, KeepsHeld, IsCheckRefusal, IsEndRefusal};
 ghost use Rattle.journal_twophase.specs.Commits.{IsCommitted, ShowsFence, IsTryRefusal, IsCommitRefusal};
 
 use crate::hint::Hint;
 use crate::waiters::MarkWaiters;
-use journal_core::{
-    Cause, CommitStep, Core, Durable, Fetched, ReadResult, Spares, Transaction, Volatile,
-};
 use journal_disk::BlockDisk;
 use journal_history::{Book, Front, Naming, Receipt, Session};
 use journal_lockmap::{Held, SlotCell, Slots};
+use journal_memory::{Cause, CommitStep, Fetched, ReadResult, Spares, Transaction, Volatile};
+use journal_parts::{Durable, open_parts};
 use journal_world::{Addr, Layout, MapRule, Refusal, Refused};
 use std::alloc::Global;
 use std::hint::spin_loop;
@@ -115,7 +114,7 @@ pub(crate) struct LockedParts<'b, D: BlockDisk, R: MapRule, J: Naming> {
     pub(crate) alloc: Global,
     // Order of locks: `durable`, then `memory`. A thread that has `memory` takes neither.
     //
-    // Between any two holds the two parts are as `IsBetween` of journal_core says: `IsDurable`,
+    // Between any two holds the two parts are as `IsBetween` of journal_parts says: `IsDurable`,
     // `IsVolatile`, and `Tied`, which no type keeps, but each hold of both does.
     //
     // The disk's lock. Invariant: `IsDurable`.
@@ -149,7 +148,7 @@ pub(crate) struct OpenedCore<'b, D: BlockDisk, R: MapRule, J: Naming> {
 }
 
 impl<'b, D: BlockDisk, R: MapRule, J: Naming> LockedParts<'b, D, R, J> {
-    // Opens a disk as `Core::open_step` does.
+    // Opens a disk as `open_parts` does.
     pub(crate) fn open(
         alloc: Global,
         book: &'b Book<R>,
@@ -169,9 +168,8 @@ impl<'b, D: BlockDisk, R: MapRule, J: Naming> LockedParts<'b, D, R, J> {
         ensures refusal { IfErr result (λ refused. IsLayoutRefusal R.statement J.layout (D.state disk) (D.state refused.disk) refused.refusal) }
         ensures left { IfErr result (λ refused. OnlyReadsDisk (D.state disk) (D.state refused.disk)) }
     {
-        let (core, slots) = Core::open_step(alloc, book, cell, layout, disk, rule, copies)?;
-        let start = core.front();
-        let (durable, volatile) = core.into_parts();
+        let (durable, volatile, slots) = open_parts(alloc, book, cell, layout, disk, rule, copies)?;
+        let start = volatile.front();
         let (log_start, _) = durable.log_range();
         let core = LockedParts {
             alloc,

@@ -9,10 +9,10 @@ ghost use Rattle.journal_twophase.specs.Transactions.{TxnState, core_of, begun, 
 
 use crate::journal::Journal;
 use crate::locked_parts::JournalRefusal;
-use journal_core::Transaction;
 use journal_disk::BlockDisk;
 use journal_history::{Front, Naming, Session};
 use journal_lockmap::{Held, LockMap};
+use journal_memory::Transaction;
 use journal_world::{Addr, Kind, MapRule, Refusal, Value};
 use std::alloc::{AllocError, AllocFailed, Global};
 use std::marker::Model;

@@ -9,10 +9,10 @@ ghost use Rattle.journal_twophase.specs.Waits.{IsStable, CommitsAndWaits, IsWait
 
 use crate::locked_parts::{JournalRefusal, LockedParts, UnderMemoryLock};
 use crate::txn::release_all;
-use journal_core::{Cause, Spares, Transaction, Volatile};
 use journal_disk::BlockDisk;
 use journal_history::{Naming, Receipt, Session, StableNote};
 use journal_lockmap::{Held, LockMap};
+use journal_memory::{Cause, Spares, Transaction, Volatile};
 use journal_world::{MapRule, Refusal};
 use std::sync::{MutexGuard, Wait};
 

@@ -11,7 +11,8 @@ use Rattle.journal_circ.specs.StandsFor.{StandsFor}
 use Rattle.journal_circ.specs.Ring.{Ring, home_of}
 use Rattle.journal_memlog.specs.Logs.{LogState, tail_of, head_of, absorbed, appended, CanTake}
 use Rattle.journal_memlog.specs.Laws.{tail_of-appended, updated-appended, All-appended}
-use Rattle.journal_wal.specs.Wal.{WalState, Logging, log_blocks, log_end, log_sync, log_spent, Crashes, MayStandFor, AreHomes, SameBlocks, with_room, size_of, blocks_at, blocks_now, blocks_logged}
+use Rattle.journal_tail.specs.Homes.{AreHomes, SameBlocks}
+use Rattle.journal_wal.specs.Wal.{WalState, Logging, log_blocks, log_end, log_sync, log_spent, Crashes, MayStandFor, with_room, size_of, blocks_at, blocks_now, blocks_logged}
 use Rattle.journal_wal.specs.States.{updates_to, AreTied, IsWal, IsLogging}
 use Rattle.journal_wal.proofs.Frames.{KeepsInstalling, installing_stays}
 use Rattle.journal_wal.proofs.Logger.{Leaves}

@@ -7,7 +7,8 @@ use Rattle.journal_block.specs.UpdateLaws.{updated-named}
 use Rattle.journal_disk.specs.Disks.{Keeps}
 use Rattle.journal_circ.specs.Ring.{Ring, home_of, SameHome, SameHomeBut}
 use Rattle.journal_memlog.specs.Logs.{LogState}
-use Rattle.journal_wal.specs.Wal.{WalState, IsLast, Installing, install_none, install_homes, install_start, install_sync, install_spent, SameBlocks, KeepsBlocks, size_of}
+use Rattle.journal_tail.specs.Homes.{SameBlocks}
+use Rattle.journal_wal.specs.Wal.{WalState, IsLast, Installing, install_none, install_homes, install_start, install_sync, install_spent, KeepsBlocks, size_of}
 use Rattle.journal_wal.specs.States.{AreTied, IsInLog, IsHomeOf, HasHomes, IsInstalling, updates_to}
 use Rattle.journal_wal.proofs.Lists.{updates_block-longer, updates_block-all}
 

@@ -9,7 +9,8 @@ use Rattle.journal_disk.specs.Disks.{Keeps}
 use Rattle.journal_disk.specs.Moments.{LeavesOnly}
 use Rattle.journal_memlog.specs.Logs.{LogState, HasDistinctBlocks, next_position, head_of, tail_of, absorbed, appended, CanTake}
 use Rattle.journal_memlog.specs.Laws.{tail_of-appended}
-use Rattle.journal_wal.specs.Wal.{WalState, Logging, log_blocks, log_end, log_sync, log_spent, Crashes, Cuts, MayStandFor, AreHomes, size_of, log_steps, log_steps_by, tail_length}
+use Rattle.journal_tail.specs.Homes.{AreHomes}
+use Rattle.journal_wal.specs.Wal.{WalState, Logging, log_blocks, log_end, log_sync, log_spent, Crashes, Cuts, MayStandFor, size_of, log_steps, log_steps_by, tail_length}
 use Rattle.journal_wal.specs.States.{IsWal, IsLogging}
 use Rattle.journal_wal.specs.Groups.{HasGroupRoom, TakesGroup}
 use Rattle.journal_wal.proofs.Logger.{Leaves, group_cut}

@@ -16,7 +16,8 @@ use Rattle.journal_disk.specs.Disks.{write, DiskState}
 use Rattle.journal_disk.specs.Images.{EveryImage}
 use Rattle.journal_circ.specs.Ring.{Ring, log_of, home_of, Crashes, KeepsLog, SameHome, SameHomeBut, IsLogged, IsInstalled, MakesCall}
 use Rattle.journal_memlog.specs.Logs.{LogState, next_position, trimmed}
-use Rattle.journal_wal.specs.Wal.{WalState, planned, IsPlanOf, MakesDueCall, install_call, after_call, Logging, log_blocks, log_end, log_sync, log_spent, Installing, install_none, install_homes, install_start, install_sync, install_spent, Fails, KeepsBlocks, MayStandFor, size_of, blocks_now, blocks_at, SameBlocks, Installs, InstallMoves, install_steps_by, log_steps_by, InstallAnswers, install_steps}
+use Rattle.journal_tail.specs.Homes.{SameBlocks}
+use Rattle.journal_wal.specs.Wal.{WalState, planned, IsPlanOf, MakesDueCall, install_call, after_call, Logging, log_blocks, log_end, log_sync, log_spent, Installing, install_none, install_homes, install_start, install_sync, install_spent, Fails, KeepsBlocks, MayStandFor, size_of, blocks_now, blocks_at, Installs, InstallMoves, install_steps_by, log_steps_by, InstallAnswers, install_steps}
 use Rattle.journal_wal.specs.declared.step.InstallStep.TheVariants.{Freed}
 use Rattle.journal_wal.specs.States.{updates_to, IsInLog, IsHomeOf, PutsHomes, AreTied, IsWal, IsLogging, IsInstalling}
 use Rattle.journal_wal.proofs.Lists.{updates_block-longer}

@@ -12,5 +12,3 @@ pub mod Opening
 pub mod Reading
 pub mod Grouping
 pub mod Scanning
-pub mod Kept
-pub mod Tailing

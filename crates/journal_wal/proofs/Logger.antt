@@ -14,7 +14,8 @@ use Rattle.journal_disk.specs.Images.{EveryImage}
 use Rattle.journal_circ.specs.Log.{log_block, with_end, with_group}
 use Rattle.journal_circ.specs.Ring.{Ring, log_of, home_of, bytes_put, header_put, tags_put, Crashes as RingCrashes, KeepsLog, SameHome, MakesCall}
 use Rattle.journal_memlog.specs.Logs.{LogState, next_position, tail_of}
-use Rattle.journal_wal.specs.Wal.{WalState, Logging, log_blocks, log_end, log_sync, log_spent, Installing, Crashes, Fails, Cuts, LogsOn, EndsGroup, log_steps, log_steps_by, barriers_before, call_after_blocks, log_call, log_call_by, bytes_at, MakesDueCall, MayStandFor, size_of, blocks_at, AreHomes, tail_length, free_positions}
+use Rattle.journal_tail.specs.Homes.{AreHomes}
+use Rattle.journal_wal.specs.Wal.{WalState, Logging, log_blocks, log_end, log_sync, log_spent, Installing, Crashes, Fails, Cuts, LogsOn, EndsGroup, log_steps, log_steps_by, barriers_before, call_after_blocks, log_call, log_call_by, bytes_at, MakesDueCall, MayStandFor, size_of, blocks_at, tail_length, free_positions}
 use Rattle.journal_wal.specs.States.{updates_to, AreTied, IsWal, IsLogging, IsInstalling}
 use Rattle.journal_wal.proofs.Crashes.{images_of, moments_of}
 use Rattle.journal_wal.proofs.Frames.{keeps_homes, KeepsInstalling, installing_stays, tied_by, keeps_installing}

@@ -14,7 +14,8 @@ use Rattle.journal_circ.specs.StandsFor.{StandsFor}
 use Rattle.journal_circ.specs.Ring.{Ring, log_of, home_of, blocks_to, at_rest}
 use Rattle.journal_circ.specs.Laws.{log_length, stands_same}
 use Rattle.journal_memlog.specs.Logs.{LogState, next_position, with_logged}
-use Rattle.journal_wal.specs.Wal.{WalState, log_blocks, install_none, AreHomes, MayStandFor, IsAtRest, size_of, blocks_now, blocks_logged, log_steps_by}
+use Rattle.journal_tail.specs.Homes.{AreHomes}
+use Rattle.journal_wal.specs.Wal.{WalState, log_blocks, install_none, MayStandFor, IsAtRest, size_of, blocks_now, blocks_logged, log_steps_by}
 use Rattle.journal_wal.specs.States.{AreTied, IsWal}
 use Rattle.journal_wal.specs.Recovery.{OnlyReadsRing, IsRecovered}
 

@@ -5,8 +5,9 @@ use Rattle.journal_world.specs.declared.refusal.Refusal.TheVariants.{NoMemory, D
 use Rattle.journal_block.specs.declared.update.Update.{Update}
 use Rattle.journal_block.specs.Updates.{with_updates}
 use Rattle.journal_memlog.specs.Logs.{next_position}
-use Rattle.journal_wal.specs.Wal.{WalState, SameBlocks, size_of, blocks_now, blocks_cut, blocks_logged, log_steps, barriers_before, tail_length, free_positions}
-use Rattle.journal_wal.specs.declared.limits.TheConstants.{MAX_TAIL}
+use Rattle.journal_tail.specs.Homes.{SameBlocks}
+use Rattle.journal_wal.specs.Wal.{WalState, size_of, blocks_now, blocks_cut, blocks_logged, log_steps, barriers_before, tail_length, free_positions}
+use Rattle.journal_tail.specs.declared.limits.TheConstants.{MAX_TAIL}
 
 -- There is a place for a group of so many blocks: none is in flight, it has a block, and the log a position for each
 pub record FitsGroup (w : WalState) (blocks : ℕ) : Type 0 where

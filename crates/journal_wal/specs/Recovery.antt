@@ -3,7 +3,7 @@ use Rattle.std.specs.Prelude.{ℕ, ◌≡◌, ◌-◌, IsTrue, take}
 use Rattle.journal_disk.specs.Disks.{Keeps}
 use Rattle.journal_circ.specs.Ring.{Ring, log_of}
 use Rattle.journal_memlog.specs.Logs.{LogState, next_position}
-use Rattle.journal_wal.specs.Wal.{AreHomes}
+use Rattle.journal_tail.specs.Homes.{AreHomes}
 
 -- The disk was read, and nothing else
 pub record OnlyReadsRing (old new : Ring) : Type 0 where

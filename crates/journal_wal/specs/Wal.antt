@@ -1,6 +1,6 @@
 -- What contracts see of a write-ahead log: the blocks now, those that a crash may leave, and what the next steps are.
 use Rattle.std.specs.Prelude.{ℕ, zero, suc, Bool, ◌≡◌, ◌⊎◌, ◌<◌, ◌≤◌, ◌+◌, ◌-◌, ◌^◌, true, false, IsTrue, if◌then◌else◌, List, [], ◌∷◌, length, take, slice_index_or, Option, Some, None}
-use Rattle.std.specs.List.{All, slice_get}
+use Rattle.std.specs.List.{slice_get}
 use Rattle.std.specs.List.Sorted.{IsStrictlySortedBy}
 use Rattle.std.specs.Map.{lookup, keys_of}
 use Rattle.std.specs.BTreeMap.{is_at}
@@ -17,12 +17,13 @@ use Rattle.journal_circ.specs.StandsFor.{StandsFor}
 use Rattle.journal_circ.specs.Log.{log_block, with_end, with_group, start_block, start_in, end_in}
 use Rattle.journal_circ.specs.Ring.{Ring, home_of, bytes_put, MakesCall, TriesCall}
 use Rattle.journal_memlog.specs.Logs.{LogState, next_position, tail_of, trimmed}
-use Rattle.journal_circ.specs.declared.layout.TheConstants.{FIRST_HOME, LOG_POSITIONS}
-use Rattle.journal_wal.specs.declared.limits.TheConstants.{MAX_TAIL}
+use Rattle.journal_circ.specs.declared.layout.TheConstants.{LOG_POSITIONS}
+use Rattle.journal_tail.specs.declared.limits.TheConstants.{MAX_TAIL}
 use Rattle.journal_wal.specs.declared.step.GroupStep.{GroupStep}
 use Rattle.journal_wal.specs.declared.step.GroupStep.TheVariants.{Idle, Cut, Put, Logged}
 use Rattle.journal_wal.specs.declared.step.InstallStep.{InstallStep}
 use Rattle.journal_wal.specs.declared.step.InstallStep.TheVariants.{Idle as InstallIdle, Put as InstallPut, Freed}
+use Rattle.journal_tail.specs.Homes.{SameBlocks}
 
 -- What the logger does next
 pub data Logging : Type 0 where
@@ -75,10 +76,6 @@ blocks_cut w = blocks_at w w.log.cut
 -- the blocks at the cut of the last group whose cycle ended
 abbrev pub blocks_logged : WalState → Content
 blocks_logged w = blocks_at w w.log.logged
-
--- On a disk of n blocks these hold the same objects: from block 513 on they are equal
-abbrev pub SameBlocks : ℕ → Content → Content → Type 0
-SameBlocks n f g = (b : ℕ) → FIRST_HOME ≤ b → b < n → f b ≡ g b
 
 -- The image stands for the blocks of the last group whose cycle ended, or for those of the last cut
 abbrev pub MayStandFor : WalState → List Bytes → Type 0
@@ -175,10 +172,6 @@ MakesDueCall (Some event) old new = MakesCall event old new
 abbrev pub TriesDueCall : Option DiskEvent → DiskState → DiskState → Type 0
 TriesDueCall None old new = IsTrue old.honest → new.past ≡ old.past
 TriesDueCall (Some event) old new = TriesCall event old new
-
--- each of the updates is of a block that holds objects
-abbrev pub AreHomes : ℕ → List Update → Type 0
-AreHomes n updates = All (λ u. (FIRST_HOME ≤ u.block) × (u.block < n)) updates
 
 -- the log with other room in memory
 abbrev pub with_room : WalState → ℕ → WalState

@@ -1,15 +1,16 @@
 // A group that was cut elsewhere is taken whole.
 ghost use Rattle.std.specs.Prelude.{ℕ, ◌≡◌, ◌≤◌, ◌<◌, ◌↔◌, false, IsTrue, length, IfOk, IfErr};
 ghost use Rattle.journal_memlog.specs.Logs.{HasDistinctBlocks};
-ghost use Rattle.journal_wal.specs.Wal.{AreHomes, Crashes, size_of, tail_length, with_room};
+ghost use Rattle.journal_tail.specs.Homes.{AreHomes};
+ghost use Rattle.journal_wal.specs.Wal.{Crashes, size_of, tail_length, with_room};
 ghost use Rattle.journal_wal.specs.Groups.{FitsGroup, HasGroupRoom, TakesGroup, IsGroupRefusal};
-ghost use Rattle.journal_wal.specs.declared.limits.TheConstants.{MAX_TAIL};
+ghost use Rattle.journal_tail.specs.declared.limits.TheConstants.{MAX_TAIL};
 
-use crate::limits::MAX_POSITION;
 use crate::wal::Wal;
 use journal_block::Update;
 use journal_circ::LOG_POSITIONS;
 use journal_disk::BlockDisk;
+use journal_tail::MAX_POSITION;
 use journal_world::Refusal;
 
 impl<D: BlockDisk> Wal<D> {

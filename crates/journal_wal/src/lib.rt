@@ -1,5 +1,5 @@
-//! The write-ahead log: updates of blocks are appended in memory, absorbed there, cut into groups that the
-//! logger makes durable whole, and carried home by the installer.
+//! The write-ahead log on the disk: it takes updates of blocks in groups. The logger makes a group durable whole, and the
+//! installer carries it home.
 //!
 //! Contracts speak of the blocks now and of those that a crash may leave. Of these there are two: the blocks
 //! at the last cut, and those at the cut of the last group whose cycle ended.
@@ -11,24 +11,20 @@
 //! `install_call` that of the installer, whose plan has the last logged update of each block, blocks
 //! ascending. No other call but a read and the opening asks the device for anything, and those only read.
 //!
-//! A `Tail` has the part in memory alone, for a lock of its own. What it cuts, `Wal::take_reserved` takes whole. Beside
-//! it lie copies of blocks that are at home, so that what is read often is not read from the device each time.
+//! Updates are appended to a `Tail`, which is in memory alone, for a lock of its own (`journal_tail`). What it cuts,
+//! `Wal::take_reserved` takes whole.
 #![tactic(auto)]
 
-mod block_cache;
 mod disk_log;
 mod group;
 mod install;
-mod limits;
 mod log;
 mod logged;
 mod open;
 mod plan;
 mod step;
-mod tail;
 mod wal;
 
-pub use limits::{MAX_TAIL, MAX_UPDATES};
+pub use journal_tail::{CutPoint, MAX_TAIL, MAX_UPDATES, Tail};
 pub use step::{GroupStep, InstallStep};
-pub use tail::{CutPoint, Tail};
 pub use wal::Wal;

@@ -6,7 +6,8 @@ ghost use Rattle.journal_disk.specs.Images.{EveryImage, reading};
 ghost use Rattle.journal_circ.specs.Log.{is_sealed, IsWellFormed};
 ghost use Rattle.journal_circ.specs.StandsFor.{StandsFor};
 ghost use Rattle.journal_circ.specs.Ring.{IsOpenRefusal, log_of};
-ghost use Rattle.journal_wal.specs.Wal.{IsAtRest, HasBoundsIn, AreHomes, size_of, blocks_now};
+ghost use Rattle.journal_tail.specs.Homes.{AreHomes};
+ghost use Rattle.journal_wal.specs.Wal.{IsAtRest, HasBoundsIn, size_of, blocks_now};
 ghost use Rattle.journal_wal.specs.Recovery.{OnlyReadsRing, IsRecovered};
 ghost use Rattle.journal_circ.specs.declared.layout.TheConstants.{LOG_POSITIONS};
 

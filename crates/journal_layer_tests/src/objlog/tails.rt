@@ -11,7 +11,7 @@ use crate::runs::{
 use crate::world::regions::{BEYOND, SMALL, regions};
 use journal_block::{Block, Update};
 use journal_memlog::Bounds;
-use journal_objlog::{ObjectTail, Preparation, Spares};
+use journal_tail::{ObjectTail, Preparation, Spares};
 use journal_world::{Addr, Layout};
 use std::alloc::Global;
 use std::marker::Model;
@@ -74,7 +74,7 @@ struct Memory {
 
 impl Model for Memory {
     ghost use Rattle.std.specs.Prelude.{◌≡◌};
-    ghost use Rattle.journal_objlog.specs.ObjectTails.{blocks_of};
+    ghost use Rattle.journal_tail.specs.ObjectTails.{blocks_of};
 
     ghost Value = { Unit {0} };
 

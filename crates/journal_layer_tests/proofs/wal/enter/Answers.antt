@@ -1,7 +1,7 @@
 use Rattle.std.proofs.Common.{rules, ◌≡◌, sym, ap, subst, ◌∙◌}
 use Rattle.journal_memlog.specs.Logs.{fresh_count, tail_of}
-use Rattle.journal_wal.specs.Wal.{AreHomes}
-use Rattle.journal_wal.specs.Tails.{TailState}
+use Rattle.journal_tail.specs.Homes.{AreHomes}
+use Rattle.journal_tail.specs.Tails.{TailState}
 use Rattle.journal_layer_tests.proofs.wal.enter.Goals as goal
 
 pub append_reserved-requires-clause-room : goal.append_reserved-requires-clause-room

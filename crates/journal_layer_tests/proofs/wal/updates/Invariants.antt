@@ -1,4 +1,4 @@
-use Rattle.journal_wal.specs.Wal.{AreHomes}
+use Rattle.journal_tail.specs.Homes.{AreHomes}
 use Rattle.journal_layer_tests.proofs.wal.updates.Given as goal
 
 abbrev pub invariant-loop-number : goal.invariant-loop-number

@@ -2,12 +2,12 @@ use Rattle.std.proofs.Common.{◌≡◌, ◌++◌, take, drop, length, false, sy
 use Rattle.std.proofs.lemmas.Bool.{false≢true}
 use Rattle.journal_world.specs.declared.refusal.Refusal.{Refusal}
 use Rattle.journal_world.specs.Histories.{latest}
-use Rattle.journal_objlog.proofs.Refusing.{if_err}
+use Rattle.journal_tail.proofs.Exits.{if_err}
 use Rattle.journal_inode.specs.Places.{addr_of}
 use Rattle.journal_inode.specs.Places.Object.{superblock}
 use Rattle.journal_inode.specs.SameFiles.{IsOnDisk-is_valid}
-use Rattle.journal_core.specs.Causes.{CauseState}
-use Rattle.journal_core.specs.Transactions.{TransactionState}
+use Rattle.journal_memory.specs.Causes.{CauseState}
+use Rattle.journal_memory.specs.Transactions.{TransactionState}
 use Rattle.journal_migrate.specs.Marking.{IsRunningRefusal}
 use Rattle.journal_migrate.proofs.Upgraded.{not_of_one, written_whole, block_length, superblock_size}
 use Rattle.journal_migrate.proofs.Drafting.{read_refused}

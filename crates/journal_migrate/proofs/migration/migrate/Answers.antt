@@ -1,8 +1,8 @@
 use Rattle.std.proofs.Common.{inl, sym, subst, rules}
 use Rattle.journal_world.specs.Addresses.{Shape}
-use Rattle.journal_objlog.proofs.Refusing.{if_err}
-use Rattle.journal_core.specs.Openings.{IsInRange, IsLayoutRefusal, OnlyReadsDisk}
-use Rattle.journal_core.specs.OpenLaws.{refuses_files}
+use Rattle.journal_tail.proofs.Exits.{if_err}
+use Rattle.journal_parts.specs.Openings.{IsInRange, IsLayoutRefusal, OnlyReadsDisk}
+use Rattle.journal_parts.specs.OpenLaws.{refuses_files}
 use Rattle.journal_migrate.specs.Either.{HasEitherFiles}
 use Rattle.journal_migrate.specs.Migrations.{IsMigrateRefusal}
 use Rattle.journal_migrate.proofs.Closing.{laid_files, migrated, keeps_files, keeps_two, migrate_refused}

@@ -1,15 +1,15 @@
 use Rattle.std.proofs.Common.{◌≡◌, ◌∷◌, [], IsTrue, sym, ap, subst, ◌∙◌, rules}
 use Rattle.std.proofs.lemmas.Result.{on_ok_weaker, on_err_weaker}
 use Rattle.journal_world.specs.declared.refusal.Refusal.{Refusal}
-use Rattle.journal_objlog.proofs.Refusing.{if_err}
+use Rattle.journal_tail.proofs.Exits.{if_err}
 use Rattle.journal_history.specs.Tokens.{SessionState}
-use Rattle.journal_core.specs.Causes.{CauseState}
+use Rattle.journal_memory.specs.Causes.{CauseState}
 use Rattle.journal_world.specs.Addresses.{slot_of}
 use Rattle.journal_lockmap.specs.Numbers.{slots_of}
 use Rattle.journal_inode.specs.Places.{addr_of}
 use Rattle.journal_inode.specs.Places.Object.{superblock}
-use Rattle.journal_core.specs.SlotCounts.{AgreeWith}
-use Rattle.journal_core.specs.Cores.{CoreState, disk_of, next_of}
+use Rattle.journal_memory.specs.SlotCounts.{AgreeWith}
+use Rattle.journal_parts.specs.Cores.{CoreState, disk_of, next_of}
 use Rattle.journal_migrate.specs.Migrations.{IsUpgradeRefusal}
 use Rattle.journal_migrate.proofs.Drafting.{at_draft, keeps_rule, under, covered, apart, awaits, commit_refused}
 use Rattle.journal_migrate.proofs.Bringing.{no_commit, left_committed, two_marked}

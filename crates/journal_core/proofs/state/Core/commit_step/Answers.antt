@@ -3,13 +3,13 @@ use Rattle.journal_world.specs.Maps.{Agrees}
 use Rattle.journal_world.specs.Histories.{is_trusted, latest}
 use Rattle.journal_history.specs.Tokens.{next_transaction, IsReceiptFor}
 use Rattle.journal_lockmap.specs.Numbers.{HeldState, AreApart, HoldsSlots}
-use Rattle.journal_core.specs.Ledgers.{ShowsLonger}
-use Rattle.journal_core.specs.Transactions.{AreUnmoved}
-use Rattle.journal_core.specs.Cores.{CoreState, Crashes, OnlyReads}
+use Rattle.journal_memory.specs.Ledgers.{ShowsLonger}
+use Rattle.journal_memory.specs.Transactions.{AreUnmoved}
+use Rattle.journal_parts.specs.Cores.{CoreState, Crashes, OnlyReads}
 use Rattle.journal_core.specs.Commits.{IsCommitted, CanCommit, IsCommitRefusal}
 use Rattle.journal_core.specs.Interleavings.{AnswersCommit}
-use Rattle.journal_core.proofs.Verifying.{agree_committed}
-use Rattle.journal_core.proofs.Remembering.{verified_under}
+use Rattle.journal_core.proofs.Verified.{agree_committed}
+use Rattle.journal_memory.proofs.Remembering.{verified_under}
 use Rattle.journal_core.proofs.state.Core.commit_step.Goals as goal
 
 pub commit_verified-requires-clause-unmoved : goal.commit_verified-requires-clause-unmoved

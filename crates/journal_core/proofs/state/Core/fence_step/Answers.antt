@@ -1,7 +1,7 @@
 use Rattle.std.proofs.Common.{IfErr, rules, subst}
-use Rattle.journal_core.specs.Outsets.{Outset}
-use Rattle.journal_core.specs.Fences.{IsFenceRefusal}
-use Rattle.journal_core.proofs.Fencing.{pair_fenced, fenced_in_core, answers_fence}
+use Rattle.journal_memory.specs.Outsets.{Outset}
+use Rattle.journal_memory.specs.Fences.{IsFenceRefusal}
+use Rattle.journal_core.proofs.FencesOfPairs.{pair_fenced, fenced_in_core, answers_fence}
 use Rattle.journal_core.proofs.Joining.{crashes_noticed, outset_seen}
 use Rattle.journal_core.proofs.state.Core.fence_step.Goals as goal
 

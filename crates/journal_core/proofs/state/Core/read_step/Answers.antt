@@ -1,12 +1,12 @@
 use Rattle.std.proofs.Common.{◌≡◌, IsTrue, IfOk, IfErr, OnOk, ap, sym, subst}
 use Rattle.journal_world.specs.Maps.{value_at}
 use Rattle.journal_world.specs.Histories.{is_trusted, latest}
-use Rattle.journal_core.specs.Transactions.{AreUnmoved}
-use Rattle.journal_core.specs.Cores.{CoreState, Crashes, OnlyReads}
+use Rattle.journal_memory.specs.Transactions.{AreUnmoved}
+use Rattle.journal_parts.specs.Cores.{CoreState, Crashes, OnlyReads}
 use Rattle.journal_core.specs.Steps.{MayRead, IsReadRefusal}
 use Rattle.journal_core.specs.Interleavings.{AnswersRead}
-use Rattle.journal_core.proofs.Verifying.{agree_still}
-use Rattle.journal_core.proofs.Remembering.{verified_under}
+use Rattle.journal_memory.proofs.Verifying.{agree_still}
+use Rattle.journal_memory.proofs.Remembering.{verified_under}
 use Rattle.journal_core.proofs.state.Core.read_step.Goals as goal
 
 pub read_verified-requires-clause-unmoved : goal.read_verified-requires-clause-unmoved

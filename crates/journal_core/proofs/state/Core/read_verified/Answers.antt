@@ -7,17 +7,17 @@ use Rattle.journal_world.specs.Histories.{Entry}
 use Rattle.journal_world.proofs.Prefixes.{IsPrefix-refl}
 use Rattle.journal_block.specs.declared.update.Update.{Update}
 use Rattle.journal_object.proofs.MapOfBlocks.{valid_block}
-use Rattle.journal_objlog.proofs.Refusing.{if_err}
-use Rattle.journal_core.specs.Causes.{CauseState}
-use Rattle.journal_core.specs.Outsets.{MayRead}
-use Rattle.journal_objlog.specs.ObjectTails.{known_at}
-use Rattle.journal_core.specs.Volatiles.{IsReadRefusal as IsRefusedIn, outset_of, usable}
-use Rattle.journal_core.specs.Cores.{OnlyReads}
+use Rattle.journal_tail.proofs.Exits.{if_err}
+use Rattle.journal_memory.specs.Causes.{CauseState}
+use Rattle.journal_memory.specs.Outsets.{MayRead}
+use Rattle.journal_tail.specs.ObjectTails.{known_at}
+use Rattle.journal_memory.specs.Volatiles.{IsReadRefusal as IsRefusedIn, outset_of, usable}
+use Rattle.journal_parts.specs.Cores.{OnlyReads}
 use Rattle.journal_core.specs.Steps.{IsReadRefusal}
 use Rattle.journal_core.proofs.Events.{refuses_read}
 use Rattle.journal_core.proofs.Joining.{crashes_still, crashes_seen, outset_seen}
 use Rattle.journal_core.proofs.Reading.{reads_not, may_be_read}
-use Rattle.journal_core.proofs.Fetching.{all_of_map, fetched_known}
+use Rattle.journal_memory.proofs.Fetching.{all_of_map, fetched_known}
 use Rattle.journal_core.proofs.state.Core.read_verified.Goals as goal
 
 pub returns-in_err-found-clause-refusal : goal.returns-in_err-found-clause-refusal
@@ -51,12 +51,12 @@ fetch_step-requires-clause-blocks g c =
 
 pub returns-in_err-fetched-clause-crash : goal.returns-in_err-fetched-clause-crash
 returns-in_err-fetched-clause-crash g c =
-    crashes_seen g.J.Naming.layout c.self.inside.volatile c.self.inside.durable c.args.self.now c.self.invariant.pair c.self.view_is c.fetch_step.new.volatile c.fetch_step.new.self
+    crashes_seen g.J.Naming.layout c.self.inside.volatile c.self.inside.durable c.args.self.now c.self.invariant.pair c.self.view_is c.fetch_step.new.volatile c.fetch_step.new.durable
     c.fetch_step.ensures.pair c.fetch_step.ensures.crash
 
 pub returns-clause-crash : goal.returns-clause-crash
 returns-clause-crash g c =
-    crashes_seen g.J.Naming.layout c.self.inside.volatile c.self.inside.durable c.args.self.now c.self.invariant.pair c.self.view_is c.fetch_step.new.volatile c.fetch_step.new.self
+    crashes_seen g.J.Naming.layout c.self.inside.volatile c.self.inside.durable c.args.self.now c.self.invariant.pair c.self.view_is c.fetch_step.new.volatile c.fetch_step.new.durable
     c.fetch_step.ensures.pair c.fetch_step.ensures.crash
 
 pub returns-in_err-found-clause-event : goal.returns-in_err-found-clause-event
@@ -88,5 +88,5 @@ invariant_of-self-2 g c =
     let one : length c.in_ok-fetched.fetched.updates ≡ 1 = sym (length-map c.in_ok-fetched.fetched.updates (λ (u : Update). u.block)) ∙ ap length named in
     record {
       pair = c.fetch_step.ensures.pair;
-      room = λ fine. search rules;
+      room = λ fine. ap length c.into_updates.ensures ∙ one;
     }

@@ -1,9 +1,9 @@
 use Rattle.std.proofs.Common.{◌≤◌, ◌↔◌, IsTrue, IfOk, IfErr, OnOk, sym, subst}
 use Rattle.journal_world.specs.Histories.{floor}
-use Rattle.journal_core.specs.Outsets.{Outset}
-use Rattle.journal_core.specs.Waits.{MayWait, IsWaitRefusal}
-use Rattle.journal_core.specs.Volatiles.{VolatileState}
-use Rattle.journal_core.specs.Cores.{CoreState, IsPair}
+use Rattle.journal_memory.specs.Outsets.{Outset}
+use Rattle.journal_memory.specs.Waits.{MayWait, IsWaitRefusal}
+use Rattle.journal_memory.specs.Volatiles.{VolatileState}
+use Rattle.journal_parts.specs.Cores.{CoreState, IsPair}
 use Rattle.journal_core.proofs.Joining.{outset_seen}
 use Rattle.journal_core.proofs.state.Core.wait_step.Goals as goal
 

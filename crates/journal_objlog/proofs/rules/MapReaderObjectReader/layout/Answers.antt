@@ -1,6 +1,6 @@
 use Rattle.std.proofs.Common.{sym, ◌∙◌}
 use Rattle.journal_wal.specs.Wal.{blocks_now}
-use Rattle.journal_objlog.specs.MapLaws.{map_of-layout}
+use Rattle.journal_tail.specs.MapLaws.{map_of-layout}
 use Rattle.journal_objlog.proofs.rules.MapReaderObjectReader.layout.Goals as goal
 
 pub returns : goal.returns

@@ -2,7 +2,7 @@ use Rattle.std.proofs.Common.{IsTrue, IfOk, sym, subst, ◌∙◌}
 use Rattle.journal_world.specs.Addresses.{Shape, is_valid}
 use Rattle.journal_world.specs.Maps.{is_object}
 use Rattle.journal_wal.specs.Wal.{blocks_now}
-use Rattle.journal_objlog.specs.MapLaws.{map_of-layout}
+use Rattle.journal_tail.specs.MapLaws.{map_of-layout}
 use Rattle.journal_objlog.proofs.Readings.{read_on, held_read, inside_read}
 use Rattle.journal_objlog.proofs.rules.MapReaderObjectReader.read.Goals as goal
 

@@ -2,7 +2,7 @@ use Rattle.std.proofs.Common.{◌≡◌, Some, subst}
 use Rattle.journal_world.specs.declared.address.Kind.TheVariants.{Bit}
 use Rattle.journal_world.specs.Addresses.{Shape, kind_of}
 use Rattle.journal_wal.specs.Wal.{blocks_now}
-use Rattle.journal_objlog.specs.MapLaws.{map_of-layout}
+use Rattle.journal_tail.specs.MapLaws.{map_of-layout}
 use Rattle.journal_objlog.proofs.Readings.{inside_bits, bits_read}
 use Rattle.journal_objlog.proofs.rules.MapReaderObjectReader.read_bits.Goals as goal
 

@@ -2,8 +2,8 @@ use Rattle.std.proofs.Common.{◌≡◌, IsTrue, sym, subst, ◌∙◌, rules}
 use Rattle.journal_world.specs.Histories.{is_trusted}
 use Rattle.journal_disk.specs.Disks.{DiskState}
 use Rattle.journal_disk.specs.Images.{EveryImage}
-use Rattle.journal_core.specs.Cores.{Leaves}
-use Rattle.journal_core.specs.Durables.{DurableState, disk_of}
+use Rattle.journal_parts.specs.Cores.{Leaves}
+use Rattle.journal_parts.specs.Durables.{DurableState, disk_of}
 use Rattle.journal_twophase.proofs.Images.{images_again}
 use Rattle.journal_twophase.proofs.device.LockedParts+MemDisk+R+J.image.Goals as goal
 

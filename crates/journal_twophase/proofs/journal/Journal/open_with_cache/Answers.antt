@@ -1,8 +1,8 @@
 use Rattle.std.proofs.Common.{◌∙◌, ap, sym, subst, rules}
 use Rattle.journal_world.specs.Addresses.{Shape}
 use Rattle.journal_world.specs.Files.{files}
-use Rattle.journal_core.specs.Openings.{IsInRange, IsOpenRefusal, IsLayoutRefusal}
-use Rattle.journal_core.specs.OpenLaws.{refuses_files}
+use Rattle.journal_parts.specs.Openings.{IsInRange, IsOpenRefusal, IsLayoutRefusal}
+use Rattle.journal_parts.specs.OpenLaws.{refuses_files}
 use Rattle.journal_twophase.proofs.Opening.{told_as, on_any}
 use Rattle.journal_twophase.proofs.journal.Journal.open_with_cache.Goals as goal
 

@@ -1,7 +1,7 @@
 use Rattle.std.proofs.Common.{IsTrue, sym, subst}
 use Rattle.journal_disk.specs.Disks.{DiskState}
 use Rattle.journal_disk.specs.Images.{EveryImage}
-use Rattle.journal_core.specs.Cores.{Leaves}
+use Rattle.journal_parts.specs.Cores.{Leaves}
 use Rattle.journal_twophase.proofs.locked_parts.LockedParts.close.Goals as goal
 
 pub returns-in-Ok-clause-images : goal.returns-in-Ok-clause-images

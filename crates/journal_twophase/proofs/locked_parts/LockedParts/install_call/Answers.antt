@@ -1,8 +1,8 @@
 use Rattle.std.proofs.Common.{◌≡◌, ◌≤◌, ap, sym, subst, ◌∙◌, rules}
 use Rattle.journal_objlog.specs.ObjectLogs.{end_of}
-use Rattle.journal_core.specs.Durables.{DurableState}
-use Rattle.journal_core.specs.CallAnswers.{IfFreed, install_refusal_of}
-use Rattle.journal_core.specs.declared.due.InstallCall.{InstallCall}
+use Rattle.journal_parts.specs.Durables.{DurableState}
+use Rattle.journal_parts.specs.CallAnswers.{IfFreed, install_refusal_of}
+use Rattle.journal_parts.specs.declared.due.InstallCall.{InstallCall}
 use Rattle.journal_twophase.proofs.Failing.{noted_home}
 use Rattle.journal_twophase.proofs.locked_parts.LockedParts.install_call.Goals as goal
 

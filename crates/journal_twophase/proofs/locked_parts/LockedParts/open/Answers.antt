@@ -3,7 +3,7 @@ use Rattle.journal_twophase.proofs.locked_parts.LockedParts.open.Goals as goal
 
 pub returns-clause-begun : goal.returns-clause-begun
 returns-clause-begun g c =
-    let begun = c.in_ok-core.ensures.begun in
+    let begun = c.in_ok-durable.ensures.begun in
     record {
       map = begun.map;
       size = begun.size;
@@ -15,4 +15,4 @@ returns-clause-begun g c =
     }
 
 pub returns-clause-well_formed : goal.returns-clause-well_formed
-returns-clause-well_formed g c = c.in_ok-core.ensures.well_formed
+returns-clause-well_formed g c = c.in_ok-durable.ensures.well_formed

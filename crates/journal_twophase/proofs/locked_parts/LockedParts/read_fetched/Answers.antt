@@ -1,6 +1,6 @@
 use Rattle.std.proofs.Common.{◌≡◌, List, rules, sym, subst}
 use Rattle.journal_lockmap.specs.Numbers.{HeldState}
-use Rattle.journal_core.specs.SlotCounts.{AreUnder}
+use Rattle.journal_memory.specs.SlotCounts.{AreUnder}
 use Rattle.journal_twophase.proofs.locked_parts.LockedParts.read_fetched.Goals as goal
 
 pub read_with-requires-clause-under : goal.read_with-requires-clause-under

@@ -1,6 +1,6 @@
 use Rattle.std.proofs.Common.{ap}
 use Rattle.journal_object.proofs.MapOfBlocks.{valid_block}
-use Rattle.journal_core.specs.Volatiles.{VolatileState}
+use Rattle.journal_memory.specs.Volatiles.{VolatileState}
 use Rattle.journal_twophase.proofs.Looking.{finds, agrees_found}
 use Rattle.journal_twophase.proofs.locked_parts.LockedParts.read_in.Goals as goal
 

@@ -1,6 +1,6 @@
 use Rattle.std.proofs.Common.{List, sym, subst}
 use Rattle.journal_lockmap.specs.Numbers.{HeldState}
-use Rattle.journal_core.specs.SlotCounts.{AreUnder}
+use Rattle.journal_memory.specs.SlotCounts.{AreUnder}
 use Rattle.journal_twophase.proofs.locked_parts.LockedParts.read_or_fetch.Goals as goal
 
 pub read_fetched-requires-clause-under : goal.read_fetched-requires-clause-under

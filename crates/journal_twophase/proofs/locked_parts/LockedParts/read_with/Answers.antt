@@ -1,8 +1,8 @@
 use Rattle.std.proofs.Common.{List, Option, Ok, IfSome, ap, sym, subst}
 use Rattle.journal_lockmap.specs.Numbers.{HeldState}
-use Rattle.journal_core.specs.SlotCounts.{AgreeWith, AreUnder}
-use Rattle.journal_core.specs.Transactions.{ReadResultState}
-use Rattle.journal_core.specs.Volatiles.{VolatileState}
+use Rattle.journal_memory.specs.SlotCounts.{AgreeWith, AreUnder}
+use Rattle.journal_memory.specs.Transactions.{ReadResultState}
+use Rattle.journal_memory.specs.Volatiles.{VolatileState}
 use Rattle.journal_twophase.specs.Transactions.{Finds}
 use Rattle.journal_twophase.proofs.Looking.{finds, agrees_found}
 use Rattle.journal_twophase.proofs.locked_parts.LockedParts.read_with.Goals as goal

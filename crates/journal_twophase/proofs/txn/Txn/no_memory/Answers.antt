@@ -1,6 +1,6 @@
 use Rattle.std.proofs.Common.{List, ◌∙◌, sym, subst}
 use Rattle.journal_lockmap.specs.Numbers.{HeldState}
-use Rattle.journal_core.specs.SlotCounts.{AreUnder}
+use Rattle.journal_memory.specs.SlotCounts.{AreUnder}
 use Rattle.journal_twophase.proofs.Holding.{keeps_lent, same_lent}
 use Rattle.journal_twophase.proofs.txn.Txn.no_memory.Goals.{in-Ok, in-Err}
 use Rattle.journal_twophase.proofs.txn.Txn.no_memory.Goals as goal

@@ -3,10 +3,10 @@ use Rattle.journal_world.specs.declared.refusal.Refusal.{Refusal}
 use Rattle.journal_world.specs.Addresses.{slot_of}
 use Rattle.journal_world.specs.Maps.{Agrees}
 use Rattle.journal_world.specs.Histories.{is_trusted, latest}
-use Rattle.journal_objlog.proofs.Refusing.{if_err}
+use Rattle.journal_tail.proofs.Exits.{if_err}
 use Rattle.journal_lockmap.specs.Numbers.{HeldState, slots_of}
-use Rattle.journal_core.specs.Causes.{CauseState}
-use Rattle.journal_core.specs.SlotCounts.{AgreeWith, AreUnder}
+use Rattle.journal_memory.specs.Causes.{CauseState}
+use Rattle.journal_memory.specs.SlotCounts.{AgreeWith, AreUnder}
 use Rattle.journal_twophase.specs.Transactions.{TxnState, core_of, holds, Learns, IsCheckRefusal}
 use Rattle.journal_twophase.proofs.Holding.{state_of, keeps_read, keeps_lent, lent_back, same_lent, on_err_so}
 use Rattle.journal_twophase.proofs.Looking.{learns, later_on, reads_stay}

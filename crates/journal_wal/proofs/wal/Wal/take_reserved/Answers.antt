@@ -1,6 +1,7 @@
 use Rattle.std.proofs.Common.{length, sym, ap, subst, ◌∙◌}
 use Rattle.journal_memlog.specs.Logs.{LogState, next_position}
-use Rattle.journal_wal.specs.Wal.{WalState, Crashes, AreHomes, size_of}
+use Rattle.journal_tail.specs.Homes.{AreHomes}
+use Rattle.journal_wal.specs.Wal.{WalState, Crashes, size_of}
 use Rattle.journal_wal.specs.Groups.{HasGroupRoom, TakesGroup}
 use Rattle.journal_wal.specs.States.{logging_of, installing_of}
 use Rattle.journal_wal.proofs.Phases.{of_parts}

@@ -1,7 +1,0 @@
-use Rattle.journal_core.proofs.Enduring.{leaves_disk}
-use Rattle.journal_core.specs.Durables.{disk_of}
-use Rattle.std.proofs.Common.{rules}
-use Rattle.journal_core.proofs.durable.Durable.disk.Goals as goal
-
-pub returns-clause-images : goal.returns-clause-images
-returns-clause-images g c = leaves_disk g.J.Naming.layout _ c.args.self.now (disk_of c.args.self.now) c.self.invariant c.self.view_is (search rules)

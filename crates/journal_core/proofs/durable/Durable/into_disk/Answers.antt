@@ -1,6 +1,0 @@
-use Rattle.journal_core.proofs.Enduring.{leaves_disk}
-use Rattle.journal_core.proofs.durable.Durable.into_disk.Goals as goal
-
-pub returns-clause-images : goal.returns-clause-images
-returns-clause-images g c =
-    leaves_disk g.J.Naming.layout _ c.args.self (g.D.BlockDisk.state c.into_disk.result) c.self.invariant c.self.view_is c.into_disk.ensures

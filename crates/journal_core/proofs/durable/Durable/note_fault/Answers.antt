@@ -1,4 +1,0 @@
-use Rattle.journal_core.proofs.durable.Durable.note_fault.Goals as goal
-
-pub returns-clause-event : goal.returns-clause-event
-returns-clause-event g c = record { fault = c.requires.fault; noted = c.fail.ensures }

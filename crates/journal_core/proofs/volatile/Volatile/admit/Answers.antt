@@ -1,8 +1,0 @@
-use Rattle.std.proofs.Common.{sym, subst}
-use Rattle.journal_core.specs.Ledgers.{LedgerState}
-use Rattle.journal_core.specs.Volatiles.{IsVolatile}
-use Rattle.journal_core.proofs.volatile.Volatile.admit.Goals as goal
-
-pub invariant_of-self : goal.invariant_of-self
-invariant_of-self g c =
-    subst (λ (m : LedgerState). IsVolatile g.J.Naming.layout (record { ledger = m; tail = c.self.inside.tail; faulted = c.self.inside.faulted })) (sym c.admit.ensures.same) c.self.invariant

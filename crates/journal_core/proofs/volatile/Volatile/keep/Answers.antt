@@ -1,7 +1,0 @@
-use Rattle.journal_core.proofs.volatile.Volatile.keep.Goals as goal
-
-pub returns : goal.returns
-returns g c = record {
-  event =
-      record { others = c.keep_copies.ensures; kept = c.prove_invariant.ensures };
-}

@@ -1,7 +1,0 @@
-use Rattle.journal_core.proofs.volatile.Volatile.touch.Goals as goal
-
-pub returns : goal.returns
-returns g c = record {
-  event =
-      record { others = c.touch_copy.ensures; kept = c.prove_invariant.ensures };
-}

@@ -1,0 +1,15 @@
+pub mod Stepping
+pub mod Committing
+pub mod Remembering
+pub mod Verifying
+pub mod Covering
+pub mod Counting
+pub mod Answering
+pub mod Fronts
+pub mod Latest
+pub mod Staying
+pub mod Unready
+pub mod Fetching
+pub mod Fencing
+pub mod Fenced
+pub mod Beginning

@@ -1,0 +1,14 @@
+use Rattle.std.proofs.Common.{◌≡◌, ◌<◌, ◌+◌, List, length, ap, subst, ◌∙◌, arith, rules}
+use Rattle.journal_memory.specs.declared.fenced_sessions.Run.{Run}
+use Rattle.journal_memory.specs.Sessions.{FencedState, TakesAbove}
+use Rattle.journal_memory.proofs.Fenced.{takes_above}
+use Rattle.journal_memory.proofs.fenced_sessions.FencedSessions.take_above.Goals as goal
+
+pub returns-then-first-end-clause-takes : goal.returns-then-first-end-clause-takes
+returns-then-first-end-clause-takes c =
+    let below : c.loop-index.index < length c.loop-index.self-inside.runs.items = omega arith in
+    let begins : c.index.result.now.first ≡ c.args.session + 1 = search rules in
+    let same : c.loop-index.self-inside.runs.items ≡ c.args.self.now.runs = ap (λ v. v.runs.items) c.loop-index.invariant ∙ ap (λ (f : FencedState). f.runs) c.self.view_is in
+    subst (λ (runs : List Run). TakesAbove c.args.session c.index-in-loop-index.result.now.end runs c.remove.new.self.items) same
+    (takes_above c.loop-index.self-inside.runs.items c.remove.new.self.items c.loop-index.index c.args.session c.index.result.now c.index-in-loop-index.result.now below
+    c.index.ensures c.index-in-loop-index.ensures c.remove.ensures.by_index.2 begins)

@@ -1,0 +1,33 @@
+use Rattle.std.proofs.Common.{◌≡◌, ◌+◌, ℕ, IsTrue, set, sym, subst}
+use Rattle.journal_world.specs.Maps.{Agrees}
+use Rattle.journal_world.specs.Histories.{is_trusted, latest}
+use Rattle.journal_history.specs.Counts.{HasCount}
+use Rattle.journal_history.specs.Tokens.{made, next_transaction}
+use Rattle.journal_memory.specs.Transactions.{TransactionState}
+use Rattle.journal_lockmap.specs.Numbers.{HoldsSlots, CountsWrites}
+use Rattle.journal_memory.specs.Ledgers.{LedgerState}
+use Rattle.journal_memory.proofs.Committing.{ruled_then}
+use Rattle.journal_memory.proofs.Counting.{ledger_committed, agree_with}
+use Rattle.journal_memory.proofs.ledger.Ledger.commit.Goals as goal
+
+pub commit-requires-clause-rule : goal.commit-requires-clause-rule
+commit-requires-clause-rule g c =
+    ruled_then g.J.Naming.layout g.R.MapRule.statement c.self.inside.writer c.args.transaction.now.reads c.args.transaction.now.writes c.len-len.ensures.on_disk c.len-len.ensures.sound
+    c.requires.rule
+    (subst (λ (s : LedgerState). IsTrue (is_trusted s.history) → Agrees (latest s.history) c.args.transaction.now.reads) (sym c.self.view_is) c.requires.agrees)
+
+pub count_writes-requires-clause-covered : goal.count_writes-requires-clause-covered
+count_writes-requires-clause-covered g c = subst (λ (u : TransactionState). HoldsSlots g.J.Naming.layout c.args.held.now u.writes) (sym c.transaction.view_is) c.requires.covered
+
+pub invariant_of-self-2 : goal.invariant_of-self-2
+invariant_of-self-2 g c =
+    let t = next_transaction c.args.session.now c.args.transaction.now.reads c.args.transaction.now.writes in
+    ledger_committed g.J.Naming.layout _ _ _ _ _ c.self.invariant c.commit.new.counts c.count_writes.new.self c.commit.new.self c.max-self-inside.result t c.number-number.result (made c.args.session.now)
+    c.in-Ok.ensures.committed.added c.max-self-inside.ensures c.number-number.ensures
+    (subst (λ (n : ℕ). HasCount c.self.inside.sessions n (made c.args.session.now)) (sym c.number-number.ensures) c.in-Ok.ensures.counted)
+    (subst (λ (n : ℕ). c.commit.new.counts ≡ set c.self.inside.sessions n (made c.args.session.now + 1)) (sym c.number-number.ensures) c.in-Ok.ensures.counts)
+    (subst (λ (u : TransactionState). CountsWrites g.J.Naming.layout u.writes c.self.inside.slots c.count_writes.new.self) c.transaction.view_is c.count_writes.ensures.counts)
+
+pub returns-clause-agree : goal.returns-clause-agree
+returns-clause-agree g c =
+    agree_with g.J.Naming.layout c.count_writes.new.self c.commit.new.self c.count_writes.new.held (invariant_of-self-2 g c).counts.touched c.count_writes.ensures.agree

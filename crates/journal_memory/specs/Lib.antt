@@ -1,0 +1,14 @@
+pub mod Causes
+pub mod Sessions
+pub mod MarkedLengths
+pub mod SlotCounts
+pub mod Transactions
+pub mod Ledgers
+pub mod Outsets
+pub mod Fences
+pub mod Waits
+pub mod Updates
+pub mod Fetches
+pub mod Volatiles
+pub mod VolatileCommits
+pub mod VolatileHolds

@@ -1,0 +1,52 @@
+-- What a commit is in memory alone.
+use Rattle.std.specs.Prelude.{ℕ, ◌≡◌, ◌+◌, max, List, length}
+use Rattle.journal_world.specs.Maps.{Pair, Transaction}
+use Rattle.journal_block.specs.declared.update.Update.{Update}
+use Rattle.journal_block.specs.Updates.{updates_block}
+use Rattle.journal_memlog.specs.Logs.{appended}
+use Rattle.journal_tail.specs.Tails.{TailState}
+use Rattle.journal_tail.specs.ObjectTails.{with_tail_room}
+use Rattle.journal_tail.specs.Writes.{writes_block, written_blocks}
+use Rattle.journal_history.specs.Tokens.{SessionState, next_transaction as numbered, Commits}
+use Rattle.journal_memory.specs.declared.volatile_commit.CommitStep.{CommitStep}
+use Rattle.journal_memory.specs.declared.volatile_commit.CommitStep.TheVariants.{Done, Missing}
+use Rattle.journal_memory.specs.Volatiles.{VolatileState}
+
+-- One update of each block that is written was appended to the tail, and no other
+pub record AppendsWrites (old new : TailState) (writes : List Pair) : Type 0 where
+  pub updates : List Update
+  pub named : (b : ℕ) → updates_block updates b ≡ writes_block writes b
+  pub number : length updates ≡ written_blocks writes
+  pub appends : new ≡ record old { log = record (appended old.log updates) { room = new.log.room } }
+
+-- The session's transaction was committed, and nothing else was done
+pub record IsCommitted (reads writes : List Pair) (session after : SessionState) (old new : VolatileState) : Type 0 where
+  pub committed : Commits (numbered session reads writes) session after old.ledger.history new.ledger.history
+  pub logs : AppendsWrites old.tail new.tail writes
+  pub others : new ≡ record old {
+    ledger = record old.ledger { history = new.ledger.history; next = max old.ledger.next (session.number + 1) };
+    tail = new.tail;
+  }
+
+-- The transaction was added, and the updates that its writes make appended
+pub record IsAdded (t : Transaction) (updates : List Update) (session after : SessionState) (old new : VolatileState) : Type 0 where
+  pub committed : Commits t session after old.ledger.history new.ledger.history
+  pub appends : new.tail ≡ record old.tail { log = appended old.tail.log updates }
+  pub others : new ≡ record old {
+    ledger = record old.ledger { history = new.ledger.history; next = max old.ledger.next (session.number + 1) };
+    tail = new.tail;
+  }
+
+-- of an answer: what holds where the commit was made
+abbrev pub IfDone : {A : Type 0} → (A → Type 0) → CommitStep A → Type 0
+IfDone holds (Done value) = holds value
+IfDone holds (Missing blocks) = Unit {0}
+
+-- of an answer: what holds where blocks have to be fetched first
+abbrev pub IfMissing : {A : Type 0} → (List ℕ → Type 0) → CommitStep A → Type 0
+IfMissing holds (Done value) = Unit {0}
+IfMissing holds (Missing blocks) = holds blocks.items
+
+-- the volatile part with other room in memory
+abbrev pub with_room : VolatileState → ℕ → VolatileState
+with_room v room = record v { tail = with_tail_room v.tail room }

@@ -1,0 +1,118 @@
+// Which sessions are fenced.
+ghost use Rattle.std.specs.Prelude.{◌≡◌, ◌<◌, ◌≤◌, ◌^◌, [], OnOk};
+ghost use Rattle.journal_memory.specs.Sessions.{is_in_run, is_in_runs, HasSpareRun, TakesBelow, TakesAbove, NotesFence};
+
+use std::alloc::{AllocError, Global};
+use std::marker::Model;
+
+/// The numbers of the sessions that are fenced, as runs of numbers that follow one another.
+///
+/// Sessions get rising numbers, and one that ended is fenced. So nearly all that were ever fenced are one run: there
+/// are as many runs as sessions that are not fenced, and a few, however many sessions there were.
+#[derive(Drop)]
+pub(crate) struct FencedSessions {
+    runs: Vec<Run>,
+}
+
+/// The numbers from `first` up to `end`, which is not one of them.
+#[derive(Drop)]
+pub(crate) struct Run {
+    pub(crate) first: u64,
+    pub(crate) end: u64,
+}
+
+impl Run {
+    // Whether the number is one of them.
+    fn has(&self, session: u64) -> bool
+        ensures { result ≡ is_in_run self.now session }
+    {
+        self.first <= session && session < self.end
+    }
+}
+
+impl Model for FencedSessions {
+    ghost use Rattle.std.specs.Prelude.{◌-◌, length};
+    ghost use Rattle.std.specs.Vec.{vec_capacity};
+    ghost use Rattle.journal_memory.specs.Sessions.{FencedState};
+
+    ghost Value = { FencedState };
+
+    ghost view = { λ f. record { runs = f.runs.items; spare = vec_capacity f.runs - length f.runs.items } };
+}
+
+impl FencedSessions {
+    /// None. It takes no memory.
+    pub(crate) fn new(alloc: Global) -> FencedSessions
+        ensures { result.runs ≡ [] }
+    {
+        FencedSessions {
+            runs: Vec::new(alloc),
+        }
+    }
+
+    /// Whether the session is fenced.
+    pub(crate) fn has(&self, session: u64) -> bool
+        ensures { result ≡ is_in_runs self.now.runs session }
+    {
+        for run in self.runs.iter() {
+            if run.has(session) {
+                return true;
+            }
+        }
+        false
+    }
+
+    /// Makes a place, so that `insert` takes no memory.
+    pub(crate) fn reserve(&mut self) -> Result<(), AllocError>
+        ensures same { self.new.runs ≡ self.old.runs }
+        ensures place { OnOk result (HasSpareRun self.new) }
+    {
+        self.runs.reserve(1)
+    }
+
+    /// Keeps that the session is fenced, where `reserve` made the place. The runs beside it become one with it.
+    pub(crate) fn insert(&mut self, session: u64)
+        requires place { HasSpareRun self.old }
+        requires small { session < 2 ^ 62 }
+        ensures { NotesFence session self.old.runs self.new.runs }
+    {
+        let first = self.take_below(session);
+        let end = self.take_above(session);
+        self.runs.push_reserved(Run { first, end });
+    }
+
+    // Takes out the run that ends just below the session, and says where it begins. Where there is none it would begin
+    // at the session.
+    fn take_below(&mut self, session: u64) -> u64
+        ensures first { result ≤ session }
+        ensures takes { TakesBelow session result self.old.runs self.new.runs }
+        ensures place { self.old.spare ≤ self.new.spare }
+    {
+        for index in 0..self.runs.len() {
+            let (first, end) = (self.runs[index].first, self.runs[index].end);
+            if end == session && first < session {
+                self.runs.remove(index);
+                return first;
+            }
+        }
+        session
+    }
+
+    // Takes out the run that begins just above the session, and says where it ends. Where there is none it would end
+    // there.
+    fn take_above(&mut self, session: u64) -> u64
+        requires small { session < 2 ^ 62 }
+        ensures end { session < result }
+        ensures takes { TakesAbove session result self.old.runs self.new.runs }
+        ensures place { self.old.spare ≤ self.new.spare }
+    {
+        for index in 0..self.runs.len() {
+            let (first, end) = (self.runs[index].first, self.runs[index].end);
+            if first == session + 1 && first < end {
+                self.runs.remove(index);
+                return end;
+            }
+        }
+        session + 1
+    }
+}

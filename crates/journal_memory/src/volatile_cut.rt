@@ -1,0 +1,112 @@
+// What is cut from memory, marked, dropped from it, and kept in it.
+ghost use Rattle.std.specs.Prelude.{◌≡◌, ◌<◌, ◌≤◌, ◌⊎◌, ◌++◌, ◌∷◌, [], length, IsTrue, IsOkUnless, IfOk, IfErr, OnOk, OnErr, All};
+ghost use Rattle.journal_world.specs.Histories.{is_trusted, count, floor, latest};
+ghost use Rattle.journal_world.specs.Histories.Entry.{stable};
+ghost use Rattle.journal_memlog.specs.Logs.{HasDistinctBlocks, tail_of};
+ghost use Rattle.journal_tail.specs.Homes.{AreHomes};
+ghost use Rattle.journal_tail.specs.Tails.{DropsCuts, cut_after};
+ghost use Rattle.journal_tail.specs.declared.limits.TheConstants.{MAX_TAIL};
+ghost use Rattle.journal_memory.specs.Ledgers.{IsMarkRefusal};
+ghost use Rattle.journal_memory.specs.Updates.{HaveAllSince, AreObjectsOf};
+ghost use Rattle.journal_memory.specs.VolatileHolds.{KeepsCopies};
+
+use crate::cause::{Cause, raise};
+use crate::fetched::Fetched;
+use crate::log_key::LogKey;
+use crate::volatile::Volatile;
+use journal_block::Update;
+use journal_history::Naming;
+use journal_world::{MapRule, Refusal};
+
+impl<'b, R: MapRule, J: Naming> Volatile<'b, R, J> {
+    /// Of a hold of both: cuts. It hands out a copy of all that commits wrote since the last cut, as
+    /// the last of them left it.
+    ///
+    /// Answers J1 `NoMemory`, and nothing else, where memory for the copy is refused. All is then as it was.
+    pub fn cut(&mut self, _key: &LogKey<J>) -> Result<Vec<Update>, Refusal<Cause<'b, J, R>>>
+        ensures group { IfOk result (λ group. group.items ≡ tail_of self.old.tail.log) }
+        ensures all { IsTrue (is_trusted self.old.ledger.history) → IfOk result (λ group. HaveAllSince J.layout self.old.ledger.history self.old.ledger.cut group.items) }
+        ensures few { IfOk result (λ group. length group.items ≤ MAX_TAIL) }
+        ensures homes { IfOk result (λ group. AreHomes J.layout.blocks group.items) }
+        ensures distinct { IfOk result (λ group. HasDistinctBlocks group.items) }
+        ensures ok { OnOk result (self.new ≡ record self.old {
+          ledger = record self.old.ledger { cut = count self.old.ledger.history };
+          tail = cut_after self.old.tail (count self.old.ledger.history);
+        }) }
+        ensures err { OnErr result (self.new ≡ self.old) }
+        ensures refusal { IsOkUnless result Refusal.NoMemory }
+    {
+        let group = raise(self.tail.cut(self.ledger.count()))?;
+        self.ledger.note_cut();
+        Ok(group)
+    }
+
+    /// Of a hold of memory alone: makes the copy of the home block the one that was used last, where there is one.
+    pub fn touch(&mut self, block: u64)
+        ensures event { KeepsCopies J.layout self.old self.new }
+    {
+        self.touch_copy(block);
+        self.prove_invariant();
+    }
+
+    fn touch_copy(&mut self, block: u64)
+        ensures { self.new ≡ record self.old { tail = record self.old.tail { cache = self.new.tail.cache } } }
+    {
+        self.tail.touch(block);
+    }
+
+    /// Of a hold of memory alone: keeps copies of the fetched blocks for later reads and commits,
+    /// unless what commits wrote after them is not in memory any more. Where there are too many
+    /// copies, those go that were used least recently. One for which memory is refused is not kept.
+    pub fn keep(&mut self, fetched: Fetched<'b, J, R>)
+        ensures event { KeepsCopies J.layout self.old self.new }
+    {
+        self.keep_copies(fetched);
+        self.prove_invariant();
+    }
+
+    fn keep_copies(&mut self, fetched: Fetched<'b, J, R>)
+        ensures { self.new ≡ record self.old { tail = record self.old.tail { cache = self.new.tail.cache } } }
+    {
+        if self.can_keep(&fetched) {
+            let Fetched { updates, .. } = fetched;
+            self.tail.keep(updates);
+        }
+    }
+
+    // Whether what commits wrote after the fetch is in memory.
+    fn can_keep(&self, fetched: &Fetched<'b, J, R>) -> bool
+        ensures { IsTrue result → IsTrue (is_trusted self.now.ledger.history)
+            → AreObjectsOf J.layout (latest self.now.ledger.history) (fetched.now.updates ++ self.now.tail.log.updates) }
+    {
+        let Ok(_front) = self.front_over(&fetched.front) else {
+            return false;
+        };
+        self.tail.trimmed() <= fetched.commits
+    }
+
+    /// Of a hold of both: drops the updates of each cut that ends at the position or before it,
+    /// which are at home. Copies of their blocks are overwritten by them.
+    pub fn trim(&mut self, _key: &LogKey<J>, upto: u64)
+        ensures drops { DropsCuts self.old.tail upto self.new.tail }
+        ensures left { All (λ c. upto < c.end) self.new.tail.cuts }
+        ensures others { self.new ≡ record self.old { tail = self.new.tail } }
+    {
+        self.tail.trim(upto);
+    }
+
+    /// Of a hold of both: marks that n commits are stable, those at the last cut or all, and tells
+    /// it. Refuses by J11 and J9, and is then as it was.
+    pub fn mark(&mut self, _key: &LogKey<J>, n: u64) -> Result<(), Refusal<Cause<'b, J, R>>>
+        requires rises { floor self.old.ledger.history ≤ n }
+        requires made { n ≤ count self.old.ledger.history }
+        requires due { (n ≡ self.old.ledger.cut) ⊎ (n ≡ count self.old.ledger.history) }
+        ensures added { OnOk result (self.new ≡ record self.old {
+          ledger = record self.old.ledger { history = self.old.ledger.history ++ stable n ∷ []; cut = n };
+        }) }
+        ensures refusal { IfErr result (IsMarkRefusal self.old.ledger.history) }
+        ensures same { OnErr result (self.new ≡ self.old) }
+    {
+        self.ledger.mark(n)
+    }
+}

@@ -1,0 +1,151 @@
+// Reads of what lies in memory.
+ghost use Rattle.std.specs.Prelude.{◌≡◌, Some, None, length, IsTrue, IsSome, IfOk, IfErr, IfSome, OnOk};
+ghost use mathlib.Core.List.{IsPrefix};
+ghost use Rattle.journal_world.specs.Addresses.{is_valid};
+ghost use Rattle.journal_world.specs.Maps.{value_at, is_object};
+ghost use Rattle.journal_world.specs.Histories.{is_trusted, latest};
+ghost use Rattle.journal_object.specs.Objects.{size_at};
+ghost use Rattle.journal_tail.specs.ObjectTails.{known_at, known_updates};
+ghost use Rattle.journal_memory.specs.SlotCounts.{AgreeWith, AreUnder};
+ghost use Rattle.journal_memory.specs.Transactions.{AreUnmoved};
+ghost use Rattle.journal_memory.specs.Updates.{AreObjectsOf};
+ghost use Rattle.journal_memory.specs.Outsets.{MayRead, IsCheckRefusal};
+ghost use Rattle.journal_memory.specs.Volatiles.{IsReadRefusal, IsFrontRefusal, outset_of, usable};
+ghost use Rattle.journal_memory.specs.VolatileHolds.{AnswersRead};
+
+use crate::cause::{Cause, raise};
+use crate::fetched::Fetched;
+use crate::transaction::{ReadResult, Transaction};
+use crate::volatile::Volatile;
+use journal_block::Update;
+use journal_history::Naming;
+use journal_lockmap::Held;
+use journal_world::{Addr, MapRule, Refusal};
+use std::sync::Wait;
+
+impl<'b, R: MapRule, J: Naming> Volatile<'b, R, J> {
+    /// A hold of memory alone: reads what the map after the history gives the address, into bytes
+    /// that are as many as its object has: as memory has it, or where memory has no update of its
+    /// block, as it was fetched. Answers none where the block is to be fetched: it was not, or what
+    /// commits wrote after the fetch is not in memory any more. It takes no memory.
+    ///
+    /// What was read before lies under slots that are held. They are verified first: that
+    /// waits for nobody, and shows that no commit touched one since: nothing is compared. Nothing
+    /// changes.
+    ///
+    /// The first that applies of these refuses it: J13 `Closed` where it was stopped, J6
+    /// `DeviceFailed` where the device failed before, J2 `BadAddress` where the address is not
+    /// valid, J9 `Stale` where the transaction or the fetch has seen more of the history.
+    pub fn read<W: Wait>(
+        &mut self,
+        rt: &W,
+        transaction: &Transaction<'b, J, R>,
+        held: &mut [Held<J>],
+        addr: Addr,
+        fetched: &Fetched<'b, J, R>,
+        into: &mut [u8],
+    ) -> Result<Option<ReadResult<'b, J, R>>, Refusal<Cause<'b, J, R>>>
+        requires size { IsTrue (is_valid J.layout addr) → length into.old ≡ size_at J.layout addr }
+        requires under { AreUnder J.layout held.old transaction.now.seen transaction.now.reads }
+        ensures agree { AgreeWith J.layout self.new.ledger.history held.new }
+        ensures held { held.new ≡ held.old }
+        ensures same { self.new ≡ self.old }
+        ensures value { IsTrue (is_trusted self.old.ledger.history) → IfOk result (λ found. IsSome found → into.new ≡ value_at (latest self.old.ledger.history) addr) }
+        ensures object { IfOk result (λ found. IsSome found → IsTrue (is_object J.layout (addr, into.new))) }
+        ensures found { IfOk result (λ found. IfSome found (λ found. found ≡ record { addr = addr; seen = self.old.ledger.history })) }
+        ensures stays { IfOk result (λ found. found ≡ None → into.new ≡ into.old) }
+        ensures lacks { IfOk result (λ found. found ≡ None → known_at J.layout (usable self.old fetched.now) self.old.tail addr ≡ None) }
+        ensures may { OnOk result (MayRead J.layout (outset_of self.old) transaction.now addr) }
+        ensures refusal { IfErr result (IsReadRefusal J.layout self.old transaction.now addr fetched.now) }
+        ensures event { AnswersRead J.layout self.old transaction.now addr fetched.now result into.new self.new }
+    {
+        self.verify_tokens(rt, held);
+        self.read_verified(transaction, addr, fetched, into)
+    }
+
+    /// Looks and refuses a read as `read` does, by what is known before the value is looked for: J13, J6, J2, and by what
+    /// the transaction has seen J9. Nothing changes.
+    pub fn check_read<W: Wait>(
+        &mut self,
+        rt: &W,
+        transaction: &Transaction<'b, J, R>,
+        held: &mut [Held<J>],
+        addr: Addr,
+    ) -> Result<(), Refusal<Cause<'b, J, R>>>
+        requires under { AreUnder J.layout held.old transaction.now.seen transaction.now.reads }
+        ensures agree { AgreeWith J.layout self.new.ledger.history held.new }
+        ensures held { held.new ≡ held.old }
+        ensures same { self.new ≡ self.old }
+        ensures may { OnOk result (MayRead J.layout (outset_of self.old) transaction.now addr) }
+        ensures refusal { IfErr result (IsCheckRefusal J.layout (outset_of self.old) transaction.now addr) }
+    {
+        self.verify_tokens(rt, held);
+        self.check_verified(transaction, addr)
+    }
+
+    /// Reads as `read` does, once it was verified that what was read has not moved.
+    pub fn read_verified(
+        &self,
+        transaction: &Transaction<'b, J, R>,
+        addr: Addr,
+        fetched: &Fetched<'b, J, R>,
+        into: &mut [u8],
+    ) -> Result<Option<ReadResult<'b, J, R>>, Refusal<Cause<'b, J, R>>>
+        requires size { IsTrue (is_valid J.layout addr) → length into.old ≡ size_at J.layout addr }
+        requires unmoved { AreUnmoved J.layout self.now.ledger.history transaction.now }
+        ensures value { IsTrue (is_trusted self.now.ledger.history) → IfOk result (λ found. IsSome found → into.new ≡ value_at (latest self.now.ledger.history) addr) }
+        ensures object { IfOk result (λ found. IsSome found → IsTrue (is_object J.layout (addr, into.new))) }
+        ensures found { IfOk result (λ found. IfSome found (λ found. found ≡ record { addr = addr; seen = self.now.ledger.history })) }
+        ensures stays { IfOk result (λ found. found ≡ None → into.new ≡ into.old) }
+        ensures lacks { IfOk result (λ found. found ≡ None → known_at J.layout (usable self.now fetched.now) self.now.tail addr ≡ None) }
+        ensures may { OnOk result (MayRead J.layout (outset_of self.now) transaction.now addr) }
+        ensures refusal { IfErr result (IsReadRefusal J.layout self.now transaction.now addr fetched.now) }
+    {
+        self.check_verified(transaction, addr)?;
+        let blocks = self.usable(fetched)?;
+        let layout = self.layout.get();
+        if !raise(self.tail.read(layout, addr, blocks, into))? {
+            return Ok(None);
+        }
+        Ok(Some(ReadResult {
+            addr,
+            front: self.ledger.front(),
+        }))
+    }
+
+    // Refuses a read as `check_read` does, once it was verified that what was read has not moved.
+    pub(crate) fn check_verified(
+        &self,
+        transaction: &Transaction<'b, J, R>,
+        addr: Addr,
+    ) -> Result<(), Refusal<Cause<'b, J, R>>>
+        requires unmoved { AreUnmoved J.layout self.now.ledger.history transaction.now }
+        ensures may { OnOk result (MayRead J.layout (outset_of self.now) transaction.now addr) }
+        ensures refusal { IfErr result (IsCheckRefusal J.layout (outset_of self.now) transaction.now addr) }
+    {
+        self.check_running()?;
+        if !self.layout.get().is_valid(addr) {
+            return Err(Refusal::BadAddress);
+        }
+        self.ledger.check_transaction(transaction)
+    }
+
+    // The fetched blocks that may be used. Refuses by J9 where the fetch has seen more of the history.
+    pub(crate) fn usable<'a>(
+        &self,
+        fetched: &'a Fetched<'b, J, R>,
+    ) -> Result<&'a [Update], Refusal<Cause<'b, J, R>>>
+        ensures blocks { IfOk result (λ blocks. blocks.now ≡ usable self.now fetched.now) }
+        ensures latest { IsTrue (is_trusted self.now.ledger.history) → IfOk result (λ blocks.
+            AreObjectsOf J.layout (latest self.now.ledger.history) (known_updates blocks.now self.now.tail)) }
+        ensures begins { OnOk result (IsPrefix fetched.now.front self.now.ledger.history) }
+        ensures refusal { IfErr result (IsFrontRefusal self.now.ledger.history fetched.now.front) }
+    {
+        self.front_over(&fetched.front)?;
+        if self.tail.trimmed() <= fetched.commits {
+            Ok(&fetched.updates)
+        } else {
+            Ok(&[])
+        }
+    }
+}

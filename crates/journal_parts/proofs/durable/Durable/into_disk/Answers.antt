@@ -1,0 +1,6 @@
+use Rattle.journal_parts.proofs.Enduring.{leaves_disk}
+use Rattle.journal_parts.proofs.durable.Durable.into_disk.Goals as goal
+
+pub returns-clause-images : goal.returns-clause-images
+returns-clause-images g c =
+    leaves_disk g.J.Naming.layout _ c.args.self (g.D.BlockDisk.state c.into_disk.result) c.self.invariant c.self.view_is c.into_disk.ensures

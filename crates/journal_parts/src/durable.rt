@@ -1,0 +1,110 @@
+// The core's durable part, and what it tells without a step.
+ghost use Rattle.std.specs.Prelude.{◌≡◌, ◌≤◌, ◌↔◌, ◌∷◌, [], IsTrue};
+ghost use Rattle.journal_world.specs.Histories.Entry.{opening};
+ghost use Rattle.journal_disk.specs.Images.{EveryImage};
+ghost use Rattle.journal_wal.specs.Wal.{size_of, IsAtRest};
+ghost use Rattle.journal_objlog.specs.Maps.{OpensAs};
+ghost use Rattle.journal_objlog.specs.ObjectLogs.{map_now, IsCutLogged, start_of, end_of, disk_of as log_disk};
+ghost use Rattle.journal_parts.specs.Durables.{IsDurable, Leaves, begun_durable, disk_of};
+
+use journal_disk::{BlockDisk, MemDisk};
+use journal_history::{Front, Naming};
+use journal_memory::LogKey;
+use journal_objlog::ObjectLog;
+use journal_world::MapRule;
+use std::marker::Model;
+
+/// What the core has on its disk, for a lock of its own: the log, with copies of the logged blocks and of the group in
+/// flight, and how many commits these have of a front of the history.
+///
+/// It knows nothing of what commits wrote since. A group of that comes from the memory part, whole.
+#[derive(Drop)]
+pub struct Durable<'b, D: BlockDisk, R: MapRule, J: Naming> {
+    pub(crate) objects: ObjectLog<D>,
+    pub(crate) front: Front<'b, J, R>,
+    // How many commits are marked, how many are logged, and how many with the group in flight.
+    pub(crate) marked: u64,
+    pub(crate) logged: u64,
+    pub(crate) coming: u64,
+    // What it may ask of memory, and nobody else.
+    pub(crate) key: LogKey<J>,
+}
+
+impl<'b, D: BlockDisk, R: MapRule, J: Naming> Model for Durable<'b, D, R, J> {
+    ghost use Rattle.journal_parts.specs.Durables.{DurableState, IsDurable};
+
+    ghost Value = { DurableState };
+
+    ghost view = { λ d. record { objects = d.objects; front = d.front; marked = d.marked; logged = d.logged; coming = d.coming } };
+
+    ghost invariant = { λ d. IsDurable J.layout (record { objects = d.objects; front = d.front; marked = d.marked; logged = d.logged; coming = d.coming }) };
+}
+
+impl<'b, D: BlockDisk, R: MapRule, J: Naming> Durable<'b, D, R, J> {
+    /// That of a mount that begins: the history has the opening alone, and the disk holds its map.
+    pub(crate) fn new(
+        objects: ObjectLog<D>,
+        front: Front<'b, J, R>,
+        key: LogKey<J>,
+    ) -> Durable<'b, D, R, J>
+        requires size { size_of objects ≡ J.layout.blocks }
+        requires rest { IsAtRest objects }
+        requires begun { front ≡ opening (map_now J.layout objects) (log_disk objects).honest ∷ [] }
+        requires images { IsTrue (log_disk objects).honest → EveryImage (log_disk objects).past (OpensAs (map_now J.layout objects)) }
+        ensures { result ≡ begun_durable objects front.entry }
+    {
+        Durable {
+            objects,
+            front,
+            marked: 0,
+            logged: 0,
+            coming: 0,
+            key,
+        }
+    }
+
+    /// It keeps what its type keeps. Called for its contract.
+    pub(crate) fn prove_invariant(&self)
+        ensures { IsDurable J.layout self.now }
+    {
+        let _marked = self.marked;
+    }
+
+    /// Where the log on the disk starts and ends, as last synced: positions, of which there are at most 511.
+    pub fn log_range(&self) -> (u64, u64)
+        ensures { result ≡ (start_of self.now.objects, end_of self.now.objects) }
+    {
+        self.objects.log_range()
+    }
+
+    /// The disk, lent. Where it was honest and settled when it was opened, each image that a crash may leave of it
+    /// opens as the map after some of the front's commits: at least those that are marked, at most those that come.
+    pub fn disk(&self) -> &D
+        ensures disk { D.state result.now ≡ disk_of self.now }
+        ensures size { (disk_of self.now).past.size ≡ J.layout.blocks }
+        ensures images { IsTrue (disk_of self.now).honest → EveryImage (disk_of self.now).past (Leaves self.now) }
+        ensures rest { IsCutLogged self.now.objects → self.now.logged ≡ self.now.coming }
+    {
+        self.objects.disk()
+    }
+
+    /// Gives the disk up, as it is. Where it was honest and settled when it was opened, each image that a crash may
+    /// leave of it opens as the map after some of the front's commits.
+    pub fn into_disk(self) -> D
+        ensures disk { D.state result ≡ disk_of self.entry }
+        ensures size { (D.state result).past.size ≡ J.layout.blocks }
+        ensures images { IsTrue (D.state result).honest → EveryImage (D.state result).past (Leaves self.entry) }
+    {
+        let Durable { objects, .. } = self;
+        objects.into_disk()
+    }
+}
+
+impl<'b, R: MapRule, J: Naming> Durable<'b, MemDisk, R, J> {
+    /// Makes the k-th device call from now on fail.
+    pub fn fail_in(&mut self, k: u64)
+        ensures { self.new ≡ self.old }
+    {
+        self.objects.fail_in(k);
+    }
+}

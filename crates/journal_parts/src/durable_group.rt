@@ -1,0 +1,85 @@
+// What the durable part takes over from the memory part: groups, and how far the history is.
+ghost use Rattle.std.specs.Prelude.{◌≡◌, ◌≤◌, ◌<◌, ◌↔◌, [], false, true, length, IsTrue, IfOk, IfErr};
+ghost use mathlib.Core.List.{IsPrefix};
+ghost use Rattle.journal_world.specs.Histories.{is_trusted, count};
+ghost use Rattle.journal_memlog.specs.Logs.{HasDistinctBlocks};
+ghost use Rattle.journal_tail.specs.Homes.{AreHomes};
+ghost use Rattle.journal_wal.specs.Wal.{with_room};
+ghost use Rattle.journal_wal.specs.Groups.{FitsGroup, HasGroupRoom};
+ghost use Rattle.journal_tail.specs.declared.limits.TheConstants.{MAX_TAIL};
+ghost use Rattle.journal_objlog.specs.ObjectLogs.{IsCutLogged, end_of};
+ghost use Rattle.journal_memory.specs.Updates.{HaveAllSince};
+ghost use Rattle.journal_parts.specs.Durables.{Crashes, TakesCut, IsRoomRefusal};
+
+use crate::durable::Durable;
+use journal_block::Update;
+use journal_disk::BlockDisk;
+use journal_history::{Front, Naming};
+use journal_memory::Cause;
+use journal_world::{MapRule, Refusal};
+
+impl<'b, D: BlockDisk, R: MapRule, J: Naming> Durable<'b, D, R, J> {
+    /// Makes room for a group of so many blocks, so that `take` takes it, as long as no other call comes between.
+    /// Answers no where a group is in flight, where there are no blocks, and where the log lacks a position for one
+    /// of them.
+    ///
+    /// The first that applies of these refuses it: J6 `DeviceFailed` where the device failed before, J11 `Worn` where
+    /// a position would reach 2^62, J1 `NoMemory` where memory is refused. Refused or not, all is as it was, but may
+    /// have more room in memory.
+    pub(crate) fn reserve(&mut self, blocks: usize) -> Result<bool, Refusal<Cause<'b, J, R>>>
+        requires few { blocks ≤ MAX_TAIL }
+        ensures fits { IfOk result (λ fits. IsTrue fits ↔ FitsGroup self.old.objects blocks) }
+        ensures room { IfOk result (λ fits. IsTrue fits → HasGroupRoom self.new.objects blocks) }
+        ensures idle { IfOk result (λ fits. fits ≡ false → self.new ≡ self.old) }
+        ensures refusal { IfErr result (IsRoomRefusal self.old blocks) }
+        ensures same { self.new ≡ record self.old { objects = with_room self.old.objects self.new.objects.log.room } }
+        ensures crash { Crashes self.old self.new }
+    {
+        self.key.raise(self.objects.reserve_group(blocks))
+    }
+
+    /// Takes a group that was cut from memory, which `reserve` made room for, and the history that has its commits,
+    /// of which there are so many. It takes no memory, and moves the blocks.
+    pub(crate) fn take(&mut self, group: Vec<Update>, front: Front<'b, J, R>, commits: u64)
+        requires homes { AreHomes J.layout.blocks group.items }
+        requires distinct { HasDistinctBlocks group.items }
+        requires room { HasGroupRoom self.old.objects (length group.items) }
+        requires longer { IsPrefix self.old.front front }
+        requires counted { commits ≡ count front }
+        requires all { IsTrue (is_trusted front) → HaveAllSince J.layout front self.old.logged group.items }
+        ensures takes { TakesCut front.entry group.items self.old self.new }
+        ensures flies { end_of self.new.objects < self.new.objects.log.cut }
+        ensures crash { Crashes self.old self.new }
+    {
+        self.objects.take_reserved(group);
+        // Called for its contract: the group is in flight.
+        let _flying = self.objects.is_logging();
+        self.front = front;
+        self.coming = commits;
+    }
+
+    /// Notes that all commits of the history are logged, of which there are so many: those since wrote nothing, and no
+    /// group is in flight.
+    pub(crate) fn note_all_logged(&mut self, front: Front<'b, J, R>, commits: u64)
+        requires rest { IsCutLogged self.old.objects }
+        requires longer { IsPrefix self.old.front front }
+        requires counted { commits ≡ count front }
+        requires all { IsTrue (is_trusted front) → HaveAllSince J.layout front self.old.logged [] }
+        ensures reaches { self.new ≡ record self.old { front = front.entry; logged = count front.entry; coming = count front.entry } }
+        ensures crash { Crashes self.old self.new }
+    {
+        self.front = front;
+        self.logged = commits;
+        self.coming = commits;
+    }
+
+    /// Notes the mark of all commits that are logged, which the history has by now.
+    pub(crate) fn set_marked(&mut self, front: Front<'b, J, R>)
+        requires longer { IsPrefix self.old.front front }
+        ensures marks { self.new ≡ record self.old { front = front.entry; marked = self.old.logged } }
+        ensures crash { Crashes self.old self.new }
+    {
+        self.front = front;
+        self.marked = self.logged;
+    }
+}

@@ -1,0 +1,10 @@
+use Rattle.std.proofs.Common.{length}
+use Rattle.journal_tail.specs.Tails.{MakesNoOther, DropsCuts, known_blocks}
+use Rattle.journal_tail.proofs.tail.Tail.trim.Given as goal
+
+-- some first cuts are dropped
+abbrev pub invariant-loop-self : goal.invariant-loop-self
+invariant-loop-self l = DropsCuts l.fn.self l.upto l.self × MakesNoOther (known_blocks l.fn.self) (known_blocks l.self)
+
+abbrev pub decreases-loop-self : goal.decreases-loop-self
+decreases-loop-self l = length l.self.cuts

@@ -1,0 +1,11 @@
+pub mod Homes
+pub mod Tails
+pub mod CachedUpdates
+pub mod Lending
+pub mod Maps
+pub mod MapLaws
+pub mod Writes
+pub mod Applying
+pub mod Staging
+pub mod Places
+pub mod ObjectTails

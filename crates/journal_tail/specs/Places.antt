@@ -1,0 +1,9 @@
+-- How many places writes take.
+use Rattle.std.specs.Prelude.{List}
+use Rattle.journal_world.specs.Maps.{Pair}
+use Rattle.journal_tail.specs.Writes.{Base, written_blocks, fresh_blocks}
+use Rattle.journal_tail.specs.declared.writes.Places.{Places}
+
+-- the blocks that they are in, and those that do not stand in the tail
+abbrev pub places_of : Base → List Pair → Places
+places_of b writes = record { blocks = written_blocks writes; fresh = fresh_blocks b writes }

@@ -1,0 +1,74 @@
+// Memory for a commit, made before any lock is taken.
+ghost use Rattle.std.specs.Prelude.{◌≡◌, [], IsOkUnless};
+
+use crate::limits::MAX_UPDATES;
+use journal_block::{Block, Update};
+use journal_world::{BLOCK_BYTES, Objects, Refusal};
+use std::alloc::Global;
+use std::marker::Model;
+
+/// Memory for writes to be made ready in, which their writer makes before it takes a lock. What is lacking is made
+/// later.
+#[derive(Drop)]
+pub struct Spares {
+    blocks: Vec<Block>,
+    // Room alone: no update stands in it.
+    pub(crate) updates: Vec<Update>,
+}
+
+impl Model for Spares {
+    ghost use Rattle.std.specs.Prelude.{◌≡◌, []};
+
+    ghost Value = { Unit {0} };
+
+    ghost view = { λ _. tt };
+
+    ghost invariant = { λ s. s.updates.items ≡ [] };
+}
+
+impl Spares {
+    /// A block for each whole block that is written, as far as there is memory. A block that is written in part
+    /// mostly stands in the tail, where it is overwritten.
+    pub fn for_writes(alloc: Global, writes: &Objects) -> Spares {
+        let mut blocks = Vec::new(alloc);
+        for (_, value) in writes.iter() {
+            if value.bytes().len() < BLOCK_BYTES {
+                continue;
+            }
+            if blocks.len() == MAX_UPDATES || !add_block(alloc, &mut blocks) {
+                break;
+            }
+        }
+        Spares {
+            updates: room_for(alloc, blocks.len()),
+            blocks,
+        }
+    }
+
+    // A block, of the spare ones where there is one.
+    pub(crate) fn take<C>(&mut self, alloc: Global) -> Result<Block, Refusal<C>>
+        ensures refusal { IsOkUnless result Refusal.NoMemory }
+    {
+        match self.blocks.pop() {
+            Some(block) => Ok(block),
+            None => Block::try_new(alloc),
+        }
+    }
+}
+
+// Adds a block, where there is memory for it.
+fn add_block(alloc: Global, blocks: &mut Vec<Block>) -> bool {
+    match Block::try_new::<()>(alloc) {
+        Ok(block) => blocks.push(block).is_ok(),
+        Err(_) => false,
+    }
+}
+
+// Room for so many updates, or for none.
+fn room_for(alloc: Global, updates: usize) -> Vec<Update>
+    ensures { result.items ≡ [] }
+{
+    let mut room = Vec::new(alloc);
+    let _ = room.reserve(updates);
+    room
+}

@@ -1,0 +1,313 @@
+// What lies in memory apart from the log on the disk: updates, and where they were cut.
+ghost use Rattle.std.specs.Prelude.{ℕ, ◌≡◌, ◌≤◌, ◌<◌, ◌+◌, ◌-◌, ◌^◌, ◌↔◌, ◌∷◌, ◌++◌, List, length, false, is_some, IsTrue, IsOkUnless, OnOk, OnErr, IfOk, IfErr, IfSome};
+ghost use Rattle.std.specs.Borrow.{sem};
+ghost use Rattle.std.specs.List.{All};
+ghost use Rattle.journal_block.specs.declared.update.Update.{Update};
+ghost use Rattle.journal_block.specs.Block.{Bytes};
+ghost use Rattle.journal_block.specs.Updates.{updated, updates_block};
+ghost use Rattle.journal_memlog.specs.Logs.{IsMemLog, HasDistinctBlocks, bounds_of, next_position, tail_of, appended, trimmed};
+ghost use Rattle.journal_memlog.specs.Buckets.{IsLastOf, update_at};
+ghost use Rattle.journal_tail.specs.Lending.{LendsTailBlock};
+ghost use Rattle.journal_tail.specs.Homes.{AreHomes};
+ghost use Rattle.journal_tail.specs.Tails.{TailState, MakeTheSame, MakesNoOther, DropsCuts, AdmitsBlocks, IsTailRefusal, TakesUpdates, TakesFresh, known_blocks, updates_from, empty_tail, cut_after, without_first};
+ghost use Rattle.journal_tail.specs.declared.limits.TheConstants.{MAX_TAIL};
+
+use crate::block_cache::BlockCache;
+use crate::limits::{MAX_POSITION, MAX_TAIL, MAX_UPDATES};
+use journal_block::{Block, Update};
+use journal_memlog::{Bounds, MemLog};
+use journal_world::Refusal;
+use std::alloc::Global;
+use std::collections::VecDeque;
+use std::marker::Model;
+
+/// A cut: the whole tail became a group.
+#[derive(Clone, Copy, Debug, PartialEq, Eq)]
+pub struct CutPoint {
+    /// The position after the group's last.
+    pub end: u64,
+    /// How many commits there were.
+    pub commits: u64,
+}
+
+/// The updates in memory, for a lock of their own: it knows no disk, and each call ends without waiting for one.
+///
+/// A cut hands out a copy of the tail, which the log on the disk takes as its group. The updates stay here until a
+/// trim says that they are at home, so what a commit wrote after the last cut that was trimmed is found here. So are
+/// copies of blocks that were fetched from the disk's part, which a trim overwrites by what it drops.
+#[derive(Drop)]
+pub struct Tail {
+    alloc: Global,
+    memory: MemLog,
+    trimmed: u64,
+    cuts: VecDeque<CutPoint>,
+    cache: BlockCache,
+}
+
+impl Model for Tail {
+    ghost use Rattle.journal_tail.specs.Tails.{TailState, IsTail};
+
+    ghost Value = { TailState };
+
+    ghost view = { λ t. record { log = t.memory; trimmed = t.trimmed; cuts = t.cuts.items; cache = t.cache } };
+
+    ghost invariant = { λ t. IsTail (record { log = t.memory; trimmed = t.trimmed; cuts = t.cuts.items; cache = t.cache }) };
+}
+
+impl Tail {
+    /// The tail of a disk of so many blocks whose log ends at a position. It has no updates and no copies, of which it
+    /// will have no more than `most`, and no commit was made.
+    ///
+    /// Answers J1 `NoMemory`, and nothing else, where memory for an index is refused.
+    pub fn new<C>(alloc: Global, blocks: u64, start: u64, most: usize) -> Result<Tail, Refusal<C>>
+        requires start { start < 2 ^ 62 }
+        requires some { 0 < most }
+        ensures tail { IfOk result (λ tail. tail ≡ empty_tail blocks start tail.log.room) }
+        ensures refusal { IsOkUnless result Refusal.NoMemory }
+    {
+        let memory = MemLog::new(alloc, blocks, start)?;
+        let cache = BlockCache::new(alloc, most)?;
+        Ok(Tail {
+            alloc,
+            memory,
+            trimmed: 0,
+            cuts: VecDeque::new(alloc),
+            cache,
+        })
+    }
+
+    /// The positions that bound the parts of the log in memory.
+    pub fn bounds(&self) -> Bounds
+        ensures bounds { result ≡ bounds_of self.now.log }
+        ensures sound { IsMemLog self.now.log }
+    {
+        self.memory.bounds()
+    }
+
+    /// How many blocks stand in the tail, at most 255.
+    pub fn tail_len(&self) -> u64
+        ensures length { result ≡ length (tail_of self.now.log) }
+        ensures few { result ≤ MAX_TAIL }
+    {
+        self.memory.tail_len()
+    }
+
+    /// How many commits there were at the last cut whose updates were dropped. All that later ones wrote is here.
+    pub fn trimmed(&self) -> u64
+        ensures { result ≡ self.now.trimmed }
+    {
+        self.trimmed
+    }
+
+    /// The block, lent, where memory knows it: with all updates where one is of it, and else as its copy has it.
+    pub fn get(&self, block: u64) -> Option<&Block>
+        ensures found { is_some result ≡ updates_block (known_blocks self.now) block }
+        ensures content { IfSome result (λ found.
+            (before : Bytes) → updated (known_blocks self.now) block before ≡ found.now) }
+    {
+        match self.memory.latest(block) {
+            Some(found) => Some(found),
+            None => self.cache.find(block),
+        }
+    }
+
+    /// Makes the copy of the block the one that was used last, where there is one.
+    pub fn touch(&mut self, block: u64)
+        ensures same { MakeTheSame self.new.cache self.old.cache }
+        ensures others { self.new ≡ record self.old { cache = self.new.cache } }
+    {
+        self.cache.touch(block);
+    }
+
+    /// Keeps copies of these blocks, which are at home as these have them but for the updates in memory. Where there are
+    /// too many, those go that were used least recently. One for which memory is refused is not kept.
+    pub fn keep(&mut self, copies: Vec<Update>)
+        ensures known { MakesNoOther (self.old.cache ++ copies.items) self.new.cache }
+        ensures others { self.new ≡ record self.old { cache = self.new.cache } }
+    {
+        self.cache.keep_all(copies);
+    }
+
+    /// Whether the block stands in the tail, so that an update of it takes no new place.
+    pub fn is_in_tail(&self, block: u64) -> bool
+        ensures { result ≡ updates_block (tail_of self.now.log) block }
+    {
+        self.memory.is_in_tail(block)
+    }
+
+    /// The content of the block in the tail, or `None` where it does not stand there.
+    pub fn in_tail(&self, block: u64) -> Option<&Block>
+        ensures found { is_some result ≡ updates_block (tail_of self.now.log) block }
+        ensures content { IfSome result (λ found.
+            (before : Bytes) → updated (tail_of self.now.log) block before ≡ found.now) }
+    {
+        self.memory.in_tail(block)
+    }
+
+    /// The position at which the block stands in the tail, or `None` where it does not.
+    pub fn place_in_tail(&self, block: u64) -> Option<u64>
+        ensures found { is_some result ≡ updates_block (tail_of self.now.log) block }
+        ensures place { IfSome result (IsLastOf self.now.log block self.now.log.cut) }
+        ensures sound { IsMemLog self.now.log }
+    {
+        self.memory.place_in_tail(block)
+    }
+
+    /// The content of the block at a position of the tail, lent to be overwritten. The tail is then what it is with
+    /// that content appended.
+    pub fn tail_block(&mut self, position: u64) -> &mut Block
+        requires from_cut { self.old.log.cut ≤ position }
+        requires to_next { position < next_position self.old.log }
+        ensures* lends { sem 𝓛 (LendsTailBlock self.entry position result) }
+        ensures content { result.now ≡ (update_at self.old.log.updates (position - self.old.log.start)).bytes }
+    {
+        self.memory.tail_block(position)
+    }
+
+    /// Refuses updates of so many blocks, of which so many are fresh, that is do not stand in the tail: J4
+    /// `TooLarge` where there are more than 128, J11 `Worn` where a position would reach 2^62, J12 `Full` where
+    /// the tail and the fresh ones are more than 255. It takes no memory.
+    pub fn check_room(&self, blocks: usize, fresh: usize) -> Result<(), Refusal<()>>
+        requires { fresh ≤ blocks }
+        ensures ok { OnOk result (AdmitsBlocks self.now.log blocks fresh) }
+        ensures refusal { IfErr result (IsTailRefusal self.now.log blocks fresh) }
+    {
+        if blocks > MAX_UPDATES {
+            return Err(Refusal::TooLarge);
+        }
+        if self.memory.bounds().next + fresh as u64 >= MAX_POSITION {
+            return Err(Refusal::Worn(()));
+        }
+        if self.memory.tail_len() + fresh as u64 > MAX_TAIL {
+            return Err(Refusal::Full(()));
+        }
+        Ok(())
+    }
+
+    /// Makes room for so many fresh blocks, where `check_room` admits them. `append_reserved` takes them then, as
+    /// long as no other call comes between.
+    ///
+    /// Answers J1 `NoMemory`, and nothing else, where memory is refused. Refused or not, the tail is as it was,
+    /// but may have more room where it had too little.
+    pub fn reserve(&mut self, fresh: usize) -> Result<(), Refusal<()>>
+        requires small { next_position self.old.log + fresh < 2 ^ 62 }
+        requires tail { length (tail_of self.old.log) + fresh ≤ MAX_TAIL }
+        ensures room { OnOk result (TakesFresh self.new.log fresh) }
+        ensures refusal { IsOkUnless result Refusal.NoMemory }
+        ensures same { self.new ≡ record self.old { log = record self.old.log { room = self.new.log.room } } }
+        ensures enough { fresh ≤ self.old.log.room → self.new ≡ self.old }
+    {
+        self.memory.reserve(fresh)
+    }
+
+    /// Appends updates that `reserve` made room for: each in the place of the update of its block in the tail, or
+    /// at the end. It takes no memory, and moves the blocks.
+    pub fn append_reserved(&mut self, updates: Vec<Update>)
+        requires homes { AreHomes self.old.log.blocks updates.items }
+        requires room { TakesUpdates self.old.log updates.items }
+        ensures log { self.new ≡ record self.old { log = appended self.old.log updates.items } }
+        // What was updated since any cut is what was, and then these.
+        ensures since { (from : ℕ) → self.old.log.start ≤ from → from ≤ self.old.log.cut →
+            MakeTheSame (updates_from self.new.log from) (updates_from self.old.log from ++ updates.items) }
+    {
+        self.memory.append(updates);
+    }
+
+    /// Cuts after so many commits: hands out a copy of the whole tail, which begins anew.
+    ///
+    /// Answers J1 `NoMemory`, and nothing else, where memory for the copy is refused. The tail is then as it was.
+    pub fn cut(&mut self, commits: u64) -> Result<Vec<Update>, Refusal<()>>
+        ensures group { IfOk result (λ group. group.items ≡ tail_of self.old.log) }
+        ensures few { IfOk result (λ group. length group.items ≤ MAX_TAIL) }
+        ensures homes { IfOk result (λ group. AreHomes self.old.log.blocks group.items) }
+        ensures distinct { IfOk result (λ group. HasDistinctBlocks group.items) }
+        ensures ok { OnOk result (self.new ≡ cut_after self.old commits) }
+        ensures err { OnErr result (self.new ≡ self.old) }
+        ensures refusal { IsOkUnless result Refusal.NoMemory }
+    {
+        let group = self.copy_tail()?;
+        let end = self.memory.bounds().next;
+        self.cuts.push_back(CutPoint { end, commits })?;
+        self.memory.cut();
+        Ok(group)
+    }
+
+    // A copy of the tail's updates.
+    fn copy_tail(&self) -> Result<Vec<Update>, Refusal<()>>
+        ensures group { IfOk result (λ group. group.items ≡ tail_of self.now.log) }
+        ensures refusal { IsOkUnless result Refusal.NoMemory }
+    {
+        let bounds = self.memory.bounds();
+        let mut group = Vec::with_capacity(self.alloc, self.memory.tail_len() as usize)?;
+        for position in bounds.cut..bounds.next {
+            let update = self.memory.at(position);
+            let bytes = Block::copied_from(self.alloc, &update.bytes)?;
+            group.push(Update {
+                block: update.block,
+                bytes,
+            })?;
+        }
+        Ok(group)
+    }
+
+    /// Drops the updates of each cut that ends at the position or before it: they are at home. Where there is a copy of
+    /// their block, it is overwritten by them. It takes no memory, and moves the blocks.
+    pub fn trim(&mut self, upto: u64)
+        ensures drops { DropsCuts self.old upto self.new }
+        ensures left { All (λ c. upto < c.end) self.new.cuts }
+        // What was updated since a cut that is left is as it was.
+        ensures since { (from : ℕ) → self.new.log.start ≤ from → updates_from self.new.log from ≡ updates_from self.old.log from }
+        // Of each block that memory still knows it knows what it knew.
+        ensures known { MakesNoOther (known_blocks self.old) (known_blocks self.new) }
+    {
+        while self.has_cut_by(upto) {
+            self.drop_first_cut();
+        }
+    }
+
+    // Whether the first cut ends at the position or before it.
+    fn has_cut_by(&self, upto: u64) -> bool
+        ensures yes { IsTrue result → (c : CutPoint) × (later : List CutPoint) × (self.now.cuts ≡ c ∷ later)
+            × (self.now.log.start ≤ c.end) × (c.end ≤ upto) }
+        ensures no { result ≡ false → All (λ c. upto < c.end) self.now.cuts }
+    {
+        match self.cuts.front() {
+            Some(cut) => cut.end <= upto,
+            None => false,
+        }
+    }
+
+    // Drops the updates of the first cut.
+    fn drop_first_cut(&mut self)
+        requires { 0 < length self.old.cuts }
+        ensures drops { (c : CutPoint) (later : List CutPoint) → self.old.cuts ≡ c ∷ later → self.new ≡ without_first self.old c later self.new.cache }
+        ensures known { MakesNoOther (known_blocks self.old) (known_blocks self.new) }
+    {
+        let Tail {
+            memory,
+            trimmed,
+            cuts,
+            cache,
+            ..
+        } = self;
+        let cut = cuts.pop_front().unwrap();
+        memory.logged(cut.end);
+        move_to_cache(memory, cache, cut.end);
+        *trimmed = cut.commits;
+    }
+}
+
+// Drops the updates before the position. Where there is a copy of their block, it is overwritten by them.
+fn move_to_cache(memory: &mut MemLog, cache: &mut BlockCache, upto: u64)
+    requires from_start { memory.old.start ≤ upto }
+    requires to_logged { upto ≤ memory.old.logged }
+    ensures log { memory.new ≡ trimmed memory.old upto }
+    ensures sound { IsMemLog memory.new }
+    ensures known { MakesNoOther (cache.old ++ memory.old.updates) (cache.new ++ memory.new.updates) }
+{
+    // Called for its contract: the log is sound.
+    let _bounds = memory.bounds();
+    while memory.bounds().start < upto {
+        cache.replace(memory.take_first());
+    }
+}
