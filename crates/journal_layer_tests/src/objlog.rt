@@ -36,15 +36,15 @@ struct Pair {
 
 impl Model for Pair {
     ghost use Rattle.std.specs.Prelude.{◌≡◌};
-    ghost use Rattle.journal_wal.specs.Wal.{size_of, tail_length};
+    ghost use Rattle.journal_wal.specs.Wal.{size_of};
     ghost use Rattle.journal_tail.specs.ObjectTails.{blocks_of};
 
     ghost Value = { Unit {0} };
 
     ghost view = { λ _. tt };
 
-    // The log has no tail of its own, and all are of one disk.
-    ghost invariant = { λ p. (tail_length p.log ≡ 0) × (blocks_of p.tail ≡ size_of p.log) × (p.layout.blocks ≡ size_of p.log) };
+    // All are of one disk.
+    ghost invariant = { λ p. (blocks_of p.tail ≡ size_of p.log) × (p.layout.blocks ≡ size_of p.log) };
 }
 
 // An object: its block, its first bit there, and what each of its bytes is or becomes.
@@ -304,8 +304,6 @@ fn installer(pair: &mut Pair) -> Run<u64> {
         tail,
         log,
     } = pair;
-    // Called for its contract: nothing is logged that was not cut.
-    let _logging = log.is_logging();
     let step = log.install_step()?;
     if let InstallStep::Freed(upto) = step {
         tail.trim(upto);

@@ -76,14 +76,14 @@ struct Pair {
 
 impl Model for Pair {
     ghost use Rattle.std.specs.Prelude.{◌≡◌};
-    ghost use Rattle.journal_wal.specs.Wal.{size_of, tail_length};
+    ghost use Rattle.journal_wal.specs.Wal.{size_of};
 
     ghost Value = { Unit {0} };
 
     ghost view = { λ _. tt };
 
-    // The log has no tail of its own, and both are of one disk.
-    ghost invariant = { λ p. (tail_length p.wal ≡ 0) × (p.tail.log.blocks ≡ size_of p.wal) };
+    // Both are of one disk.
+    ghost invariant = { λ p. p.tail.log.blocks ≡ size_of p.wal };
 }
 
 // Writes a block of zeros but for a number at its front.
@@ -239,8 +239,6 @@ fn log(pair: &mut Pair) -> Run<u64> {
 
 fn install(pair: &mut Pair) -> Run<u64> {
     let Pair { tail, wal } = pair;
-    // Called for its contract: nothing is logged that was not cut.
-    let _logging = wal.is_logging();
     let step = wal.install_step()?;
     if let InstallStep::Freed(upto) = step {
         tail.trim(upto);

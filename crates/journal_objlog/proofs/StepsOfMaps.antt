@@ -14,7 +14,7 @@ use Rattle.journal_wal.specs.Wal.{WalState, size_of, blocks_now, blocks_cut, blo
 use Rattle.journal_tail.specs.Maps.{map_of}
 use Rattle.journal_objlog.specs.ObjectLogs.{map_now, map_cut, map_logged, KeepsMaps, LogsMaps, disk_of}
 use Rattle.journal_wal.specs.declared.step.GroupStep.{GroupStep}
-use Rattle.journal_wal.specs.declared.step.GroupStep.TheVariants.{Idle, Cut, Put, Logged}
+use Rattle.journal_wal.specs.declared.step.GroupStep.TheVariants.{Idle, Put, Logged}
 use Rattle.journal_wal.specs.declared.step.InstallStep.{InstallStep}
 use Rattle.journal_wal.specs.declared.step.InstallStep.TheVariants.{Idle as InstallIdle, Put as InstallPut, Freed}
 use Rattle.journal_wal.specs.Groups.{TakesGroup}
@@ -37,11 +37,6 @@ module _ (old new : WalState) where
   pub logs_maps : IsTrue (disk_of old).honest → (result : Result GroupStep (Refusal Unit)) → IfOk result (λ step. LogAnswers old step new)
       → IfOk result (λ step. LogsMaps old step new)
   logs_maps honest (Ok Idle) answers = KeepsMaps-path old new answers.1
-  logs_maps honest (Ok Cut) cuts = record {
-    now = same_maps (size_of old) (blocks_now new) (blocks_now old) cuts.now;
-    cut = same_maps (size_of old) (blocks_cut new) (blocks_now old) cuts.cut;
-    logged = same_maps (size_of old) (blocks_logged new) (blocks_logged old) cuts.logged;
-  }
   logs_maps honest (Ok Put) puts = keeps_maps old new (puts.blocks honest)
   logs_maps honest (Ok Logged) ends = record {
     now = same_maps (size_of old) (blocks_now new) (blocks_now old) (ends.now honest);

@@ -10,7 +10,7 @@ use Rattle.journal_disk.specs.Images.{EveryImage}
 use Rattle.journal_disk.specs.Moments.{LeavesOnly}
 use Rattle.journal_wal.specs.Wal.{WalState, size_of, blocks_now, blocks_cut, blocks_logged}
 use Rattle.journal_wal.specs.declared.step.GroupStep.{GroupStep}
-use Rattle.journal_wal.specs.declared.step.GroupStep.TheVariants.{Idle, Cut, Put, Logged}
+use Rattle.journal_wal.specs.declared.step.GroupStep.TheVariants.{Idle, Put, Logged}
 use Rattle.journal_tail.specs.Maps.{map_of}
 use Rattle.journal_objlog.specs.Maps.{OpensAs}
 
@@ -85,12 +85,6 @@ abbrev pub IsLeft : WalState → Refusal Unit → Type 0
 IsLeft new (DeviceFailed cause) = is_faulted new ≡ true
 IsLeft new other = is_faulted new ≡ false
 
--- The tail was cut: what a crash may leave from now on is the map now
-pub record CutsMap (old new : WalState) : Type 0 where
-  pub now : EachLayout (size_of old) (λ layout. SameMap (map_now layout new) (map_now layout old))
-  pub cut : EachLayout (size_of old) (λ layout. SameMap (map_cut layout new) (map_now layout old))
-  pub logged : EachLayout (size_of old) (λ layout. SameMap (map_logged layout new) (map_logged layout old))
-
 -- The cycle of the group in flight ended: only the map at its cut is left by a crash
 pub record EndsMap (old new : WalState) : Type 0 where
   pub now : EachLayout (size_of old) (λ layout. SameMap (map_now layout new) (map_now layout old))
@@ -100,6 +94,5 @@ pub record EndsMap (old new : WalState) : Type 0 where
 -- what a step of the logger makes of the maps
 abbrev pub LogsMaps : WalState → GroupStep → WalState → Type 0
 LogsMaps old Idle new = KeepsMaps old new
-LogsMaps old Cut new = CutsMap old new
 LogsMaps old Put new = KeepsMaps old new
 LogsMaps old Logged new = EndsMap old new

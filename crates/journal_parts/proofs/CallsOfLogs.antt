@@ -5,7 +5,7 @@ use Rattle.journal_world.specs.declared.refusal.Refusal.{Refusal}
 use Rattle.journal_world.specs.declared.refusal.Refusal.TheVariants.{NoMemory, BadAddress, BadSize, TooLarge, Busy, DeviceFailed, BadLog, BadSuper, Stale, Stranger, Worn, Full, Closed, Fenced}
 use Rattle.journal_memlog.specs.Logs.{LogState, next_position, tail_of}
 use Rattle.journal_wal.specs.declared.step.GroupStep.{GroupStep}
-use Rattle.journal_wal.specs.declared.step.GroupStep.TheVariants.{Idle as LogIdle, Cut, Put as LogPut, Logged}
+use Rattle.journal_wal.specs.declared.step.GroupStep.TheVariants.{Idle as LogIdle, Put as LogPut, Logged}
 use Rattle.journal_wal.specs.declared.step.InstallStep.{InstallStep}
 use Rattle.journal_wal.specs.declared.step.InstallStep.TheVariants.{Idle, Put, Freed}
 use Rattle.journal_disk.specs.Disks.{DiskState, Keeps}
@@ -123,20 +123,17 @@ reads_room old new same = record {
 module _ (old new : WalState) (empty : tail_length old ≡ 0) where
   pub stays_logging : (step : GroupStep) → (step ≡ Logged → ⊥) → LogAnswers old step new → StaysCut old new
   stays_logging LogIdle other answers = stays_same old new answers.1
-  stays_logging Cut other answers = absurd (omega (arith, answers.fits.0, empty))
   stays_logging LogPut other answers = stays_put old new answers
   stays_logging Logged other answers = absurd (other refl)
 
   pub keeps_logging : (step : GroupStep) → (step ≡ Logged → ⊥) → LogAnswers old step new → LogsMaps old step new → KeepsMaps old new
   keeps_logging LogIdle other answers maps = maps
-  keeps_logging Cut other answers maps = absurd (omega (arith, answers.fits.0, empty))
   keeps_logging LogPut other answers maps = maps
   keeps_logging Logged other answers maps = absurd (other refl)
 
   answered : (d : DurableState) → old ≡ d.objects → (step : GroupStep) → (step ≡ Logged → ⊥) → LogAnswers old step new
       → DurableAnswers d step (record d { objects = new })
   answered d is LogIdle other answers = (ap log_steps (sym is) ∙ answers.0.steps, ap (λ (w : WalState). record d { objects = w }) (answers.1 ∙ is))
-  answered d is Cut other answers = absurd (omega (arith, answers.fits.0, empty))
   answered d is LogPut other answers = (subst (λ (w : WalState). LogsOn w new) is answers, refl)
   answered d is Logged other answers = absurd (other refl)
 

@@ -23,7 +23,7 @@ use Rattle.journal_parts.specs.Cores.{Leaves as LeavesHistory}
 use Rattle.journal_parts.specs.Durables.{DurableState, Leaves, Crashes, IsDurable, TakesCut, LogAnswers, disk_of}
 use Rattle.journal_parts.proofs.Enduring.{StaysCut}
 use Rattle.journal_wal.specs.declared.step.GroupStep.{GroupStep}
-use Rattle.journal_wal.specs.declared.step.GroupStep.TheVariants.{Idle, Cut, Put, Logged}
+use Rattle.journal_wal.specs.declared.step.GroupStep.TheVariants.{Idle, Put, Logged}
 use Rattle.journal_memory.specs.Volatiles.{VolatileState, IsVolatile, IsFrontRefusal}
 use Rattle.journal_parts.specs.Pairs.{Tied, IsCutDue, IsRestDue, CutsBoth, MarksBoth, MarksAll}
 use Rattle.journal_memory.specs.Updates.{HaveAllSince}
@@ -239,7 +239,6 @@ rest_since layout v n held le empty trusted =
 pub tied_logged : (layout : Shape) (v : VolatileState) (d e : DurableState) (step : GroupStep) → IsVolatile layout v → IsDurable layout d → LogAnswers d step e
     → Tied v d → Tied v e
 tied_logged layout v d e Idle held kept answers tied = subst (Tied v) (sym answers.1) tied
-tied_logged layout v d e Cut held kept answers tied = absurd answers
 tied_logged layout v d e Put held kept answers tied = subst (Tied v) (sym answers.1) (record {
   begins = tied.begins;
   marked = tied.marked;

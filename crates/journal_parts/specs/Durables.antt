@@ -15,7 +15,7 @@ use Rattle.journal_memlog.specs.Logs.{next_position}
 use Rattle.journal_wal.specs.Wal.{WalState, size_of, log_steps, install_steps, tail_length, LogsOn, EndsGroup, InstallAnswers as WalInstalls}
 use Rattle.journal_wal.specs.Groups.{FitsGroup, TakesGroup}
 use Rattle.journal_wal.specs.declared.step.GroupStep.{GroupStep}
-use Rattle.journal_wal.specs.declared.step.GroupStep.TheVariants.{Idle, Cut, Put, Logged}
+use Rattle.journal_wal.specs.declared.step.GroupStep.TheVariants.{Idle, Put, Logged}
 use Rattle.journal_wal.specs.declared.step.InstallStep.{InstallStep}
 use Rattle.journal_objlog.specs.Maps.{OpensAs}
 use Rattle.journal_objlog.specs.ObjectLogs.{map_cut, map_logged, MayOpenAs, IsCutLogged, KeepsMaps, is_faulted as is_log_faulted, disk_of as log_disk, start_of, end_of}
@@ -94,10 +94,9 @@ begun_durable objects front = record { objects = objects; front = front; marked 
 -- What its calls do
 
 -- What the logger's call did: it made the device call of the group in flight that was due, or none
--- is in flight. It never cuts
+-- is in flight
 abbrev pub LogAnswers : DurableState → GroupStep → DurableState → Type 0
 LogAnswers old Idle new = (log_steps old.objects ≡ 0) × (new ≡ old)
-LogAnswers old Cut new = ⊥
 LogAnswers old Put new = LogsOn old.objects new.objects × (new ≡ record old { objects = new.objects })
 LogAnswers old Logged new = EndsGroup old.objects new.objects × (new ≡ record old { objects = new.objects; logged = old.coming })
 

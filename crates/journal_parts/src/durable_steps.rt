@@ -11,8 +11,7 @@ use journal_wal::{GroupStep, InstallStep};
 use journal_world::{MapRule, Refusal};
 
 impl<'b, D: BlockDisk, R: MapRule, J: Naming> Durable<'b, D, R, J> {
-    /// Makes the device call of the group in flight that is due. Answers `Idle` where no group is in flight, and
-    /// never `Cut`.
+    /// Makes the device call of the group in flight that is due. Answers `Idle` where no group is in flight.
     ///
     /// Answers J6 `DeviceFailed`, and nothing else, where the device failed in this call or before.
     pub(crate) fn advance_log(&mut self) -> Result<GroupStep, Refusal<Cause<'b, J, R>>>

@@ -50,8 +50,6 @@ impl<'b, D: BlockDisk, R: MapRule, J: Naming> Durable<'b, D, R, J> {
                 self.prove_invariant();
                 Ok(LogCall::AtRest(RestingLog { made: () }))
             }
-            // There is no tail in the durable part's log.
-            Ok(GroupStep::Cut) => unreachable!(),
             Err(why) => {
                 self.prove_invariant();
                 Err(UnnotedFault { why })

@@ -96,11 +96,10 @@ tied_by ring now log tied size start end more less coming = record {
   start_to_end = tied.start_to_end;
   end_to_next = omega (arith, tied.end_to_next);
   next_to_cut = less;
-  cut_to_last = tied.cut_to_last;
+  no_tail = tied.no_tail;
   fits = tied.fits;
   group = tied.group;
   small = tied.small;
-  tail = tied.tail;
   blocks = tied.blocks;
   coming = coming;
 }

@@ -1,20 +1,23 @@
 -- A group that was cut elsewhere and is handed in whole.
-use Rattle.std.proofs.Common.{◌≡◌, ◌≢◌, ◌<◌, ◌≤◌, ◌+◌, ◌-◌, ℕ, zero, suc, ◌||◌, Bool, false, List, [], ◌∷◌, ◌++◌, length, length-append, append_assoc, IsTrue, refl, sym, ap, subst, ◌∙◌, arith}
+use Rattle.std.proofs.Common.{◌≡◌, ◌≢◌, inl, ⊎_elim, ◌<◌, ◌≤◌, ◌+◌, ◌-◌, ℕ, zero, suc, ◌||◌, Bool, false, List, [], ◌∷◌, ◌++◌, take, length, length-append, length-drop, append_assoc, IsTrue, refl, sym, ap, subst, ◌∙◌, arith}
 use Rattle.std.proofs.lemmas.Bool.{cond-false, ne_eqb}
-use Rattle.std.proofs.lemmas.List.{append-nil, take-append-drop}
+use Rattle.std.proofs.lemmas.List.{append-nil, take-append-drop, take-append-le, take_all}
+use Rattle.std.proofs.lemmas.List.Elements.{All-append}
 use Rattle.std.proofs.Math.Seq.{get_or-append_seam}
 use Rattle.journal_block.specs.declared.update.Update.{Update}
-use Rattle.journal_block.specs.Updates.{updates_block}
-use Rattle.journal_disk.specs.Disks.{Keeps}
-use Rattle.journal_disk.specs.Moments.{LeavesOnly}
+use Rattle.journal_block.specs.Updates.{updated, updates_block}
+use Rattle.journal_block.specs.UpdateLaws.{updated-append}
+use Rattle.journal_disk.specs.Images.{EveryImage}
+use Rattle.journal_disk.specs.Laws.{leaves_none}
+use Rattle.journal_circ.specs.StandsFor.{StandsFor}
+use Rattle.journal_circ.specs.Ring.{Ring, home_of}
 use Rattle.journal_memlog.specs.Logs.{LogState, HasDistinctBlocks, next_position, head_of, tail_of, absorbed, appended, CanTake}
-use Rattle.journal_memlog.specs.Laws.{tail_of-appended}
 use Rattle.journal_tail.specs.Homes.{AreHomes}
-use Rattle.journal_wal.specs.Wal.{WalState, Logging, log_blocks, log_end, log_sync, log_spent, Crashes, Cuts, MayStandFor, size_of, log_steps, log_steps_by, tail_length}
-use Rattle.journal_wal.specs.States.{IsWal, IsLogging}
+use Rattle.journal_wal.specs.Wal.{WalState, Logging, log_blocks, log_end, log_sync, log_spent, Crashes, MayStandFor, with_room, size_of, blocks_at, blocks_logged, log_steps, log_steps_by}
+use Rattle.journal_wal.specs.States.{updates_to, AreTied, IsWal, IsLogging}
 use Rattle.journal_wal.specs.Groups.{HasGroupRoom, TakesGroup}
-use Rattle.journal_wal.proofs.Logger.{Leaves, group_cut}
-use Rattle.journal_wal.proofs.Appending.{Appends, updates_appended}
+use Rattle.journal_wal.proofs.Frames.{KeepsInstalling, installing_stays}
+use Rattle.journal_wal.proofs.Logger.{Leaves, nothing_waits, steps_in_group}
 
 -- Updates of distinct blocks are absorbed one after the other
 
@@ -66,24 +69,13 @@ at_rest w is fine none = by w.logging refl
         let wrong : IsTrue false = subst IsTrue fine failed in
         let impossible : ⊥ = cc in absurd impossible
 
--- two calls without a device call between them and after them
-crashes_after : (old mid new : WalState) → Crashes old mid → new.ring ≡ mid.ring → Crashes mid new → Crashes old new
-crashes_after old mid new first same second = record {
-  keeps = subst (λ r. Keeps old.ring.disk r.disk) (sym same) first.keeps;
-  moments = λ honest. subst (λ r. LeavesOnly old.ring.disk.past r.disk.past (MayStandFor old)) (sym same) (first.moments honest);
-  images = second.images;
-}
-
 module _ (w : WalState) (updates : List Update) (is : IsWal w) (room : HasGroupRoom w (length updates))
     (homes : AreHomes (size_of w) updates) (distinct : HasDistinctBlocks updates) where
   abbrev mid : WalState
   mid = record w { log = appended w.log updates }
 
-  from : w.log.start ≤ w.log.cut
-  from = omega (arith, is.tied.start_to_end, is.tied.end_to_next, is.tied.next_to_cut)
-
   no_tail : tail_of w.log ≡ []
-  no_tail = none_of (tail_of w.log) room.empty
+  no_tail = none_of (tail_of w.log) (nothing_waits w is)
 
   -- they are appended one after the other
   all : absorbed (tail_of w.log) updates ≡ updates
@@ -109,31 +101,156 @@ module _ (w : WalState) (updates : List Update) (is : IsWal w) (room : HasGroupR
     below = omega (arith, next, room.small);
   }
 
-  appends : Leaves w mid × Appends w updates mid
-  appends = updates_appended w updates is can_take (omega (arith, width, room.few)) homes
-
-  tail : tail_length mid ≡ length updates
-  tail = ap (λ (us : List Update). length us) (tail_of-appended w.log updates from is.tied.cut_to_last) ∙ width
-
   rest : (w.logging ≡ log_blocks) × (w.log.logged ≡ w.log.cut)
   rest = at_rest w is room.fine room.place.rest
 
+  at_blocks : w.ring.extent.coming ≡ w.ring.extent.end
+  at_blocks = subst (IsLogging w.ring w.log) rest.0 is.logging
+
+  -- what was cut before is as it was
+  before : (to : ℕ) → to ≤ w.log.cut → take (to - w.log.start) (w.log.updates ++ updates) ≡ updates_to w.log to
+  before to le = take-append-le (to - w.log.start) w.log.updates updates (omega (arith, le, is.tied.no_tail))
+
+  -- with the updates as the group in flight, and so much room
+  module _ (r : ℕ) where
+    abbrev log : LogState
+    log = record w.log { cut = next_position w.log + length updates; updates = w.log.updates ++ updates; room = r }
+
+    abbrev new : WalState
+    new = record w { log = log }
+
+    long : length (w.log.updates ++ updates) ≡ length w.log.updates + length updates
+    long = length-append w.log.updates updates
+
+    tied : AreTied w.ring log
+    tied = record {
+      size = is.tied.size;
+      start = is.tied.start;
+      end = is.tied.end;
+      start_to_end = is.tied.start_to_end;
+      end_to_next = is.tied.end_to_next;
+      next_to_cut = omega (arith, is.tied.next_to_cut, is.tied.no_tail);
+      no_tail = omega (arith, long);
+      fits = omega (arith, rest.1, room.place.fits, room.place.some, is.tied.start_to_end, is.tied.fits, is.tied.no_tail);
+      group = omega (arith, rest.1, room.few, is.tied.no_tail);
+      small = omega (arith, long, room.small);
+      blocks = All-append (λ (u : Update). (513 ≤ u.block) × (u.block < w.log.blocks)) w.log.updates updates is.tied.blocks
+          (subst (λ (n : ℕ). AreHomes n updates) is.tied.size homes);
+      coming = inl (at_blocks ∙ is.tied.end);
+    }
+
+    images : IsTrue w.ring.disk.honest → EveryImage w.ring.disk.past (MayStandFor new)
+    images honest image one = ⊎_elim
+        (λ logged. inl (stands logged))
+        (λ cut. inl (stands (subst (λ (n : ℕ). StandsFor (size_of w) (blocks_at w n) image) (sym rest.1) cut)))
+        (is.images honest image one)
+      where
+        stands : StandsFor (size_of w) (blocks_logged w) image → StandsFor (size_of w) (blocks_logged new) image
+        stands = subst (λ (us : List Update). StandsFor (size_of w) (λ b. updated us b (home_of w.ring b)) image) (sym (before w.log.logged (omega (arith, rest.1))))
+
+    keeps : KeepsInstalling w.ring w.ring w.log log
+    keeps = record {
+      size = refl;
+      honest = refl;
+      start = refl;
+      freed = refl;
+      homes = refl;
+      faulted = λ was. was;
+      home = λ honest b home lt. refl;
+      first = refl;
+      logged = omega arith;
+      updates = λ upto le. before upto (omega (arith, le, rest.1));
+    }
+
+    leaves : Leaves w new
+    leaves = record {
+      sound = record {
+        tied = tied;
+        log = λ honest. is.log honest ∙ sym (before w.ring.next is.tied.next_to_cut);
+        images = images;
+        logging = subst (IsLogging w.ring log) (sym rest.0) at_blocks;
+        installing = installing_stays w.ring w.ring w.log log keeps w.installing is.installing;
+      };
+      crash = record {
+        keeps = record { size = refl; honest = refl; failures = omega arith };
+        moments = λ honest. leaves_none w.ring.disk.past w.ring.disk.past (MayStandFor w) refl (is.images honest);
+        images = images;
+      };
+    }
+
+    takes : TakesGroup w updates new
+    takes = record {
+      disk = refl;
+      log = refl;
+      steps = (λ i. log_steps_by w.ring.sealed (rest.0 i) (log.cut - w.log.logged) (log.cut - w.ring.next))
+          ∙ steps_in_group w.ring.sealed (log.cut - w.log.logged) (log.cut - w.ring.next) (omega (arith, rest.1, room.place.some, is.tied.no_tail))
+          ∙ omega (arith, rest.1, is.tied.no_tail, is.tied.end_to_next, is.tied.next_to_cut);
+      tail = length-drop (log.cut - w.log.start) (w.log.updates ++ updates) ∙ omega (arith, long);
+      now = λ b home lt. updated-append w.log.updates updates b (home_of w.ring b);
+      cut = λ b home lt. ap (λ (us : List Update). updated us b (home_of w.ring b)) (take_all (log.cut - w.log.start) (w.log.updates ++ updates) (omega (arith, long)))
+          ∙ updated-append w.log.updates updates b (home_of w.ring b);
+      logged = λ b home lt. ap (λ (us : List Update). updated us b (home_of w.ring b)) (before w.log.logged (omega (arith, rest.1)));
+      installing = refl;
+    }
+
   pub group_taken : (later : LogState) → later ≡ record mid.log { cut = next_position mid.log }
       → Leaves w (record w { log = later }) × TakesGroup w updates (record w { log = later })
-  group_taken later later_is = (
-    record { sound = cuts.0.sound; crash = crashes_after w mid (record w { log = later }) appends.0.crash cuts.1.disk cuts.0.crash },
-    record {
-      disk = refl;
-      log = later_is ∙ (λ i. record w.log { cut = next i; updates = same i; room = sym (ap (λ (l : LogState). l.room) later_is) i });
-      steps = omega (arith, cuts.1.steps, tail);
-      tail = cuts.1.tail;
-      now = λ b home lt. cuts.1.now b home lt ∙ appends.1.now b home lt;
-      cut = λ b home lt. cuts.1.cut b home lt ∙ appends.1.now b home lt;
-      logged = λ b home lt. cuts.1.logged b home lt ∙ appends.1.logged b home lt;
-      installing = refl;
-    },
-  )
+  group_taken later later_is =
+      subst (λ (l : LogState). Leaves w (record w { log = l }) × TakesGroup w updates (record w { log = l })) (sym is_taken)
+      (leaves later.room, takes later.room)
     where
-      cuts : Leaves mid (record w { log = later }) × Cuts mid (record w { log = later })
-      cuts = group_cut mid later appends.0.sound rest.0 rest.1 later_is
-          (omega (arith, tail, room.place.some)) (omega (arith, tail, room.place.fits))
+      is_taken : later ≡ log later.room
+      is_taken = later_is ∙ (λ i. record w.log { cut = next i; updates = same i; room = sym (ap (λ (l : LogState). l.room) later_is) i })
+
+-- the logger relies on the marks alone
+same_marks : (ring : Ring) (log later : LogState) → later.cut ≡ log.cut → later.logged ≡ log.logged
+    → (phase : Logging) → IsLogging ring log phase → IsLogging ring later phase
+same_marks ring log later cut logged log_blocks is = is
+same_marks ring log later cut logged log_end is = (is.0, is.1, is.2 ∙ sym cut, omega (arith, is.3, cut, logged), is.4)
+same_marks ring log later cut logged log_sync is = (is.0 ∙ sym cut, is.1 ∙ sym cut, omega (arith, is.2, cut, logged))
+same_marks ring log later cut logged log_spent is = is
+
+-- other room in memory changes nothing else
+pub room_made : (w : WalState) (room : ℕ) → IsWal w → IsWal (with_room w room)
+room_made w room is = record {
+  tied = record {
+    size = is.tied.size;
+    start = is.tied.start;
+    end = is.tied.end;
+    start_to_end = is.tied.start_to_end;
+    end_to_next = is.tied.end_to_next;
+    next_to_cut = is.tied.next_to_cut;
+    no_tail = is.tied.no_tail;
+    fits = is.tied.fits;
+    group = is.tied.group;
+    small = is.tied.small;
+    blocks = is.tied.blocks;
+    coming = is.tied.coming;
+  };
+  log = is.log;
+  images = is.images;
+  logging = same_marks w.ring w.log later refl refl w.logging is.logging;
+  installing = installing_stays w.ring w.ring w.log later (record {
+    size = refl;
+    honest = refl;
+    start = refl;
+    freed = refl;
+    homes = refl;
+    faulted = λ was. was;
+    home = λ honest b home lt. refl;
+    first = refl;
+    logged = omega arith;
+    updates = λ upto le. refl;
+  }) w.installing is.installing;
+}
+  where
+    later : LogState
+    later = record w.log { room = room }
+
+-- nor what a crash may leave
+pub crashes_room : (w : WalState) (room : ℕ) → IsWal w → Crashes w (with_room w room)
+crashes_room w room is = record {
+  keeps = record { size = refl; honest = refl; failures = omega arith };
+  moments = λ honest. leaves_none w.ring.disk.past w.ring.disk.past (MayStandFor w) refl (is.images honest);
+  images = is.images;
+}

@@ -276,7 +276,7 @@ module _ (ring now : Ring) (log : LogState) (logging : Logging) (upto : ℕ)
   coming = ap (λ (r : Ring). r.extent.coming) is_now
 
   last : next_position (trimmed log upto) ≡ next_position log
-  last = omega (arith, length-drop (upto - log.start) log.updates, position.above, position.below, is.tied.end_to_next, is.tied.next_to_cut, is.tied.cut_to_last)
+  last = omega (arith, length-drop (upto - log.start) log.updates, position.above, position.below, is.tied.end_to_next, is.tied.next_to_cut, is.tied.no_tail)
 
   tied : AreTied now (trimmed log upto)
   tied = record {
@@ -286,21 +286,10 @@ module _ (ring now : Ring) (log : LogState) (logging : Logging) (upto : ℕ)
     start_to_end = position.below;
     end_to_next = omega (arith, next, is.tied.end_to_next);
     next_to_cut = omega (arith, next, is.tied.next_to_cut);
-    cut_to_last = omega (arith, last, is.tied.cut_to_last);
+    no_tail = last ∙ is.tied.no_tail;
     fits = omega (arith, is.tied.fits, position.above);
     group = is.tied.group;
     small = omega (arith, last, is.tied.small);
-    tail = omega (
-      arith,
-      is.tied.tail,
-      length-drop (log.cut - upto) (drop (upto - log.start) log.updates),
-      length-drop (upto - log.start) log.updates,
-      length-drop (log.cut - log.start) log.updates,
-      position.above,
-      position.below,
-      is.tied.end_to_next,
-      is.tied.next_to_cut,
-    );
     blocks = All-drop (λ (u : Update). (513 ≤ u.block) × (u.block < log.blocks)) (upto - log.start) log.updates is.tied.blocks;
     coming = ⊎_elim (λ (e : ring.extent.coming ≡ log.logged). inl (coming ∙ e)) (λ e. inr (coming ∙ e.0, next ∙ e.1)) is.tied.coming;
   }
@@ -359,7 +348,7 @@ module _ (ring now : Ring) (log : LogState) (logging : Logging) (upto : ℕ)
       all_now : IsTrue ring.disk.honest → SameBlocks (size_of old) (blocks_now new) (blocks_now old)
       all_now honest b home_b lt =
           ap (λ (us : List Update). updated us b (home_of now b)) (sym (take_all (next_position log - upto) (drop (upto - log.start) log.updates) (omega (arith, last))))
-          ∙ later honest (next_position log) (omega (arith, position.below, is.tied.end_to_next, is.tied.next_to_cut, is.tied.cut_to_last)) b home_b lt
+          ∙ later honest (next_position log) (omega (arith, position.below, is.tied.end_to_next, is.tied.next_to_cut, is.tied.no_tail)) b home_b lt
           ∙ ap (λ (us : List Update). updated us b (home_of ring b)) (take_all (next_position log - log.start) log.updates (omega arith))
 
 -- the device call of a plan is that of its first block

@@ -4,7 +4,6 @@ pub mod Crashes
 pub mod Frames
 pub mod Logger
 pub mod Installer
-pub mod Appending
 pub mod Phases
 pub mod Homes
 pub mod Planned

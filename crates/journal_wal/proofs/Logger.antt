@@ -1,21 +1,19 @@
 -- The steps of the logger's cycle.
-use Rattle.std.proofs.Common.{◌≡◌, ◌⊎◌, inl, inr, ⊎_elim, ◌<◌, ◌≤◌, ◌+◌, ◌-◌, ◌^◌, ℕ, Bool, zero, suc, true, false, if◌then◌else◌, List, [], ◌∷◌, ◌++◌, take, length, length-drop, Option, Some, IsTrue, refl, sym, ap, subst, ◌∙◌, arith}
+use Rattle.std.proofs.Common.{◌≡◌, ◌⊎◌, inl, inr, ◌<◌, ◌≤◌, ◌+◌, ◌-◌, ◌^◌, ℕ, Bool, zero, suc, true, false, if◌then◌else◌, [], ◌∷◌, ◌++◌, take, length-drop, Option, Some, IsTrue, refl, sym, ap, subst, ◌∙◌, arith}
 use Rattle.std.specs.List.{slice_get}
 use Rattle.std.proofs.Math.Seq.{take-suc}
-use Rattle.std.proofs.lemmas.List.{take_all}
 use Rattle.journal_block.specs.Block.{Bytes}
 use Rattle.journal_block.specs.Updates.{updated}
 use Rattle.journal_disk.specs.Disks.{DiskEvent, write, barrier}
 use Rattle.journal_disk.specs.Laws.{leaves_none}
-use Rattle.journal_circ.specs.StandsFor.{StandsFor}
 use Rattle.std.proofs.lemmas.Option.{get_or_from_slice_get, slice_get_within}
 use Rattle.journal_block.specs.declared.update.Update.{Update}
 use Rattle.journal_disk.specs.Images.{EveryImage}
 use Rattle.journal_circ.specs.Log.{log_block, with_end, with_group}
 use Rattle.journal_circ.specs.Ring.{Ring, log_of, home_of, bytes_put, header_put, tags_put, Crashes as RingCrashes, KeepsLog, SameHome, MakesCall}
-use Rattle.journal_memlog.specs.Logs.{LogState, next_position, tail_of}
+use Rattle.journal_memlog.specs.Logs.{LogState, next_position}
 use Rattle.journal_tail.specs.Homes.{AreHomes}
-use Rattle.journal_wal.specs.Wal.{WalState, Logging, log_blocks, log_end, log_sync, log_spent, Installing, Crashes, Fails, Cuts, LogsOn, EndsGroup, log_steps, log_steps_by, barriers_before, call_after_blocks, log_call, log_call_by, bytes_at, MakesDueCall, MayStandFor, size_of, blocks_at, tail_length, free_positions}
+use Rattle.journal_wal.specs.Wal.{WalState, Logging, log_blocks, log_end, log_sync, log_spent, Installing, Crashes, Fails, LogsOn, EndsGroup, log_steps, log_steps_by, barriers_before, call_after_blocks, log_call, log_call_by, bytes_at, MakesDueCall, MayStandFor, tail_length}
 use Rattle.journal_wal.specs.States.{updates_to, AreTied, IsWal, IsLogging, IsInstalling}
 use Rattle.journal_wal.proofs.Crashes.{images_of, moments_of}
 use Rattle.journal_wal.proofs.Frames.{keeps_homes, KeepsInstalling, installing_stays, tied_by, keeps_installing}
@@ -62,7 +60,7 @@ stepped w ring logging installing coming is steps coming_is tied log logging_is 
         (log (subst IsTrue steps.keeps.honest honest)) (steps.images honest)
 
 -- a group in flight has blocks left, or what comes after them
-steps_in_group : (sealed : Bool) (group left : ℕ) → 0 < group → log_steps_by sealed log_blocks group left ≡ left + barriers_before sealed + 2
+pub steps_in_group : (sealed : Bool) (group left : ℕ) → 0 < group → log_steps_by sealed log_blocks group left ≡ left + barriers_before sealed + 2
 steps_in_group sealed zero left some = absurd (omega (arith, some))
 steps_in_group sealed (suc group) left some = refl
 
@@ -355,11 +353,10 @@ module _ (ring now : Ring) (log : LogState) (installing : Installing) where
         start_to_end = omega (arith, is.tied.start_to_end, is.logging.2, logged_is, ap (λ (l : LogState). l.start) later_is);
         end_to_next = omega (arith, logged_is, next, is.logging.1);
         next_to_cut = omega (arith, next, is.logging.1, ap (λ (l : LogState). l.cut) later_is);
-        cut_to_last = subst (λ (l : LogState). l.cut ≤ next_position l) (sym later_is) is.tied.cut_to_last;
+        no_tail = subst (λ (l : LogState). next_position l ≡ l.cut) (sym later_is) is.tied.no_tail;
         fits = subst (λ (l : LogState). l.cut ≤ l.start + 511) (sym later_is) is.tied.fits;
         group = omega (arith, none);
         small = subst (λ (l : LogState). next_position l < 2 ^ 62) (sym later_is) is.tied.small;
-        tail = subst (λ (l : LogState). length (tail_of l) ≤ 255) (sym later_is) is.tied.tail;
         blocks = subst (λ (l : LogState). AreHomes l.blocks l.updates) (sym later_is) is.tied.blocks;
         coming = inl (ap (λ (r : Ring). r.extent.coming) is_now ∙ is.logging.0 ∙ sym logged_is);
       }
@@ -385,78 +382,6 @@ module _ (ring now : Ring) (log : LogState) (installing : Installing) where
         updates = λ upto le. λ i. take (upto - (later_is i).start) (later_is i).updates;
       }
 
--- a cut: no device call
-cut_whole : (w : WalState) → IsWal w → w.logging ≡ log_blocks → w.log.logged ≡ w.log.cut → 0 < tail_length w → tail_length w ≤ free_positions w
-    → let new : WalState = record w { log = record w.log { cut = next_position w.log } } in Leaves w new × Cuts w new
-cut_whole w is phase rest some fits = (
-  record {
-    sound = record {
-      tied = tied;
-      log = is.log;
-      images = images;
-      logging = subst (IsLogging w.ring new.log) (sym phase) at_blocks;
-      installing = installing_stays w.ring w.ring w.log new.log keeps w.installing is.installing;
-    };
-    crash = record {
-      keeps = record { size = refl; honest = refl; failures = omega arith };
-      moments = λ honest. leaves_none w.ring.disk.past w.ring.disk.past (MayStandFor w) refl (is.images honest);
-      images = images;
-    };
-  },
-  record {
-    rest = λ i. log_steps_by w.ring.sealed (phase i) (none i) (w.log.cut - w.ring.next);
-    disk = refl;
-    fits = (some, fits);
-    few = is.tied.tail;
-    steps = (λ i. log_steps_by w.ring.sealed (phase i) (next_position w.log - w.log.logged) (next_position w.log - w.ring.next))
-        ∙ steps_in_group w.ring.sealed (next_position w.log - w.log.logged) (next_position w.log - w.ring.next) (omega (arith, tail, some, rest))
-        ∙ omega (arith, tail, rest, is.tied.end_to_next, is.tied.next_to_cut, is.tied.start_to_end);
-    tail = length-drop (next_position w.log - w.log.start) w.log.updates ∙ omega arith;
-    now = λ b home lt. refl;
-    cut = λ b home lt. ap (λ (us : List Update). updated us b (home_of w.ring b)) (take_all (next_position w.log - w.log.start) w.log.updates (omega arith));
-    logged = λ b home lt. refl;
-    installing = refl;
-  },
-)
-  where
-    new : WalState
-    new = record w { log = record w.log { cut = next_position w.log } }
-
-    at_blocks : w.ring.extent.coming ≡ w.ring.extent.end
-    at_blocks = subst (IsLogging w.ring w.log) phase is.logging
-
-    tail : tail_length w ≡ length w.log.updates - (w.log.cut - w.log.start)
-    tail = length-drop (w.log.cut - w.log.start) w.log.updates
-
-    none : w.log.cut - w.log.logged ≡ 0
-    none = omega (arith, rest)
-
-    tied : AreTied w.ring new.log
-    tied = record {
-      size = is.tied.size;
-      start = is.tied.start;
-      end = is.tied.end;
-      start_to_end = is.tied.start_to_end;
-      end_to_next = is.tied.end_to_next;
-      next_to_cut = omega (arith, is.tied.next_to_cut, is.tied.cut_to_last);
-      cut_to_last = omega arith;
-      fits = omega (arith, tail, fits, rest, is.tied.start_to_end, is.tied.fits);
-      group = omega (arith, tail, rest, is.tied.tail, is.tied.start_to_end);
-      small = is.tied.small;
-      tail = omega (arith, length-drop (next_position w.log - w.log.start) w.log.updates);
-      blocks = is.tied.blocks;
-      coming = inl (at_blocks ∙ is.tied.end);
-    }
-
-    images : IsTrue w.ring.disk.honest → EveryImage w.ring.disk.past (MayStandFor new)
-    images honest image one = ⊎_elim (λ old. inl old)
-        (λ cut. inl (subst (λ (n : ℕ). StandsFor (size_of w) (blocks_at w n) image) (sym rest) cut)) (is.images honest image one)
-
-    keeps : KeepsInstalling w.ring w.ring w.log new.log
-    keeps = record { size = refl; honest = refl; start = refl; freed = refl; homes = refl; faulted = λ was. was; home = λ honest b home lt. refl; first = refl; logged = omega arith; updates = λ upto le. refl }
-
-pub group_cut : (w : WalState) (later : LogState) → IsWal w → w.logging ≡ log_blocks → w.log.logged ≡ w.log.cut
-    → later ≡ record w.log { cut = next_position w.log } → 0 < tail_length w → tail_length w ≤ free_positions w
-    → Leaves w (record w { log = later }) × Cuts w (record w { log = later })
-group_cut w later is phase rest later_is some fits =
-    subst (λ (l : LogState). Leaves w (record w { log = l }) × Cuts w (record w { log = l })) (sym later_is) (cut_whole w is phase rest some fits)
+-- each update is in a group
+pub nothing_waits : (w : WalState) → IsWal w → tail_length w ≡ 0
+nothing_waits w is = length-drop (w.log.cut - w.log.start) w.log.updates ∙ omega (arith, is.tied.no_tail)

@@ -79,11 +79,10 @@ module _ (first ring : Ring) (log : LogState) (rest : first ≡ at_rest first.di
     start_to_end = omega (arith, ordered, is.start, is.logged);
     end_to_next = omega (arith, next, is.logged);
     next_to_cut = omega (arith, next, is.cut);
-    cut_to_last = omega (arith, is.cut, is.next);
+    no_tail = is.next ∙ sym is.cut;
     fits = omega (arith, fits, is.cut, is.start);
     group = omega (arith, is.cut, is.logged);
     small = omega (arith, small, is.next);
-    tail = omega (arith, length-drop (log.cut - log.start) log.updates, is.cut, is.next, is.start, ordered);
     blocks = is.homes;
     coming = inl (coming ∙ sym is.logged);
   }

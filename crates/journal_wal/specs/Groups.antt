@@ -20,7 +20,6 @@ pub record HasGroupRoom (w : WalState) (blocks : ℕ) : Type 0 where
   pub fine : w.ring.faulted ≡ false
   pub place : FitsGroup w blocks
   pub few : blocks ≤ MAX_TAIL
-  pub empty : tail_length w ≡ 0
   pub room : blocks ≤ w.log.room
   pub small : next_position w.log + blocks < 2 ^ 62
 

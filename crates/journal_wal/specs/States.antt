@@ -1,10 +1,10 @@
 -- What holds of every write-ahead log: of its numbers, of its two cycles, and of each image of an honest disk.
-use Rattle.std.specs.Prelude.{ℕ, ◌≡◌, ◌⊎◌, ◌<◌, ◌≤◌, ◌+◌, ◌-◌, ◌^◌, false, IsTrue, List, length, take, Some, None}
+use Rattle.std.specs.Prelude.{ℕ, ◌≡◌, ◌⊎◌, ◌<◌, ◌≤◌, ◌+◌, ◌-◌, ◌^◌, false, IsTrue, List, take, Some, None}
 use Rattle.journal_block.specs.declared.update.Update.{Update}
 use Rattle.journal_block.specs.Updates.{with_updates}
 use Rattle.journal_disk.specs.Images.{EveryImage}
 use Rattle.journal_circ.specs.Ring.{Ring, log_of, home_of}
-use Rattle.journal_memlog.specs.Logs.{LogState, next_position, tail_of}
+use Rattle.journal_memlog.specs.Logs.{LogState, next_position}
 use Rattle.journal_wal.specs.declared.disk_log.Logger.{Logger}
 use Rattle.journal_wal.specs.declared.disk_log.Logger.TheVariants.{Blocks, Synced, EndPut, Spent as LoggerSpent}
 use Rattle.journal_wal.specs.declared.disk_log.Installer.{Installer}
@@ -77,12 +77,12 @@ pub record AreTied (ring : Ring) (log : LogState) : Type 0 where
   pub start_to_end : log.start ≤ log.logged
   pub end_to_next : log.logged ≤ ring.next
   pub next_to_cut : ring.next ≤ log.cut
-  pub cut_to_last : log.cut ≤ next_position log
+  -- each update is in a group
+  pub no_tail : next_position log ≡ log.cut
   pub fits : log.cut ≤ log.start + LOG_POSITIONS
   -- a group has at most 255 blocks
   pub group : log.cut ≤ log.logged + MAX_TAIL
   pub small : next_position log < 2 ^ 62
-  pub tail : length (tail_of log) ≤ MAX_TAIL
   pub blocks : AreHomes log.blocks log.updates
   -- block 0 has the last end or that of the last cut, the latter only once the whole group was put
   pub coming : (ring.extent.coming ≡ log.logged) ⊎ ((ring.extent.coming ≡ log.cut) × (ring.next ≡ log.cut))

@@ -18,9 +18,8 @@ use Rattle.journal_circ.specs.Log.{log_block, with_end, with_group, start_block,
 use Rattle.journal_circ.specs.Ring.{Ring, home_of, bytes_put, MakesCall, TriesCall}
 use Rattle.journal_memlog.specs.Logs.{LogState, next_position, tail_of, trimmed}
 use Rattle.journal_circ.specs.declared.layout.TheConstants.{LOG_POSITIONS}
-use Rattle.journal_tail.specs.declared.limits.TheConstants.{MAX_TAIL}
 use Rattle.journal_wal.specs.declared.step.GroupStep.{GroupStep}
-use Rattle.journal_wal.specs.declared.step.GroupStep.TheVariants.{Idle, Cut, Put, Logged}
+use Rattle.journal_wal.specs.declared.step.GroupStep.TheVariants.{Idle, Put, Logged}
 use Rattle.journal_wal.specs.declared.step.InstallStep.{InstallStep}
 use Rattle.journal_wal.specs.declared.step.InstallStep.TheVariants.{Idle as InstallIdle, Put as InstallPut, Freed}
 use Rattle.journal_tail.specs.Homes.{SameBlocks}
@@ -199,19 +198,6 @@ pub record Fails (old new : WalState) : Type 0 where
   pub log : new.log ≡ old.log
   pub blocks : IsTrue old.ring.disk.honest → KeepsBlocks old new
 
--- The tail was cut into a group, without a device call
-pub record Cuts (old new : WalState) : Type 0 where
-  pub rest : log_steps old ≡ 0
-  pub disk : new.ring ≡ old.ring
-  pub fits : (0 < tail_length old) × (tail_length old ≤ free_positions old)
-  pub few : tail_length old ≤ MAX_TAIL
-  pub steps : log_steps new ≡ tail_length old + barriers_before old.ring.sealed + 2
-  pub tail : tail_length new ≡ 0
-  pub now : SameBlocks (size_of old) (blocks_now new) (blocks_now old)
-  pub cut : SameBlocks (size_of old) (blocks_cut new) (blocks_now old)
-  pub logged : SameBlocks (size_of old) (blocks_logged new) (blocks_logged old)
-  pub installing : new.installing ≡ old.installing
-
 -- A step of the group in flight was made, and its cycle goes on
 pub record LogsOn (old new : WalState) : Type 0 where
   pub steps : log_steps new + 1 ≡ log_steps old
@@ -232,15 +218,14 @@ pub record EndsGroup (old new : WalState) : Type 0 where
   pub call : MakesDueCall (log_call old) old.ring.disk new.ring.disk
   pub installing : new.installing ≡ old.installing
 
--- The logger has nothing to do: no group is in flight, and the tail is empty or has no place in the log
+-- The logger has nothing to do: no group is in flight, and no update waits for one
 pub record IsLogIdle (w : WalState) : Type 0 where
   pub steps : log_steps w ≡ 0
-  pub tail : (tail_length w ≡ 0) ⊎ (free_positions w < tail_length w)
+  pub tail : tail_length w ≡ 0
 
 -- what a step of the logger answers, and does
 abbrev pub LogAnswers : WalState → GroupStep → WalState → Type 0
 LogAnswers old Idle new = IsLogIdle old × (new ≡ old)
-LogAnswers old Cut new = Cuts old new
 LogAnswers old Put new = LogsOn old new
 LogAnswers old Logged new = EndsGroup old new
 

@@ -2,7 +2,7 @@
 ghost use Rattle.std.specs.Prelude.{ℕ, ◌≡◌, ◌≤◌, ◌<◌, ◌↔◌, false, IsTrue, length, IfOk, IfErr};
 ghost use Rattle.journal_memlog.specs.Logs.{HasDistinctBlocks};
 ghost use Rattle.journal_tail.specs.Homes.{AreHomes};
-ghost use Rattle.journal_wal.specs.Wal.{Crashes, size_of, tail_length, with_room};
+ghost use Rattle.journal_wal.specs.Wal.{Crashes, size_of, with_room};
 ghost use Rattle.journal_wal.specs.Groups.{FitsGroup, HasGroupRoom, TakesGroup, IsGroupRefusal};
 ghost use Rattle.journal_tail.specs.declared.limits.TheConstants.{MAX_TAIL};
 
@@ -23,7 +23,6 @@ impl<D: BlockDisk> Wal<D> {
     /// was, but may have more room in memory where it had too little.
     pub fn reserve_group(&mut self, blocks: usize) -> Result<bool, Refusal<()>>
         requires few { blocks ≤ MAX_TAIL }
-        requires empty { tail_length self.old ≡ 0 }
         ensures fits { IfOk result (λ fits. IsTrue fits ↔ FitsGroup self.old blocks) }
         ensures room { IfOk result (λ fits. IsTrue fits → HasGroupRoom self.new blocks) }
         ensures idle { IfOk result (λ fits. fits ≡ false → self.new ≡ self.old) }

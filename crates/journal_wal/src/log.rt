@@ -1,7 +1,7 @@
 // The logger's cycle: a group becomes durable, whole.
 ghost use Rattle.std.specs.Prelude.{ℕ, ◌≡◌, ◌≤◌, ◌<◌, true, false, IsTrue, IsErr, OnOk, OnErr, IfOk, IfErr};
 ghost use Rattle.journal_circ.specs.Ring.{IsFault};
-ghost use Rattle.journal_wal.specs.Wal.{Crashes, Fails, LogAnswers, TriesDueCall, log_blocks, log_call};
+ghost use Rattle.journal_wal.specs.Wal.{Crashes, Fails, LogAnswers, TriesDueCall, log_call};
 
 use crate::disk_log::Logger;
 use crate::step::GroupStep;
@@ -28,6 +28,9 @@ impl<D: BlockDisk> Wal<D> {
         if self.on_disk.circ.is_faulted() {
             return Err(Refusal::DeviceFailed(()));
         }
+        if !self.is_logging() {
+            return Ok(GroupStep::Idle);
+        }
         let bounds = self.memory.bounds();
         let circ = &mut self.on_disk.circ;
         let mut step = GroupStep::Put;
@@ -35,10 +38,6 @@ impl<D: BlockDisk> Wal<D> {
             Logger::Blocks(state) if circ.next() < bounds.cut => {
                 let update = self.memory.at(circ.next());
                 Logger::Blocks(circ.put_slot(state, update.block, &update.bytes)?)
-            }
-            Logger::Blocks(state) if bounds.logged == bounds.cut => {
-                self.on_disk.logger = Logger::Blocks(state);
-                return Ok(self.cut());
             }
             Logger::Blocks(state) if circ.is_sealed() => Logger::EndPut(circ.put_group(state)?),
             Logger::Blocks(state) => Logger::Synced(circ.sync_slots(state)?),
@@ -53,19 +52,5 @@ impl<D: BlockDisk> Wal<D> {
         };
         self.on_disk.logger = next;
         Ok(step)
-    }
-
-    // Cuts the tail, where it has a block and the log has a position for each.
-    fn cut(&mut self) -> GroupStep
-        requires rest { self.old.log.logged ≡ self.old.log.cut }
-        requires phase { self.old.logging ≡ log_blocks }
-        ensures step { LogAnswers self.old result self.new }
-        ensures crash { Crashes self.old self.new }
-    {
-        if !self.tail_fits() {
-            return GroupStep::Idle;
-        }
-        self.memory.cut();
-        GroupStep::Cut
     }
 }

@@ -5,8 +5,6 @@
 pub enum GroupStep {
     /// There was nothing to do.
     Idle,
-    /// The tail was cut into a group.
-    Cut,
     /// A step of the group in flight was made, and its cycle goes on.
     Put,
     /// The cycle of the group in flight ended: it is logged.

@@ -1,11 +1,10 @@
 // The write-ahead log, and what it tells without a step.
 ghost use Rattle.std.specs.Prelude.{ℕ, ◌≡◌, ◌≤◌, ◌<◌, ◌↔◌, ◌⊎◌, true, false, IsTrue, OnOk, OnErr, IsErr, IfErr};
 ghost use Rattle.journal_circ.specs.Ring.{IsFault};
-ghost use Rattle.journal_wal.specs.Wal.{OnlyReads, Crashes, size_of, tail_length, free_positions, blocks_now, log_steps};
+ghost use Rattle.journal_wal.specs.Wal.{OnlyReads, Crashes, size_of, blocks_now, log_steps};
 
 use crate::disk_log::DiskLog;
 use journal_block::Block;
-use journal_circ::LOG_POSITIONS;
 use journal_disk::{BlockDisk, MemDisk};
 use journal_memlog::MemLog;
 use journal_world::Refusal;
@@ -83,15 +82,6 @@ impl<D: BlockDisk> Wal<D> {
     {
         let bounds = self.memory.bounds();
         bounds.logged < bounds.cut
-    }
-
-    // Whether the tail has a block, and the log a position for each.
-    pub(crate) fn tail_fits(&self) -> bool
-        ensures { IsTrue result ↔ ((0 < tail_length self.now) × (tail_length self.now ≤ free_positions self.now)) }
-    {
-        let bounds = self.memory.bounds();
-        let tail = self.memory.tail_len();
-        0 < tail && tail <= LOG_POSITIONS - (bounds.logged - bounds.start)
     }
 
     /// Copies the block with all updates. It is read from the device only where it is not in memory.

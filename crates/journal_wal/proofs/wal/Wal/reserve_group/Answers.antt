@@ -4,7 +4,7 @@ use Rattle.journal_wal.specs.Wal.{WalState, Crashes}
 use Rattle.journal_wal.specs.States.{logging_of, installing_of, IsWal}
 use Rattle.journal_wal.proofs.Phases.{of_parts}
 use Rattle.journal_wal.proofs.Logger.{unchanged}
-use Rattle.journal_wal.proofs.Appending.{room_made, crashes_room}
+use Rattle.journal_wal.proofs.Grouping.{room_made, crashes_room}
 use Rattle.journal_wal.proofs.wal.Wal.reserve_group.Goals as goal
 
 pub invariant_of-self : goal.invariant_of-self
