@@ -25,12 +25,12 @@ pub const MOUNT_VERSION: u32 = 3;
 pub(crate) fn decide<'a>(call: &Call<'a>) -> Result<Requested<'a>, CallRefused>
     ensures { decided result ≡ asks (asked_of call.now.asked) }
 {
-    match call.request(MOUNT_PROGRAM, MOUNT_VERSION) {
-        Ok(request) => decide_mount(request.procedure, request.arguments),
+    match call.request(PROGRAM, VERSION) {
+        Ok(request) => decide_files(request.procedure, request.arguments),
         Err(why) => match why {
             CallRefused::ProgramUnavailable => {
-                let request = call.request(PROGRAM, VERSION)?;
-                decide_files(request.procedure, request.arguments)
+                let request = call.request(MOUNT_PROGRAM, MOUNT_VERSION)?;
+                decide_mount(request.procedure, request.arguments)
             }
             other => Err(other),
         },

@@ -16,7 +16,7 @@ ghost use Rattle.journal_mount3.specs.CodeViews.{told_text, texts_of, reply_wait
 use crate::arguments::Requested;
 use crate::decision::decide;
 use crate::results::Told;
-use crate::root::results_at;
+use crate::root::set_results_at;
 use crate::serving::{serve_mount, serve_query};
 use journal_disk::BlockDisk;
 use journal_filestore::{FileStore, PendingWait};
@@ -113,19 +113,15 @@ fn serve_nine<'b, D: BlockDisk, J: Naming, V: Version, W: Wait>(
         value: results,
         wait,
     } = serve_no_wait(rt, session, files, operation, moment, verifier);
-    let plain = FormatResults {
+    let mut told = FormatResults {
         version: files.version(),
         results,
     };
-    plain.prove_grammar();
-    let FormatResults { version, results } = plain;
-    let results = FormatResults {
-        version,
-        results: results_at(Time::at(moment), results),
-    };
-    results.prove_grammar();
+    told.prove_grammar();
+    set_results_at(Time::at(moment), &mut told.results);
+    told.prove_grammar();
     Pending {
-        value: Ok(Told::Nine(results)),
+        value: Ok(Told::Nine(told)),
         wait,
     }
 }

@@ -57,65 +57,44 @@ fn found_at(now: Time, found: Found) -> Found
     }
 }
 
-// What is told of a file or of the root, with this time as the root's.
-fn attributes_outcome_at(
-    now: Time,
-    outcome: Result<Attributes, NfsError>,
-) -> Result<Attributes, NfsError>
-    ensures { result ≡ accepted_at (attributes_at now) outcome }
+// Puts this time as the root's into what is told of a file or of the root.
+fn set_attributes_outcome(now: Time, outcome: &mut Result<Attributes, NfsError>)
+    ensures { outcome.new ≡ accepted_at (attributes_at now) outcome.old }
 {
-    match outcome {
-        Ok(attributes) => Ok(attributes_at(now, attributes)),
-        Err(why) => Err(why),
+    if let Ok(attributes) = outcome {
+        *attributes = attributes_at(now, *attributes);
     }
 }
 
-// What is told of a change, with this time as the root's.
-fn changed_outcome_at(now: Time, outcome: Result<Changed, NfsError>) -> Result<Changed, NfsError>
-    ensures { result ≡ accepted_at (changed_at now) outcome }
+// Puts it into what is told of a change.
+fn set_changed_outcome(now: Time, outcome: &mut Result<Changed, NfsError>)
+    ensures { outcome.new ≡ accepted_at (changed_at now) outcome.old }
 {
-    match outcome {
-        Ok(changed) => Ok(changed_at(now, changed)),
-        Err(why) => Err(why),
+    if let Ok(changed) = outcome {
+        *changed = changed_at(now, *changed);
     }
 }
 
-// What is told of a file that was found or made, with this time as the root's.
-fn found_outcome_at(now: Time, outcome: Result<Found, NfsError>) -> Result<Found, NfsError>
-    ensures { result ≡ accepted_at (found_at now) outcome }
+// Puts it into what is told of a file that was found or made.
+fn set_found_outcome(now: Time, outcome: &mut Result<Found, NfsError>)
+    ensures { outcome.new ≡ accepted_at (found_at now) outcome.old }
 {
-    match outcome {
-        Ok(found) => Ok(found_at(now, found)),
-        Err(why) => Err(why),
+    if let Ok(found) = outcome {
+        *found = found_at(now, *found);
     }
 }
 
-// The results of one of the nine procedures, with this time as the root's wherever they tell of it.
-// READ, WRITE and COMMIT tell of files alone.
-pub(crate) fn results_at(now: Time, results: Results) -> Results
-    ensures { (version : FormatVersion) → results_of version result ≡ results_at now (results_of version results) }
+// Puts this time as the root's into the results of one of the nine procedures, wherever they tell
+// of it. READ, WRITE and COMMIT tell of files alone: their results stay where they are, uncopied.
+pub(crate) fn set_results_at(now: Time, results: &mut Results)
+    ensures { (version : FormatVersion) → results_of version results.new ≡ results_at now (results_of version results.old) }
 {
     match results {
-        Results::Null => Results::Null,
-        Results::GetAttributes(outcome) => {
-            Results::GetAttributes(attributes_outcome_at(now, outcome))
-        }
-        Results::SetAttributes(outcome) => Results::SetAttributes(changed_outcome_at(now, outcome)),
-        Results::Lookup(outcome) => Results::Lookup(found_outcome_at(now, outcome)),
-        Results::Read(outcome) => Results::Read(outcome),
-        Results::Write {
-            outcome,
-            count,
-            how,
-            verifier,
-        } => Results::Write {
-            outcome,
-            count,
-            how,
-            verifier,
-        },
-        Results::Create(outcome) => Results::Create(found_outcome_at(now, outcome)),
-        Results::Remove(outcome) => Results::Remove(attributes_outcome_at(now, outcome)),
-        Results::Commit { outcome, verifier } => Results::Commit { outcome, verifier },
+        Results::GetAttributes(outcome) => set_attributes_outcome(now, outcome),
+        Results::SetAttributes(outcome) => set_changed_outcome(now, outcome),
+        Results::Lookup(outcome) => set_found_outcome(now, outcome),
+        Results::Create(outcome) => set_found_outcome(now, outcome),
+        Results::Remove(outcome) => set_attributes_outcome(now, outcome),
+        Results::Null | Results::Read(_) | Results::Write { .. } | Results::Commit { .. } => {}
     }
 }
