@@ -1,5 +1,5 @@
 -- What a commit of the core says to a transaction and to its session.
-use Rattle.std.proofs.Common.{◌≡◌, ◌≢◌, ℕ, IsTrue, List, [], ◌∷◌, ◌++◌, length, Some, slice_get, Result, Ok, Err, IfOk, IfErr, OnOk, OnErr, sym, ap, subst, ◌∙◌}
+use Rattle.std.proofs.Common.{◌≡◌, ◌≢◌, ℕ, IsTrue, List, [], ◌∷◌, ◌++◌, length, Some, slice_get, Result, Ok, Err, IfOk, IfErr, IsErrAnd, OnOk, OnErr, sym, ap, subst, ◌∙◌}
 use mathlib.Core.List.{IsPrefix}
 use Rattle.journal_world.specs.declared.refusal.Refusal.{Refusal}
 use Rattle.journal_world.specs.Addresses.{Shape}
@@ -138,3 +138,8 @@ session_later (Err why) s mid new first second = record {
   mine = second.mine ∙ first.mine;
   seen = IsPrefix-trans s.seen mid.seen new.seen first.seen second.seen;
 }
+
+-- what a refusal leaves, of an answer that is one
+pub of_refused : {T E P : Type 0} (holds : E → Type 0) (r : Result T E) → IsErrAnd r holds → OnErr r P → P
+of_refused holds (Ok value) is left = absurd is
+of_refused holds (Err why) is left = left

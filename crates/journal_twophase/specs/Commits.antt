@@ -11,6 +11,8 @@ use Rattle.journal_history.specs.Tokens.{SessionState, CommitPlace, made, next_t
 use Rattle.journal_memory.specs.declared.refusal_number.RefusalNumber.TheVariants.{J6, J9, J10, J11, J12, J13}
 use Rattle.journal_memory.specs.Causes.{CauseState, IsUnexplained, IsExplained}
 use Rattle.journal_memory.specs.Transactions.{TransactionState}
+use Rattle.journal_twophase.specs.declared.locked_parts.WhenFull.{WhenFull}
+use Rattle.journal_twophase.specs.declared.locked_parts.WhenFull.TheVariants.{Wait, Refuse}
 use Rattle.journal_twophase.specs.Journals.{IsKnown, IsShown}
 use Rattle.journal_tail.specs.declared.limits.TheConstants.{MAX_UPDATES}
 
@@ -57,3 +59,13 @@ IsTryRefusal t s other = ⊥
 abbrev pub IsCommitRefusal : TransactionState → SessionState → Refusal CauseState → Type 0
 IsCommitRefusal t s (Full cause) = ⊥
 IsCommitRefusal t s other = IsTryRefusal t s other
+
+-- it is refused for want of room in the log's tail, and waits for it
+abbrev pub IsAwaited : {C : Type 0} → WhenFull → Refusal C → Type 0
+IsAwaited Wait (Full cause) = Unit {0}
+IsAwaited when other = ⊥
+
+-- why it is not committed, by what it does where the log's tail has no room
+abbrev pub IsRefusedWhenFull : WhenFull → TransactionState → SessionState → Refusal CauseState → Type 0
+IsRefusedWhenFull Wait t s why = IsCommitRefusal t s why
+IsRefusedWhenFull Refuse t s why = IsTryRefusal t s why

@@ -6,7 +6,7 @@ ghost use Rattle.journal_twophase.specs.Transactions.{core_of};
 ghost use Rattle.journal_twophase.specs.Commits.{IsCommitted, ShowsFence, IsTryRefusal, IsCommitRefusal};
 ghost use Rattle.journal_twophase.specs.Waits.{IsStable, CommitsAndWaits, IsWaitFault};
 
-use crate::locked_parts::JournalRefusal;
+use crate::locked_parts::{JournalRefusal, WhenFull};
 use crate::txn::{Txn, release_all};
 use crate::waiting::Waited;
 use journal_disk::BlockDisk;
@@ -49,7 +49,8 @@ impl<'j, 'b, D: BlockDisk, R: MapRule, J: Naming> Txn<'j, 'b, D, R, J> {
         let mut held = held;
         let mut spares = transaction.spares(alloc);
         let core = &journal.core;
-        let answer = core.commit(rt, session, &transaction, &mut held, &mut spares);
+        let when_full = WhenFull::Wait;
+        let answer = core.commit(rt, session, &transaction, &mut held, &mut spares, when_full);
         release_all(rt, &journal.slots, held);
         answer
     }
@@ -80,7 +81,8 @@ impl<'j, 'b, D: BlockDisk, R: MapRule, J: Naming> Txn<'j, 'b, D, R, J> {
         let mut held = held;
         let mut spares = transaction.spares(alloc);
         let core = &journal.core;
-        let answer = core.try_commit(rt, session, &transaction, &mut held, &mut spares);
+        let when_full = WhenFull::Refuse;
+        let answer = core.commit(rt, session, &transaction, &mut held, &mut spares, when_full);
         release_all(rt, &journal.slots, held);
         answer
     }

@@ -17,9 +17,7 @@ ghost use Rattle.journal_twophase.specs.Journals.{IsLogRefusal, IsInstallRefusal
 ghost use Rattle.journal_twophase.specs.Transactions.{Finds, KeepsHeld, IsCheckRefusal};
 ghost use Rattle.journal_twophase.specs.Commits.{IsCommitted, ShowsFence, IsTryRefusal};
 
-use crate::locked_parts::{
-    JournalRefusal, LockedParts, UnderMemoryLock, commit_in, is_past_threshold,
-};
+use crate::locked_parts::{JournalRefusal, LockedParts, UnderMemoryLock, is_past_threshold};
 use journal_block::Block;
 use journal_disk::{BlockDisk, MemDisk};
 use journal_history::{Naming, Receipt, Session};
@@ -202,7 +200,6 @@ impl<'b, D: BlockDisk, R: MapRule, J: Naming> LockedParts<'b, D, R, J> {
         transaction: &Transaction<'b, J, R>,
         held: &mut [Held<J>],
         spares: &mut Spares,
-        nothing: Fetched<'b, J, R>,
     ) -> (
         MutexGuard<'s, UnderMemoryLock<'b, R, J>>,
         Result<Receipt<'b, J, R>, JournalRefusal<'b, J, R>>,
@@ -216,19 +213,16 @@ impl<'b, D: BlockDisk, R: MapRule, J: Naming> LockedParts<'b, D, R, J> {
         ensures session { OnErr result.1 (OnlyExtends session.old session.new) }
         ensures held { OnErr result.1 (held.new ≡ held.old) }
     {
-        let mut fetched = nothing;
+        let mut fetched = self.empty_fetch(transaction);
         let mut durable = self.durable.lock(rt);
         for _ in rt.forever() {
             let mut memory = self.memory.lock(rt);
-            let missing = match commit_in(
-                rt,
-                &mut memory.volatile,
-                session,
-                transaction,
-                held,
-                spares,
-                &fetched,
-            ) {
+            let answer = memory
+                .volatile
+                .commit(rt, session, transaction, held, spares, &fetched);
+            // Called for its contract: what the session has then seen is sound.
+            let _seen = session.seen();
+            let missing = match answer {
                 Ok(CommitStep::Missing(blocks)) => blocks,
                 Ok(CommitStep::Done(receipt)) => {
                     memory.volatile.keep(fetched);

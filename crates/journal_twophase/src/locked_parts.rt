@@ -3,7 +3,7 @@
 // The memory lock stands here and in `device.rt` and `waiting.rt`, the disk's in `device.rt` alone, and neither a part nor a guard
 // of it leaves these three. The contracts speak of sessions, transactions and receipts, because no fact of a part stays
 // true after its lock is released.
-ghost use Rattle.std.specs.Prelude.{◌≡◌, ◌<◌, true, false, length, IsTrue, IsSome, IfOk, IfErr, IfSome, OnOk, OnErr, All};
+ghost use Rattle.std.specs.Prelude.{◌≡◌, ◌↔◌, ◌<◌, true, false, length, IsTrue, IsSome, IfOk, IfErr, IsErrAnd, IfSome, OnOk, OnErr, All};
 ghost use Rattle.journal_world.specs.Addresses.{is_valid};
 ghost use Rattle.journal_world.specs.Files.{shape};
 ghost use Rattle.journal_world.specs.Maps.{Map, Agrees, is_object, value_at, overwritten};
@@ -12,11 +12,10 @@ ghost use Rattle.journal_world.specs.Histories.{is_trusted, is_fenced, latest};
 ghost use Rattle.journal_disk.specs.Disks.{IsSettled};
 ghost use Rattle.journal_history.specs.Tokens.{made, IsExact, OnlyExtends};
 ghost use Rattle.journal_memory.specs.SlotCounts.{AgreeWith, AreUnder};
-ghost use Rattle.journal_memory.specs.VolatileCommits.{IfDone, IfMissing};
 ghost use Rattle.journal_parts.specs.Openings.{HasWellFormedLog, IsLayoutRefusal, OnlyReadsDisk};
 ghost use Rattle.journal_twophase.specs.Journals.{BeginsWith, IsSessionRefusal, IsFenceRefusal};
 ghost use Rattle.journal_twophase.specs.Transactions.{Finds, KeepsHeld, IsCheckRefusal, IsEndRefusal};
-ghost use Rattle.journal_twophase.specs.Commits.{IsCommitted, ShowsFence, IsTryRefusal, IsCommitRefusal};
+ghost use Rattle.journal_twophase.specs.Commits.{IsCommitted, ShowsFence, IsAwaited, IsRefusedWhenFull};
 
 use crate::hint::Hint;
 use crate::waiters::MarkWaiters;
@@ -50,6 +49,27 @@ pub(crate) struct UnderMemoryLock<'b, R: MapRule, J: Naming> {
     pub(crate) logger_delays: bool,
     // Those that wait for a mark.
     pub(crate) waiters: MarkWaiters,
+}
+
+// What a commit does where the log's tail has no room.
+#[derive(Clone, Copy, Drop)]
+pub(crate) enum WhenFull {
+    // It waits for the room that a cut makes.
+    Wait,
+    // It is refused by J12.
+    Refuse,
+}
+
+impl WhenFull {
+    // Whether a commit that is answered so waits for room, to be tried again.
+    fn waits<T, C>(self, answer: &Result<T, Refusal<C>>) -> bool
+        ensures { IsTrue result ↔ IsErrAnd answer.now (IsAwaited self) }
+    {
+        match answer {
+            Ok(_) => false,
+            Err(refusal) => matches!(self, WhenFull::Wait) && matches!(refusal, Refusal::Full(_)),
+        }
+    }
 }
 
 // For which of its waits the logger is to be woken.
@@ -401,7 +421,7 @@ impl<'b, D: BlockDisk, R: MapRule, J: Naming> LockedParts<'b, D, R, J> {
         Fetched::empty(self.alloc, transaction.front().again())
     }
 
-    // Commits the session's next transaction, and waits while the log's tail has no room.
+    // Commits the session's next transaction, and wakes the logger.
     pub(crate) fn commit<W: Wait>(
         &self,
         rt: &W,
@@ -409,47 +429,23 @@ impl<'b, D: BlockDisk, R: MapRule, J: Naming> LockedParts<'b, D, R, J> {
         transaction: &Transaction<'b, J, R>,
         held: &mut [Held<J>],
         spares: &mut Spares,
+        when_full: WhenFull,
     ) -> Result<Receipt<'b, J, R>, JournalRefusal<'b, J, R>>
         requires rule { (m : Map) → m.layout ≡ J.layout → R.statement m → Agrees m transaction.now.reads
             → R.statement (overwritten m transaction.now.writes) }
         requires held { KeepsHeld J.layout held.old transaction.now }
         ensures committed { IfOk result (IsCommitted R.statement J.layout transaction.now.seen transaction.now session.old session.new) }
-        ensures refusal { IfErr result (IsCommitRefusal transaction.now session.old) }
+        ensures refusal { IfErr result (IsRefusedWhenFull when_full transaction.now session.old) }
         ensures fenced { IfErr result (ShowsFence session.new) }
         ensures session { OnErr result (OnlyExtends session.old session.new) }
     {
-        let (mut memory, answer) = self.commit_with_room(rt, session, transaction, held, spares);
-        let wake = memory.wake_after(&answer);
-        drop(memory);
-        self.wake_after_commit(&answer, wake);
-        answer
-    }
-
-    // Commits it, and answers J12 where the log's tail has no room.
-    pub(crate) fn try_commit<W: Wait>(
-        &self,
-        rt: &W,
-        session: &mut Session<'b, J, R>,
-        transaction: &Transaction<'b, J, R>,
-        held: &mut [Held<J>],
-        spares: &mut Spares,
-    ) -> Result<Receipt<'b, J, R>, JournalRefusal<'b, J, R>>
-        requires rule { (m : Map) → m.layout ≡ J.layout → R.statement m → Agrees m transaction.now.reads
-            → R.statement (overwritten m transaction.now.writes) }
-        requires held { KeepsHeld J.layout held.old transaction.now }
-        ensures committed { IfOk result (IsCommitted R.statement J.layout transaction.now.seen transaction.now session.old session.new) }
-        ensures refusal { IfErr result (IsTryRefusal transaction.now session.old) }
-        ensures fenced { IfErr result (ShowsFence session.new) }
-        ensures session { OnErr result (OnlyExtends session.old session.new) }
-    {
-        let memory = self.lock_memory(rt);
-        let (mut memory, answer) = self.commit_or_fetch(
+        let (mut memory, answer) = self.commit_under(
             rt,
-            memory,
             session,
             transaction,
             held,
             spares,
+            when_full,
         );
         let wake = memory.wake_after(&answer);
         drop(memory);
@@ -457,14 +453,16 @@ impl<'b, D: BlockDisk, R: MapRule, J: Naming> LockedParts<'b, D, R, J> {
         answer
     }
 
-    // Commits it in the first hold of the lock in which the log's tail has room, which still lasts then.
-    pub(crate) fn commit_with_room<'s, W: Wait>(
+    // Commits under the memory lock, which is held in the end: in memory, or where a block is not there that it needs, with it.
+    // One that waits for room is tried again in each hold of the lock after a cut.
+    pub(crate) fn commit_under<'s, W: Wait>(
         &'s self,
         rt: &W,
         session: &mut Session<'b, J, R>,
         transaction: &Transaction<'b, J, R>,
         held: &mut [Held<J>],
         spares: &mut Spares,
+        when_full: WhenFull,
     ) -> (
         MutexGuard<'s, UnderMemoryLock<'b, R, J>>,
         Result<Receipt<'b, J, R>, JournalRefusal<'b, J, R>>,
@@ -473,69 +471,34 @@ impl<'b, D: BlockDisk, R: MapRule, J: Naming> LockedParts<'b, D, R, J> {
             → R.statement (overwritten m transaction.now.writes) }
         requires held { KeepsHeld J.layout held.old transaction.now }
         ensures committed { IfOk result.1 (IsCommitted R.statement J.layout transaction.now.seen transaction.now session.old session.new) }
-        ensures refusal { IfErr result.1 (IsCommitRefusal transaction.now session.old) }
+        ensures refusal { IfErr result.1 (IsRefusedWhenFull when_full transaction.now session.old) }
         ensures fenced { IfErr result.1 (ShowsFence session.new) }
         ensures session { OnErr result.1 (OnlyExtends session.old session.new) }
         ensures held { OnErr result.1 (held.new ≡ held.old) }
     {
         let mut memory = self.lock_memory(rt);
         for _ in rt.forever() {
-            let (guard, answer) = self.commit_or_fetch(
-                rt,
-                memory,
-                session,
-                transaction,
-                held,
-                spares,
-            );
-            match answer {
-                Err(Refusal::Full(_)) => memory = self.room.wait(rt, guard),
-                answer => return (guard, answer),
+            let nothing = self.empty_fetch(transaction);
+            let step = memory
+                .volatile
+                .commit(rt, session, transaction, held, spares, &nothing);
+            // Called for its contract: what the session has then seen is sound.
+            let _seen = session.seen();
+            let (guard, answer) = match step {
+                Ok(CommitStep::Done(receipt)) => (memory, Ok(receipt)),
+                Ok(CommitStep::Missing(_blocks)) => {
+                    drop(memory);
+                    self.commit_fetched(rt, session, transaction, held, spares)
+                }
+                Err(why) => (memory, Err(why)),
+            };
+            if when_full.waits(&answer) {
+                memory = self.room.wait(rt, guard);
+            } else {
+                return (guard, answer);
             }
         }
         unreachable!()
-    }
-
-    // Commits it in memory, or where a block is not there that it needs, with it. The lock is held at first and in the end.
-    fn commit_or_fetch<'s, W: Wait>(
-        &'s self,
-        rt: &W,
-        memory: MutexGuard<'s, UnderMemoryLock<'b, R, J>>,
-        session: &mut Session<'b, J, R>,
-        transaction: &Transaction<'b, J, R>,
-        held: &mut [Held<J>],
-        spares: &mut Spares,
-    ) -> (
-        MutexGuard<'s, UnderMemoryLock<'b, R, J>>,
-        Result<Receipt<'b, J, R>, JournalRefusal<'b, J, R>>,
-    )
-        requires rule { (m : Map) → m.layout ≡ J.layout → R.statement m → Agrees m transaction.now.reads
-            → R.statement (overwritten m transaction.now.writes) }
-        requires held { KeepsHeld J.layout held.old transaction.now }
-        ensures committed { IfOk result.1 (IsCommitted R.statement J.layout transaction.now.seen transaction.now session.old session.new) }
-        ensures refusal { IfErr result.1 (IsTryRefusal transaction.now session.old) }
-        ensures fenced { IfErr result.1 (ShowsFence session.new) }
-        ensures session { OnErr result.1 (OnlyExtends session.old session.new) }
-        ensures held { OnErr result.1 (held.new ≡ held.old) }
-    {
-        let mut memory = memory;
-        let nothing = self.empty_fetch(transaction);
-        match commit_in(
-            rt,
-            &mut memory.volatile,
-            session,
-            transaction,
-            held,
-            spares,
-            &nothing,
-        ) {
-            Ok(CommitStep::Done(receipt)) => (memory, Ok(receipt)),
-            Ok(CommitStep::Missing(_)) => {
-                drop(memory);
-                self.commit_fetched(rt, session, transaction, held, spares, nothing)
-            }
-            Err(why) => (memory, Err(why)),
-        }
     }
 
     // Wakes the logger after a commit that ends its wait, and all where the device failed.
@@ -663,32 +626,4 @@ fn may_log<'b, R: MapRule, J: Naming>(memory: &UnderMemoryLock<'b, R, J>) -> boo
 // Whether the log is past its threshold, or the installer would be refused.
 fn may_install<'b, R: MapRule, J: Naming>(memory: &UnderMemoryLock<'b, R, J>) -> bool {
     memory.volatile.check_running().is_err() || is_past_threshold(memory)
-}
-
-// Commits in memory, in one hold of its lock.
-pub(crate) fn commit_in<'b, R: MapRule, J: Naming, W: Wait>(
-    rt: &W,
-    volatile: &mut Volatile<'b, R, J>,
-    session: &mut Session<'b, J, R>,
-    transaction: &Transaction<'b, J, R>,
-    held: &mut [Held<J>],
-    spares: &mut Spares,
-    fetched: &Fetched<'b, J, R>,
-) -> Result<CommitStep<Receipt<'b, J, R>>, JournalRefusal<'b, J, R>>
-    requires rule { (m : Map) → m.layout ≡ J.layout → R.statement m → Agrees m transaction.now.reads
-        → R.statement (overwritten m transaction.now.writes) }
-    requires held { KeepsHeld J.layout held.old transaction.now }
-    ensures committed { IfOk result (IfDone (IsCommitted R.statement J.layout transaction.now.seen transaction.now session.old session.new)) }
-    ensures waits { IfOk result (IfMissing (λ _. OnlyExtends session.old session.new)) }
-    ensures below { IfOk result (IfMissing (All (λ b. b < J.layout.blocks))) }
-    ensures refusal { IfErr result (IsTryRefusal transaction.now session.old) }
-    ensures fenced { IfErr result (ShowsFence session.new) }
-    ensures session { OnErr result (OnlyExtends session.old session.new) }
-    ensures held { OnErr result (held.new ≡ held.old) }
-    ensures stays { IfOk result (IfMissing (λ _. held.new ≡ held.old)) }
-{
-    let answer = volatile.commit(rt, session, transaction, held, spares, fetched);
-    // Called for its contract: what the session has then seen is sound.
-    let _seen = session.seen();
-    answer
 }

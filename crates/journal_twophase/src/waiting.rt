@@ -7,7 +7,7 @@ ghost use Rattle.journal_twophase.specs.Journals.{IsKnown};
 ghost use Rattle.journal_twophase.specs.Transactions.{KeepsHeld};
 ghost use Rattle.journal_twophase.specs.Waits.{IsStable, CommitsAndWaits, IsWaitRefusal, IsEndedUnmarked, IsWaitFault};
 
-use crate::locked_parts::{JournalRefusal, LockedParts, UnderMemoryLock};
+use crate::locked_parts::{JournalRefusal, LockedParts, UnderMemoryLock, WhenFull};
 use crate::txn::release_all;
 use journal_disk::BlockDisk;
 use journal_history::{Naming, Receipt, Session, StableNote};
@@ -130,12 +130,13 @@ impl<'b, D: BlockDisk, R: MapRule, J: Naming> LockedParts<'b, D, R, J> {
         ensures fault { IfErr result (IsWaitFault R.statement J.layout transaction.now.seen transaction.now session.old session.new) }
     {
         let mut held = held;
-        let (mut memory, answer) = self.commit_with_room(
+        let (mut memory, answer) = self.commit_under(
             rt,
             session,
             transaction,
             &mut held,
             spares,
+            WhenFull::Wait,
         );
         release_all(rt, slots, held);
         let wake = memory.wake_after(&answer);

@@ -1,6 +1,6 @@
 use Rattle.std.proofs.Common.{◌≡◌}
 use Rattle.journal_history.specs.Tokens.{OnlyExtends}
-use Rattle.journal_twophase.proofs.locked_parts.LockedParts.commit_with_room.Given as goal
+use Rattle.journal_twophase.proofs.locked_parts.LockedParts.commit_under.Given as goal
 
 abbrev pub invariant-loop : goal.invariant-loop
 invariant-loop g l =
