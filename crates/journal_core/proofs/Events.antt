@@ -1,5 +1,5 @@
 -- What a step answers and leaves, as one event.
-use Rattle.std.proofs.Common.{◌≡◌, ◌+◌, ℕ, false, List, [], map, IsTrue, refl, sym, ap, subst, ◌∙◌, Option, IsSome, Result, Ok, Err, OnOk, OnErr, IfOk, IfErr, IsErrAnd}
+use Rattle.std.proofs.Common.{◌≡◌, ◌+◌, ℕ, false, List, [], map, IsTrue, refl, sym, ap, subst, ◌∙◌, Result, Ok, Err, OnOk, OnErr, IfOk, IfErr, IsErrAnd}
 use mathlib.Core.List.{IsPrefix}
 use Rattle.journal_world.specs.declared.refusal.Refusal.{Refusal}
 use Rattle.journal_world.specs.declared.refusal.Refusal.TheVariants.{NoMemory, BadAddress, BadSize, TooLarge, Busy, DeviceFailed, BadLog, BadSuper, Stale, Stranger, Worn, Full, Closed, Fenced}
@@ -15,20 +15,16 @@ use Rattle.journal_history.specs.Tokens.{SessionState, CommitPlace}
 use Rattle.journal_memory.specs.Causes.{CauseState}
 use Rattle.journal_parts.specs.Durables.{DurableState, IsCallRefusal, is_faulted, Crashes as CrashesDurable}
 use Rattle.journal_memory.specs.Fetches.{FetchedState, IsFetched}
-use Rattle.journal_memory.specs.Outsets.{Outset, MayRead, CanCommit as CanCommitFrom}
-use Rattle.journal_memory.specs.Volatiles.{VolatileState, IsVolatile, outset_of}
-use Rattle.journal_memory.specs.VolatileCommits.{IsCommitted as IsCommittedIn, IfDone}
-use Rattle.journal_memory.specs.declared.volatile_commit.CommitStep.{CommitStep}
-use Rattle.journal_memory.specs.declared.volatile_commit.CommitStep.TheVariants.{Done, Missing}
+use Rattle.journal_memory.specs.Outsets.{Outset, MayRead}
+use Rattle.journal_memory.specs.Volatiles.{VolatileState, outset_of}
 use Rattle.journal_parts.specs.Cores.{CoreState, Crashes, IsPair, IsRunning, OnlyReads, core_of}
 use Rattle.journal_memory.specs.Transactions.{TransactionState, ReadResultState}
 use Rattle.journal_core.specs.Steps.{LogAnswers, IsLogRefusal, InstallAnswers, IsInstallRefusal, BeginsSession, IsSessionRefusal, IsReadRefusal, IsFetchRefusal}
 use Rattle.journal_core.specs.Commits.{IsCommitted, CanCommit, IsCommitRefusal}
-use Rattle.journal_core.specs.Interleavings.{AnswersCommit, AnswersLog, AnswersInstall, AnswersSession, AnswersRead, FindsValue, CommitsTransaction, FetchesBlocks, RefusesFetch}
+use Rattle.journal_core.specs.Interleavings.{AnswersCommit, AnswersLog, AnswersInstall, AnswersSession, AnswersRead, FindsValue, FetchesBlocks, RefusesFetch}
 use Rattle.journal_objlog.proofs.Openings.{OnlyReads-refl}
 use Rattle.journal_parts.proofs.Faults.{failed}
 use Rattle.journal_core.proofs.Joining.{fails_as, crashes_pair, crashes_memory, same_outset}
-use Rattle.journal_core.proofs.Admitting.{committed_as, pair_committed}
 
 module _ (old new : CoreState) (crash : Crashes old new) where
   pub answers_log : (r : Result LogStep (Refusal CauseState)) → IfOk r (λ step. LogAnswers old step new)
@@ -143,31 +139,3 @@ module _ (layout : Shape) (v : VolatileState) (d : DurableState) (pair : IsPair 
     others = refl;
     crash = crashes_memory layout v v d pair pair;
   }
-
-  pub commits_in_memory : (w : VolatileState) (t : TransactionState) (s after : SessionState) → IsVolatile layout w
-      → IsCommittedIn t.reads t.writes s after v w → CanCommitFrom (outset_of v) s t
-      → (IsTrue (is_trusted v.ledger.history) → Agrees (latest v.ledger.history) t.reads)
-      → CommitsTransaction (core_of v d) s t (core_of w d) after
-  commits_in_memory w t s after kept it can agrees = record {
-    can = subst (λ (o : Outset). CanCommitFrom o s t) (same_outset layout v d pair) can;
-    committed = committed_as layout v d pair w d t.reads t.writes s after (OnlyReads-refl d.objects) refl it;
-    agrees = agrees;
-    running = (ap (λ (x : VolatileState). x.ledger.closed) it.others ∙ can.may.running.0, sym pair.fault ∙ can.may.running.1);
-    crash = crashes_memory layout v w d pair (pair_committed layout v d pair w t.reads t.writes s after kept it);
-  }
-
-  -- the same by what is answered
-  pub found_in_memory : (r : Result (Option ReadResultState) (Refusal CauseState)) (t : TransactionState) (a : Addr) (x : Value) → OnOk r (MayRead layout (outset_of v) t a)
-      → (IsTrue (is_trusted v.ledger.history) → IfOk r (λ found. IsSome found → x ≡ value_at (latest v.ledger.history) a))
-      → IfOk r (λ found. IsSome found → IsTrue (is_object layout (a, x)))
-      → IfOk r (λ found. IsSome found → FindsValue layout (core_of v d) t a x (core_of v d))
-  found_in_memory (Ok found) t a x may value object = λ some. finds_in_memory t a x may (λ trusted. value trusted some) (object some)
-  found_in_memory (Err why) t a x may value object = tt
-
-  pub committed_in_memory : (w : VolatileState) (t : TransactionState) (s after : SessionState) (r : Result (CommitStep CommitPlace) (Refusal CauseState)) → IsVolatile layout w
-      → IfOk r (IfDone (λ place. IsCommittedIn t.reads t.writes s after v w)) → OnOk r (CanCommitFrom (outset_of v) s t)
-      → OnOk r (IsTrue (is_trusted v.ledger.history) → Agrees (latest v.ledger.history) t.reads)
-      → IfOk r (IfDone (λ place. CommitsTransaction (core_of v d) s t (core_of w d) after))
-  committed_in_memory w t s after (Ok (Done place)) kept it can agrees = commits_in_memory w t s after kept it can agrees
-  committed_in_memory w t s after (Ok (Missing blocks)) kept it can agrees = tt
-  committed_in_memory w t s after (Err why) kept it can agrees = tt

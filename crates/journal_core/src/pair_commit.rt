@@ -1,5 +1,5 @@
 // A commit in memory, with what is fetched for it.
-ghost use Rattle.std.specs.Prelude.{◌≡◌, ◌⊎◌, ◌<◌, [], map, length, IsTrue, IfOk, IfErr, OnOk, OnErr, All, ◌≢◌, List};
+ghost use Rattle.std.specs.Prelude.{◌≡◌, ◌⊎◌, ◌<◌, [], map, length, IsTrue, IfOk, IfErr, OnOk, OnErr, All};
 ghost use Rattle.journal_world.specs.Maps.{Map, Agrees, overwritten};
 ghost use Rattle.journal_world.specs.Histories.{is_trusted, latest};
 ghost use Rattle.journal_tail.specs.ObjectTails.{known_updates, missing_blocks};
@@ -7,13 +7,11 @@ ghost use Rattle.journal_history.specs.Tokens.{next_transaction, OnlyExtends, Is
 ghost use Rattle.journal_lockmap.specs.Numbers.{AreApart, HoldsSlots, slots_of};
 ghost use Rattle.journal_memory.specs.SlotCounts.{AgreeWith};
 ghost use Rattle.journal_parts.specs.Cores.{Crashes, IsPair, IsRunning, OnlyReads, core_of};
-ghost use Rattle.journal_parts.specs.Durables.{IsCallRefusal, DurableState};
+ghost use Rattle.journal_parts.specs.Durables.{IsCallRefusal};
 ghost use Rattle.journal_memory.specs.Ledgers.{ShowsLonger};
 ghost use Rattle.journal_memory.specs.Transactions.{AreUnmoved};
-ghost use Rattle.journal_memory.specs.Outsets.{IsCommitRefusal as IsRefusedFrom, CanCommit as CanCommitFrom};
-ghost use Rattle.journal_memory.specs.Volatiles.{outset_of, usable};
-ghost use Rattle.journal_core.specs.Interleavings.{CommitsTransaction};
-ghost use Rattle.journal_memory.specs.VolatileCommits.{IsCommitted as IsCommittedIn, IfDone, IfMissing, with_room};
+ghost use Rattle.journal_memory.specs.Outsets.{IsCommitRefusal as IsRefusedFrom};
+ghost use Rattle.journal_memory.specs.Volatiles.{outset_of};
 ghost use Rattle.journal_core.specs.Commits.{IsCommitted, CanCommit, IsCommitRefusal};
 
 use crate::pair_steps::fetch_step;
@@ -62,7 +60,7 @@ pub(crate) fn commit_step<'b, D: BlockDisk, R: MapRule, J: Naming, W: Wait>(
     ensures crash { Crashes (core_of volatile.old durable.old) (core_of volatile.new durable.new) }
 {
     let nothing = Fetched::empty(alloc, volatile.front());
-    let answer = commit_verified(rt, volatile, session, transaction, held, spares, &nothing);
+    let answer = volatile.commit_verified(rt, session, transaction, held, spares, &nothing);
     // Called for its contract: what memory keeps by itself.
     volatile.prove_invariant();
     match answer {
@@ -121,53 +119,11 @@ pub(crate) fn commit_fetched<'b, D: BlockDisk, R: MapRule, J: Naming, W: Wait>(
     ensures crash { Crashes (core_of volatile.old durable.old) (core_of volatile.new durable.new) }
 {
     let fetched = fetch_step(durable, volatile, rooms)?;
-    let answer = commit_verified(rt, volatile, session, transaction, held, spares, &fetched);
+    let answer = volatile.commit_verified(rt, session, transaction, held, spares, &fetched);
     volatile.prove_invariant();
     match answer {
         Ok(CommitStep::Done(receipt)) => Ok(receipt),
         Ok(CommitStep::Missing(_)) => unreachable!(),
         Err(why) => Err(why),
     }
-}
-
-// Commits in memory as `Volatile::commit_verified` does. Of a pair that is tied it is an event of the
-// law.
-fn commit_verified<'b, R: MapRule, J: Naming, W: Wait>(
-    rt: &W,
-    volatile: &mut Volatile<'b, R, J>,
-    session: &mut Session<'b, J, R>,
-    transaction: &Transaction<'b, J, R>,
-    held: &mut [Held<J>],
-    spares: &mut Spares,
-    fetched: &Fetched<'b, J, R>,
-) -> Result<CommitStep<Receipt<'b, J, R>>, Refusal<Cause<'b, J, R>>>
-    requires rule { (m : Map) → m.layout ≡ J.layout → R.statement m → Agrees m transaction.now.reads
-        → R.statement (overwritten m transaction.now.writes) }
-    requires unmoved { AreUnmoved J.layout volatile.old.ledger.history transaction.now }
-    requires covered { HoldsSlots J.layout held.old transaction.now.writes }
-    requires apart { AreApart held.old }
-    ensures agree { IfOk result (IfDone (λ _. AgreeWith J.layout volatile.new.ledger.history held.new)) }
-    ensures slots { slots_of held.new ≡ slots_of held.old }
-    ensures held { OnErr result (held.new ≡ held.old) }
-    ensures committed { IfOk result (IfDone (λ _. IsCommittedIn transaction.now.reads transaction.now.writes session.old session.new volatile.old volatile.new)) }
-    ensures receipt { IfOk result (IfDone (IsReceiptFor (next_transaction session.old transaction.now.reads transaction.now.writes) volatile.new.ledger.history (length volatile.old.ledger.history))) }
-    ensures can { OnOk result (CanCommitFrom (outset_of volatile.old) session.old transaction.now) }
-    ensures agrees { OnOk result (IsTrue (is_trusted volatile.old.ledger.history) → Agrees (latest volatile.old.ledger.history) transaction.now.reads) }
-    ensures missing { IfOk result (IfMissing (λ blocks.
-        blocks ≡ missing_blocks J.layout (known_updates (usable volatile.old fetched.now) volatile.old.tail) transaction.now.writes)) }
-    ensures below { IfOk result (IfMissing (λ blocks. All (λ b. b < J.layout.blocks) blocks)) }
-    ensures some { IfOk result (IfMissing (λ blocks. blocks ≢ [])) }
-    ensures waits { IfOk result (IfMissing (λ _. (volatile.new ≡ with_room volatile.old volatile.new.tail.log.room) × OnlyExtends session.old session.new)) }
-    ensures stays { IfOk result (IfMissing (λ _. held.new ≡ held.old)) }
-    ensures refusal { IfErr result (IsRefusedFrom (outset_of volatile.old) session.old transaction.now) }
-    ensures same { OnErr result (volatile.new ≡ with_room volatile.old volatile.new.tail.log.room) }
-    ensures session { OnErr result (OnlyExtends session.old session.new) }
-    ensures longer { IfErr result (ShowsLonger volatile.old.ledger.history session.new) }
-    ensures event { (d : DurableState) → IsPair J.layout volatile.old d → IfOk result (IfDone (λ _.
-        CommitsTransaction (core_of volatile.old d) session.old transaction.now (core_of volatile.new d) session.new)) }
-{
-    let answer = volatile.commit_verified(rt, session, transaction, held, spares, fetched);
-    // Called for its contract: what memory keeps by itself.
-    volatile.prove_invariant();
-    answer
 }

@@ -1,18 +1,14 @@
 // A read.
-ghost use Rattle.std.specs.Prelude.{◌≡◌, ◌∷◌, [], None, length, map, IsSome, IsTrue, IfSome, IfOk, IfErr, OnOk};
+ghost use Rattle.std.specs.Prelude.{◌≡◌, ◌∷◌, [], length, map, IsTrue, IfOk, IfErr, OnOk};
 ghost use Rattle.journal_world.specs.Addresses.{is_valid};
 ghost use Rattle.journal_world.specs.Maps.{value_at, is_object};
 ghost use Rattle.journal_world.specs.Histories.{is_trusted, latest};
 ghost use Rattle.journal_object.specs.Objects.{size_at};
 ghost use Rattle.journal_memory.specs.SlotCounts.{AgreeWith, AreUnder};
 ghost use Rattle.journal_memory.specs.Transactions.{AreUnmoved};
-ghost use Rattle.journal_parts.specs.Cores.{Crashes, IsRunning, OnlyReads, IsPair, core_of};
+ghost use Rattle.journal_parts.specs.Cores.{Crashes, IsRunning, OnlyReads};
 ghost use Rattle.journal_core.specs.Steps.{MayRead, IsReadRefusal};
-ghost use Rattle.journal_tail.specs.ObjectTails.{known_at};
-ghost use Rattle.journal_parts.specs.Durables.{DurableState};
-ghost use Rattle.journal_memory.specs.Volatiles.{IsReadRefusal as IsReadRefusalIn, outset_of, usable};
-ghost use Rattle.journal_memory.specs.Outsets.{MayRead as MayReadFrom};
-ghost use Rattle.journal_core.specs.Interleavings.{AnswersRead, FindsValue};
+ghost use Rattle.journal_core.specs.Interleavings.{AnswersRead};
 
 use crate::pair_steps::fetch_step;
 use crate::state::Core;
@@ -20,7 +16,7 @@ use journal_block::Update;
 use journal_disk::BlockDisk;
 use journal_history::Naming;
 use journal_lockmap::Held;
-use journal_memory::{Cause, Fetched, ReadResult, Transaction, Volatile};
+use journal_memory::{Cause, Fetched, ReadResult, Transaction};
 use journal_world::{Addr, MapRule, Refusal};
 use std::mem;
 use std::sync::Wait;
@@ -84,7 +80,10 @@ impl<'b, D: BlockDisk, R: MapRule, J: Naming> Core<'b, D, R, J> {
         ensures event { AnswersRead J.layout self.old transaction.now addr result into.new self.new }
     {
         let nothing = Fetched::empty(self.alloc, self.volatile.front());
-        if let Some(found) = read_in_memory(&self.volatile, transaction, addr, &nothing, into)? {
+        if let Some(found) = self
+            .volatile
+            .read_verified(transaction, addr, &nothing, into)?
+        {
             return Ok(found);
         }
         let room = mem::replace(&mut self.spare, Vec::new(self.alloc));
@@ -94,7 +93,9 @@ impl<'b, D: BlockDisk, R: MapRule, J: Naming> Core<'b, D, R, J> {
             ..
         } = self;
         let fetched = fetch_step(durable, volatile, fetch_buffer(room, addr.block))?;
-        let answer = read_in_memory(&self.volatile, transaction, addr, &fetched, into);
+        let answer = self
+            .volatile
+            .read_verified(transaction, addr, &fetched, into);
         self.spare = fetched.into_updates();
         match answer {
             Ok(Some(found)) => Ok(found),
@@ -112,26 +113,4 @@ fn fetch_buffer(mut room: Vec<Update>, block: u64) -> Vec<Update>
 {
     room[0].block = block;
     room
-}
-
-// Reads in memory as `Volatile::read_verified` does. Of a pair that is tied it is an event of the law.
-fn read_in_memory<'b, R: MapRule, J: Naming>(
-    volatile: &Volatile<'b, R, J>,
-    transaction: &Transaction<'b, J, R>,
-    addr: Addr,
-    fetched: &Fetched<'b, J, R>,
-    into: &mut [u8],
-) -> Result<Option<ReadResult<'b, J, R>>, Refusal<Cause<'b, J, R>>>
-    requires size { IsTrue (is_valid J.layout addr) → length into.old ≡ size_at J.layout addr }
-    requires unmoved { AreUnmoved J.layout volatile.now.ledger.history transaction.now }
-    ensures value { IsTrue (is_trusted volatile.now.ledger.history) → IfOk result (λ found. IsSome found → into.new ≡ value_at (latest volatile.now.ledger.history) addr) }
-    ensures object { IfOk result (λ found. IsSome found → IsTrue (is_object J.layout (addr, into.new))) }
-    ensures found { IfOk result (λ found. IfSome found (λ found. found ≡ record { addr = addr; seen = volatile.now.ledger.history })) }
-    ensures lacks { IfOk result (λ found. found ≡ None → known_at J.layout (usable volatile.now fetched.now) volatile.now.tail addr ≡ None) }
-    ensures may { OnOk result (MayReadFrom J.layout (outset_of volatile.now) transaction.now addr) }
-    ensures refusal { IfErr result (IsReadRefusalIn J.layout volatile.now transaction.now addr fetched.now) }
-    ensures event { (d : DurableState) → IsPair J.layout volatile.now d → IfOk result (λ found. IsSome found →
-        FindsValue J.layout (core_of volatile.now d) transaction.now addr into.new (core_of volatile.now d)) }
-{
-    volatile.read_verified(transaction, addr, fetched, into)
 }

@@ -22,13 +22,13 @@ returns-in_err-fetched-clause-crash g c =
 
 pub returns-in-Ok-Done-clause-pair : goal.returns-in-Ok-Done-clause-pair
 returns-in-Ok-Done-clause-pair g c =
-    let it : IsCommittedIn c.args.transaction.now.reads c.args.transaction.now.writes c.args.session.now c.commit_verified-answer.new.session c.fetch_step.new.volatile c.commit_verified-answer.new.volatile = search rules in
-    pair_committed g.J.Naming.layout c.fetch_step.new.volatile c.fetch_step.new.durable c.fetch_step.ensures.pair c.commit_verified-answer.new.volatile c.args.transaction.now.reads
+    let it : IsCommittedIn c.args.transaction.now.reads c.args.transaction.now.writes c.args.session.now c.commit_verified-answer.new.session c.fetch_step.new.volatile c.commit_verified-answer.new.self = search rules in
+    pair_committed g.J.Naming.layout c.fetch_step.new.volatile c.fetch_step.new.durable c.fetch_step.ensures.pair c.commit_verified-answer.new.self c.args.transaction.now.reads
     c.args.transaction.now.writes c.args.session.now c.commit_verified-answer.new.session c.prove_invariant.ensures it
 
 pub returns-in-Ok-Done-clause-crash : goal.returns-in-Ok-Done-clause-crash
 returns-in-Ok-Done-clause-crash g c =
-    crashes_pair g.J.Naming.layout c.args.volatile.now c.commit_verified-answer.new.volatile c.args.durable.now c.fetch_step.new.durable c.requires.pair (returns-in-Ok-Done-clause-pair g c) c.fetch_step.ensures.crash
+    crashes_pair g.J.Naming.layout c.args.volatile.now c.commit_verified-answer.new.self c.args.durable.now c.fetch_step.new.durable c.requires.pair (returns-in-Ok-Done-clause-pair g c) c.fetch_step.ensures.crash
 
 pub unreachable-requires : goal.unreachable-requires
 unreachable-requires g c =
@@ -46,7 +46,7 @@ unreachable-requires g c =
 
 pub returns-clause-crash : goal.returns-clause-crash
 returns-clause-crash g c =
-    let pair : IsPair g.J.Naming.layout c.commit_verified-answer.new.volatile c.fetch_step.new.durable =
-    pair_roomed g.J.Naming.layout c.fetch_step.new.volatile c.fetch_step.new.durable c.fetch_step.ensures.pair c.commit_verified-answer.new.volatile c.commit_verified-answer.new.volatile.tail.log.room c.prove_invariant.ensures
+    let pair : IsPair g.J.Naming.layout c.commit_verified-answer.new.self c.fetch_step.new.durable =
+    pair_roomed g.J.Naming.layout c.fetch_step.new.volatile c.fetch_step.new.durable c.fetch_step.ensures.pair c.commit_verified-answer.new.self c.commit_verified-answer.new.self.tail.log.room c.prove_invariant.ensures
     (search rules) in
-    crashes_pair g.J.Naming.layout c.args.volatile.now c.commit_verified-answer.new.volatile c.args.durable.now c.fetch_step.new.durable c.requires.pair pair c.fetch_step.ensures.crash
+    crashes_pair g.J.Naming.layout c.args.volatile.now c.commit_verified-answer.new.self c.args.durable.now c.fetch_step.new.durable c.requires.pair pair c.fetch_step.ensures.crash

@@ -15,25 +15,25 @@ use Rattle.journal_core.proofs.pair_commit.commit_step.Goals as goal
 
 pub returns-in-Ok-Done-clause-pair : goal.returns-in-Ok-Done-clause-pair
 returns-in-Ok-Done-clause-pair g c =
-    let it : IsCommittedIn c.args.transaction.now.reads c.args.transaction.now.writes c.args.session.now c.commit_verified-answer.new.session c.args.volatile.now c.commit_verified-answer.new.volatile = search rules in
-    pair_committed g.J.Naming.layout c.args.volatile.now c.args.durable.now c.requires.pair c.commit_verified-answer.new.volatile c.args.transaction.now.reads
+    let it : IsCommittedIn c.args.transaction.now.reads c.args.transaction.now.writes c.args.session.now c.commit_verified-answer.new.session c.args.volatile.now c.commit_verified-answer.new.self = search rules in
+    pair_committed g.J.Naming.layout c.args.volatile.now c.args.durable.now c.requires.pair c.commit_verified-answer.new.self c.args.transaction.now.reads
     c.args.transaction.now.writes c.args.session.now c.commit_verified-answer.new.session c.prove_invariant.ensures it
 
 pub returns-in-Ok-Done-clause-committed : goal.returns-in-Ok-Done-clause-committed
 returns-in-Ok-Done-clause-committed g c =
-    let it : IsCommittedIn c.args.transaction.now.reads c.args.transaction.now.writes c.args.session.now c.commit_verified-answer.new.session c.args.volatile.now c.commit_verified-answer.new.volatile = search rules in
-    committed_as g.J.Naming.layout c.args.volatile.now c.args.durable.now c.requires.pair c.commit_verified-answer.new.volatile c.args.durable.now c.args.transaction.now.reads
+    let it : IsCommittedIn c.args.transaction.now.reads c.args.transaction.now.writes c.args.session.now c.commit_verified-answer.new.session c.args.volatile.now c.commit_verified-answer.new.self = search rules in
+    committed_as g.J.Naming.layout c.args.volatile.now c.args.durable.now c.requires.pair c.commit_verified-answer.new.self c.args.durable.now c.args.transaction.now.reads
     c.args.transaction.now.writes c.args.session.now c.commit_verified-answer.new.session (OnlyReads-refl c.args.durable.now.objects) refl it
 
 pub returns-in-Ok-Done-clause-crash : goal.returns-in-Ok-Done-clause-crash
 returns-in-Ok-Done-clause-crash g c =
-    crashes_memory g.J.Naming.layout c.args.volatile.now c.commit_verified-answer.new.volatile c.args.durable.now c.requires.pair (returns-in-Ok-Done-clause-pair g c)
+    crashes_memory g.J.Naming.layout c.args.volatile.now c.commit_verified-answer.new.self c.args.durable.now c.requires.pair (returns-in-Ok-Done-clause-pair g c)
 
 pub returns-in_err-rooms-in-Ok-Missing-clause-crash : goal.returns-in_err-rooms-in-Ok-Missing-clause-crash
 returns-in_err-rooms-in-Ok-Missing-clause-crash g c =
-    let same : c.commit_verified-answer.new.volatile ≡ with_room c.args.volatile.now c.commit_verified-answer.new.volatile.tail.log.room = search rules in
-    crashes_memory g.J.Naming.layout c.args.volatile.now c.commit_verified-answer.new.volatile c.args.durable.now c.requires.pair
-    (pair_roomed g.J.Naming.layout c.args.volatile.now c.args.durable.now c.requires.pair c.commit_verified-answer.new.volatile c.commit_verified-answer.new.volatile.tail.log.room c.prove_invariant.ensures same)
+    let same : c.commit_verified-answer.new.self ≡ with_room c.args.volatile.now c.commit_verified-answer.new.self.tail.log.room = search rules in
+    crashes_memory g.J.Naming.layout c.args.volatile.now c.commit_verified-answer.new.self c.args.durable.now c.requires.pair
+    (pair_roomed g.J.Naming.layout c.args.volatile.now c.args.durable.now c.requires.pair c.commit_verified-answer.new.self c.commit_verified-answer.new.self.tail.log.room c.prove_invariant.ensures same)
 
 pub commit_fetched-requires-clause-blocks : goal.commit_fetched-requires-clause-blocks
 commit_fetched-requires-clause-blocks g c =
@@ -46,7 +46,7 @@ returns-in-Ok-Missing-clause-refusal g c =
     let n = g.J.Naming.layout in
     let v = c.args.volatile.now in
     let d = c.args.durable.now in
-    let w = c.commit_verified-answer.new.volatile in
+    let w = c.commit_verified-answer.new.self in
     let s = c.args.session.now in
     let t = c.args.transaction.now in
     let r = c.commit_fetched.result in
@@ -72,13 +72,13 @@ pub returns-clause-refusal : goal.returns-clause-refusal
 returns-clause-refusal g c =
     let v = c.args.volatile.now in
     let d = c.args.durable.now in
-    let w = c.commit_verified-answer.new.volatile in
+    let w = c.commit_verified-answer.new.self in
     let same : w ≡ with_room v w.tail.log.room = search rules in
     refused_first (core_of v d) (core_of w d) (outset_of v) c.args.session.now c.args.transaction.now c.in-Err.why (same_outset g.J.Naming.layout v d c.requires.pair)
     (roomed_is v d (core_of v d) refl w w.tail.log.room same) (search rules)
 
 pub returns-clause-crash : goal.returns-clause-crash
 returns-clause-crash g c =
-    let same : c.commit_verified-answer.new.volatile ≡ with_room c.args.volatile.now c.commit_verified-answer.new.volatile.tail.log.room = search rules in
-    crashes_memory g.J.Naming.layout c.args.volatile.now c.commit_verified-answer.new.volatile c.args.durable.now c.requires.pair
-    (pair_roomed g.J.Naming.layout c.args.volatile.now c.args.durable.now c.requires.pair c.commit_verified-answer.new.volatile c.commit_verified-answer.new.volatile.tail.log.room c.prove_invariant.ensures same)
+    let same : c.commit_verified-answer.new.self ≡ with_room c.args.volatile.now c.commit_verified-answer.new.self.tail.log.room = search rules in
+    crashes_memory g.J.Naming.layout c.args.volatile.now c.commit_verified-answer.new.self c.args.durable.now c.requires.pair
+    (pair_roomed g.J.Naming.layout c.args.volatile.now c.args.durable.now c.requires.pair c.commit_verified-answer.new.self c.commit_verified-answer.new.self.tail.log.room c.prove_invariant.ensures same)

@@ -1,9 +1,10 @@
-use Rattle.std.proofs.Common.{◌≡◌, ◌≤◌, ◌<◌, [], ◌∷◌, List, All, map, length, None, refl, sym, ap, subst, ◌∙◌, arith, rules}
+use Rattle.std.proofs.Common.{◌≡◌, ◌≤◌, ◌<◌, [], ◌∷◌, List, IsTrue, All, map, length, None, refl, sym, ap, subst, ◌∙◌, arith, rules}
 use mathlib.Core.List.{IsPrefix}
 use Rattle.std.proofs.lemmas.List.{length-map}
 use Rattle.std.proofs.lemmas.List.Elements.{All-cons}
 use Rattle.journal_world.specs.declared.refusal.Refusal.{Refusal}
-use Rattle.journal_world.specs.Histories.{Entry}
+use Rattle.journal_world.specs.Maps.{value_at, is_object}
+use Rattle.journal_world.specs.Histories.{Entry, is_trusted, latest}
 use Rattle.journal_world.proofs.Prefixes.{IsPrefix-refl}
 use Rattle.journal_block.specs.declared.update.Update.{Update}
 use Rattle.journal_object.proofs.MapOfBlocks.{valid_block}
@@ -11,10 +12,12 @@ use Rattle.journal_tail.proofs.Exits.{if_err}
 use Rattle.journal_memory.specs.Causes.{CauseState}
 use Rattle.journal_memory.specs.Outsets.{MayRead}
 use Rattle.journal_tail.specs.ObjectTails.{known_at}
-use Rattle.journal_memory.specs.Volatiles.{IsReadRefusal as IsRefusedIn, outset_of, usable}
-use Rattle.journal_parts.specs.Cores.{OnlyReads}
+use Rattle.journal_memory.specs.Transactions.{AreUnmoved}
+use Rattle.journal_memory.specs.Volatiles.{VolatileState, IsReadRefusal as IsRefusedIn, outset_of, usable}
+use Rattle.journal_parts.specs.Cores.{CoreState, OnlyReads}
 use Rattle.journal_core.specs.Steps.{IsReadRefusal}
-use Rattle.journal_core.proofs.Events.{refuses_read}
+use Rattle.journal_core.specs.Interleavings.{FindsValue}
+use Rattle.journal_core.proofs.Events.{refuses_read, finds_in_memory}
 use Rattle.journal_core.proofs.Joining.{crashes_still, crashes_seen, outset_seen}
 use Rattle.journal_core.proofs.Reading.{reads_not, may_be_read}
 use Rattle.journal_memory.proofs.Fetching.{all_of_map, fetched_known}
@@ -42,6 +45,18 @@ pub returns-in-Some-clause-crash : goal.returns-in-Some-clause-crash
 returns-in-Some-clause-crash g c =
     crashes_still g.J.Naming.layout c.self.inside.volatile c.self.inside.durable c.args.self.now c.self.invariant.pair c.self.view_is
 
+pub returns-in-Some-clause-event : goal.returns-in-Some-clause-event
+returns-in-Some-clause-event g c =
+    let n = g.J.Naming.layout in
+    let v = c.self.inside.volatile in
+    let t = c.args.transaction.now in
+    let a = c.args.addr in
+    let x = c.read_verified.new.into in
+    let may : MayRead n (outset_of v) t a = search rules in
+    let value : IsTrue (is_trusted v.ledger.history) → x ≡ value_at (latest v.ledger.history) a = search rules in
+    let object : IsTrue (is_object n (a, x)) = search rules in
+    subst (λ (s : CoreState). FindsValue n s t a x s) c.self.view_is (finds_in_memory n v c.self.inside.durable c.self.invariant.pair t a x may value object)
+
 pub fetch_step-requires-clause-blocks : goal.fetch_step-requires-clause-blocks
 fetch_step-requires-clause-blocks g c =
     let may : MayRead g.J.Naming.layout (outset_of c.self.inside.volatile) c.args.transaction.now c.args.addr = search rules in
@@ -64,6 +79,11 @@ returns-in_err-found-clause-event g c =
     let reads : OnlyReads c.args.self.now.objects c.args.self.now.objects = search rules in
     refuses_read c.args.self.now c.args.self.now (returns-in_err-found-clause-crash g c) g.J.Naming.layout c.args.transaction.now c.args.addr _ c.from_residual.result _ c.from_residual.ensures.1
     (returns-in_err-found-clause-refusal g c) reads refl
+
+pub read_verified-answer-requires-clause-unmoved : goal.read_verified-answer-requires-clause-unmoved
+read_verified-answer-requires-clause-unmoved g c =
+    subst (λ (v : VolatileState). AreUnmoved g.J.Naming.layout v.ledger.history c.args.transaction.now) (sym c.in_ok-fetched.ensures.volatile)
+    (subst (λ (s : CoreState). AreUnmoved g.J.Naming.layout s.history c.args.transaction.now) (sym c.self.view_is) c.requires.unmoved)
 
 pub unreachable-requires : goal.unreachable-requires
 unreachable-requires g c =
