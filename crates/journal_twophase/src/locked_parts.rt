@@ -453,8 +453,8 @@ impl<'b, D: BlockDisk, R: MapRule, J: Naming> LockedParts<'b, D, R, J> {
         answer
     }
 
-    // Commits under the memory lock, which is held in the end: in memory, or where a block is not there that it needs, with it.
-    // One that waits for room is tried again in each hold of the lock after a cut.
+    // Commits under the memory lock, which is held in the end. Blocks that it needs and memory lacks
+    // are fetched first. One that waits for room is tried again in each hold of the lock after a cut.
     pub(crate) fn commit_under<'s, W: Wait>(
         &'s self,
         rt: &W,
