@@ -8,7 +8,7 @@ ghost use Rattle.journal_core.specs.FenceSteps.{SetsFence, IsFenceRefusal, Answe
 use crate::state::Core;
 use journal_disk::BlockDisk;
 use journal_history::{Naming, Session};
-use journal_memory::Cause;
+use journal_memory::{Cause, SessionNumber};
 use journal_world::{MapRule, Refusal};
 use std::sync::Wait;
 
@@ -36,6 +36,7 @@ impl<'b, D: BlockDisk, R: MapRule, J: Naming> Core<'b, D, R, J> {
         ensures crash { Crashes self.old self.new }
         ensures event { AnswersFence target self.old result self.new }
     {
-        self.volatile.fence_step(rt, session, target)
+        self.volatile
+            .fence_step(rt, session, SessionNumber::new(target))
     }
 }

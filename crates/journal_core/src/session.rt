@@ -11,6 +11,7 @@ use crate::state::Core;
 use journal_disk::BlockDisk;
 use journal_history::{Naming, Session};
 use journal_memory::Cause;
+use journal_tail::CommitCount;
 use journal_world::{MapRule, Refusal};
 use std::sync::Wait;
 
@@ -50,7 +51,7 @@ impl<'b, D: BlockDisk, R: MapRule, J: Naming> Core<'b, D, R, J> {
         ensures refusal { IfErr result (IsWaitRefusal (outset self.old) session.old n) }
         ensures stays { OnErr result (session.new ≡ session.old) }
     {
-        self.volatile.wait_step(rt, session, n)
+        self.volatile.wait_step(rt, session, CommitCount::new(n))
     }
 
     /// Stops the core: reads, commits and steps, and waits for marks that do not stand, are refused by J13 from then

@@ -50,8 +50,8 @@ impl<'b, D: BlockDisk, R: MapRule, J: Naming> Core<'b, D, R, J> {
     {
         let (start, end) = self.durable.log_range();
         Stat {
-            commits: self.volatile.commits(),
-            floor: self.volatile.floor(),
+            commits: self.volatile.commits().get(),
+            floor: self.volatile.floor().get(),
             start,
             end,
         }

@@ -1,7 +1,7 @@
 -- Which fronts have only marked commits, as the history grows.
-use Rattle.std.proofs.Common.{◌≡◌, ◌<◌, ◌≤◌, ◌+◌, ◌==◌, ◌↔◌, ◌⊎◌, ⊎_elim, ℕ, IsTrue, nat_le, Bool, true, false, cond, List, [], ◌∷◌, ◌++◌, length, length-append, take, drop, refl, sym, ap, subst, ◌∙◌, arith}
+use Rattle.std.proofs.Common.{◌≡◌, ◌<◌, ◌≤◌, ◌+◌, ◌==◌, ◌↔◌, ◌⊎◌, ⊎_elim, ℕ, Bool, true, false, cond, List, [], ◌∷◌, ◌++◌, length, length-append, take, drop, refl, sym, ap, subst, ◌∙◌, arith}
 use Rattle.std.proofs.Math.Nat.{lt_of_not-le}
-use Rattle.std.proofs.lemmas.Bool.{eqb-true, eqb-false, leb-true, le-leb}
+use Rattle.std.proofs.lemmas.Bool.{eqb-true, eqb-false}
 use Rattle.std.proofs.lemmas.List.{take_all, take_at, take-append-le, take-append-drop}
 use Rattle.std.proofs.lemmas.List.Elements.{filter_map-append}
 use mathlib.Core.List.{IsPrefix}
@@ -56,15 +56,6 @@ covers_seen history seen n entries covers begins =
     subst (λ (h : List Entry). (length seen ≤ entries) ↔ (count h ≤ n))
     (ap (take (length seen)) (sym begins.1) ∙ take_at seen begins.0 (length seen) refl)
     (covers.fronts (length seen) (omega (arith, ap length (sym begins.1), length-append seen begins.0)))
-
--- the same, as it is looked at
-pub covers_shorter : (history seen : List Entry) (n entries len : ℕ) → Covers history n entries → IsPrefix seen history → len ≡ length seen
-    → IsTrue (nat_le len entries) ↔ (count seen ≤ n)
-covers_shorter history seen n entries len covers begins is =
-    let both = covers_seen history seen n entries covers begins in (
-      λ short. both.0 (omega (arith, is, leb-true len entries short)),
-      λ few. le-leb len entries (omega (arith, is, both.1 few)),
-    )
 
 -- one entry more that is no commit
 pub covers_quiet : (history : List Entry) (e : Entry) (n entries len : ℕ) → count (history ++ e ∷ []) ≡ count history → len ≡ length history

@@ -2,6 +2,7 @@
 ghost use Rattle.std.specs.Prelude.{◌≡◌, ◌<◌, ◌≤◌, ◌^◌, [], OnOk};
 ghost use Rattle.journal_memory.specs.Sessions.{is_in_run, is_in_runs, HasSpareRun, TakesBelow, TakesAbove, NotesFence};
 
+use crate::session_number::SessionNumber;
 use std::alloc::{AllocError, Global};
 use std::marker::Model;
 
@@ -17,13 +18,13 @@ pub(crate) struct FencedSessions {
 /// The numbers from `first` up to `end`, which is not one of them.
 #[derive(Drop)]
 pub(crate) struct Run {
-    pub(crate) first: u64,
-    pub(crate) end: u64,
+    pub(crate) first: SessionNumber,
+    pub(crate) end: SessionNumber,
 }
 
 impl Run {
     // Whether the number is one of them.
-    fn has(&self, session: u64) -> bool
+    fn has(&self, session: SessionNumber) -> bool
         ensures { result ≡ is_in_run self.now session }
     {
         self.first <= session && session < self.end
@@ -51,7 +52,7 @@ impl FencedSessions {
     }
 
     /// Whether the session is fenced.
-    pub(crate) fn has(&self, session: u64) -> bool
+    pub(crate) fn has(&self, session: SessionNumber) -> bool
         ensures { result ≡ is_in_runs self.now.runs session }
     {
         for run in self.runs.iter() {
@@ -71,7 +72,7 @@ impl FencedSessions {
     }
 
     /// Keeps that the session is fenced, where `reserve` made the place. The runs beside it become one with it.
-    pub(crate) fn insert(&mut self, session: u64)
+    pub(crate) fn insert(&mut self, session: SessionNumber)
         requires place { HasSpareRun self.old }
         requires small { session < 2 ^ 62 }
         ensures { NotesFence session self.old.runs self.new.runs }
@@ -83,7 +84,7 @@ impl FencedSessions {
 
     // Takes out the run that ends just below the session, and says where it begins. Where there is none it would begin
     // at the session.
-    fn take_below(&mut self, session: u64) -> u64
+    fn take_below(&mut self, session: SessionNumber) -> SessionNumber
         ensures first { result ≤ session }
         ensures takes { TakesBelow session result self.old.runs self.new.runs }
         ensures place { self.old.spare ≤ self.new.spare }
@@ -100,7 +101,7 @@ impl FencedSessions {
 
     // Takes out the run that begins just above the session, and says where it ends. Where there is none it would end
     // there.
-    fn take_above(&mut self, session: u64) -> u64
+    fn take_above(&mut self, session: SessionNumber) -> SessionNumber
         requires small { session < 2 ^ 62 }
         ensures end { session < result }
         ensures takes { TakesAbove session result self.old.runs self.new.runs }
@@ -108,11 +109,11 @@ impl FencedSessions {
     {
         for index in 0..self.runs.len() {
             let (first, end) = (self.runs[index].first, self.runs[index].end);
-            if first == session + 1 && first < end {
+            if first == session.following() && first < end {
                 self.runs.remove(index);
                 return end;
             }
         }
-        session + 1
+        session.following()
     }
 }

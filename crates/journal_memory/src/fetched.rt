@@ -5,6 +5,7 @@ ghost use Rattle.journal_memory.specs.Fetches.{IsBlockAfter, IsFetched};
 
 use journal_block::{Block, Update};
 use journal_history::{Front, Naming};
+use journal_tail::CommitCount;
 use journal_world::{MapRule, Refusal};
 use std::alloc::Global;
 use std::marker::Model;
@@ -14,7 +15,7 @@ use std::marker::Model;
 #[derive(Drop)]
 pub struct Fetched<'b, J: Naming, R: MapRule> {
     pub(crate) front: Front<'b, J, R>,
-    pub(crate) commits: u64,
+    pub(crate) commits: CommitCount,
     pub(crate) updates: Vec<Update>,
 }
 
@@ -36,14 +37,18 @@ impl<'b, J: Naming, R: MapRule> Fetched<'b, J, R> {
     {
         Fetched {
             front,
-            commits: 0,
+            commits: CommitCount::new(0),
             updates: Vec::new(alloc),
         }
     }
 
     /// Blocks as the first commits of a history left them: that history, and how many commits these
     /// are.
-    pub fn new(front: Front<'b, J, R>, commits: u64, updates: Vec<Update>) -> Fetched<'b, J, R>
+    pub fn new(
+        front: Front<'b, J, R>,
+        commits: CommitCount,
+        updates: Vec<Update>,
+    ) -> Fetched<'b, J, R>
         requires begun { front ≢ [] }
         requires made { commits ≤ count front }
         requires objects { IsTrue (is_trusted front) → All (IsBlockAfter J.layout front commits) updates.items }

@@ -8,11 +8,14 @@ ghost use Rattle.journal_memory.specs.SlotCounts.{AgreeWith};
 
 use crate::cause::Cause;
 use crate::fenced_sessions::FencedSessions;
+use crate::history_length::HistoryLength;
 use crate::marked_lengths::MarkedLengths;
 use crate::refusal_number::RefusalNumber;
+use crate::session_number::SessionNumber;
 use crate::transaction::Transaction;
 use journal_history::{Front, Naming, SessionCounts, Writer};
 use journal_lockmap::{Held, SlotCounts};
+use journal_tail::CommitCount;
 use journal_world::{MapRule, Refusal};
 use std::alloc::Global;
 use std::marker::Model;
@@ -25,12 +28,12 @@ use std::sync::Wait;
 pub struct Ledger<'b, R: MapRule, J: Naming> {
     pub(crate) writer: Writer<'b, J, R>,
     // How many commits there were at the last cut.
-    pub(crate) cut: u64,
+    pub(crate) cut: CommitCount,
     pub(crate) lengths: MarkedLengths,
     // How many commits each session has, which sessions are fenced, and the number of the next one.
     pub(crate) sessions: SessionCounts<J>,
     pub(crate) fenced: FencedSessions,
-    pub(crate) next: u64,
+    pub(crate) next: SessionNumber,
     // It was stopped.
     pub(crate) closed: bool,
     // How many commits touched each slot.
@@ -62,17 +65,17 @@ impl<'b, R: MapRule, J: Naming> Ledger<'b, R, J> {
         requires sessions { sessions ≡ [] }
         ensures { result ≡ record { history = writer.entry; cut = 0; next = 0; closed = false } }
     {
-        let len = writer.len();
+        let len = HistoryLength::new(writer.len());
         Ledger {
             writer,
-            cut: 0,
+            cut: CommitCount::new(0),
             lengths: MarkedLengths {
                 marked: len,
                 cut: len,
             },
             sessions,
             fenced: FencedSessions::new(alloc),
-            next: 0,
+            next: SessionNumber::new(0),
             closed: false,
             slots,
         }
@@ -87,17 +90,17 @@ impl<'b, R: MapRule, J: Naming> Ledger<'b, R, J> {
     }
 
     /// How many commits the history has.
-    pub(crate) fn count(&self) -> u64
+    pub(crate) fn count(&self) -> CommitCount
         ensures { result ≡ count self.now.history }
     {
-        self.writer.count()
+        CommitCount::new(self.writer.count())
     }
 
     /// The greatest mark of the history.
-    pub(crate) fn floor(&self) -> u64
+    pub(crate) fn floor(&self) -> CommitCount
         ensures { result ≡ floor self.now.history }
     {
-        self.writer.floor()
+        CommitCount::new(self.writer.floor())
     }
 
     /// Whether it was stopped.

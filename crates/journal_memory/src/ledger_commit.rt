@@ -10,12 +10,15 @@ ghost use Rattle.journal_memory.specs.SlotCounts.{AgreeWith};
 ghost use Rattle.journal_memory.specs.Transactions.{AreUnmoved};
 
 use crate::cause::Cause;
+use crate::history_length::HistoryLength;
 use crate::ledger::Ledger;
 use crate::limits::MAX_HISTORY_LENGTH;
 use crate::refusal_number::RefusalNumber;
+use crate::session_number::SessionNumber;
 use crate::transaction::Transaction;
 use journal_history::{Naming, Receipt, Session};
 use journal_lockmap::Held;
+use journal_tail::CommitCount;
 use journal_world::{MapRule, Refusal};
 use std::sync::Wait;
 
@@ -46,7 +49,7 @@ impl<'b, R: MapRule, J: Naming> Ledger<'b, R, J> {
         self.catch_up(session, transaction)?;
         // Called for its contract: what it has read.
         let _front = transaction.front();
-        if self.fenced.has(session.number()) {
+        if self.fenced.has(SessionNumber::new(session.number())) {
             return Err(Refusal::Fenced);
         }
         Ok(())
@@ -103,7 +106,7 @@ impl<'b, R: MapRule, J: Naming> Ledger<'b, R, J> {
     {
         // Called for its contract: the history is sound.
         let _len = self.writer.len();
-        let number = session.number();
+        let number = SessionNumber::new(session.number());
         let writer = &mut self.writer;
         let receipt = match writer.commit(rt, &mut self.sessions, session, transaction) {
             Ok(receipt) => receipt,
@@ -114,12 +117,12 @@ impl<'b, R: MapRule, J: Naming> Ledger<'b, R, J> {
         };
         // Nothing fails from here on.
         self.slots.count_writes(rt, held, &transaction.writes);
-        self.next = self.next.max(number + 1);
+        self.next = self.next.past(number);
         Ok(receipt)
     }
 
     /// How many commits there were at the last cut.
-    pub(crate) fn cut(&self) -> u64
+    pub(crate) fn cut(&self) -> CommitCount
         ensures { result ≡ self.now.cut }
     {
         self.cut
@@ -129,13 +132,13 @@ impl<'b, R: MapRule, J: Naming> Ledger<'b, R, J> {
     pub(crate) fn note_cut(&mut self)
         ensures { self.new ≡ record self.old { cut = count self.old.history } }
     {
-        self.cut = self.writer.count();
-        self.lengths.cut = self.writer.len();
+        self.cut = CommitCount::new(self.writer.count());
+        self.lengths.cut = HistoryLength::new(self.writer.len());
     }
 
     /// Marks that n commits are stable, those at the last cut or all, and tells it. Refuses by J11 and J9, and is then as
     /// it was.
-    pub(crate) fn mark(&mut self, n: u64) -> Result<(), Refusal<Cause<'b, J, R>>>
+    pub(crate) fn mark(&mut self, n: CommitCount) -> Result<(), Refusal<Cause<'b, J, R>>>
         requires rises { floor self.old.history ≤ n }
         requires made { n ≤ count self.old.history }
         requires due { (n ≡ self.old.cut) ⊎ (n ≡ count self.old.history) }
@@ -147,13 +150,13 @@ impl<'b, R: MapRule, J: Naming> Ledger<'b, R, J> {
         if self.writer.len() >= MAX_HISTORY_LENGTH - 1 {
             return Err(Refusal::Worn(Cause::none(RefusalNumber::J11)));
         }
-        if let Err(front) = self.writer.mark(n) {
+        if let Err(front) = self.writer.mark(n.get()) {
             return Err(Refusal::Stale(Cause::of(RefusalNumber::J9, front)));
         }
         self.writer.publish_floor();
         self.cut = n;
-        if n == self.writer.count() {
-            self.lengths.cut = self.writer.len();
+        if n.get() == self.writer.count() {
+            self.lengths.cut = HistoryLength::new(self.writer.len());
         }
         self.lengths.marked = self.lengths.cut;
         Ok(())

@@ -6,9 +6,11 @@ ghost use Rattle.journal_memory.specs.Ledgers.{IsAddingRefusal};
 ghost use Rattle.journal_memory.specs.Fences.{AddsFence, SetsFence, IsFencingRefusal};
 
 use crate::cause::Cause;
+use crate::history_length::HistoryLength;
 use crate::ledger::Ledger;
 use crate::limits::MAX_HISTORY_LENGTH;
 use crate::refusal_number::RefusalNumber;
+use crate::session_number::SessionNumber;
 use journal_history::{Naming, Session};
 use journal_world::{MapRule, Refusal};
 use std::sync::Wait;
@@ -20,7 +22,7 @@ impl<'b, R: MapRule, J: Naming> Ledger<'b, R, J> {
         &mut self,
         rt: &W,
         session: &mut Session<'b, J, R>,
-        target: u64,
+        target: SessionNumber,
     ) -> Result<(), Refusal<Cause<'b, J, R>>>
         ensures did { OnOk result (SetsFence target self.old self.new) }
         ensures shown { OnOk result (session.new.seen ≡ self.new.history) }
@@ -34,7 +36,7 @@ impl<'b, R: MapRule, J: Naming> Ledger<'b, R, J> {
         if self.fenced.has(target) {
             return Ok(());
         }
-        if self.len() >= MAX_HISTORY_LENGTH - 1 || target >= MAX_HISTORY_LENGTH {
+        if self.len() >= MAX_HISTORY_LENGTH - 1 || target.get() >= MAX_HISTORY_LENGTH {
             return Err(Refusal::Worn(Cause::none(RefusalNumber::J11)));
         }
         self.add_fence(rt, session, target)
@@ -45,7 +47,7 @@ impl<'b, R: MapRule, J: Naming> Ledger<'b, R, J> {
         &mut self,
         rt: &W,
         session: &mut Session<'b, J, R>,
-        target: u64,
+        target: SessionNumber,
     ) -> Result<(), Refusal<Cause<'b, J, R>>>
         requires free { is_fenced target self.old.history ≡ false }
         requires room { length self.old.history + 1 < 2 ^ 62 }
@@ -58,17 +60,17 @@ impl<'b, R: MapRule, J: Naming> Ledger<'b, R, J> {
         ensures same { OnErr result (self.new ≡ self.old) }
         ensures session { OnlyExtends session.old session.new }
     {
-        let len = self.writer.len();
+        let len = HistoryLength::new(self.writer.len());
         self.fenced.reserve()?;
-        if let Err(front) = self.writer.fence(target) {
+        if let Err(front) = self.writer.fence(target.get()) {
             session.see(&front);
             return Err(Refusal::Stale(Cause::of(RefusalNumber::J9, front)));
         }
         // Nothing fails from here on.
         self.fenced.insert(target);
-        self.sessions.raise(rt, target + 1);
+        self.sessions.raise(rt, target.following().get());
         self.lengths.add_non_commit(len);
-        self.next = self.next.max(target + 1);
+        self.next = self.next.past(target);
         session.see(&self.writer.front());
         Ok(())
     }

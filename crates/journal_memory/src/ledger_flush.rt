@@ -4,6 +4,7 @@ ghost use mathlib.Core.List.{IsPrefix};
 ghost use Rattle.journal_world.specs.Histories.{commits_of, count, floor};
 ghost use Rattle.journal_history.specs.Tokens.{made, IsExact, OnlyExtends};
 
+use crate::history_length::HistoryLength;
 use crate::ledger::Ledger;
 use journal_history::{Naming, Session};
 use journal_world::MapRule;
@@ -15,7 +16,7 @@ impl<'b, R: MapRule, J: Naming> Ledger<'b, R, J> {
         requires { IsPrefix session.now.seen self.now.history }
         ensures { IsTrue result ↔ (count session.now.seen ≤ floor self.now.history) }
     {
-        session.seen() <= self.lengths.marked
+        HistoryLength::new(session.seen()) <= self.lengths.marked
     }
 
     /// Shows the session the whole history, which has no commit under its number that it did not make.

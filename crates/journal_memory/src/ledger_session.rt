@@ -25,11 +25,11 @@ impl<'b, R: MapRule, J: Naming> Ledger<'b, R, J> {
         ensures refusal { IfErr result (IsNumberRefusal self.old.next) }
         ensures same { OnErr result (self.new ≡ self.old) }
     {
-        if self.next >= MAX_HISTORY_LENGTH {
+        if self.next.get() >= MAX_HISTORY_LENGTH {
             return Err(Refusal::Worn(Cause::none(RefusalNumber::J11)));
         }
-        let session = self.writer.session(&mut self.sessions, self.next);
-        self.next += 1;
+        let session = self.writer.session(&mut self.sessions, self.next.get());
+        self.next = self.next.following();
         Ok(session)
     }
 

@@ -2,18 +2,20 @@
 ghost use Rattle.std.specs.Prelude.{◌<◌, ◌^◌, ◌≡◌};
 ghost use Rattle.journal_memory.specs.MarkedLengths.{with_non_commit};
 
+use crate::history_length::HistoryLength;
+
 /// The lengths of two fronts of the history: the longest whose commits are all marked, and the longest that has no more
 /// commits than there were at the last cut. A mark is of the commits at the cut or of all, so the next mark finds the
 /// first of them without a look at the history.
 #[derive(Clone, Copy)]
 pub(crate) struct MarkedLengths {
-    pub(crate) marked: u64,
-    pub(crate) cut: u64,
+    pub(crate) marked: HistoryLength,
+    pub(crate) cut: HistoryLength,
 }
 
 impl MarkedLengths {
     /// An entry that is no commit was added after `len` entries: a front that had all of them is longer by one.
-    pub(crate) fn add_non_commit(&mut self, len: u64)
+    pub(crate) fn add_non_commit(&mut self, len: HistoryLength)
         requires { len < 2 ^ 62 }
         ensures { self.new ≡ record { marked = with_non_commit len self.old.marked; cut = with_non_commit len self.old.cut } }
     {
@@ -23,9 +25,13 @@ impl MarkedLengths {
 }
 
 // The length of a front of so many entries with one entry more.
-fn one_longer(entries: u64, len: u64) -> u64
+fn one_longer(entries: HistoryLength, len: HistoryLength) -> HistoryLength
     requires { len < 2 ^ 62 }
     ensures { result ≡ with_non_commit len entries }
 {
-    if entries == len { len + 1 } else { entries }
+    if entries == len {
+        len.following()
+    } else {
+        entries
+    }
 }

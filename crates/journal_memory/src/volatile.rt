@@ -20,7 +20,7 @@ use crate::named_layout::NamedLayout;
 use crate::refusal_number::RefusalNumber;
 use journal_history::{Front, Naming, Session};
 use journal_lockmap::Held;
-use journal_tail::ObjectTail;
+use journal_tail::{CommitCount, ObjectTail};
 use journal_world::{Layout, MapRule, Refusal};
 use std::marker::Model;
 use std::sync::Wait;
@@ -80,7 +80,7 @@ impl<'b, R: MapRule, J: Naming> Volatile<'b, R, J> {
     }
 
     /// How many commits there were at the last cut.
-    pub fn last_cut(&self) -> u64
+    pub fn last_cut(&self) -> CommitCount
         ensures { result ≡ self.now.ledger.cut }
     {
         self.ledger.cut()

@@ -16,6 +16,7 @@ use crate::log_key::LogKey;
 use crate::volatile::Volatile;
 use journal_block::Update;
 use journal_history::Naming;
+use journal_tail::CommitCount;
 use journal_world::{MapRule, Refusal};
 
 impl<'b, R: MapRule, J: Naming> Volatile<'b, R, J> {
@@ -97,7 +98,7 @@ impl<'b, R: MapRule, J: Naming> Volatile<'b, R, J> {
 
     /// Of a hold of both: marks that n commits are stable, those at the last cut or all, and tells
     /// it. Refuses by J11 and J9, and is then as it was.
-    pub fn mark(&mut self, _key: &LogKey<J>, n: u64) -> Result<(), Refusal<Cause<'b, J, R>>>
+    pub fn mark(&mut self, _key: &LogKey<J>, n: CommitCount) -> Result<(), Refusal<Cause<'b, J, R>>>
         requires rises { floor self.old.ledger.history ≤ n }
         requires made { n ≤ count self.old.ledger.history }
         requires due { (n ≡ self.old.ledger.cut) ⊎ (n ≡ count self.old.ledger.history) }

@@ -7,6 +7,7 @@ ghost use Rattle.journal_memory.specs.Volatiles.{outset_of};
 ghost use Rattle.journal_memory.specs.VolatileHolds.{AnswersFence};
 
 use crate::cause::Cause;
+use crate::session_number::SessionNumber;
 use crate::volatile::Volatile;
 use journal_history::{Naming, Session};
 use journal_world::{MapRule, Refusal};
@@ -26,7 +27,7 @@ impl<'b, R: MapRule, J: Naming> Volatile<'b, R, J> {
         &mut self,
         rt: &W,
         session: &mut Session<'b, J, R>,
-        target: u64,
+        target: SessionNumber,
     ) -> Result<(), Refusal<Cause<'b, J, R>>>
         ensures did { OnOk result (SetsFence target self.old.ledger self.new.ledger) }
         ensures others { self.new ≡ record self.old { ledger = self.new.ledger } }
@@ -47,7 +48,7 @@ impl<'b, R: MapRule, J: Naming> Volatile<'b, R, J> {
         &mut self,
         rt: &W,
         session: &mut Session<'b, J, R>,
-        target: u64,
+        target: SessionNumber,
     ) -> Result<(), Refusal<Cause<'b, J, R>>>
         ensures did { OnOk result (SetsFence target self.old.ledger self.new.ledger) }
         ensures others { self.new ≡ record self.old { ledger = self.new.ledger } }

@@ -13,6 +13,7 @@ use crate::cause::Cause;
 use crate::volatile::Volatile;
 use journal_circ::LOG_POSITIONS;
 use journal_history::{Naming, Session};
+use journal_tail::CommitCount;
 use journal_world::{MapRule, Refusal};
 use std::sync::Wait;
 
@@ -28,7 +29,7 @@ impl<'b, R: MapRule, J: Naming> Volatile<'b, R, J> {
         &mut self,
         rt: &W,
         session: &mut Session<'b, J, R>,
-        n: u64,
+        n: CommitCount,
     ) -> Result<bool, Refusal<Cause<'b, J, R>>>
         ensures same { self.new ≡ self.old }
         ensures answer { IfOk result (λ marked. IsTrue marked ↔ (n ≤ floor self.old.ledger.history)) }
@@ -48,7 +49,7 @@ impl<'b, R: MapRule, J: Naming> Volatile<'b, R, J> {
         &mut self,
         rt: &W,
         session: &mut Session<'b, J, R>,
-        n: u64,
+        n: CommitCount,
     ) -> Result<bool, Refusal<Cause<'b, J, R>>>
         ensures same { self.new ≡ self.old }
         ensures answer { IfOk result (λ marked. IsTrue marked ↔ (n ≤ floor self.old.ledger.history)) }
@@ -153,14 +154,14 @@ impl<'b, R: MapRule, J: Naming> Volatile<'b, R, J> {
     }
 
     /// How many commits the history has.
-    pub fn commits(&self) -> u64
+    pub fn commits(&self) -> CommitCount
         ensures { result ≡ count self.now.ledger.history }
     {
         self.ledger.count()
     }
 
     /// How many of them are marked as stable.
-    pub fn floor(&self) -> u64
+    pub fn floor(&self) -> CommitCount
         ensures { result ≡ floor self.now.ledger.history }
     {
         self.ledger.floor()

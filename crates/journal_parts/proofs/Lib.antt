@@ -1,6 +1,7 @@
 pub mod Resting
 pub mod Opening
 pub mod Between
+pub mod Comparing
 pub mod Lending
 pub mod Enduring
 pub mod CallsOfLogs

@@ -11,6 +11,7 @@ use journal_disk::{BlockDisk, MemDisk};
 use journal_history::{Front, Naming};
 use journal_memory::LogKey;
 use journal_objlog::ObjectLog;
+use journal_tail::CommitCount;
 use journal_world::MapRule;
 use std::marker::Model;
 
@@ -23,9 +24,9 @@ pub struct Durable<'b, D: BlockDisk, R: MapRule, J: Naming> {
     pub(crate) objects: ObjectLog<D>,
     pub(crate) front: Front<'b, J, R>,
     // How many commits are marked, how many are logged, and how many with the group in flight.
-    pub(crate) marked: u64,
-    pub(crate) logged: u64,
-    pub(crate) coming: u64,
+    pub(crate) marked: CommitCount,
+    pub(crate) logged: CommitCount,
+    pub(crate) coming: CommitCount,
     // What it may ask of memory, and nobody else.
     pub(crate) key: LogKey<J>,
 }
@@ -56,9 +57,9 @@ impl<'b, D: BlockDisk, R: MapRule, J: Naming> Durable<'b, D, R, J> {
         Durable {
             objects,
             front,
-            marked: 0,
-            logged: 0,
-            coming: 0,
+            marked: CommitCount::new(0),
+            logged: CommitCount::new(0),
+            coming: CommitCount::new(0),
             key,
         }
     }

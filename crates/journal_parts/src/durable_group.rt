@@ -16,6 +16,7 @@ use journal_block::Update;
 use journal_disk::BlockDisk;
 use journal_history::{Front, Naming};
 use journal_memory::Cause;
+use journal_tail::CommitCount;
 use journal_world::{MapRule, Refusal};
 
 impl<'b, D: BlockDisk, R: MapRule, J: Naming> Durable<'b, D, R, J> {
@@ -40,7 +41,7 @@ impl<'b, D: BlockDisk, R: MapRule, J: Naming> Durable<'b, D, R, J> {
 
     /// Takes a group that was cut from memory, which `reserve` made room for, and the history that has its commits,
     /// of which there are so many. It takes no memory, and moves the blocks.
-    pub(crate) fn take(&mut self, group: Vec<Update>, front: Front<'b, J, R>, commits: u64)
+    pub(crate) fn take(&mut self, group: Vec<Update>, front: Front<'b, J, R>, commits: CommitCount)
         requires homes { AreHomes J.layout.blocks group.items }
         requires distinct { HasDistinctBlocks group.items }
         requires room { HasGroupRoom self.old.objects (length group.items) }
@@ -60,7 +61,7 @@ impl<'b, D: BlockDisk, R: MapRule, J: Naming> Durable<'b, D, R, J> {
 
     /// Notes that all commits of the history are logged, of which there are so many: those since wrote nothing, and no
     /// group is in flight.
-    pub(crate) fn note_all_logged(&mut self, front: Front<'b, J, R>, commits: u64)
+    pub(crate) fn note_all_logged(&mut self, front: Front<'b, J, R>, commits: CommitCount)
         requires rest { IsCutLogged self.old.objects }
         requires longer { IsPrefix self.old.front front }
         requires counted { commits ≡ count front }

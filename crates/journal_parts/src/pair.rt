@@ -152,14 +152,14 @@ impl<'b, D: BlockDisk, R: MapRule, J: Naming> Durable<'b, D, R, J> {
     {
         let logged = self.logged;
         if self.mark(volatile)? {
-            return Ok(LogStep::Marked(logged));
+            return Ok(LogStep::Marked(logged.get()));
         }
         if self.cut(volatile)? {
             return Ok(LogStep::Cut);
         }
         let commits = volatile.commits();
         if self.mark_rest(volatile)? {
-            return Ok(LogStep::Marked(commits));
+            return Ok(LogStep::Marked(commits.get()));
         }
         Ok(LogStep::Idle)
     }

@@ -16,6 +16,7 @@
 #![tactic(auto)]
 
 mod block_cache;
+mod commit_count;
 mod limits;
 mod object_cut;
 mod object_tail;
@@ -26,6 +27,7 @@ mod staged_updates;
 mod tail;
 mod writes;
 
+pub use commit_count::CommitCount;
 pub use limits::{MAX_POSITION, MAX_TAIL, MAX_UPDATES};
 pub use object_tail::ObjectTail;
 pub use prepare::{Preparation, Prepared};

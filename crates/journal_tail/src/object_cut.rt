@@ -8,6 +8,7 @@ ghost use Rattle.journal_tail.specs.Tails.{MakeTheSame, MakesNoOther, DropsCuts,
 ghost use Rattle.journal_tail.specs.declared.limits.TheConstants.{MAX_TAIL};
 ghost use Rattle.journal_tail.specs.ObjectTails.{blocks_of};
 
+use crate::commit_count::CommitCount;
 use crate::object_tail::ObjectTail;
 use journal_block::Update;
 use journal_memlog::Bounds;
@@ -30,7 +31,7 @@ impl ObjectTail {
     }
 
     /// How many commits there were at the last cut whose updates were dropped. All that later ones wrote is here.
-    pub fn trimmed(&self) -> u64
+    pub fn trimmed(&self) -> CommitCount
         ensures { result ≡ self.now.trimmed }
     {
         self.tail.trimmed()
@@ -47,7 +48,7 @@ impl ObjectTail {
     ///
     /// Answers J1 `NoMemory`, and nothing else, where memory for the copy is refused. The objects are then as they
     /// were.
-    pub fn cut(&mut self, commits: u64) -> Result<Vec<Update>, Refusal<()>>
+    pub fn cut(&mut self, commits: CommitCount) -> Result<Vec<Update>, Refusal<()>>
         ensures group { IfOk result (λ group. group.items ≡ tail_of self.old.log) }
         ensures few { IfOk result (λ group. length group.items ≤ MAX_TAIL) }
         ensures homes { IfOk result (λ group. AreHomes (blocks_of self.old) group.items) }

@@ -13,6 +13,7 @@ ghost use Rattle.journal_tail.specs.Tails.{TailState, MakeTheSame, MakesNoOther,
 ghost use Rattle.journal_tail.specs.declared.limits.TheConstants.{MAX_TAIL};
 
 use crate::block_cache::BlockCache;
+use crate::commit_count::CommitCount;
 use crate::limits::{MAX_POSITION, MAX_TAIL, MAX_UPDATES};
 use journal_block::{Block, Update};
 use journal_memlog::{Bounds, MemLog};
@@ -27,7 +28,7 @@ pub struct CutPoint {
     /// The position after the group's last.
     pub end: u64,
     /// How many commits there were.
-    pub commits: u64,
+    pub commits: CommitCount,
 }
 
 /// The updates in memory, for a lock of their own: it knows no disk, and each call ends without waiting for one.
@@ -39,7 +40,7 @@ pub struct CutPoint {
 pub struct Tail {
     alloc: Global,
     memory: MemLog,
-    trimmed: u64,
+    trimmed: CommitCount,
     cuts: VecDeque<CutPoint>,
     cache: BlockCache,
 }
@@ -70,7 +71,7 @@ impl Tail {
         Ok(Tail {
             alloc,
             memory,
-            trimmed: 0,
+            trimmed: CommitCount::new(0),
             cuts: VecDeque::new(alloc),
             cache,
         })
@@ -93,7 +94,7 @@ impl Tail {
     }
 
     /// How many commits there were at the last cut whose updates were dropped. All that later ones wrote is here.
-    pub fn trimmed(&self) -> u64
+    pub fn trimmed(&self) -> CommitCount
         ensures { result ≡ self.now.trimmed }
     {
         self.trimmed
@@ -216,7 +217,7 @@ impl Tail {
     /// Cuts after so many commits: hands out a copy of the whole tail, which begins anew.
     ///
     /// Answers J1 `NoMemory`, and nothing else, where memory for the copy is refused. The tail is then as it was.
-    pub fn cut(&mut self, commits: u64) -> Result<Vec<Update>, Refusal<()>>
+    pub fn cut(&mut self, commits: CommitCount) -> Result<Vec<Update>, Refusal<()>>
         ensures group { IfOk result (λ group. group.items ≡ tail_of self.old.log) }
         ensures few { IfOk result (λ group. length group.items ≤ MAX_TAIL) }
         ensures homes { IfOk result (λ group. AreHomes self.old.log.blocks group.items) }

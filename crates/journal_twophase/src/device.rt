@@ -276,8 +276,8 @@ impl<'b, D: BlockDisk, R: MapRule, J: Naming> LockedParts<'b, D, R, J> {
         let memory = self.memory.lock(rt);
         let (start, end) = durable.log_range();
         Stat {
-            commits: memory.volatile.commits(),
-            floor: memory.volatile.floor(),
+            commits: memory.volatile.commits().get(),
+            floor: memory.volatile.floor().get(),
             start,
             end,
         }

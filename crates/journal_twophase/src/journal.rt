@@ -20,7 +20,7 @@ use journal_block::Block;
 use journal_disk::{BlockDisk, MemDisk};
 use journal_history::{Book, Front, Naming, Receipt, Session, StableNote};
 use journal_lockmap::{LockMap, SlotCell, SlotLocks};
-use journal_memory::Cause;
+use journal_memory::{Cause, SessionNumber};
 use journal_parts::{InstallStep, LogStep, Stat};
 use journal_world::{Addr, Layout, MapRule, Refusal, Refused, Step};
 use std::alloc::Global;
@@ -211,7 +211,7 @@ impl<'b, D: BlockDisk, R: MapRule, J: Naming> Journal<'b, D, R, J> {
         ensures refusal { IfErr result IsFenceRefusal }
         ensures session { OnlyExtends session.old session.new }
     {
-        self.core.fence(rt, session, target)
+        self.core.fence(rt, session, SessionNumber::new(target))
     }
 
     /// The slot of an address, below the number of slots. A transaction that takes its slots in

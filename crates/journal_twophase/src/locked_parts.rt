@@ -22,7 +22,9 @@ use crate::waiters::MarkWaiters;
 use journal_disk::BlockDisk;
 use journal_history::{Book, Front, Naming, Receipt, Session};
 use journal_lockmap::{Held, SlotCell, Slots};
-use journal_memory::{Cause, CommitStep, Fetched, ReadResult, Spares, Transaction, Volatile};
+use journal_memory::{
+    Cause, CommitStep, Fetched, ReadResult, SessionNumber, Spares, Transaction, Volatile,
+};
 use journal_parts::{Durable, open_parts};
 use journal_world::{Addr, Layout, MapRule, Refusal, Refused};
 use std::alloc::Global;
@@ -245,7 +247,7 @@ impl<'b, D: BlockDisk, R: MapRule, J: Naming> LockedParts<'b, D, R, J> {
         &self,
         rt: &W,
         session: &mut Session<'b, J, R>,
-        target: u64,
+        target: SessionNumber,
     ) -> Result<(), JournalRefusal<'b, J, R>>
         ensures fenced { OnOk result (is_fenced target session.new.seen ≡ true) }
         ensures refusal { IfErr result IsFenceRefusal }

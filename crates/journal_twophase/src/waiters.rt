@@ -1,6 +1,8 @@
 // The threads that wait for a mark, counted.
 ghost use Rattle.std.specs.Prelude.{◌≡◌, ◌+◌, ◌-◌, ◌^◌, ◌<◌, ◌↔◌, IsTrue};
 
+use journal_tail::CommitCount;
+
 // How many sleep until a mark is made, and how many a mark woke that have not gone on: that have not had the lock again.
 //
 // A thread is counted in before it sleeps, and out once it has the lock again. A spurious wake may be counted out in place
@@ -15,7 +17,7 @@ pub(crate) struct MarkWaiters {
     woken: u64,
     awaited: u64,
     // With so many commits of the history as many have come as are awaited.
-    enough: u64,
+    enough: CommitCount,
 }
 
 impl MarkWaiters {
@@ -31,7 +33,7 @@ impl MarkWaiters {
     }
 
     // Counts all that sleep as woken, where a mark was made and there were so many commits, and awaits as many.
-    pub(crate) fn wake(&mut self, commits: u64)
+    pub(crate) fn wake(&mut self, commits: CommitCount)
         ensures asleep { self.new.asleep ≡ 0 }
         ensures awaited { self.new.awaited ≡ self.old.asleep }
         ensures enough { commits + self.old.asleep < 2 ^ 64 → self.new.enough ≡ commits + self.old.asleep }
@@ -39,7 +41,7 @@ impl MarkWaiters {
     {
         self.woken = self.woken.saturating_add(self.asleep);
         self.awaited = self.asleep;
-        self.enough = commits.saturating_add(self.asleep);
+        self.enough = CommitCount::new(commits.get().saturating_add(self.asleep));
         self.asleep = 0;
     }
 
@@ -49,18 +51,18 @@ impl MarkWaiters {
         ensures others { (self.new.asleep ≡ self.old.asleep) × (self.new.woken ≡ self.old.woken) }
     {
         self.awaited = 0;
-        self.enough = 0;
+        self.enough = CommitCount::new(0);
     }
 
     // Whether fewer sleep than are awaited, and with so many commits not as many have come either.
-    pub(crate) fn should_delay(&self, commits: u64) -> bool
+    pub(crate) fn should_delay(&self, commits: CommitCount) -> bool
         ensures { IsTrue result ↔ (self.now.asleep < self.now.awaited × commits < self.now.enough) }
     {
         self.asleep < self.awaited && commits < self.enough
     }
 
     // Whether with the last of so many commits as many have come as are awaited.
-    pub(crate) fn fills_group(&self, commits: u64) -> bool
+    pub(crate) fn fills_group(&self, commits: CommitCount) -> bool
         ensures { IsTrue result ↔ (commits ≡ self.now.enough) }
     {
         commits == self.enough

@@ -13,6 +13,7 @@ use journal_disk::BlockDisk;
 use journal_history::{Naming, Receipt, Session, StableNote};
 use journal_lockmap::{Held, LockMap};
 use journal_memory::{Cause, Spares, Transaction, Volatile};
+use journal_tail::CommitCount;
 use journal_world::{MapRule, Refusal};
 use std::sync::{MutexGuard, Wait};
 
@@ -169,7 +170,7 @@ fn wait_step<'b, R: MapRule, J: Naming, W: Wait>(
     ensures session { OnlyExtends session.old session.new }
     ensures refusal { IfErr result (IsWaitRefusal session.new) }
 {
-    volatile.wait_step(rt, session, commits)
+    volatile.wait_step(rt, session, CommitCount::new(commits))
 }
 
 // Asks the volatile part whether all commits are marked that the session has seen, and notes it. If not, the session stays as it
@@ -189,5 +190,5 @@ fn flush_step<'b, R: MapRule, J: Naming, W: Wait>(
     if !volatile.flush_step(rt, session)? {
         return Ok(None);
     }
-    Ok(Some(StableNote::new(&session.front(), volatile.floor())))
+    Ok(Some(StableNote::new(&session.front(), volatile.floor().get())))
 }

@@ -4,8 +4,8 @@ use Rattle.journal_memory.specs.Sessions.{FencedState, TakesAbove}
 use Rattle.journal_memory.proofs.Fenced.{takes_above}
 use Rattle.journal_memory.proofs.fenced_sessions.FencedSessions.take_above.Goals as goal
 
-pub returns-then-first-end-clause-takes : goal.returns-then-first-end-clause-takes
-returns-then-first-end-clause-takes c =
+pub returns-then-lt-clause-takes : goal.returns-then-lt-clause-takes
+returns-then-lt-clause-takes c =
     let below : c.loop-index.index < length c.loop-index.self-inside.runs.items = omega arith in
     let begins : c.index.result.now.first ≡ c.args.session + 1 = search rules in
     let same : c.loop-index.self-inside.runs.items ≡ c.args.self.now.runs = ap (λ v. v.runs.items) c.loop-index.invariant ∙ ap (λ (f : FencedState). f.runs) c.self.view_is in

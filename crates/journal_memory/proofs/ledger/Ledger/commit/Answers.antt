@@ -1,4 +1,4 @@
-use Rattle.std.proofs.Common.{◌≡◌, ◌+◌, ℕ, IsTrue, set, sym, subst}
+use Rattle.std.proofs.Common.{◌≡◌, ◌+◌, ◌∙◌, ℕ, IsTrue, set, sym, subst}
 use Rattle.journal_world.specs.Maps.{Agrees}
 use Rattle.journal_world.specs.Histories.{is_trusted, latest}
 use Rattle.journal_history.specs.Counts.{HasCount}
@@ -21,11 +21,12 @@ count_writes-requires-clause-covered g c = subst (λ (u : TransactionState). Hol
 
 pub invariant_of-self-2 : goal.invariant_of-self-2
 invariant_of-self-2 g c =
+    let number : c.new-number.result ≡ c.args.session.now.number = c.new-number.ensures ∙ c.number.ensures in
     let t = next_transaction c.args.session.now c.args.transaction.now.reads c.args.transaction.now.writes in
-    ledger_committed g.J.Naming.layout _ _ _ _ _ c.self.invariant c.commit.new.counts c.count_writes.new.self c.commit.new.self c.max-self-inside.result t c.number-number.result (made c.args.session.now)
-    c.in-Ok.ensures.committed.added c.max-self-inside.ensures c.number-number.ensures
-    (subst (λ (n : ℕ). HasCount c.self.inside.sessions n (made c.args.session.now)) (sym c.number-number.ensures) c.in-Ok.ensures.counted)
-    (subst (λ (n : ℕ). c.commit.new.counts ≡ set c.self.inside.sessions n (made c.args.session.now + 1)) (sym c.number-number.ensures) c.in-Ok.ensures.counts)
+    ledger_committed g.J.Naming.layout _ _ _ _ _ c.self.invariant c.commit.new.counts c.count_writes.new.self c.commit.new.self c.past-self-inside.result t c.new-number.result (made c.args.session.now)
+    c.in-Ok.ensures.committed.added c.past-self-inside.ensures number
+    (subst (λ (n : ℕ). HasCount c.self.inside.sessions n (made c.args.session.now)) (sym number) c.in-Ok.ensures.counted)
+    (subst (λ (n : ℕ). c.commit.new.counts ≡ set c.self.inside.sessions n (made c.args.session.now + 1)) (sym number) c.in-Ok.ensures.counts)
     (subst (λ (u : TransactionState). CountsWrites g.J.Naming.layout u.writes c.self.inside.slots c.count_writes.new.self) c.transaction.view_is c.count_writes.ensures.counts)
 
 pub returns-clause-agree : goal.returns-clause-agree

@@ -1,5 +1,5 @@
-use Rattle.std.proofs.Common.{◌++◌, IsTrue, sym, subst, arith}
-use Rattle.std.proofs.lemmas.Bool.{leb-true}
+use Rattle.std.proofs.Common.{◌++◌, ◌∙◌, IsTrue, sym, subst, arith}
+use Rattle.std.proofs.lemmas.Map.Keys.{le_from_is_le}
 use mathlib.Core.List.{IsPrefix}
 use Rattle.journal_world.specs.Histories.{is_trusted, latest}
 use Rattle.journal_memory.specs.Updates.{AreObjectsOf}
@@ -16,4 +16,4 @@ returns g c = λ yes trusted.
     (fetched_alone layout _ _ c.self.invariant c.fetched.invariant
     (subst (λ (v : VolatileState). IsTrue (is_trusted v.ledger.history)) (sym c.self.view_is) trusted)
     (subst (λ (v : VolatileState). IsPrefix c.fetched.inside.front v.ledger.history) (sym c.self.view_is) c.in-Ok.ensures.begins)
-    (omega (arith, leb-true c.trimmed.result c.fetched.inside.commits yes, c.trimmed.ensures))))
+    (omega (arith, le_from_is_le c.trimmed.result c.fetched.inside.commits (sym c.le.ensures ∙ yes), c.trimmed.ensures))))

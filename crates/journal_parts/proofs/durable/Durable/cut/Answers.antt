@@ -12,6 +12,7 @@ use Rattle.journal_memory.specs.Updates.{HaveAllSince}
 use Rattle.journal_parts.specs.Durables.{DurableState, IsRoomRefusal}
 use Rattle.journal_memory.specs.Volatiles.{VolatileState, IsFrontRefusal}
 use Rattle.journal_parts.specs.Pairs.{Tied, IsCutDue, IsCutRefusal}
+use Rattle.journal_parts.proofs.Comparing.{below, not_below}
 use Rattle.journal_parts.proofs.Enduring.{crashes_reads}
 use Rattle.journal_memory.proofs.Committing.{OnErr-any}
 use Rattle.journal_memory.proofs.Latest.{since_later}
@@ -28,13 +29,13 @@ pub returns-in_err-front-clause-crash : goal.returns-in_err-front-clause-crash
 returns-in_err-front-clause-crash g c =
     crashes_reads g.J.Naming.layout _ c.args.self.now c.args.self.now c.self.invariant c.self.view_is (OnlyReads-refl c.args.self.now.objects) refl
 
-pub returns-then-self-last_cut-clause-only : goal.returns-then-self-last_cut-clause-only
-returns-then-self-last_cut-clause-only g c = λ no due.
+pub returns-then-lt-clause-only : goal.returns-then-lt-clause-only
+returns-then-lt-clause-only g c = λ no due.
     let logged : c.self.inside.logged ≡ c.args.self.now.logged = ap (λ (d : DurableState). d.logged) c.self.view_is in
-    omega (arith, c.if-self-last_cut.true, c.last_cut.ensures, logged, due.logged)
+    omega (arith, below c.self.inside.logged c.last_cut.result c.if-lt.ensures, c.last_cut.ensures, logged, due.logged)
 
-pub returns-then-self-last_cut-clause-crash : goal.returns-then-self-last_cut-clause-crash
-returns-then-self-last_cut-clause-crash g c =
+pub returns-then-lt-clause-crash : goal.returns-then-lt-clause-crash
+returns-then-lt-clause-crash g c =
     crashes_reads g.J.Naming.layout _ c.args.self.now c.args.self.now c.self.invariant c.self.view_is (OnlyReads-refl c.args.self.now.objects) refl
 
 pub returns-in_err-reserve-clause-refusal : goal.returns-in_err-reserve-clause-refusal
@@ -54,7 +55,7 @@ returns-in_err-group-clause-refusal g c =
     let blocks : c.tail_len-blocks.result ≡ length (tail_of c.args.volatile.now.tail.log) = c.tail_len-blocks.ensures in
     let logged : c.self.inside.logged ≡ c.args.self.now.logged = ap (λ (d : DurableState). d.logged) c.self.view_is in
     let due : IsCutDue c.args.volatile.now c.args.self.now = record {
-      logged = omega (arith, c.if-self-last_cut.false, c.last_cut.ensures, logged);
+      logged = omega (arith, not_below c.self.inside.logged c.last_cut.result c.if-lt.ensures, c.last_cut.ensures, logged);
       fits = subst (FitsGroup c.args.self.now.objects) blocks (c.in_ok-reserve.ensures.fits.0 c.if-not-branch.false);
     } in
     if_err c.from_residual-in_err-group.result _ (IsCutRefusal c.args.volatile.now c.args.self.now) c.from_residual-in_err-group.ensures.1
@@ -89,7 +90,7 @@ take-requires-clause-all g c = λ trusted.
     subst (λ (h : List Entry). HaveAllSince g.J.Naming.layout h c.reserve.new.self.logged c.in_ok-group.group.items) (sym history)
     (since_later g.J.Naming.layout c.args.volatile.now.ledger.history c.args.volatile.now.ledger.cut c.reserve.new.self.logged c.in_ok-group.group.items
     (subst (λ (n : ℕ). c.args.volatile.now.ledger.cut ≤ n) (ap (λ (d : DurableState). d.logged) c.self.view_is ∙ sym (ap (λ (d : DurableState). d.logged) c.reserve.ensures.same))
-    (omega (arith, c.if-self-last_cut.false, c.last_cut.ensures)))
+    (omega (arith, not_below c.self.inside.logged c.last_cut.result c.if-lt.ensures, c.last_cut.ensures)))
     (c.in_ok-group.ensures.all (subst (λ (h : List Entry). IsTrue (is_trusted h)) history trusted)))
 
 pub returns-clause-cuts : goal.returns-clause-cuts
@@ -97,7 +98,7 @@ returns-clause-cuts g c = λ done.
     let blocks : c.tail_len-blocks.result ≡ length (tail_of c.args.volatile.now.tail.log) = c.tail_len-blocks.ensures in
     let logged : c.self.inside.logged ≡ c.args.self.now.logged = ap (λ (d : DurableState). d.logged) c.self.view_is in
     let due : IsCutDue c.args.volatile.now c.args.self.now = record {
-      logged = omega (arith, c.if-self-last_cut.false, c.last_cut.ensures, logged);
+      logged = omega (arith, not_below c.self.inside.logged c.last_cut.result c.if-lt.ensures, c.last_cut.ensures, logged);
       fits = subst (FitsGroup c.args.self.now.objects) blocks (c.in_ok-reserve.ensures.fits.0 c.if-not-branch.false);
     } in
     cuts_both c.args.volatile.now c.cut.new.self c.args.self.now c.reserve.new.self c.take.new.self c.in_ok-front.front c.in_ok-group.group.items due

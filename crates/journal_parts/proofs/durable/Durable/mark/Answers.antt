@@ -1,7 +1,8 @@
-use Rattle.std.proofs.Common.{List, ◌≡◌, ◌++◌, ◌∷◌, ◌∙◌, [], inl, inr, refl, ap, sym, subst, arith, rules}
+use Rattle.std.proofs.Common.{List, ◌≡◌, ◌<◌, ◌++◌, ◌∷◌, ◌∙◌, [], inl, inr, refl, ap, sym, subst, arith, rules}
+use Rattle.std.proofs.lemmas.Bool.{eqb-true, eqb-false, not-true, not-false}
 use mathlib.Core.List.{IsPrefix}
 use Rattle.journal_world.specs.declared.refusal.Refusal.{Refusal}
-use Rattle.journal_world.specs.Histories.{Entry}
+use Rattle.journal_world.specs.Histories.{Entry, floor}
 use Rattle.journal_world.specs.Histories.Entry.{stable}
 use Rattle.journal_world.proofs.Prefixes.{IsPrefix-trans}
 use Rattle.journal_objlog.proofs.Openings.{OnlyReads-refl}
@@ -10,9 +11,10 @@ use Rattle.journal_memory.specs.Causes.{CauseState}
 use Rattle.journal_parts.specs.Durables.{DurableState}
 use Rattle.journal_memory.specs.Volatiles.{VolatileState, IsFrontRefusal}
 use Rattle.journal_parts.specs.Pairs.{IsMarkDue, IsMarkingRefusal}
+use Rattle.journal_parts.proofs.Comparing.{below, not_below}
 use Rattle.journal_parts.proofs.Enduring.{crashes_reads}
 use Rattle.journal_parts.proofs.Pairing.{tied_mark}
-use Rattle.journal_parts.proofs.durable.Durable.mark.Goals.{then-last_cut-self-via-then-last_cut-self, then-last_cut-self-via-else-last_cut-self+then-marked-self}
+use Rattle.journal_parts.proofs.durable.Durable.mark.Goals.{then-ne-via-then-ne, then-ne-via-else-ne+then-eq}
 use Rattle.journal_parts.proofs.durable.Durable.mark.Goals as goal
 
 pub returns-in_err-front-clause-refusal : goal.returns-in_err-front-clause-refusal
@@ -25,29 +27,42 @@ pub returns-in_err-front-clause-crash : goal.returns-in_err-front-clause-crash
 returns-in_err-front-clause-crash g c =
     crashes_reads g.J.Naming.layout _ c.args.self.now c.args.self.now c.self.invariant c.self.view_is (OnlyReads-refl c.args.self.now.objects) refl
 
-pub returns-then-self-marked-clause-crash : goal.returns-then-self-marked-clause-crash
-returns-then-self-marked-clause-crash g c =
+pub returns-then-lt-clause-refusal : goal.returns-then-lt-clause-refusal
+returns-then-lt-clause-refusal g c =
+    let logged : c.self.inside.logged ≡ c.args.self.now.logged = ap (λ (d : DurableState). d.logged) c.self.view_is in
+    let lower : c.args.self.now.logged < floor c.args.volatile.now.ledger.history =
+    omega (arith, below c.self.inside.logged c.floor-marked.result c.if-lt.ensures, c.floor-marked.ensures, logged) in
+    search rules
+
+pub returns-then-lt-clause-crash : goal.returns-then-lt-clause-crash
+returns-then-lt-clause-crash g c =
     crashes_reads g.J.Naming.layout _ c.args.self.now c.args.self.now c.self.invariant c.self.view_is (OnlyReads-refl c.args.self.now.objects) refl
 
-pub returns-then-last_cut-self-clause-only : goal.returns-then-last_cut-self-clause-only
-returns-then-last_cut-self-clause-only g c = λ no due.
+pub returns-then-ne-clause-only : goal.returns-then-ne-clause-only
+returns-then-ne-clause-only g c = λ no due.
     let logged : c.self.inside.logged ≡ c.args.self.now.logged = ap (λ (d : DurableState). d.logged) c.self.view_is in
-    elim c.then-last_cut-self.branch [
-      | then-last_cut-self-via-then-last_cut-self w ↦ let h = w.if-last_cut-self in omega (arith, h.true, c.last_cut.ensures, logged, due.cut)
-      | then-last_cut-self-via-else-last_cut-self+then-marked-self w ↦ let h = w.if-marked-self in
-          omega (arith, h.true, c.floor-marked.ensures, logged, due.more)
+    elim c.then-ne.branch [
+      | then-ne-via-then-ne w ↦ absurd (eqb-false c.last_cut.result c.self.inside.logged (not-true _ (sym w.if-ne.ensures)) (omega (arith, c.last_cut.ensures, logged, due.cut)))
+      | then-ne-via-else-ne+then-eq w ↦
+          omega (arith, eqb-true c.floor-marked.result c.self.inside.logged (sym w.if-eq.ensures), c.floor-marked.ensures, logged, due.more)
     ]
 
-pub returns-then-last_cut-self-clause-crash : goal.returns-then-last_cut-self-clause-crash
-returns-then-last_cut-self-clause-crash g c =
+pub returns-then-ne-clause-crash : goal.returns-then-ne-clause-crash
+returns-then-ne-clause-crash g c =
     crashes_reads g.J.Naming.layout _ c.args.self.now c.args.self.now c.self.invariant c.self.view_is (OnlyReads-refl c.args.self.now.objects) refl
 
 pub returns-in_err-mark-clause-refusal : goal.returns-in_err-mark-clause-refusal
 returns-in_err-mark-clause-refusal g c =
     let logged : c.self.inside.logged ≡ c.args.self.now.logged = ap (λ (d : DurableState). d.logged) c.self.view_is in
     let due : IsMarkDue c.args.volatile.now c.args.self.now = record {
-      cut = omega (arith, c.if-last_cut-self.false, c.last_cut.ensures, logged);
-      more = omega (arith, c.if-self-marked.false, c.if-marked-self.false, c.floor-marked.ensures, logged);
+      cut = omega (arith, eqb-true c.last_cut.result c.self.inside.logged (not-false _ (sym c.if-ne.ensures)), c.last_cut.ensures, logged);
+      more = omega (
+        arith,
+        not_below c.self.inside.logged c.floor-marked.result c.if-lt.ensures,
+        eqb-false c.floor-marked.result c.self.inside.logged (sym c.if-eq.ensures),
+        c.floor-marked.ensures,
+        logged,
+      );
     } in
     if_err c.from_residual-in_err-mark.result _ (IsMarkingRefusal c.args.volatile.now c.args.self.now) c.from_residual-in_err-mark.ensures.1
     (λ (e : Refusal CauseState) is. subst (λ (r : Refusal CauseState). IsMarkingRefusal c.args.volatile.now c.args.self.now r) (sym is)
@@ -57,8 +72,11 @@ pub returns-in_err-mark-clause-crash : goal.returns-in_err-mark-clause-crash
 returns-in_err-mark-clause-crash g c =
     crashes_reads g.J.Naming.layout _ c.args.self.now c.args.self.now c.self.invariant c.self.view_is (OnlyReads-refl c.args.self.now.objects) refl
 
+pub mark-requires-clause-due : goal.mark-requires-clause-due
+mark-requires-clause-due g c = inl (sym (eqb-true c.last_cut.result c.self.inside.logged (not-false _ (sym c.if-ne.ensures))) ∙ c.last_cut.ensures)
+
 pub mark-requires-clause-made : goal.mark-requires-clause-made
-mark-requires-clause-made g c = omega (arith, c.if-last_cut-self.false, c.last_cut.ensures, c.prove_invariant.ensures.made)
+mark-requires-clause-made g c = omega (arith, eqb-true c.last_cut.result c.self.inside.logged (not-false _ (sym c.if-ne.ensures)), c.last_cut.ensures, c.prove_invariant.ensures.made)
 
 pub set_marked-requires : goal.set_marked-requires
 set_marked-requires g c =
@@ -75,8 +93,14 @@ pub returns-clause-marks : goal.returns-clause-marks
 returns-clause-marks g c = λ done.
     let logged : c.self.inside.logged ≡ c.args.self.now.logged = ap (λ (d : DurableState). d.logged) c.self.view_is in
     let due : IsMarkDue c.args.volatile.now c.args.self.now = record {
-      cut = omega (arith, c.if-last_cut-self.false, c.last_cut.ensures, logged);
-      more = omega (arith, c.if-self-marked.false, c.if-marked-self.false, c.floor-marked.ensures, logged);
+      cut = omega (arith, eqb-true c.last_cut.result c.self.inside.logged (not-false _ (sym c.if-ne.ensures)), c.last_cut.ensures, logged);
+      more = omega (
+        arith,
+        not_below c.self.inside.logged c.floor-marked.result c.if-lt.ensures,
+        eqb-false c.floor-marked.result c.self.inside.logged (sym c.if-eq.ensures),
+        c.floor-marked.ensures,
+        logged,
+      );
     } in
     record { due = due; volatile = search rules; durable = search rules }
 

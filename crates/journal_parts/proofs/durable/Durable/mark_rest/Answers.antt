@@ -12,9 +12,10 @@ use Rattle.journal_memory.specs.Updates.{HaveAllSince}
 use Rattle.journal_parts.specs.Durables.{DurableState, IsDurable}
 use Rattle.journal_memory.specs.Volatiles.{VolatileState, IsFrontRefusal}
 use Rattle.journal_parts.specs.Pairs.{IsRestDue, IsRestRefusal}
+use Rattle.journal_parts.proofs.Comparing.{above, at_most}
 use Rattle.journal_parts.proofs.Enduring.{crashes_reads}
 use Rattle.journal_parts.proofs.Pairing.{marks_all, tied_rest, rest_since}
-use Rattle.journal_parts.proofs.durable.Durable.mark_rest.Goals.{then-awaits_logging-via-then-awaits_logging, then-awaits_logging-via-else-awaits_logging+then-commits-floor}
+use Rattle.journal_parts.proofs.durable.Durable.mark_rest.Goals.{then-awaits_logging-via-then-awaits_logging, then-awaits_logging-via-else-awaits_logging+then-le}
 use Rattle.journal_parts.proofs.durable.Durable.mark_rest.Goals as goal
 
 pub returns-in_err-front_over-clause-refusal : goal.returns-in_err-front_over-clause-refusal
@@ -32,8 +33,8 @@ returns-then-awaits_logging-clause-only g c = λ no due.
     let commits : c.commits-commits.result ≡ count c.args.volatile.now.ledger.history = c.commits-commits.ensures in
     elim c.then-awaits_logging.branch [
       | then-awaits_logging-via-then-awaits_logging w ↦ let h = w.if-awaits_logging in c.awaits_logging.ensures.only h.true due
-      | then-awaits_logging-via-else-awaits_logging+then-commits-floor w ↦ let h = w.if-commits-floor in let f = w.floor in
-          omega (arith, h.true, f.ensures, commits, due.more)
+      | then-awaits_logging-via-else-awaits_logging+then-le w ↦ let h = w.if-le in let f = w.floor in
+          omega (arith, at_most c.commits-commits.result f.result h.ensures, f.ensures, commits, due.more)
     ]
 
 pub returns-then-awaits_logging-clause-crash : goal.returns-then-awaits_logging-clause-crash
@@ -47,7 +48,7 @@ returns-in_err-mark-clause-refusal g c =
       logged = c.if-awaits_logging.ensures.cut refl;
       rest = c.if-awaits_logging.ensures.rest refl;
       tail = c.if-awaits_logging.ensures.tail refl;
-      more = omega (arith, c.if-commits-floor.false, c.floor.ensures, commits);
+      more = omega (arith, above c.commits-commits.result c.floor.result c.if-le.ensures, c.floor.ensures, commits);
     } in
     if_err c.from_residual-in_err-mark.result _ (IsRestRefusal c.args.volatile.now c.args.self.now) c.from_residual-in_err-mark.ensures.1
     (λ (e : Refusal CauseState) is. subst (λ (r : Refusal CauseState). IsRestRefusal c.args.volatile.now c.args.self.now r) (sym is)
@@ -90,7 +91,7 @@ returns-clause-marks g c = λ done.
       logged = c.if-awaits_logging.ensures.cut refl;
       rest = c.if-awaits_logging.ensures.rest refl;
       tail = c.if-awaits_logging.ensures.tail refl;
-      more = omega (arith, c.if-commits-floor.false, c.floor.ensures, commits);
+      more = omega (arith, above c.commits-commits.result c.floor.result c.if-le.ensures, c.floor.ensures, commits);
     } in
     marks_all c.args.volatile.now c.mark.new.self c.args.self.now c.note_all_logged.new.self c.set_marked.new.self c.commits-commits.result c.front.result c.front-2.result due commits
     c.in_ok-mark.ensures.added c.front.ensures.history
@@ -101,5 +102,5 @@ returns-clause-tied g c = λ tied.
     let commits : c.commits-commits.result ≡ count c.args.volatile.now.ledger.history = c.commits-commits.ensures in
     tied_rest g.J.Naming.layout c.args.volatile.now c.mark.new.self c.args.self.now c.set_marked.new.self
     c.prove_invariant.ensures (subst (IsDurable g.J.Naming.layout) c.self.view_is c.self.invariant)
-    (omega (arith, c.if-commits-floor.false, c.floor.ensures, commits))
+    (omega (arith, above c.commits-commits.result c.floor.result c.if-le.ensures, c.floor.ensures, commits))
     (returns-clause-marks g c refl) tied

@@ -1,0 +1,37 @@
+// A number of commits.
+ghost use Rattle.std.specs.Prelude.{◌≡◌};
+
+use std::marker::Model;
+
+/// How many commits a history has, or so many of its first ones. Contracts see the number.
+///
+/// It is no position of the log, no length of a history, which has other entries too, and no
+/// session's number, though all of these are numbers.
+#[derive(Clone, Copy, Debug, Default, PartialEq, Eq, PartialOrd, Ord)]
+pub struct CommitCount(u64);
+
+impl Model for CommitCount {
+    ghost use Rattle.std.specs.Prelude.{ℕ};
+
+    ghost Value = { ℕ };
+
+    ghost view = { λ commits. commits.0 };
+
+    ghost inverse = { λ commits. record { 0 = commits } };
+}
+
+impl CommitCount {
+    /// So many commits.
+    pub fn new(commits: u64) -> CommitCount
+        ensures { result ≡ commits }
+    {
+        CommitCount(commits)
+    }
+
+    /// The number.
+    pub fn get(self) -> u64
+        ensures { result ≡ self }
+    {
+        self.0
+    }
+}
