@@ -7,6 +7,7 @@ ghost use Rattle.journal_lockmap.specs.Numbers.{AreApart, HoldsSlots, slots_of};
 ghost use Rattle.journal_memory.specs.SlotCounts.{AgreeWith, AreUnder};
 ghost use Rattle.journal_memory.specs.Transactions.{AreUnmoved};
 ghost use Rattle.journal_parts.specs.Cores.{Crashes, IsRunning, OnlyReads};
+ghost use Rattle.journal_memory.specs.Rules.{KeepsRule};
 ghost use Rattle.journal_memory.specs.Ledgers.{ShowsLonger};
 ghost use Rattle.journal_core.specs.Commits.{IsCommitted, CanCommit, IsCommitRefusal};
 ghost use Rattle.journal_core.specs.Interleavings.{AnswersCommit};
@@ -68,6 +69,8 @@ impl<'b, D: BlockDisk, R: MapRule, J: Naming> Core<'b, D, R, J> {
         ensures event { AnswersCommit self.old session.old transaction.now result self.new session.new }
     {
         self.verify_tokens(rt, held);
+        // Called for its contract: the history is sound.
+        let _front = self.front();
         self.commit_verified(rt, session, transaction, held, spares)
     }
 
@@ -80,8 +83,7 @@ impl<'b, D: BlockDisk, R: MapRule, J: Naming> Core<'b, D, R, J> {
         held: &mut [Held<J>],
         spares: &mut Spares,
     ) -> Result<Receipt<'b, J, R>, Refusal<Cause<'b, J, R>>>
-        requires rule { (m : Map) → m.layout ≡ J.layout → R.statement m → Agrees m transaction.now.reads
-            → R.statement (overwritten m transaction.now.writes) }
+        requires rule { KeepsRule R.statement self.old.history transaction.now }
         requires unmoved { AreUnmoved J.layout self.old.history transaction.now }
         requires covered { HoldsSlots J.layout held.old transaction.now.writes }
         requires apart { AreApart held.old }

@@ -1,6 +1,6 @@
 // A commit in memory, with what is fetched for it.
 ghost use Rattle.std.specs.Prelude.{◌≡◌, ◌⊎◌, ◌<◌, [], map, length, IsTrue, IfOk, IfErr, OnOk, OnErr, All};
-ghost use Rattle.journal_world.specs.Maps.{Map, Agrees, overwritten};
+ghost use Rattle.journal_world.specs.Maps.{Agrees};
 ghost use Rattle.journal_world.specs.Histories.{is_trusted, latest};
 ghost use Rattle.journal_tail.specs.ObjectTails.{known_updates, missing_blocks};
 ghost use Rattle.journal_history.specs.Tokens.{next_transaction, OnlyExtends, IsReceiptFor};
@@ -8,6 +8,7 @@ ghost use Rattle.journal_lockmap.specs.Numbers.{AreApart, HoldsSlots, slots_of};
 ghost use Rattle.journal_memory.specs.SlotCounts.{AgreeWith};
 ghost use Rattle.journal_parts.specs.Cores.{Crashes, IsPair, IsRunning, OnlyReads, core_of};
 ghost use Rattle.journal_parts.specs.Durables.{IsCallRefusal};
+ghost use Rattle.journal_memory.specs.Rules.{KeepsRule};
 ghost use Rattle.journal_memory.specs.Ledgers.{ShowsLonger};
 ghost use Rattle.journal_memory.specs.Transactions.{AreUnmoved};
 ghost use Rattle.journal_memory.specs.Outsets.{IsCommitRefusal as IsRefusedFrom};
@@ -37,8 +38,7 @@ pub(crate) fn commit_step<'b, D: BlockDisk, R: MapRule, J: Naming, W: Wait>(
     held: &mut [Held<J>],
     spares: &mut Spares,
 ) -> Result<Receipt<'b, J, R>, Refusal<Cause<'b, J, R>>>
-    requires rule { (m : Map) → m.layout ≡ J.layout → R.statement m → Agrees m transaction.now.reads
-        → R.statement (overwritten m transaction.now.writes) }
+    requires rule { KeepsRule R.statement volatile.old.ledger.history transaction.now }
     requires unmoved { AreUnmoved J.layout volatile.old.ledger.history transaction.now }
     requires covered { HoldsSlots J.layout held.old transaction.now.writes }
     requires apart { AreApart held.old }
@@ -93,8 +93,7 @@ pub(crate) fn commit_fetched<'b, D: BlockDisk, R: MapRule, J: Naming, W: Wait>(
     spares: &mut Spares,
     rooms: Vec<Update>,
 ) -> Result<Receipt<'b, J, R>, Refusal<Cause<'b, J, R>>>
-    requires rule { (m : Map) → m.layout ≡ J.layout → R.statement m → Agrees m transaction.now.reads
-        → R.statement (overwritten m transaction.now.writes) }
+    requires rule { KeepsRule R.statement volatile.old.ledger.history transaction.now }
     requires unmoved { AreUnmoved J.layout volatile.old.ledger.history transaction.now }
     requires covered { HoldsSlots J.layout held.old transaction.now.writes }
     requires apart { AreApart held.old }

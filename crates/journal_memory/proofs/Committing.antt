@@ -1,12 +1,12 @@
 -- What commits need, and what they leave.
-use Rattle.std.proofs.Common.{Result, Ok, Err, OnOk, OnErr, ◌≡◌, ◌≢◌, ◌+◌, ◌==◌, ℕ, Bool, true, false, cond, IsTrue, List, [], ◌∷◌, ◌++◌, length, length-append, refl, sym, ap, subst, ◌∙◌}
+use Rattle.std.proofs.Common.{Result, Ok, Err, OnOk, OnErr, ◌≡◌, ◌≢◌, ◌+◌, ◌==◌, ℕ, Bool, true, false, cond, List, [], ◌∷◌, ◌++◌, length, length-append, refl, sym, ap, subst, ◌∙◌}
 use Rattle.std.specs.List.{filter}
 use Rattle.std.proofs.lemmas.Bool.{eqb-true, eqb-false, ne_eqb}
 use Rattle.std.proofs.lemmas.List.{append-nil}
 use mathlib.Core.List.{IsPrefix}
 use Rattle.journal_world.specs.Addresses.{Shape}
 use Rattle.journal_world.specs.Maps.{Map, Pair, Transaction, Agrees, overwritten}
-use Rattle.journal_world.specs.Histories.{Entry, opened, is_trusted, commits, commits_of, count, latest}
+use Rattle.journal_world.specs.Histories.{Entry, opened, commits, commits_of, count, latest}
 use Rattle.journal_world.specs.Histories.Entry.{commit, stable}
 use Rattle.journal_world.proofs.Prefixes.{IsPrefix-trans}
 use Rattle.journal_world.proofs.SessionCommits.{commits_of-append}
@@ -20,6 +20,7 @@ use Rattle.journal_memory.specs.Transactions.{TransactionState}
 use Rattle.journal_world.specs.declared.refusal.Refusal.{Refusal}
 use Rattle.journal_world.specs.declared.refusal.Refusal.TheVariants.{NoMemory, BadAddress, BadSize, TooLarge, Busy, DeviceFailed, BadLog, BadSuper, Stale, Stranger, Worn, Full, Closed, Fenced}
 use Rattle.journal_memory.specs.Causes.{CauseState}
+use Rattle.journal_memory.specs.Rules.{KeepsRule}
 use Rattle.journal_memory.specs.Ledgers.{HasSeen, IsStaleRefusal, IsAdmissionRefusal}
 
 -- another session has no more commits
@@ -68,11 +69,10 @@ stale_admits history s t (Full cause) stale = absurd stale
 stale_admits history s t (Closed cause) stale = absurd stale
 stale_admits history s t Fenced stale = absurd stale
 
--- the map after all commits keeps the rule once it is overwritten
-pub ruled_then : (layout : Shape) (rule : Map → Type 0) (history : List Entry) (reads writes : List Pair) → (opened history).layout ≡ layout → IsSound rule history
-    → ((m : Map) → m.layout ≡ layout → rule m → Agrees m reads → rule (overwritten m writes))
-    → (IsTrue (is_trusted history) → Agrees (latest history) reads) → IsTrue (is_trusted history) → rule (overwritten (latest history) writes)
-ruled_then layout rule history reads writes on_disk sound keeps agrees trusted =
+-- who keeps the rule on any map of the layout keeps it on the latest, which a sound history has by the rule
+pub keeps_rule : (layout : Shape) (rule : Map → Type 0) (history : List Entry) (t : TransactionState) → (opened history).layout ≡ layout → IsSound rule history
+    → ((m : Map) → m.layout ≡ layout → rule m → Agrees m t.reads → rule (overwritten m t.writes)) → KeepsRule rule history t
+keeps_rule layout rule history t on_disk sound keeps agrees trusted =
     keeps (latest history) (after-layout (opened history) (commits history) ∙ on_disk)
     (subst rule (at-count history) (sound.ruled trusted (count history))) (agrees trusted)
 

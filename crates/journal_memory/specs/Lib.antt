@@ -3,6 +3,7 @@ pub mod Sessions
 pub mod MarkedLengths
 pub mod SlotCounts
 pub mod Transactions
+pub mod Rules
 pub mod Ledgers
 pub mod Outsets
 pub mod Fences

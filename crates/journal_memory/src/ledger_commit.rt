@@ -1,9 +1,10 @@
 // What the ledger adds to the history.
 ghost use Rattle.std.specs.Prelude.{◌≡◌, ◌≢◌, ◌<◌, ◌≤◌, ◌+◌, ◌^◌, ◌++◌, ◌∷◌, ◌⊎◌, [], max, false, IsTrue, length, IfOk, IfErr, OnOk, OnErr};
-ghost use Rattle.journal_world.specs.Maps.{Map, Agrees, are_objects, overwritten};
+ghost use Rattle.journal_world.specs.Maps.{Agrees, are_objects};
 ghost use Rattle.journal_world.specs.Histories.{opened, is_trusted, is_fenced, commits_of, count, floor, latest};
 ghost use Rattle.journal_world.specs.Histories.Entry.{stable};
 ghost use Rattle.journal_history.specs.Tokens.{made, next_transaction, OnlyExtends, Commits, IsReceiptFor};
+ghost use Rattle.journal_memory.specs.Rules.{LeavesRule};
 ghost use Rattle.journal_memory.specs.Ledgers.{HasSeen, ShowsLonger, IsStaleRefusal, IsAdmissionRefusal, IsAddingRefusal, IsMarkRefusal};
 ghost use Rattle.journal_lockmap.specs.Numbers.{AreApart, HoldsSlots, slots_of};
 ghost use Rattle.journal_memory.specs.SlotCounts.{AgreeWith};
@@ -82,8 +83,7 @@ impl<'b, R: MapRule, J: Naming> Ledger<'b, R, J> {
     ) -> Result<Receipt<'b, J, R>, Refusal<Cause<'b, J, R>>>
         requires reads { IsTrue (are_objects J.layout transaction.now.reads) }
         requires writes { IsTrue (are_objects J.layout transaction.now.writes) }
-        requires rule { (m : Map) → m.layout ≡ J.layout → R.statement m → Agrees m transaction.now.reads
-            → R.statement (overwritten m transaction.now.writes) }
+        requires rule { LeavesRule R.statement self.old.history transaction.now }
         requires agrees { IsTrue (is_trusted self.old.history) → Agrees (latest self.old.history) transaction.now.reads }
         requires own { length (commits_of session.old.number self.old.history) ≡ made session.old }
         requires unfenced { is_fenced session.old.number self.old.history ≡ false }
@@ -104,7 +104,7 @@ impl<'b, R: MapRule, J: Naming> Ledger<'b, R, J> {
         ensures session { OnErr result (OnlyExtends session.old session.new) }
         ensures longer { IfErr result (ShowsLonger self.old.history session.new) }
     {
-        // Called for its contract: the history is sound.
+        // Called for its contract: there is an opening.
         let _len = self.writer.len();
         let number = SessionNumber::new(session.number());
         let writer = &mut self.writer;

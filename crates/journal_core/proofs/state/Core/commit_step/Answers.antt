@@ -9,8 +9,13 @@ use Rattle.journal_parts.specs.Cores.{CoreState, Crashes, OnlyReads}
 use Rattle.journal_core.specs.Commits.{IsCommitted, CanCommit, IsCommitRefusal}
 use Rattle.journal_core.specs.Interleavings.{AnswersCommit}
 use Rattle.journal_core.proofs.Verified.{agree_committed}
+use Rattle.journal_memory.proofs.Committing.{keeps_rule}
 use Rattle.journal_memory.proofs.Remembering.{verified_under}
 use Rattle.journal_core.proofs.state.Core.commit_step.Goals as goal
+
+pub commit_verified-requires-clause-rule : goal.commit_verified-requires-clause-rule
+commit_verified-requires-clause-rule g c =
+    keeps_rule g.J.Naming.layout g.R.MapRule.statement c.verify_tokens.new.self.history c.args.transaction.now c.front-front.ensures.size c.front-front.ensures.sound c.requires.rule
 
 pub commit_verified-requires-clause-unmoved : goal.commit_verified-requires-clause-unmoved
 commit_verified-requires-clause-unmoved g c =

@@ -1,20 +1,15 @@
-use Rattle.std.proofs.Common.{◌≡◌, ◌+◌, ◌∙◌, ℕ, IsTrue, set, sym, subst}
-use Rattle.journal_world.specs.Maps.{Agrees}
-use Rattle.journal_world.specs.Histories.{is_trusted, latest}
+use Rattle.std.proofs.Common.{◌≡◌, ◌+◌, ℕ, set, sym, subst, ◌∙◌}
 use Rattle.journal_history.specs.Counts.{HasCount}
 use Rattle.journal_history.specs.Tokens.{made, next_transaction}
 use Rattle.journal_memory.specs.Transactions.{TransactionState}
 use Rattle.journal_lockmap.specs.Numbers.{HoldsSlots, CountsWrites}
 use Rattle.journal_memory.specs.Ledgers.{LedgerState}
-use Rattle.journal_memory.proofs.Committing.{ruled_then}
+use Rattle.journal_memory.specs.Rules.{LeavesRule}
 use Rattle.journal_memory.proofs.Counting.{ledger_committed, agree_with}
 use Rattle.journal_memory.proofs.ledger.Ledger.commit.Goals as goal
 
 pub commit-requires-clause-rule : goal.commit-requires-clause-rule
-commit-requires-clause-rule g c =
-    ruled_then g.J.Naming.layout g.R.MapRule.statement c.self.inside.writer c.args.transaction.now.reads c.args.transaction.now.writes c.len-len.ensures.on_disk c.len-len.ensures.sound
-    c.requires.rule
-    (subst (λ (s : LedgerState). IsTrue (is_trusted s.history) → Agrees (latest s.history) c.args.transaction.now.reads) (sym c.self.view_is) c.requires.agrees)
+commit-requires-clause-rule g c = subst (λ (s : LedgerState). LeavesRule g.R.MapRule.statement s.history c.args.transaction.now) (sym c.self.view_is) c.requires.rule
 
 pub count_writes-requires-clause-covered : goal.count_writes-requires-clause-covered
 count_writes-requires-clause-covered g c = subst (λ (u : TransactionState). HoldsSlots g.J.Naming.layout c.args.held.now u.writes) (sym c.transaction.view_is) c.requires.covered

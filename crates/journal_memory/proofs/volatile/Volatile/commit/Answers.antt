@@ -10,9 +10,14 @@ use Rattle.journal_memory.specs.Outsets.{CanCommit, IsCommitRefusal}
 use Rattle.journal_memory.specs.Volatiles.{VolatileState, outset_of, usable}
 use Rattle.journal_memory.specs.VolatileCommits.{IsCommitted, IfDone, IfMissing, with_room}
 use Rattle.journal_memory.proofs.Answering.{answers_commit_in}
+use Rattle.journal_memory.proofs.Committing.{keeps_rule}
 use Rattle.journal_memory.proofs.Verifying.{agree_after}
 use Rattle.journal_memory.proofs.Remembering.{verified_under}
 use Rattle.journal_memory.proofs.volatile.Volatile.commit.Goals as goal
+
+pub commit_verified-answer-requires-clause-rule : goal.commit_verified-answer-requires-clause-rule
+commit_verified-answer-requires-clause-rule g c =
+    keeps_rule g.J.Naming.layout g.R.MapRule.statement c.verify_tokens.new.self.ledger.history c.args.transaction.now c.front-front.ensures.size c.front-front.ensures.sound c.requires.rule
 
 pub commit_verified-answer-requires-clause-unmoved : goal.commit_verified-answer-requires-clause-unmoved
 commit_verified-answer-requires-clause-unmoved g c =

@@ -1,0 +1,13 @@
+-- What a commit on a history needs, so that the mount's rule holds of the map after it.
+use Rattle.std.specs.Prelude.{IsTrue, List}
+use Rattle.journal_world.specs.Maps.{Map, Agrees, overwritten}
+use Rattle.journal_world.specs.Histories.{Entry, is_trusted, latest}
+use Rattle.journal_memory.specs.Transactions.{TransactionState}
+
+-- Where the history is trusted, the rule holds of the latest map once the transaction has overwritten it
+abbrev pub LeavesRule : (Map → Type 0) → List Entry → TransactionState → Type 0
+LeavesRule rule history t = IsTrue (is_trusted history) → rule (overwritten (latest history) t.writes)
+
+-- the same, if all that the transaction read is what that map gives
+abbrev pub KeepsRule : (Map → Type 0) → List Entry → TransactionState → Type 0
+KeepsRule rule history t = (IsTrue (is_trusted history) → Agrees (latest history) t.reads) → LeavesRule rule history t
