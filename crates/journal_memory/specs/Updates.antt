@@ -16,7 +16,7 @@ abbrev pub IsLastSince : List Entry → ℕ → Addr → Option Value → Type 0
 IsLastSince history c a (Some v) = v ≡ value_at (latest history) a
 IsLastSince history c a None = IsSince history c a
 
--- On a disk of a layout, the updates have all that the commits after the first c wrote, and as the last of them left it
+-- On a disk of a layout: each value that the updates have is the last one, and no other changed after the first c commits
 pub record HaveAllSince (layout : Shape) (history : List Entry) (c : ℕ) (updates : List Update) : Type 0 where
   pub last : (a : Addr) → IsTrue (is_valid layout a) → IsLastSince history c a (known_object layout updates a)
 

@@ -46,7 +46,7 @@ pub record IsCutOf (v : VolatileState) (c : CutPoint) : Type 0 where
   pub below : c.end ≤ v.tail.log.cut
   pub earlier : c.commits ≤ v.ledger.cut
 
--- What was written since: each cut, the last one too, is followed by all updates of the commits after it
+-- The updates after each cut, the last one too, have each value that a commit after it changed
 pub record HasUpdates (layout : Shape) (v : VolatileState) : Type 0 where
   pub since : All (λ c. HaveAllSince layout v.ledger.history c.commits (updates_from v.tail.log c.end)) (cut_points v.tail)
   pub since_last : HaveAllSince layout v.ledger.history v.ledger.cut (tail_of v.tail.log)

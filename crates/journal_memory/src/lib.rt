@@ -7,8 +7,9 @@
 //!   Fetched      blocks as they are logged, which the part with the disk reads
 //!
 //! A call of `Volatile` with a clause `event` is a hold of the memory lock alone, and the clause
-//! says all that it did (`specs/VolatileHolds.antt`). Calls that ask for the `LogKey` are made in
-//! holds of both locks. The part with the disk keeps the key to itself.
+//! says what it did (`specs/VolatileHolds.antt`). A wait and a flush change no part, as their clause
+//! `same` says. Calls that ask for the `LogKey` are made in holds of both locks. The part with the
+//! disk keeps the key to itself.
 #![tactic(auto)]
 
 mod cause;

@@ -9,7 +9,7 @@
 //! drops them from memory (both).
 //!
 //! What a thread does to a part under these locks is a hold: of Volatile, of Durable, or of both.
-//! There is one function for each, and its clause `event` says all that it did
+//! There is one function for each, and its clause `event` says what it did
 //! (`specs/Holds.antt`, and `VolatileHolds.antt` of `journal_memory`).
 //!
 //! Between any two holds, `IsBetween`: each part is as its type keeps it (`IsVolatile`,

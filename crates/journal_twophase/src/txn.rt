@@ -182,7 +182,7 @@ impl<'j, 'b, D: BlockDisk, R: MapRule, J: Naming> Txn<'j, 'b, D, R, J> {
         Ok(vec![in self.alloc; 0u8; kind.bytes()]?)
     }
 
-    // What the map gives, which it remembers. Only the look-up has the core's lock: the value's memory is made outside
+    // What the map gives, which it remembers. Only the look-up has a lock of the core: the value's memory is made outside
     // of it.
     fn read_map<W: Wait>(
         &mut self,

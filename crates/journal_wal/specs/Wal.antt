@@ -138,8 +138,8 @@ log_call_by log_end group left put after header = Some (write 0 header)
 log_call_by log_sync group left put after header = Some barrier
 log_call_by log_spent group left put after header = None
 
--- the logger's next device call, if one is due: a log block of the group in flight, a barrier,
--- block 0 with the end, a barrier
+-- the logger's next device call, if one is due: a log block of the group in flight, of a plain log
+-- a barrier, block 0, a barrier
 abbrev pub log_call : WalState → Option DiskEvent
 log_call w = log_call_by w.logging (w.log.cut - w.log.logged) (w.log.cut - w.ring.next)
     (write (log_block w.ring.next) (bytes_put w.ring (bytes_at w.log w.ring.next))) (call_after_blocks w.ring w.log) (with_end w.ring.header w.log.cut)
