@@ -7,7 +7,7 @@ ghost use Rattle.journal_lockmap.specs.Numbers.{AreApart, HoldsSlots, slots_of};
 ghost use Rattle.journal_memory.specs.SlotCounts.{AgreeWith, AreUnder};
 ghost use Rattle.journal_memory.specs.Transactions.{AreUnmoved};
 ghost use Rattle.journal_parts.specs.Cores.{Crashes, IsRunning, OnlyReads};
-ghost use Rattle.journal_memory.specs.Rules.{KeepsRule};
+ghost use Rattle.journal_memory.specs.Rules.{KeepsMapRule};
 ghost use Rattle.journal_memory.specs.Ledgers.{ShowsLonger};
 ghost use Rattle.journal_core.specs.Commits.{IsCommitted, CanCommit, IsCommitRefusal};
 ghost use Rattle.journal_core.specs.Interleavings.{AnswersCommit};
@@ -83,7 +83,7 @@ impl<'b, D: BlockDisk, R: MapRule, J: Naming> Core<'b, D, R, J> {
         held: &mut [Held<J>],
         spares: &mut Spares,
     ) -> Result<Receipt<'b, J, R>, Refusal<Cause<'b, J, R>>>
-        requires rule { KeepsRule R.statement self.old.history transaction.now }
+        requires rule { KeepsMapRule R.statement self.old.history transaction.now }
         requires unmoved { AreUnmoved J.layout self.old.history transaction.now }
         requires covered { HoldsSlots J.layout held.old transaction.now.writes }
         requires apart { AreApart held.old }

@@ -8,7 +8,7 @@ ghost use Rattle.journal_lockmap.specs.Numbers.{AreApart, HoldsSlots, slots_of};
 ghost use Rattle.journal_memory.specs.SlotCounts.{AgreeWith};
 ghost use Rattle.journal_parts.specs.Cores.{Crashes, IsPair, IsRunning, OnlyReads, core_of};
 ghost use Rattle.journal_parts.specs.Durables.{IsCallRefusal};
-ghost use Rattle.journal_memory.specs.Rules.{KeepsRule};
+ghost use Rattle.journal_memory.specs.Rules.{KeepsMapRule};
 ghost use Rattle.journal_memory.specs.Ledgers.{ShowsLonger};
 ghost use Rattle.journal_memory.specs.Transactions.{AreUnmoved};
 ghost use Rattle.journal_memory.specs.Outsets.{IsCommitRefusal as IsRefusedFrom};
@@ -38,7 +38,7 @@ pub(crate) fn commit_step<'b, D: BlockDisk, R: MapRule, J: Naming, W: Wait>(
     held: &mut [Held<J>],
     spares: &mut Spares,
 ) -> Result<Receipt<'b, J, R>, Refusal<Cause<'b, J, R>>>
-    requires rule { KeepsRule R.statement volatile.old.ledger.history transaction.now }
+    requires rule { KeepsMapRule R.statement volatile.old.ledger.history transaction.now }
     requires unmoved { AreUnmoved J.layout volatile.old.ledger.history transaction.now }
     requires covered { HoldsSlots J.layout held.old transaction.now.writes }
     requires apart { AreApart held.old }
@@ -93,7 +93,7 @@ pub(crate) fn commit_fetched<'b, D: BlockDisk, R: MapRule, J: Naming, W: Wait>(
     spares: &mut Spares,
     rooms: Vec<Update>,
 ) -> Result<Receipt<'b, J, R>, Refusal<Cause<'b, J, R>>>
-    requires rule { KeepsRule R.statement volatile.old.ledger.history transaction.now }
+    requires rule { KeepsMapRule R.statement volatile.old.ledger.history transaction.now }
     requires unmoved { AreUnmoved J.layout volatile.old.ledger.history transaction.now }
     requires covered { HoldsSlots J.layout held.old transaction.now.writes }
     requires apart { AreApart held.old }

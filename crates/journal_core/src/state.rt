@@ -52,8 +52,8 @@ impl<'b, D: BlockDisk, R: MapRule, J: Naming> Core<'b, D, R, J> {
         Stat {
             commits: self.volatile.commits().get(),
             floor: self.volatile.floor().get(),
-            start,
-            end,
+            start: start.get(),
+            end: end.get(),
         }
     }
 

@@ -15,7 +15,7 @@ use crate::world::{Bit127IsSet, FirstBitIsClear};
 use journal_block::{Block, Update};
 use journal_disk::{BlockDisk, MemDisk};
 use journal_objlog::ObjectLog;
-use journal_tail::{ObjectTail, Preparation, Spares};
+use journal_tail::{CommitCount, ObjectTail, Position, Preparation, Spares};
 use journal_wal::{GroupStep, InstallStep};
 use journal_world::{Addr, Layout, MapRule, Objects, Refusal, Value};
 use std::alloc::Global;
@@ -103,7 +103,7 @@ fn open(rt: &impl Abort, alloc: Global, disk: MemDisk) -> Run<Pair>
     };
     let end = log.log_range().1;
     assert!(rt; end < 1 << 62);
-    let tail = ObjectTail::new(alloc, layout.blocks, end, COPIES)?;
+    let tail = ObjectTail::new(alloc, layout.blocks, Position::new(end), COPIES)?;
     Ok(Pair { layout, tail, log })
 }
 
@@ -286,7 +286,7 @@ fn cut(pair: &mut Pair) -> Run<bool> {
     if !log.reserve_group(tail.tail_len() as usize)? {
         return Ok(false);
     }
-    let group = tail.cut(0)?;
+    let group = tail.cut(CommitCount::new(0))?;
     log.take_reserved(group);
     Ok(true)
 }

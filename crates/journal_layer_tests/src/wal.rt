@@ -11,7 +11,7 @@ use crate::asserts::wants;
 use crate::runs::{DEVICE_FAILED, Run, Wrong, block_with, called, is_refused, number, told};
 use journal_block::{Block, Update};
 use journal_disk::{BlockDisk, MemDisk};
-use journal_tail::Tail;
+use journal_tail::{CommitCount, Position, Tail};
 use journal_wal::{GroupStep, InstallStep, Wal};
 use journal_world::{MIN_BLOCKS, Refusal};
 use std::alloc::Global;
@@ -151,7 +151,7 @@ fn paired(rt: &impl Abort, alloc: Global, wal: Wal<MemDisk>) -> Run<Pair>
 {
     let end = wal.log_range().1;
     assert!(rt; end < 1 << 62);
-    let tail = Tail::new(alloc, wal.size(), end, 1)?;
+    let tail = Tail::new(alloc, wal.size(), Position::new(end), 1)?;
     Ok(Pair { tail, wal })
 }
 
@@ -225,7 +225,7 @@ fn cut(pair: &mut Pair) -> Run<bool> {
     if !wal.reserve_group(tail.tail_len() as usize)? {
         return Ok(false);
     }
-    let group = tail.cut(0)?;
+    let group = tail.cut(CommitCount::new(0))?;
     wal.take_reserved(group);
     Ok(true)
 }

@@ -20,7 +20,7 @@ use Rattle.journal_memory.specs.Transactions.{TransactionState}
 use Rattle.journal_world.specs.declared.refusal.Refusal.{Refusal}
 use Rattle.journal_world.specs.declared.refusal.Refusal.TheVariants.{NoMemory, BadAddress, BadSize, TooLarge, Busy, DeviceFailed, BadLog, BadSuper, Stale, Stranger, Worn, Full, Closed, Fenced}
 use Rattle.journal_memory.specs.Causes.{CauseState}
-use Rattle.journal_memory.specs.Rules.{KeepsRule}
+use Rattle.journal_memory.specs.Rules.{KeepsMapRule}
 use Rattle.journal_memory.specs.Ledgers.{HasSeen, IsStaleRefusal, IsAdmissionRefusal}
 
 -- another session has no more commits
@@ -71,7 +71,7 @@ stale_admits history s t Fenced stale = absurd stale
 
 -- who keeps the rule on any map of the layout keeps it on the latest, which a sound history has by the rule
 pub keeps_rule : (layout : Shape) (rule : Map → Type 0) (history : List Entry) (t : TransactionState) → (opened history).layout ≡ layout → IsSound rule history
-    → ((m : Map) → m.layout ≡ layout → rule m → Agrees m t.reads → rule (overwritten m t.writes)) → KeepsRule rule history t
+    → ((m : Map) → m.layout ≡ layout → rule m → Agrees m t.reads → rule (overwritten m t.writes)) → KeepsMapRule rule history t
 keeps_rule layout rule history t on_disk sound keeps agrees trusted =
     keeps (latest history) (after-layout (opened history) (commits history) ∙ on_disk)
     (subst rule (at-count history) (sound.ruled trusted (count history))) (agrees trusted)

@@ -5,9 +5,9 @@ use Rattle.journal_world.specs.Histories.{Entry, is_trusted, latest}
 use Rattle.journal_memory.specs.Transactions.{TransactionState}
 
 -- Where the history is trusted, the rule holds of the latest map once the transaction has overwritten it
-abbrev pub LeavesRule : (Map → Type 0) → List Entry → TransactionState → Type 0
-LeavesRule rule history t = IsTrue (is_trusted history) → rule (overwritten (latest history) t.writes)
+abbrev pub LeavesMapRule : (Map → Type 0) → List Entry → TransactionState → Type 0
+LeavesMapRule rule history t = IsTrue (is_trusted history) → rule (overwritten (latest history) t.writes)
 
 -- the same, if all that the transaction read is what that map gives
-abbrev pub KeepsRule : (Map → Type 0) → List Entry → TransactionState → Type 0
-KeepsRule rule history t = (IsTrue (is_trusted history) → Agrees (latest history) t.reads) → LeavesRule rule history t
+abbrev pub KeepsMapRule : (Map → Type 0) → List Entry → TransactionState → Type 0
+KeepsMapRule rule history t = (IsTrue (is_trusted history) → Agrees (latest history) t.reads) → LeavesMapRule rule history t

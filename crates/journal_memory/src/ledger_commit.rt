@@ -4,7 +4,7 @@ ghost use Rattle.journal_world.specs.Maps.{Agrees, are_objects};
 ghost use Rattle.journal_world.specs.Histories.{opened, is_trusted, is_fenced, commits_of, count, floor, latest};
 ghost use Rattle.journal_world.specs.Histories.Entry.{stable};
 ghost use Rattle.journal_history.specs.Tokens.{made, next_transaction, OnlyExtends, Commits, IsReceiptFor};
-ghost use Rattle.journal_memory.specs.Rules.{LeavesRule};
+ghost use Rattle.journal_memory.specs.Rules.{LeavesMapRule};
 ghost use Rattle.journal_memory.specs.Ledgers.{HasSeen, ShowsLonger, IsStaleRefusal, IsAdmissionRefusal, IsAddingRefusal, IsMarkRefusal};
 ghost use Rattle.journal_lockmap.specs.Numbers.{AreApart, HoldsSlots, slots_of};
 ghost use Rattle.journal_memory.specs.SlotCounts.{AgreeWith};
@@ -83,7 +83,7 @@ impl<'b, R: MapRule, J: Naming> Ledger<'b, R, J> {
     ) -> Result<Receipt<'b, J, R>, Refusal<Cause<'b, J, R>>>
         requires reads { IsTrue (are_objects J.layout transaction.now.reads) }
         requires writes { IsTrue (are_objects J.layout transaction.now.writes) }
-        requires rule { LeavesRule R.statement self.old.history transaction.now }
+        requires rule { LeavesMapRule R.statement self.old.history transaction.now }
         requires agrees { IsTrue (is_trusted self.old.history) → Agrees (latest self.old.history) transaction.now.reads }
         requires own { length (commits_of session.old.number self.old.history) ≡ made session.old }
         requires unfenced { is_fenced session.old.number self.old.history ≡ false }

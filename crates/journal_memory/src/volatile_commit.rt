@@ -8,7 +8,7 @@ ghost use Rattle.journal_tail.specs.ObjectTails.{known_updates, tail_base, missi
 ghost use Rattle.journal_tail.specs.Writes.{writes_block, IsPrepared};
 ghost use Rattle.journal_history.specs.Tokens.{made, next_transaction, OnlyExtends, IsReceiptFor};
 ghost use Rattle.journal_lockmap.specs.Numbers.{AreApart, HoldsSlots, slots_of};
-ghost use Rattle.journal_memory.specs.Rules.{KeepsRule, LeavesRule};
+ghost use Rattle.journal_memory.specs.Rules.{KeepsMapRule, LeavesMapRule};
 ghost use Rattle.journal_memory.specs.Ledgers.{HasSeen, ShowsLonger, IsAdmissionRefusal, IsAddingRefusal};
 ghost use Rattle.journal_memory.specs.SlotCounts.{AgreeWith, AreUnder};
 ghost use Rattle.journal_memory.specs.Transactions.{AreUnmoved};
@@ -109,7 +109,7 @@ impl<'b, R: MapRule, J: Naming> Volatile<'b, R, J> {
         spares: &mut Spares,
         fetched: &Fetched<'b, J, R>,
     ) -> Result<CommitStep<Receipt<'b, J, R>>, Refusal<Cause<'b, J, R>>>
-        requires rule { KeepsRule R.statement self.old.ledger.history transaction.now }
+        requires rule { KeepsMapRule R.statement self.old.ledger.history transaction.now }
         requires unmoved { AreUnmoved J.layout self.old.ledger.history transaction.now }
         requires covered { HoldsSlots J.layout held.old transaction.now.writes }
         requires apart { AreApart held.old }
@@ -218,7 +218,7 @@ impl<'b, R: MapRule, J: Naming> Volatile<'b, R, J> {
     ) -> Result<Receipt<'b, J, R>, Refusal<Cause<'b, J, R>>>
         requires reads { IsTrue (are_objects J.layout transaction.now.reads) }
         requires writes { IsTrue (are_objects J.layout transaction.now.writes) }
-        requires rule { LeavesRule R.statement self.old.ledger.history transaction.now }
+        requires rule { LeavesMapRule R.statement self.old.ledger.history transaction.now }
         requires agrees { IsTrue (is_trusted self.old.ledger.history) → Agrees (latest self.old.ledger.history) transaction.now.reads }
         requires own { length (commits_of session.old.number self.old.ledger.history) ≡ made session.old }
         requires unfenced { is_fenced session.old.number self.old.ledger.history ≡ false }

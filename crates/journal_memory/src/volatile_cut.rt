@@ -16,7 +16,7 @@ use crate::log_key::LogKey;
 use crate::volatile::Volatile;
 use journal_block::Update;
 use journal_history::Naming;
-use journal_tail::CommitCount;
+use journal_tail::{CommitCount, Position};
 use journal_world::{MapRule, Refusal};
 
 impl<'b, R: MapRule, J: Naming> Volatile<'b, R, J> {
@@ -88,7 +88,7 @@ impl<'b, R: MapRule, J: Naming> Volatile<'b, R, J> {
 
     /// Of a hold of both: drops the updates of each cut that ends at the position or before it,
     /// which are at home. Copies of their blocks are overwritten by them.
-    pub fn trim(&mut self, _key: &LogKey<J>, upto: u64)
+    pub fn trim(&mut self, _key: &LogKey<J>, upto: Position)
         ensures drops { DropsCuts self.old.tail upto self.new.tail }
         ensures left { All (λ c. upto < c.end) self.new.tail.cuts }
         ensures others { self.new ≡ record self.old { tail = self.new.tail } }

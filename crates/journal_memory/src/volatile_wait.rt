@@ -13,7 +13,7 @@ use crate::cause::Cause;
 use crate::volatile::Volatile;
 use journal_circ::LOG_POSITIONS;
 use journal_history::{Naming, Session};
-use journal_tail::CommitCount;
+use journal_tail::{CommitCount, Position};
 use journal_world::{MapRule, Refusal};
 use std::sync::Wait;
 
@@ -177,16 +177,16 @@ impl<'b, R: MapRule, J: Naming> Volatile<'b, R, J> {
     /// How many positions of the log have updates up to the last cut, where the log starts at this
     /// one. That is told by the durable part: what was in the log when it was opened stands in no
     /// cut of memory.
-    pub fn used_positions(&self, start: u64) -> u64
+    pub fn used_positions(&self, start: Position) -> u64
         ensures { result ≡ used_positions self.now start }
     {
-        self.tail.bounds().cut.saturating_sub(start)
+        self.tail.bounds().cut.saturating_sub(start.get())
     }
 
     /// Whether the logger has nothing to do, as far as memory alone can tell, where the log starts
     /// at this position: the last cut is marked, and there is no tail and no commit after the
     /// mark, or there are fewer free positions than the tail has blocks.
-    pub fn has_nothing_to_log(&self, start: u64) -> bool
+    pub fn has_nothing_to_log(&self, start: Position) -> bool
         ensures { IsTrue result ↔ HasNothingToLog self.now start }
     {
         let floor = self.ledger.floor();

@@ -4,6 +4,7 @@ ghost use Rattle.std.specs.Prelude.{◌≡◌};
 
 use journal_history::Naming;
 use journal_memory::Cause;
+use journal_tail::Position;
 use journal_world::{MapRule, Refusal};
 use std::marker::Model;
 
@@ -27,7 +28,7 @@ impl<'b, J: Naming, R: MapRule> Model for UnnotedFault<'b, J, R> {
 /// these.
 #[must_use]
 pub struct FreedLog {
-    pub(crate) upto: u64,
+    pub(crate) upto: Position,
 }
 
 impl Model for FreedLog {
@@ -40,7 +41,7 @@ impl Model for FreedLog {
 
 impl FreedLog {
     /// The position up to which all are free.
-    pub fn upto(&self) -> u64
+    pub fn upto(&self) -> Position
         ensures { result ≡ self.now }
     {
         self.upto

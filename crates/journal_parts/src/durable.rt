@@ -11,7 +11,7 @@ use journal_disk::{BlockDisk, MemDisk};
 use journal_history::{Front, Naming};
 use journal_memory::LogKey;
 use journal_objlog::ObjectLog;
-use journal_tail::CommitCount;
+use journal_tail::{CommitCount, Position};
 use journal_world::MapRule;
 use std::marker::Model;
 
@@ -72,10 +72,11 @@ impl<'b, D: BlockDisk, R: MapRule, J: Naming> Durable<'b, D, R, J> {
     }
 
     /// Where the log on the disk starts and ends, as last synced: positions, of which there are at most 511.
-    pub fn log_range(&self) -> (u64, u64)
+    pub fn log_range(&self) -> (Position, Position)
         ensures { result ≡ (start_of self.now.objects, end_of self.now.objects) }
     {
-        self.objects.log_range()
+        let (start, end) = self.objects.log_range();
+        (Position::new(start), Position::new(end))
     }
 
     /// The disk, lent. Where it was honest and settled when it was opened, each image that a crash may leave of it

@@ -18,7 +18,7 @@ use journal_history::{Book, Naming, Opened, SessionCounts, Writer};
 use journal_lockmap::{SlotCell, SlotCounts, Slots};
 use journal_memory::{Cause, Ledger, LogKey, RefusalNumber, Volatile};
 use journal_objlog::ObjectLog;
-use journal_tail::ObjectTail;
+use journal_tail::{ObjectTail, Position};
 use journal_world::{Layout, MapRule, Refusal, Refused};
 use std::alloc::Global;
 
@@ -94,7 +94,8 @@ pub fn open_parts<'b, D: BlockDisk, R: MapRule, J: Naming>(
             });
         }
     };
-    let tail = match ObjectTail::new(alloc, layout.blocks, objects.log_range().1, copies) {
+    let end = Position::new(objects.log_range().1);
+    let tail = match ObjectTail::new(alloc, layout.blocks, end, copies) {
         Ok(tail) => tail,
         Err(refusal) => {
             return Err(Refused {

@@ -15,6 +15,7 @@ use crate::step::LogStep;
 use journal_disk::BlockDisk;
 use journal_history::Naming;
 use journal_memory::{Cause, RefusalNumber, Volatile};
+use journal_tail::Position;
 use journal_world::{MapRule, Refusal};
 
 impl<'b, D: BlockDisk, R: MapRule, J: Naming> Durable<'b, D, R, J> {
@@ -175,7 +176,7 @@ impl<'b, D: BlockDisk, R: MapRule, J: Naming> Durable<'b, D, R, J> {
     }
 
     /// Drops from memory what is at home: the updates of each cut that ends at the position or before it.
-    pub(crate) fn trim_memory(&self, volatile: &mut Volatile<'b, R, J>, upto: u64)
+    pub(crate) fn trim_memory(&self, volatile: &mut Volatile<'b, R, J>, upto: Position)
         ensures drops { DropsCuts volatile.old.tail upto volatile.new.tail }
         ensures left { All (λ c. upto < c.end) volatile.new.tail.cuts }
         ensures others { volatile.new ≡ record volatile.old { tail = volatile.new.tail } }

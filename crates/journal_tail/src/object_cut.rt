@@ -10,6 +10,7 @@ ghost use Rattle.journal_tail.specs.ObjectTails.{blocks_of};
 
 use crate::commit_count::CommitCount;
 use crate::object_tail::ObjectTail;
+use crate::position::Position;
 use journal_block::Update;
 use journal_memlog::Bounds;
 use journal_world::Refusal;
@@ -79,7 +80,7 @@ impl ObjectTail {
 
     /// Drops the updates of each cut that ends at the position or before it: they are at home. Copies of their blocks are
     /// overwritten by them. It takes no memory, and moves the blocks.
-    pub fn trim(&mut self, upto: u64)
+    pub fn trim(&mut self, upto: Position)
         ensures drops { DropsCuts self.old upto self.new }
         ensures left { All (λ c. upto < c.end) self.new.cuts }
         // What was updated since a cut that is left is as it was.

@@ -9,6 +9,7 @@ ghost use Rattle.journal_object.specs.Objects.{size_at};
 ghost use Rattle.journal_tail.specs.Tails.{empty_tail};
 ghost use Rattle.journal_tail.specs.ObjectTails.{known_updates, known_at};
 
+use crate::position::Position;
 use crate::tail::Tail;
 use journal_block::{Block, Update};
 use journal_object::load_valid;
@@ -46,7 +47,7 @@ impl ObjectTail {
     pub fn new<C>(
         alloc: Global,
         blocks: u64,
-        end: u64,
+        end: Position,
         copies: usize,
     ) -> Result<ObjectTail, Refusal<C>>
         requires end { end < 2 ^ 62 }

@@ -15,6 +15,7 @@ ghost use Rattle.journal_tail.specs.declared.limits.TheConstants.{MAX_TAIL};
 use crate::block_cache::BlockCache;
 use crate::commit_count::CommitCount;
 use crate::limits::{MAX_POSITION, MAX_TAIL, MAX_UPDATES};
+use crate::position::Position;
 use journal_block::{Block, Update};
 use journal_memlog::{Bounds, MemLog};
 use journal_world::Refusal;
@@ -26,7 +27,7 @@ use std::marker::Model;
 #[derive(Clone, Copy, Debug, PartialEq, Eq)]
 pub struct CutPoint {
     /// The position after the group's last.
-    pub end: u64,
+    pub end: Position,
     /// How many commits there were.
     pub commits: CommitCount,
 }
@@ -60,13 +61,13 @@ impl Tail {
     /// will have no more than `most`, and no commit was made.
     ///
     /// Answers J1 `NoMemory`, and nothing else, where memory for an index is refused.
-    pub fn new<C>(alloc: Global, blocks: u64, start: u64, most: usize) -> Result<Tail, Refusal<C>>
+    pub fn new<C>(alloc: Global, blocks: u64, start: Position, most: usize) -> Result<Tail, Refusal<C>>
         requires start { start < 2 ^ 62 }
         requires some { 0 < most }
         ensures tail { IfOk result (λ tail. tail ≡ empty_tail blocks start tail.log.room) }
         ensures refusal { IsOkUnless result Refusal.NoMemory }
     {
-        let memory = MemLog::new(alloc, blocks, start)?;
+        let memory = MemLog::new(alloc, blocks, start.get())?;
         let cache = BlockCache::new(alloc, most)?;
         Ok(Tail {
             alloc,
@@ -146,23 +147,26 @@ impl Tail {
     }
 
     /// The position at which the block stands in the tail, or `None` where it does not.
-    pub fn place_in_tail(&self, block: u64) -> Option<u64>
+    pub fn place_in_tail(&self, block: u64) -> Option<Position>
         ensures found { is_some result ≡ updates_block (tail_of self.now.log) block }
         ensures place { IfSome result (IsLastOf self.now.log block self.now.log.cut) }
         ensures sound { IsMemLog self.now.log }
     {
-        self.memory.place_in_tail(block)
+        match self.memory.place_in_tail(block) {
+            Some(position) => Some(Position::new(position)),
+            None => None,
+        }
     }
 
     /// The content of the block at a position of the tail, lent to be overwritten. The tail is then what it is with
     /// that content appended.
-    pub fn tail_block(&mut self, position: u64) -> &mut Block
+    pub fn tail_block(&mut self, position: Position) -> &mut Block
         requires from_cut { self.old.log.cut ≤ position }
         requires to_next { position < next_position self.old.log }
         ensures* lends { sem 𝓛 (LendsTailBlock self.entry position result) }
         ensures content { result.now ≡ (update_at self.old.log.updates (position - self.old.log.start)).bytes }
     {
-        self.memory.tail_block(position)
+        self.memory.tail_block(position.get())
     }
 
     /// Refuses updates of so many blocks, of which so many are fresh, that is do not stand in the tail: J4
@@ -227,7 +231,7 @@ impl Tail {
         ensures refusal { IsOkUnless result Refusal.NoMemory }
     {
         let group = self.copy_tail()?;
-        let end = self.memory.bounds().next;
+        let end = Position::new(self.memory.bounds().next);
         self.cuts.push_back(CutPoint { end, commits })?;
         self.memory.cut();
         Ok(group)
@@ -253,7 +257,7 @@ impl Tail {
 
     /// Drops the updates of each cut that ends at the position or before it: they are at home. Where there is a copy of
     /// their block, it is overwritten by them. It takes no memory, and moves the blocks.
-    pub fn trim(&mut self, upto: u64)
+    pub fn trim(&mut self, upto: Position)
         ensures drops { DropsCuts self.old upto self.new }
         ensures left { All (λ c. upto < c.end) self.new.cuts }
         // What was updated since a cut that is left is as it was.
@@ -267,7 +271,7 @@ impl Tail {
     }
 
     // Whether the first cut ends at the position or before it.
-    fn has_cut_by(&self, upto: u64) -> bool
+    fn has_cut_by(&self, upto: Position) -> bool
         ensures yes { IsTrue result → (c : CutPoint) × (later : List CutPoint) × (self.now.cuts ≡ c ∷ later)
             × (self.now.log.start ≤ c.end) × (c.end ≤ upto) }
         ensures no { result ≡ false → All (λ c. upto < c.end) self.now.cuts }
@@ -292,8 +296,8 @@ impl Tail {
             ..
         } = self;
         let cut = cuts.pop_front().unwrap();
-        memory.logged(cut.end);
-        move_to_cache(memory, cache, cut.end);
+        memory.logged(cut.end.get());
+        move_to_cache(memory, cache, cut.end.get());
         *trimmed = cut.commits;
     }
 }

@@ -278,8 +278,8 @@ impl<'b, D: BlockDisk, R: MapRule, J: Naming> LockedParts<'b, D, R, J> {
         Stat {
             commits: memory.volatile.commits().get(),
             floor: memory.volatile.floor().get(),
-            start,
-            end,
+            start: start.get(),
+            end: end.get(),
         }
     }
 

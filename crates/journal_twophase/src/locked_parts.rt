@@ -26,6 +26,7 @@ use journal_memory::{
     Cause, CommitStep, Fetched, ReadResult, SessionNumber, Spares, Transaction, Volatile,
 };
 use journal_parts::{Durable, open_parts};
+use journal_tail::Position;
 use journal_world::{Addr, Layout, MapRule, Refusal, Refused};
 use std::alloc::Global;
 use std::hint::spin_loop;
@@ -44,7 +45,7 @@ pub(crate) struct UnderMemoryLock<'b, R: MapRule, J: Naming> {
     pub(crate) padding: [u64; PADDING_WORDS],
     pub(crate) volatile: Volatile<'b, R, J>,
     // Where the log on the disk starts. What was in it when it was opened stands in no part of memory, but takes room.
-    pub(crate) log_start: u64,
+    pub(crate) log_start: Position,
     // The logger sleeps until a commit wakes it, and none did yet.
     pub(crate) logger_sleeps: bool,
     // The logger delays a group, and nobody ended the delay yet.

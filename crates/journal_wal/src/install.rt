@@ -11,6 +11,7 @@ use crate::wal::Wal;
 use journal_circ::{Freed, HomesPut};
 use journal_disk::BlockDisk;
 use journal_memlog::MemLog;
+use journal_tail::Position;
 use journal_world::Refusal;
 use std::mem;
 
@@ -102,7 +103,7 @@ impl<D: BlockDisk> Wal<D> {
             }
             Installer::StartPut(state, upto) => {
                 let freed = circ.sync_start(state)?;
-                step = InstallStep::Freed(upto);
+                step = InstallStep::Freed(Position::new(upto));
                 Installer::Resting(free(&mut self.memory, freed, upto))
             }
             Installer::Resting(_) | Installer::Spent => return Err(Refusal::DeviceFailed(())),

@@ -11,7 +11,7 @@ use crate::runs::{
 use crate::world::regions::{BEYOND, SMALL, regions};
 use journal_block::{Block, Update};
 use journal_memlog::Bounds;
-use journal_tail::{ObjectTail, Preparation, Spares};
+use journal_tail::{CommitCount, ObjectTail, Position, Preparation, Spares};
 use journal_world::{Addr, Layout};
 use std::alloc::Global;
 use std::marker::Model;
@@ -89,7 +89,7 @@ fn empty(alloc: Global, layout: Layout, end: u64) -> Run<Memory>
 {
     Ok(Memory {
         layout,
-        tail: ObjectTail::new(alloc, layout.blocks, end, 1)?,
+        tail: ObjectTail::new(alloc, layout.blocks, Position::new(end), 1)?,
         fetched: Vec::new(alloc),
         group: Vec::new(alloc),
     })
@@ -133,7 +133,7 @@ fn group_has(alloc: Global, memory: &mut Memory, fill: Fill) -> Run<u64> {
         fetched: _,
         group,
     } = memory;
-    let none = ObjectTail::new(alloc, layout.blocks, 0, 1)?;
+    let none = ObjectTail::new(alloc, layout.blocks, Position::new(0), 1)?;
     is_so(alloc, layout, &none, group, fill)
 }
 
@@ -197,7 +197,7 @@ fn is_of(group: &[Update], blocks: &[u64]) -> bool {
 }
 
 fn cut(memory: &mut Memory, commits: u64) -> Run<u64> {
-    memory.group = memory.tail.cut(commits)?;
+    memory.group = memory.tail.cut(CommitCount::new(commits))?;
     Ok(memory.group.len() as u64)
 }
 
@@ -219,7 +219,7 @@ fn count(tail: &ObjectTail, call: Call) -> u64 {
         HeldCut => between(start, cut),
         Start => start,
         Stands(block) => number(tail.is_in_tail(block)),
-        _ => tail.trimmed(),
+        _ => tail.trimmed().get(),
     }
 }
 
@@ -239,8 +239,8 @@ fn answer(alloc: Global, memory: &mut Memory, call: Call) -> Run<u64> {
         Group(blocks) => Ok(number(is_of(&memory.group, blocks))),
         GroupHas(fill) => group_has(alloc, memory, fill),
         Trim(upto) => {
-            memory.tail.trim(upto);
-            Ok(memory.tail.trimmed())
+            memory.tail.trim(Position::new(upto));
+            Ok(memory.tail.trimmed().get())
         }
         Held | HeldCut | Start | Stands(_) => Ok(count(&memory.tail, call)),
     }

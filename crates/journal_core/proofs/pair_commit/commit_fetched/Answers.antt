@@ -3,7 +3,7 @@ use Rattle.journal_world.proofs.Prefixes.{IsPrefix-refl}
 use Rattle.journal_block.specs.declared.update.Update.{Update}
 use Rattle.journal_tail.specs.Tails.{known_blocks}
 use Rattle.journal_tail.specs.ObjectTails.{known_updates, missing_blocks}
-use Rattle.journal_memory.specs.Rules.{KeepsRule}
+use Rattle.journal_memory.specs.Rules.{KeepsMapRule}
 use Rattle.journal_memory.specs.Volatiles.{VolatileState, usable}
 use Rattle.journal_memory.specs.VolatileCommits.{IsCommitted as IsCommittedIn}
 use Rattle.journal_parts.specs.Cores.{IsPair}
@@ -15,7 +15,7 @@ use Rattle.journal_core.proofs.pair_commit.commit_fetched.Goals as goal
 
 pub commit_verified-answer-requires-clause-rule : goal.commit_verified-answer-requires-clause-rule
 commit_verified-answer-requires-clause-rule g c =
-    subst (λ (v : VolatileState). KeepsRule g.R.MapRule.statement v.ledger.history c.args.transaction.now) (sym c.in_ok-fetched.ensures.volatile) c.requires.rule
+    subst (λ (v : VolatileState). KeepsMapRule g.R.MapRule.statement v.ledger.history c.args.transaction.now) (sym c.in_ok-fetched.ensures.volatile) c.requires.rule
 
 pub returns-in_err-fetched-clause-session : goal.returns-in_err-fetched-clause-session
 returns-in_err-fetched-clause-session g c =

@@ -3,7 +3,7 @@ use Rattle.journal_block.specs.declared.update.Update.{Update}
 use Rattle.journal_objlog.proofs.Openings.{OnlyReads-refl}
 use Rattle.journal_history.specs.Tokens.{OnlyExtends}
 use Rattle.journal_memory.specs.Outsets.{Outset, CanCommit}
-use Rattle.journal_memory.specs.Rules.{KeepsRule}
+use Rattle.journal_memory.specs.Rules.{KeepsMapRule}
 use Rattle.journal_memory.specs.Volatiles.{VolatileState, outset_of}
 use Rattle.journal_memory.specs.VolatileCommits.{IsCommitted as IsCommittedIn, with_room}
 use Rattle.journal_parts.specs.Cores.{CoreState, IsPair, IsRunning, core_of, outset}
@@ -39,7 +39,7 @@ returns-in_err-rooms-in-Ok-Missing-clause-crash g c =
 pub commit_fetched-requires-clause-rule : goal.commit_fetched-requires-clause-rule
 commit_fetched-requires-clause-rule g c =
     let same : c.commit_verified-answer.new.self ≡ with_room c.args.volatile.now c.commit_verified-answer.new.self.tail.log.room = search rules in
-    subst (λ (v : VolatileState). KeepsRule g.R.MapRule.statement v.ledger.history c.args.transaction.now) (sym same) c.requires.rule
+    subst (λ (v : VolatileState). KeepsMapRule g.R.MapRule.statement v.ledger.history c.args.transaction.now) (sym same) c.requires.rule
 
 pub commit_fetched-requires-clause-blocks : goal.commit_fetched-requires-clause-blocks
 commit_fetched-requires-clause-blocks g c =

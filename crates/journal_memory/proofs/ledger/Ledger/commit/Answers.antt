@@ -4,12 +4,12 @@ use Rattle.journal_history.specs.Tokens.{made, next_transaction}
 use Rattle.journal_memory.specs.Transactions.{TransactionState}
 use Rattle.journal_lockmap.specs.Numbers.{HoldsSlots, CountsWrites}
 use Rattle.journal_memory.specs.Ledgers.{LedgerState}
-use Rattle.journal_memory.specs.Rules.{LeavesRule}
+use Rattle.journal_memory.specs.Rules.{LeavesMapRule}
 use Rattle.journal_memory.proofs.Counting.{ledger_committed, agree_with}
 use Rattle.journal_memory.proofs.ledger.Ledger.commit.Goals as goal
 
 pub commit-requires-clause-rule : goal.commit-requires-clause-rule
-commit-requires-clause-rule g c = subst (λ (s : LedgerState). LeavesRule g.R.MapRule.statement s.history c.args.transaction.now) (sym c.self.view_is) c.requires.rule
+commit-requires-clause-rule g c = subst (λ (s : LedgerState). LeavesMapRule g.R.MapRule.statement s.history c.args.transaction.now) (sym c.self.view_is) c.requires.rule
 
 pub count_writes-requires-clause-covered : goal.count_writes-requires-clause-covered
 count_writes-requires-clause-covered g c = subst (λ (u : TransactionState). HoldsSlots g.J.Naming.layout c.args.held.now u.writes) (sym c.transaction.view_is) c.requires.covered
