@@ -11,7 +11,7 @@ ghost use Rattle.journal_history.specs.Tokens.{made, IsExact, OnlyExtends, next_
 use crate::book::{Book, Naming};
 use crate::counts::SessionCounts;
 use crate::front::Front;
-use crate::law::{AskFence, AskMark, AskOpening, Opened, Recorded};
+use crate::law::{AskCommit, AskFence, AskMark, AskOpening, Numbered, Opened, Recorded};
 use crate::receipt::Receipt;
 use crate::session::Session;
 use journal_world::MapRule;
@@ -157,7 +157,12 @@ impl<'b, J: Naming, R: MapRule> Writer<'b, J, R> {
         ensures uncounted { OnErr result (counts.new ≡ counts.old) }
     {
         let place = self.front.len();
-        self.front = session.commit(rt, counts, &self.front, transaction)?;
+        let numbered = session.numbered(transaction);
+        let front = self
+            .front
+            .add_after::<Numbered<T>, AskCommit>(&session.front(), &numbered)?;
+        session.note_commit(rt, counts, &front);
+        self.front = front;
         self.commits += 1;
         Ok(Receipt::new(&self.front, place, self.commits))
     }
