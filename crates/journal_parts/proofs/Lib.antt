@@ -1,7 +1,6 @@
 pub mod Resting
 pub mod Opening
 pub mod Between
-pub mod Comparing
 pub mod Lending
 pub mod Enduring
 pub mod CallsOfLogs

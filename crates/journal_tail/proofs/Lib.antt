@@ -1,4 +1,5 @@
 pub mod Exits
+pub mod Comparing
 pub mod Kept
 pub mod Tailing
 pub mod MapsOfBlocks

@@ -61,7 +61,12 @@ impl Tail {
     /// will have no more than `most`, and no commit was made.
     ///
     /// Answers J1 `NoMemory`, and nothing else, where memory for an index is refused.
-    pub fn new<C>(alloc: Global, blocks: u64, start: Position, most: usize) -> Result<Tail, Refusal<C>>
+    pub fn new<C>(
+        alloc: Global,
+        blocks: u64,
+        start: Position,
+        most: usize,
+    ) -> Result<Tail, Refusal<C>>
         requires start { start < 2 ^ 62 }
         requires some { 0 < most }
         ensures tail { IfOk result (λ tail. tail ≡ empty_tail blocks start tail.log.room) }
@@ -147,26 +152,23 @@ impl Tail {
     }
 
     /// The position at which the block stands in the tail, or `None` where it does not.
-    pub fn place_in_tail(&self, block: u64) -> Option<Position>
+    pub fn place_in_tail(&self, block: u64) -> Option<u64>
         ensures found { is_some result ≡ updates_block (tail_of self.now.log) block }
         ensures place { IfSome result (IsLastOf self.now.log block self.now.log.cut) }
         ensures sound { IsMemLog self.now.log }
     {
-        match self.memory.place_in_tail(block) {
-            Some(position) => Some(Position::new(position)),
-            None => None,
-        }
+        self.memory.place_in_tail(block)
     }
 
     /// The content of the block at a position of the tail, lent to be overwritten. The tail is then what it is with
     /// that content appended.
-    pub fn tail_block(&mut self, position: Position) -> &mut Block
+    pub fn tail_block(&mut self, position: u64) -> &mut Block
         requires from_cut { self.old.log.cut ≤ position }
         requires to_next { position < next_position self.old.log }
         ensures* lends { sem 𝓛 (LendsTailBlock self.entry position result) }
         ensures content { result.now ≡ (update_at self.old.log.updates (position - self.old.log.start)).bytes }
     {
-        self.memory.tail_block(position.get())
+        self.memory.tail_block(position)
     }
 
     /// Refuses updates of so many blocks, of which so many are fresh, that is do not stand in the tail: J4

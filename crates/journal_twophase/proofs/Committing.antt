@@ -8,7 +8,7 @@ use Rattle.journal_world.specs.Histories.{Entry, is_trusted, latest, commits_of,
 use Rattle.journal_world.specs.Histories.Entry.{commit}
 use Rattle.journal_world.proofs.Prefixes.{IsPrefix-trans}
 use Rattle.journal_history.specs.Soundness.{IsSound}
-use Rattle.journal_history.specs.Tokens.{SessionState, CommitPlace, OnlyExtends, next_transaction, Commits, IsReceiptFor}
+use Rattle.journal_history.specs.Tokens.{SessionState, CommitPlace, IsExact, OnlyExtends, next_transaction, Commits, IsReceiptFor}
 use Rattle.journal_memory.specs.Causes.{CauseState}
 use Rattle.journal_memory.specs.Transactions.{TransactionState}
 use Rattle.journal_memory.specs.declared.volatile_commit.CommitStep.{CommitStep}
@@ -21,7 +21,7 @@ use Rattle.journal_twophase.specs.Journals.{IsKnown}
 use Rattle.journal_twophase.specs.Commits.{IsCommitted}
 use Rattle.journal_twophase.specs.declared.waiting.WaitFault.{WaitFault}
 use Rattle.journal_twophase.specs.declared.waiting.WaitFault.TheVariants.{Refused, Unsure}
-use Rattle.journal_twophase.specs.Waits.{CommitsAndWaits, IsWaitFault}
+use Rattle.journal_twophase.specs.Waits.{CommitsAndWaits, IsUnsure, IsWaitFault}
 use Rattle.journal_twophase.proofs.Knowing.{some_before, ruled_before, layout_before}
 
 module _ (rule : Map → Type 0) (layout : Shape) where
@@ -108,27 +108,31 @@ module _ (rule : Map → Type 0) (layout : Shape) where
     receipt = is.receipt;
   }
 
-  -- and the same of one that then waited
-  waits_from : (began : List Entry) (t : TransactionState) (s new : SessionState) (place : CommitPlace) → IsPrefix began t.seen
-      → CommitsAndWaits rule layout t.seen t s new place → CommitsAndWaits rule layout began t s new place
-  waits_from began t s new place begins is = record {
-    then = is.then;
-    committed = since_begin began t s is.then (Ok place) begins is.committed;
-    later = is.later;
-    exact = is.exact;
-    known = is.known;
+  -- and then its session waited, and has seen more
+  waits_after : (began : List Entry) (t : TransactionState) (s mid new : SessionState) (place : CommitPlace) → IsPrefix began t.seen
+      → IsCommitted rule layout t.seen t s mid place → OnlyExtends mid new → IsExact new → IsKnown rule layout new.seen → CommitsAndWaits rule layout began t s new place
+  waits_after began t s mid new place begins commits later exact known = record {
+    then = mid;
+    committed = since_begin began t s mid (Ok place) begins commits;
+    later = later;
+    exact = exact;
+    known = known;
   }
 
-  pub waits_since : {N E : Type 0} (began : List Entry) (t : TransactionState) (s new : SessionState) (answer : Result (CommitPlace × N) E) → IsPrefix began t.seen
-      → IfOk answer (λ done. CommitsAndWaits rule layout t.seen t s new done.0) → IfOk answer (λ done. CommitsAndWaits rule layout began t s new done.0)
-  waits_since began t s new (Ok done) begins is = waits_from began t s new done.0 begins is
-  waits_since began t s new (Err fault) begins is = tt
+  pub waited : {N E : Type 0} (began : List Entry) (t : TransactionState) (s mid new : SessionState) (place : CommitPlace) (answer : Result (CommitPlace × N) E) → IsPrefix began t.seen
+      → IsCommitted rule layout t.seen t s mid place → OnlyExtends mid new → IsExact new → IsKnown rule layout new.seen
+      → IfOk answer (λ done. done.0 ≡ place) → IfOk answer (λ done. CommitsAndWaits rule layout began t s new done.0)
+  waited began t s mid new place (Ok done) begins commits later exact known is =
+      subst (CommitsAndWaits rule layout began t s new) (sym is) (waits_after began t s mid new place begins commits later exact known)
+  waited began t s mid new place (Err fault) begins commits later exact known is = tt
 
-  pub fault_since : {T : Type 0} (began : List Entry) (t : TransactionState) (s new : SessionState) (answer : Result T (WaitFault CommitPlace CauseState)) → IsPrefix began t.seen
-      → IfErr answer (IsWaitFault rule layout t.seen t s new) → IfErr answer (IsWaitFault rule layout began t s new)
-  fault_since began t s new (Ok done) begins is = tt
-  fault_since began t s new (Err (Refused why)) begins is = is
-  fault_since began t s new (Err (Unsure place why)) begins is = (waits_from began t s new place begins is.0, is.1)
+  pub unsure : {T : Type 0} (began : List Entry) (t : TransactionState) (s mid new : SessionState) (place : CommitPlace) (answer : Result T (WaitFault CommitPlace CauseState)) → IsPrefix began t.seen
+      → IsCommitted rule layout t.seen t s mid place → OnlyExtends mid new → IsExact new → IsKnown rule layout new.seen
+      → IfErr answer (IsUnsure place new) → IfErr answer (IsWaitFault rule layout began t s new)
+  unsure began t s mid new place (Ok done) begins commits later exact known is = tt
+  unsure began t s mid new place (Err (Refused why)) begins commits later exact known is = absurd is
+  unsure began t s mid new place (Err (Unsure at why)) begins commits later exact known is =
+      (subst (CommitsAndWaits rule layout began t s new) (sym is.0) (waits_after began t s mid new place begins commits later exact known), is.1)
 
 -- what a refused call shows a session that had only seen more
 pub session_later : {T E : Type 0} (r : Result T E) (s mid new : SessionState) → OnlyExtends s mid → OnErr r (OnlyExtends mid new) → OnErr r (OnlyExtends s new)

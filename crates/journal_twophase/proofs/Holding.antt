@@ -19,7 +19,7 @@ use Rattle.journal_lockmap.specs.Numbers.{HeldState, slots_of, is_held, HoldsSlo
 use Rattle.journal_memory.specs.SlotCounts.{AgreeWith, IsUnder, AreUnder}
 use Rattle.journal_memory.specs.Transactions.{TransactionState, ReadResultState, Remembers, Overwrites}
 use Rattle.journal_memory.proofs.Remembering.{of_both}
-use Rattle.journal_twophase.specs.Transactions.{TxnState, holds, holds_above, with_slot, IsClearOf, KeepsHeld, Finds}
+use Rattle.journal_twophase.specs.Transactions.{TxnState, holds, holds_above, with_slot, IsClearOf, KeepsHeld, ReadsObject}
 
 -- a slot is held where its number is among those that are shown
 pub holds-slots : (held : List HeldState) (slot : ℕ) → holds (slots_of held) slot ≡ is_held held slot
@@ -176,10 +176,10 @@ agrees_at layout history [] k h all at = absurd (cc at)
 agrees_at layout history (x ∷ xs) zero h all at = subst (λ (y : HeldState). y.count ≡ touched layout history y.slot) (same_Some x h at) (All-head (λ (y : HeldState). y.count ≡ touched layout history y.slot) x xs all)
 agrees_at layout history (x ∷ xs) (suc k) h all at = agrees_at layout history xs k h (All-tail (λ (y : HeldState). y.count ≡ touched layout history y.slot) x xs all) at
 
--- one more address was read under a slot that is held, and what is held agrees with the history that the read found
-pub keeps_read : (layout : Shape) (held : List HeldState) (t after : TransactionState) (a : Addr) (v : Value) (found : ReadResultState) → KeepsHeld layout held t → AgreeWith layout found.seen held → Finds layout t a found
+-- one more address was read under a slot that is held
+pub keeps_read : (layout : Shape) (held : List HeldState) (t after : TransactionState) (a : Addr) (v bytes : Value) (found : ReadResultState) → KeepsHeld layout held t → ReadsObject layout t a held bytes found
     → IsTrue (holds (slots_of held) (slot_of layout a)) → Remembers t found.addr v found.seen after → KeepsHeld layout held after
-keeps_read layout held t after a v found kept agree finds slot remembers = record {
+keeps_read layout held t after a v bytes found kept read slot remembers = record {
   reads = subst (λ (h : List Entry). AreUnder layout held h after.reads) (sym seen) (of_both (λ b. IsUnder layout held found.seen (b, v)) found.addr v t.reads after.reads remembers.reads own before);
   writes = subst (HoldsSlots layout held) (sym (ap (λ (u : TransactionState). u.writes) remembers.others)) kept.writes;
   apart = kept.apart;
@@ -189,13 +189,13 @@ keeps_read layout held t after a v found kept agree finds slot remembers = recor
     seen = ap (λ (u : TransactionState). u.seen) remembers.others
 
     before : AreUnder layout held found.seen t.reads
-    before = λ k d lt. let u = kept.reads k d lt in (u.0, u.1, u.2, u.3, u.4 ∙ sym (finds.unmoved k d lt))
+    before = λ k d lt. let u = kept.reads k d lt in (u.0, u.1, u.2, u.3, u.4 ∙ sym (read.unmoved k d lt))
 
     own : IsUnder layout held found.seen (found.addr, v)
     own =
-        let here : IsTrue (is_held held (slot_of layout found.addr)) = sym (holds-slots held (slot_of layout found.addr)) ∙ subst (λ (b : Addr). IsTrue (holds (slots_of held) (slot_of layout b))) (sym finds.addr) slot in
+        let here : IsTrue (is_held held (slot_of layout found.addr)) = sym (holds-slots held (slot_of layout found.addr)) ∙ subst (λ (b : Addr). IsTrue (holds (slots_of held) (slot_of layout b))) (sym read.addr) slot in
         let u = place_of held (slot_of layout found.addr) here in
-        (u.0, u.1, u.2, u.3, agrees_at layout found.seen held u.0 u.1 agree u.2 ∙ ap (touched layout found.seen) u.3)
+        (u.0, u.1, u.2, u.3, agrees_at layout found.seen held u.0 u.1 read.agree u.2 ∙ ap (touched layout found.seen) u.3)
 
 -- one more address was overwritten under a slot that is held
 pub keeps_written : (layout : Shape) (held : List HeldState) (t after : TransactionState) (a : Addr) (v : Value) → KeepsHeld layout held t → IsTrue (holds (slots_of held) (slot_of layout a)) → Overwrites t a v after
@@ -215,6 +215,11 @@ pub lent_back : {A : Type 0} (n : ℕ) (xs ys : List A) → xs ≡ ys → n ≡ 
 lent_back n xs ys same is =
     subst (λ (zs : List _). take n (zs ++ drop (length zs) ys) ≡ ys) (sym same)
     (ap (λ (zs : List _). take n (ys ++ zs)) (drop_all (length ys) ys (omega arith)) ∙ ap (take n) (append-nil ys) ∙ take_all n ys (omega (arith, is)))
+
+-- and what is as long as what was lent comes back whole
+pub filled_back : {A : Type 0} (n : ℕ) (xs ys : List A) → length xs ≡ n → n ≡ length ys → take n (xs ++ drop (length xs) ys) ≡ xs
+filled_back n xs ys same is =
+    ap (λ (zs : List _). take n (xs ++ zs)) (drop_all (length xs) ys (omega (arith, same, is))) ∙ ap (take n) (append-nil xs) ∙ take_all n xs (omega (arith, same))
 
 pub keeps_lent : (layout : Shape) (n : ℕ) (now held : List HeldState) (t : TransactionState) → now ≡ held → n ≡ length held → KeepsHeld layout held t → KeepsHeld layout (take n (now ++ drop (length now) held)) t
 keeps_lent layout n now held t same is kept = subst (λ (l : List HeldState). KeepsHeld layout l t) (sym (lent_back n now held same is)) kept

@@ -1,5 +1,5 @@
 -- What a look-up says to the reader of an address.
-use Rattle.std.proofs.Common.{◌≡◌, ◌≢◌, ◌<◌, ℕ, Bool, true, false, cond, IsTrue, List, [], ◌∷◌, Option, Some, None, IfSome, Result, Ok, Err, IfOk, IfErr, OnOk, All, map, refl, sym, ap, subst, ◌∙◌, arith}
+use Rattle.std.proofs.Common.{◌≡◌, ◌≢◌, ◌<◌, ℕ, Bool, true, false, cond, IsTrue, List, [], ◌∷◌, Option, Some, None, IfSome, Result, Ok, Err, IfOk, IfErr, All, map, refl, sym, ap, subst, ◌∙◌, arith}
 use mathlib.Core.List.{IsPrefix}
 use Rattle.std.proofs.lemmas.Bool.{and_parts}
 use Rattle.std.proofs.lemmas.List.Elements.{All-head, All-tail, All-cons}
@@ -15,10 +15,12 @@ use Rattle.journal_world.proofs.Lookups.{same_addr}
 use Rattle.journal_lockmap.specs.Numbers.{HeldState}
 use Rattle.journal_memory.specs.Causes.{CauseState}
 use Rattle.journal_memory.specs.SlotCounts.{AgreeWith}
-use Rattle.journal_memory.specs.Outsets.{Outset, MayRead}
-use Rattle.journal_memory.specs.Transactions.{TransactionState, ReadResultState, Remembers}
+use Rattle.journal_memory.specs.Fetches.{FetchedState}
+use Rattle.journal_memory.specs.Transactions.{TransactionState, ReadResultState, Remembers, AreUnmoved}
+use Rattle.journal_memory.specs.Volatiles.{VolatileState}
+use Rattle.journal_memory.specs.VolatileHolds.{AnswersRead}
 use Rattle.journal_memory.proofs.Remembering.{agrees_later}
-use Rattle.journal_twophase.specs.Transactions.{TxnState, core_of, holding, Finds, Learns, IsCheckRefusal, IsReadRefusal}
+use Rattle.journal_twophase.specs.Transactions.{TxnState, core_of, holding, ReadsObject, Learns, IsCheckRefusal, IsReadRefusal}
 
 -- what objects give an address is an object
 value_among-object : (layout : Shape) (ps : List Pair) (a : Addr) (v : Value) → IsTrue (are_objects layout ps) → value_among ps a ≡ Some v → IsTrue (is_object layout (a, v))
@@ -63,15 +65,15 @@ pub read_refused : (layout : Shape) (t held : TxnState) (a : Addr) (answer : Res
 read_refused layout t held a (Ok v) same valid look = tt
 read_refused layout t held a (Err why) same valid look = read_refusal layout t a why valid (subst (λ (h : TxnState). IsCheckRefusal (core_of h) why) same look)
 
--- what is found for the open transaction, and remembered, is what it learns
-pub learns : (layout : Shape) (began : List Entry) (held : List ℕ) (t after : TransactionState) (a : Addr) (v w : Value) (found : ReadResultState) → Finds layout t a found
-    → (IsTrue (is_trusted found.seen) → w ≡ value_at (latest found.seen) a) → v ≡ w → Remembers t found.addr v found.seen after
+-- what is read for the open transaction, and remembered, is what it learns
+pub learns : (layout : Shape) (began : List Entry) (held : List ℕ) (t after : TransactionState) (a : Addr) (slots : List HeldState) (v w : Value) (found : ReadResultState)
+    → ReadsObject layout t a slots w found → v ≡ w → Remembers t found.addr v found.seen after
     → Learns (record { began = began; reads = t.reads; writes = t.writes; seen = t.seen; held = held }) a v
     (record { began = began; reads = after.reads; writes = after.writes; seen = after.seen; held = held })
-learns layout began held t after a v w found finds value same remembers = record {
-  value = λ trusted. same ∙ subst (λ (h : List Entry). IsTrue (is_trusted h) → w ≡ value_at (latest h) a) (sym seen) value trusted;
-  reads = subst (λ (b : Addr). SamePairs after.reads ((b, v) ∷ t.reads)) finds.addr remembers.reads;
-  later = subst (IsPrefix t.seen) (sym seen) finds.later;
+learns layout began held t after a slots v w found read same remembers = record {
+  value = λ trusted. same ∙ subst (λ (h : List Entry). IsTrue (is_trusted h) → w ≡ value_at (latest h) a) (sym seen) read.value trusted;
+  reads = subst (λ (b : Addr). SamePairs after.reads ((b, v) ∷ t.reads)) read.addr remembers.reads;
+  later = subst (IsPrefix t.seen) (sym seen) read.later;
   others = λ i. record { began = began; reads = after.reads; writes = (remembers.others i).writes; seen = after.seen; held = held };
 }
   where
@@ -79,34 +81,36 @@ learns layout began held t after a v w found finds value same remembers = record
     seen = ap (λ (u : TransactionState). u.seen) remembers.others
 
 -- what it has seen goes on from its beginning
-pub later_on : (layout : Shape) (began : List Entry) (t after : TransactionState) (a : Addr) (v : Value) (found : ReadResultState) → IsPrefix began t.seen → Finds layout t a found
-    → Remembers t found.addr v found.seen after → IsPrefix began after.seen
-later_on layout began t after a v found begins finds remembers =
-    subst (IsPrefix began) (sym (ap (λ (u : TransactionState). u.seen) remembers.others)) (IsPrefix-trans began t.seen found.seen begins finds.later)
+pub later_on : (layout : Shape) (began : List Entry) (t after : TransactionState) (a : Addr) (held : List HeldState) (v w : Value) (found : ReadResultState) → IsPrefix began t.seen
+    → ReadsObject layout t a held w found → Remembers t found.addr v found.seen after → IsPrefix began after.seen
+later_on layout began t after a held v w found begins read remembers =
+    subst (IsPrefix began) (sym (ap (λ (u : TransactionState). u.seen) remembers.others)) (IsPrefix-trans began t.seen found.seen begins read.later)
 
 -- and what was read before is what the map gives still
-pub reads_stay : (layout : Shape) (t after : TransactionState) (a : Addr) (v : Value) (found : ReadResultState) → t.seen ≢ [] → (IsTrue (is_trusted t.seen) → Agrees (latest t.seen) t.reads)
-    → Finds layout t a found → Remembers t found.addr v found.seen after → IsTrue (is_trusted after.seen) → Agrees (latest after.seen) t.reads
-reads_stay layout t after a v found some agrees finds remembers =
+pub reads_stay : (layout : Shape) (t after : TransactionState) (a : Addr) (held : List HeldState) (v w : Value) (found : ReadResultState) → t.seen ≢ []
+    → (IsTrue (is_trusted t.seen) → Agrees (latest t.seen) t.reads) → ReadsObject layout t a held w found → Remembers t found.addr v found.seen after
+    → IsTrue (is_trusted after.seen) → Agrees (latest after.seen) t.reads
+reads_stay layout t after a held v w found some agrees read remembers =
     subst (λ (h : List Entry). IsTrue (is_trusted h) → Agrees (latest h) t.reads) (sym (ap (λ (u : TransactionState). u.seen) remembers.others))
-    (agrees_later layout t.seen found.seen t.reads some finds.later finds.unmoved agrees)
+    (agrees_later layout t.seen found.seen t.reads some read.later read.unmoved agrees)
 
--- what is found in memory is found for the transaction
-pub finds : (o : Outset) (a : Addr) (layout : Shape) (t : TransactionState) (answer : Result (Option ReadResultState) (Refusal CauseState))
-    → IfOk answer (λ found. IfSome found (λ f. f ≡ record { addr = a; seen = o.history }))
-    → OnOk answer (MayRead layout o t a) → IfOk answer (λ found. IfSome found (Finds layout t a))
-finds o a layout t (Err why) is may = tt
-finds o a layout t (Ok None) is may = tt
-finds o a layout t (Ok (Some found)) is may = subst (Finds layout t a) (sym is) (record { addr = refl; later = may.later; unmoved = may.unmoved })
-
--- what is held agrees with the history that was found
-pub agrees_found : (layout : Shape) (answer : Result (Option ReadResultState) (Refusal CauseState)) (a : Addr) (old new : List Entry) (held : List HeldState)
-    → IfOk answer (λ found. IfSome found (λ f. f ≡ record { addr = a; seen = old })) → new ≡ old → AgreeWith layout new held
-    → IfOk answer (λ found. IfSome found (λ f. AgreeWith layout f.seen held))
-agrees_found layout (Err why) a old new held is same agree = tt
-agrees_found layout (Ok None) a old new held is same agree = tt
-agrees_found layout (Ok (Some found)) a old new held is same agree =
-    subst (λ (h : List Entry). AgreeWith layout h held) (same ∙ sym (ap (λ (f : ReadResultState). f.seen) is)) agree
+-- what is read in memory is read for the transaction, where what is held agrees with the history after the read
+pub reads_object : (layout : Shape) (old new : VolatileState) (t : TransactionState) (a : Addr) (f : FetchedState) (held : List HeldState) (bytes : Value)
+    (answer : Result (Option ReadResultState) (Refusal CauseState)) → AnswersRead layout old t a f answer bytes new → AgreeWith layout new.ledger.history held
+    → IfOk answer (λ found. IfSome found (ReadsObject layout t a held bytes))
+reads_object layout old new t a f held bytes (Err why) event agree = tt
+reads_object layout old new t a f held bytes (Ok None) event agree = tt
+reads_object layout old new t a f held bytes (Ok (Some found)) event agree = record {
+  addr = ap (λ (r : ReadResultState). r.addr) event.found;
+  later = subst (IsPrefix t.seen) seen event.may.later;
+  unmoved = subst (λ (h : List Entry). AreUnmoved layout h t) seen event.may.unmoved;
+  agree = subst (λ (h : List Entry). AgreeWith layout h held) (ap (λ (v : VolatileState). v.ledger.history) event.same ∙ seen) agree;
+  value = subst (λ (h : List Entry). IsTrue (is_trusted h) → bytes ≡ value_at (latest h) a) seen event.value;
+  object = event.object;
+}
+  where
+    seen : old.ledger.history ≡ found.seen
+    seen = sym (ap (λ (r : ReadResultState). r.seen) event.found)
 
 -- memory for blocks of the disk is of blocks of the disk
 pub rooms_below : (n : ℕ) (rooms : List Update) → All (λ b. b < n) (map (λ u. u.block) rooms) → All (λ u. u.block < n) rooms

@@ -11,7 +11,7 @@ use Rattle.journal_world.specs.Histories.{Entry, is_trusted, latest}
 use Rattle.journal_memory.specs.declared.refusal_number.RefusalNumber.TheVariants.{J6, J9, J13}
 use Rattle.journal_memory.specs.Causes.{CauseState, IsUnexplained, IsExplained}
 use Rattle.journal_lockmap.specs.Numbers.{HeldState, HoldsSlots, AreApart}
-use Rattle.journal_memory.specs.SlotCounts.{AreUnder}
+use Rattle.journal_memory.specs.SlotCounts.{AgreeWith, AreUnder}
 use Rattle.journal_memory.specs.Transactions.{TransactionState, ReadResultState, AreUnmoved}
 
 pub record TxnState : Type 0 where
@@ -79,12 +79,18 @@ pub record KeepsHeld (layout : Shape) (held : List HeldState) (t : TransactionSt
 abbrev pub IsClearOf : Shape → ℕ → List Pair → Type 0
 IsClearOf layout slot ps = All (λ p. slot_of layout p.0 ≢ slot) ps
 
--- What a read found for the transaction: the address's value at the end of a history that goes on from what it has seen,
--- in which no commit touched a slot under which it read
-pub record Finds (layout : Shape) (t : TransactionState) (a : Addr) (found : ReadResultState) : Type 0 where
+-- What a read of an address finds for a transaction: these bytes, and a history. The history goes
+-- on from the one that the transaction has seen. No commit in between touched a slot under which
+-- the transaction read. Each held slot was touched by as many commits of the history as its token
+-- says. The bytes are an object of the address. Where the history is trusted, they are the value
+-- that the map at its end gives the address.
+pub record ReadsObject (layout : Shape) (t : TransactionState) (a : Addr) (held : List HeldState) (bytes : Value) (found : ReadResultState) : Type 0 where
   pub addr : found.addr ≡ a
   pub later : IsPrefix t.seen found.seen
   pub unmoved : AreUnmoved layout found.seen t
+  pub agree : AgreeWith layout found.seen held
+  pub value : IsTrue (is_trusted found.seen) → bytes ≡ value_at (latest found.seen) a
+  pub object : IsTrue (is_object layout (a, bytes))
 
 -- why the journal goes on no more: it was stopped, or the device failed before
 abbrev pub IsEndRefusal : Refusal CauseState → Type 0

@@ -43,6 +43,11 @@ IsEndedUnmarked old new (Closed cause) = floor new.seen < count old.seen
 IsEndedUnmarked old new (DeviceFailed cause) = floor new.seen < count old.seen
 IsEndedUnmarked old new other = Unit {0}
 
+-- why a commit that stands at this place is not known to be stable: the wait was refused
+abbrev pub IsUnsure : CommitPlace → SessionState → WaitFault CommitPlace CauseState → Type 0
+IsUnsure place s (Refused why) = ⊥
+IsUnsure place s (Unsure at why) = (at ≡ place) × IsWaitRefusal s why
+
 -- Why a commit that waits for its mark has none: the history lacks it, or it stands there and is not known to be stable
 abbrev pub IsWaitFault : (Map → Type 0) → Shape → List Entry → TransactionState → SessionState → SessionState → WaitFault CommitPlace CauseState → Type 0
 IsWaitFault rule layout began t old new (Refused why) = IsCommitRefusal t old why × OnlyExtends old new × ShowsFence new why

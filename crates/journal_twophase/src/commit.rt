@@ -4,11 +4,9 @@ ghost use Rattle.journal_world.specs.Maps.{Map, Agrees, overwritten};
 ghost use Rattle.journal_history.specs.Tokens.{OnlyExtends};
 ghost use Rattle.journal_twophase.specs.Transactions.{core_of};
 ghost use Rattle.journal_twophase.specs.Commits.{IsCommitted, ShowsFence, IsTryRefusal, IsCommitRefusal};
-ghost use Rattle.journal_twophase.specs.Waits.{IsStable, CommitsAndWaits, IsWaitFault};
 
 use crate::locked_parts::{JournalRefusal, WhenFull};
 use crate::txn::{Txn, release_all};
-use crate::waiting::Waited;
 use journal_disk::BlockDisk;
 use journal_history::{Naming, Receipt, Session};
 use journal_world::MapRule;
@@ -85,32 +83,5 @@ impl<'j, 'b, D: BlockDisk, R: MapRule, J: Naming> Txn<'j, 'b, D, R, J> {
         let answer = core.commit(rt, session, &transaction, &mut held, &mut spares, when_full);
         release_all(rt, &journal.slots, held);
         answer
-    }
-
-    /// Commits the transaction as `commit` does, and waits until it is stable: until a mark says that it is on the
-    /// disk, so that no crash loses it. Its slots are given up before it waits. The note covers it; the session has
-    /// seen the mark, and is exact.
-    ///
-    /// Answers `Refused` where `commit` would refuse it: the history then lacks it. Answers `Unsure` where it stands
-    /// in the history, by the receipt, but the wait is refused: by J13 `Closed` where the journal was stopped, by J6
-    /// `DeviceFailed` where the device failed, by J9 `Stale` where the history is longer than the core's, by J10
-    /// `Stranger` where it has a commit under the session's number that the session did not make. The session is
-    /// exact then too.
-    pub fn commit_wait<W: Wait>(self, rt: &W, session: &mut Session<'b, J, R>) -> Waited<'b, J, R>
-        requires rule { (m : Map) → m.layout ≡ J.layout → R.statement m → Agrees m self.reads
-            → R.statement (overwritten m self.writes) }
-        ensures committed { IfOk result (λ done. CommitsAndWaits R.statement J.layout self.entry.began (core_of self.entry) session.old session.new done.0) }
-        ensures stable { IfOk result (λ done. IsStable done.0.count done.1 session.new) }
-        ensures fault { IfErr result (IsWaitFault R.statement J.layout self.entry.began (core_of self.entry) session.old session.new) }
-    {
-        let Txn {
-            journal,
-            alloc,
-            began: _,
-            transaction,
-            held,
-        } = self;
-        let mut spares = transaction.spares(alloc);
-        journal.core.commit_wait(rt, session, &transaction, &mut spares, &journal.slots, held)
     }
 }

@@ -4,17 +4,17 @@
 // it may take the memory lock inside: to cut, to mark, to trim, or to note that the device failed.
 ghost use Rattle.std.specs.Prelude.{◌≡◌, ◌<◌, length, IsTrue, IsOkUnless, IfOk, IfErr, OnOk, OnErr, All};
 ghost use Rattle.journal_world.specs.Addresses.{is_valid};
-ghost use Rattle.journal_world.specs.Maps.{Map, Agrees, is_object, value_at, overwritten};
-ghost use Rattle.journal_world.specs.Histories.{is_trusted, latest};
+ghost use Rattle.journal_world.specs.Maps.{Map, Agrees, overwritten};
+ghost use Rattle.journal_world.specs.Histories.{is_trusted};
 ghost use Rattle.journal_object.specs.Objects.{size_at};
 ghost use Rattle.journal_disk.specs.Disks.{IsSettled};
 ghost use Rattle.journal_disk.specs.Images.{EveryImage};
 ghost use Rattle.journal_history.specs.Tokens.{OnlyExtends};
 ghost use Rattle.journal_parts.specs.Cores.{Leaves};
 ghost use Rattle.journal_parts.specs.Durables.{disk_of, is_faulted};
-ghost use Rattle.journal_memory.specs.SlotCounts.{AgreeWith, AreUnder};
+ghost use Rattle.journal_memory.specs.SlotCounts.{AreUnder};
 ghost use Rattle.journal_twophase.specs.Journals.{IsLogRefusal, IsInstallRefusal, IsFetchRefusal, IsCloseRefusal, IsImageRefusal};
-ghost use Rattle.journal_twophase.specs.Transactions.{Finds, KeepsHeld, IsCheckRefusal};
+ghost use Rattle.journal_twophase.specs.Transactions.{KeepsHeld, ReadsObject, IsCheckRefusal};
 ghost use Rattle.journal_twophase.specs.Commits.{IsCommitted, ShowsFence, IsTryRefusal};
 
 use crate::locked_parts::{JournalRefusal, LockedParts, UnderMemoryLock, is_past_threshold};
@@ -173,11 +173,8 @@ impl<'b, D: BlockDisk, R: MapRule, J: Naming> LockedParts<'b, D, R, J> {
         requires below { addr.block < J.layout.blocks }
         requires under { AreUnder J.layout held.old transaction.now.seen transaction.now.reads }
         requires size { length into.old.items ≡ size_at J.layout addr }
-        ensures agree { IfOk result (λ found. AgreeWith J.layout found.seen held.new) }
+        ensures read { IfOk result (ReadsObject J.layout transaction.now addr held.new into.new.items) }
         ensures held { held.new ≡ held.old }
-        ensures value { IfOk result (λ found. IsTrue (is_trusted found.seen) → into.new.items ≡ value_at (latest found.seen) addr) }
-        ensures object { OnOk result (IsTrue (is_object J.layout (addr, into.new.items))) }
-        ensures found { IfOk result (Finds J.layout transaction.now addr) }
         ensures refusal { IfErr result (IsCheckRefusal transaction.now) }
     {
         let mut fetched = nothing;

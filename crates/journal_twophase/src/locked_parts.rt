@@ -3,18 +3,18 @@
 // The memory lock stands here and in `device.rt` and `waiting.rt`, the disk's in `device.rt` alone, and neither a part nor a guard
 // of it leaves these three. The contracts speak of sessions, transactions and receipts, because no fact of a part stays
 // true after its lock is released.
-ghost use Rattle.std.specs.Prelude.{◌≡◌, ◌↔◌, ◌<◌, true, false, length, IsTrue, IsSome, IfOk, IfErr, IsErrAnd, IfSome, OnOk, OnErr, All};
+ghost use Rattle.std.specs.Prelude.{◌≡◌, ◌↔◌, ◌<◌, true, false, length, IsTrue, IfOk, IfErr, IsErrAnd, IfSome, OnOk, OnErr, All};
 ghost use Rattle.journal_world.specs.Addresses.{is_valid};
 ghost use Rattle.journal_world.specs.Files.{shape};
-ghost use Rattle.journal_world.specs.Maps.{Map, Agrees, is_object, value_at, overwritten};
+ghost use Rattle.journal_world.specs.Maps.{Map, Agrees, overwritten};
 ghost use Rattle.journal_object.specs.Objects.{size_at};
-ghost use Rattle.journal_world.specs.Histories.{is_trusted, is_fenced, latest};
+ghost use Rattle.journal_world.specs.Histories.{is_fenced};
 ghost use Rattle.journal_disk.specs.Disks.{IsSettled};
 ghost use Rattle.journal_history.specs.Tokens.{made, IsExact, OnlyExtends};
-ghost use Rattle.journal_memory.specs.SlotCounts.{AgreeWith, AreUnder};
+ghost use Rattle.journal_memory.specs.SlotCounts.{AreUnder};
 ghost use Rattle.journal_parts.specs.Openings.{HasWellFormedLog, IsLayoutRefusal, OnlyReadsDisk};
 ghost use Rattle.journal_twophase.specs.Journals.{BeginsWith, IsSessionRefusal, IsFenceRefusal};
-ghost use Rattle.journal_twophase.specs.Transactions.{Finds, KeepsHeld, IsCheckRefusal, IsEndRefusal};
+ghost use Rattle.journal_twophase.specs.Transactions.{KeepsHeld, ReadsObject, IsCheckRefusal, IsEndRefusal};
 ghost use Rattle.journal_twophase.specs.Commits.{IsCommitted, ShowsFence, IsAwaited, IsRefusedWhenFull};
 
 use crate::hint::Hint;
@@ -311,11 +311,8 @@ impl<'b, D: BlockDisk, R: MapRule, J: Naming> LockedParts<'b, D, R, J> {
         requires valid { IsTrue (is_valid J.layout addr) }
         requires under { AreUnder J.layout held.old transaction.now.seen transaction.now.reads }
         requires size { length into.old.items ≡ size_at J.layout addr }
-        ensures agree { IfOk result (λ found. AgreeWith J.layout found.seen held.new) }
+        ensures read { IfOk result (ReadsObject J.layout transaction.now addr held.new into.new.items) }
         ensures held { held.new ≡ held.old }
-        ensures value { IfOk result (λ found. IsTrue (is_trusted found.seen) → into.new.items ≡ value_at (latest found.seen) addr) }
-        ensures object { OnOk result (IsTrue (is_object J.layout (addr, into.new.items))) }
-        ensures found { IfOk result (Finds J.layout transaction.now addr) }
         ensures refusal { IfErr result (IsCheckRefusal transaction.now) }
     {
         let answer = self.read_or_fetch(rt, transaction, held, addr, into);
@@ -335,11 +332,8 @@ impl<'b, D: BlockDisk, R: MapRule, J: Naming> LockedParts<'b, D, R, J> {
         requires valid { IsTrue (is_valid J.layout addr) }
         requires under { AreUnder J.layout held.old transaction.now.seen transaction.now.reads }
         requires size { length into.old.items ≡ size_at J.layout addr }
-        ensures agree { IfOk result (λ found. AgreeWith J.layout found.seen held.new) }
+        ensures read { IfOk result (ReadsObject J.layout transaction.now addr held.new into.new.items) }
         ensures held { held.new ≡ held.old }
-        ensures value { IfOk result (λ found. IsTrue (is_trusted found.seen) → into.new.items ≡ value_at (latest found.seen) addr) }
-        ensures object { OnOk result (IsTrue (is_object J.layout (addr, into.new.items))) }
-        ensures found { IfOk result (Finds J.layout transaction.now addr) }
         ensures refusal { IfErr result (IsCheckRefusal transaction.now) }
     {
         let nothing = self.empty_fetch(transaction);
@@ -363,11 +357,8 @@ impl<'b, D: BlockDisk, R: MapRule, J: Naming> LockedParts<'b, D, R, J> {
         requires under { AreUnder J.layout held.old transaction.now.seen transaction.now.reads }
         requires size { length into.old.items ≡ size_at J.layout addr }
         requires front { fetched.now.front ≡ transaction.now.seen }
-        ensures agree { IfOk result (λ found. IfSome found (λ found. AgreeWith J.layout found.seen held.new)) }
+        ensures read { IfOk result (λ found. IfSome found (ReadsObject J.layout transaction.now addr held.new into.new.items)) }
         ensures held { held.new ≡ held.old }
-        ensures value { IfOk result (λ found. IfSome found (λ found. IsTrue (is_trusted found.seen) → into.new.items ≡ value_at (latest found.seen) addr)) }
-        ensures object { IfOk result (λ found. IsSome found → IsTrue (is_object J.layout (addr, into.new.items))) }
-        ensures found { IfOk result (λ found. IfSome found (Finds J.layout transaction.now addr)) }
         ensures size { length into.new.items ≡ length into.old.items }
         ensures below { addr.block < J.layout.blocks }
         ensures refusal { IfErr result (IsCheckRefusal transaction.now) }
@@ -394,11 +385,8 @@ impl<'b, D: BlockDisk, R: MapRule, J: Naming> LockedParts<'b, D, R, J> {
         requires valid { IsTrue (is_valid J.layout addr) }
         requires under { AreUnder J.layout held.old transaction.now.seen transaction.now.reads }
         requires size { length into.old.items ≡ size_at J.layout addr }
-        ensures agree { IfOk result (λ found. IfSome found (λ found. AgreeWith J.layout found.seen held.new)) }
+        ensures read { IfOk result (λ found. IfSome found (ReadsObject J.layout transaction.now addr held.new into.new.items)) }
         ensures held { held.new ≡ held.old }
-        ensures value { IfOk result (λ found. IfSome found (λ found. IsTrue (is_trusted found.seen) → into.new.items ≡ value_at (latest found.seen) addr)) }
-        ensures object { IfOk result (λ found. IsSome found → IsTrue (is_object J.layout (addr, into.new.items))) }
-        ensures found { IfOk result (λ found. IfSome found (Finds J.layout transaction.now addr)) }
         ensures size { length into.new.items ≡ length into.old.items }
         ensures refusal { IfErr result (IsCheckRefusal transaction.now) }
     {

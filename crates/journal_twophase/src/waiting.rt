@@ -4,15 +4,14 @@ ghost use Rattle.journal_world.specs.Maps.{Map, Agrees, overwritten};
 ghost use Rattle.journal_world.specs.Histories.{count, floor};
 ghost use Rattle.journal_history.specs.Tokens.{IsExact, OnlyExtends};
 ghost use Rattle.journal_twophase.specs.Journals.{IsKnown};
-ghost use Rattle.journal_twophase.specs.Transactions.{KeepsHeld};
-ghost use Rattle.journal_twophase.specs.Waits.{IsStable, CommitsAndWaits, IsWaitRefusal, IsEndedUnmarked, IsWaitFault};
+ghost use Rattle.journal_twophase.specs.Transactions.{core_of};
+ghost use Rattle.journal_twophase.specs.Waits.{IsStable, CommitsAndWaits, IsWaitRefusal, IsEndedUnmarked, IsUnsure, IsWaitFault};
 
 use crate::locked_parts::{JournalRefusal, LockedParts, UnderMemoryLock, WhenFull};
-use crate::txn::release_all;
+use crate::txn::{Txn, release_all};
 use journal_disk::BlockDisk;
 use journal_history::{Naming, Receipt, Session, StableNote};
-use journal_lockmap::{Held, LockMap};
-use journal_memory::{Cause, Spares, Transaction, Volatile};
+use journal_memory::{Cause, Volatile};
 use journal_tail::CommitCount;
 use journal_world::{MapRule, Refusal};
 use std::sync::{MutexGuard, Wait};
@@ -113,45 +112,68 @@ impl<'b, D: BlockDisk, R: MapRule, J: Naming> LockedParts<'b, D, R, J> {
         memory
     }
 
-    // Commits the transaction, gives up its slots, and sleeps in the same hold of the lock until it is stable.
-    pub(crate) fn commit_wait<W: Wait>(
-        &self,
+    // Sleeps, in the hold of the lock in which it was committed, until the commit of the receipt is
+    // marked. The session is exact before and after.
+    fn await_mark<'s, W: Wait>(
+        &'s self,
         rt: &W,
+        memory: MutexGuard<'s, UnderMemoryLock<'b, R, J>>,
         session: &mut Session<'b, J, R>,
-        transaction: &Transaction<'b, J, R>,
-        spares: &mut Spares,
-        slots: &LockMap<J>,
-        held: Vec<Held<J>>,
+        receipt: Receipt<'b, J, R>,
     ) -> Waited<'b, J, R>
-        requires rule { (m : Map) → m.layout ≡ J.layout → R.statement m → Agrees m transaction.now.reads
-            → R.statement (overwritten m transaction.now.writes) }
-        requires held { KeepsHeld J.layout held.items transaction.now }
-        ensures committed { IfOk result (λ done. CommitsAndWaits R.statement J.layout transaction.now.seen transaction.now session.old session.new done.0) }
         ensures stable { IfOk result (λ done. IsStable done.0.count done.1 session.new) }
-        ensures fault { IfErr result (IsWaitFault R.statement J.layout transaction.now.seen transaction.now session.old session.new) }
+        ensures receipt { IfOk result (λ done. done.0 ≡ receipt) }
+        ensures fault { IfErr result (IsUnsure receipt session.new) }
+        ensures keeps { IsExact session.old → IsExact session.new }
+        ensures session { OnlyExtends session.old session.new }
+        ensures known { IsKnown R.statement J.layout session.new.seen }
     {
-        let mut held = held;
-        let (mut memory, answer) = self.commit_under(
-            rt,
-            session,
-            transaction,
-            &mut held,
-            spares,
-            WhenFull::Wait,
-        );
-        release_all(rt, slots, held);
-        let wake = memory.wake_after(&answer);
-        self.wake_after_commit(&answer, wake);
-        let receipt = match answer {
-            Ok(receipt) => receipt,
-            Err(why) => return Err(WaitFault::Refused(why)),
-        };
         let answer = self.wait_in(rt, memory, session, receipt.count());
-        // It tells the proof what is known of all that the session has then seen.
+        // Called for its contract: what the session has then seen is sound.
         let _seen = session.seen();
         match answer {
             Ok(note) => Ok((receipt, note)),
             Err(why) => Err(WaitFault::Unsure(receipt, why)),
+        }
+    }
+}
+
+impl<'j, 'b, D: BlockDisk, R: MapRule, J: Naming> Txn<'j, 'b, D, R, J> {
+    /// Commits the transaction as `commit` does, and waits until it is stable: until a mark says that it is on the
+    /// disk, so that no crash loses it. Its slots are given up before it waits. The note covers it; the session has
+    /// seen the mark, and is exact.
+    ///
+    /// Answers `Refused` where `commit` would refuse it: the history then lacks it. Answers `Unsure` where it stands
+    /// in the history, by the receipt, but the wait is refused: by J13 `Closed` where the journal was stopped, by J6
+    /// `DeviceFailed` where the device failed, by J9 `Stale` where the history is longer than the core's, by J10
+    /// `Stranger` where it has a commit under the session's number that the session did not make. The session is
+    /// exact then too.
+    pub fn commit_wait<W: Wait>(self, rt: &W, session: &mut Session<'b, J, R>) -> Waited<'b, J, R>
+        requires rule { (m : Map) → m.layout ≡ J.layout → R.statement m → Agrees m self.reads
+            → R.statement (overwritten m self.writes) }
+        ensures committed { IfOk result (λ done. CommitsAndWaits R.statement J.layout self.entry.began (core_of self.entry) session.old session.new done.0) }
+        ensures stable { IfOk result (λ done. IsStable done.0.count done.1 session.new) }
+        ensures fault { IfErr result (IsWaitFault R.statement J.layout self.entry.began (core_of self.entry) session.old session.new) }
+    {
+        let Txn {
+            journal,
+            alloc,
+            began: _,
+            transaction,
+            held,
+        } = self;
+        let mut held = held;
+        let mut spares = transaction.spares(alloc);
+        let core = &journal.core;
+        let when_full = WhenFull::Wait;
+        let (mut memory, answer) =
+            core.commit_under(rt, session, &transaction, &mut held, &mut spares, when_full);
+        release_all(rt, &journal.slots, held);
+        let wake = memory.wake_after(&answer);
+        core.wake_after_commit(&answer, wake);
+        match answer {
+            Ok(receipt) => core.await_mark(rt, memory, session, receipt),
+            Err(why) => Err(WaitFault::Refused(why)),
         }
     }
 }

@@ -12,7 +12,7 @@ use Rattle.journal_memory.specs.Updates.{HaveAllSince}
 use Rattle.journal_parts.specs.Durables.{DurableState, IsRoomRefusal}
 use Rattle.journal_memory.specs.Volatiles.{VolatileState, IsFrontRefusal}
 use Rattle.journal_parts.specs.Pairs.{Tied, IsCutDue, IsCutRefusal}
-use Rattle.journal_parts.proofs.Comparing.{below, not_below}
+use Rattle.journal_tail.proofs.Comparing.{below, not_below}
 use Rattle.journal_parts.proofs.Enduring.{crashes_reads}
 use Rattle.journal_memory.proofs.Committing.{OnErr-any}
 use Rattle.journal_memory.proofs.Latest.{since_later}

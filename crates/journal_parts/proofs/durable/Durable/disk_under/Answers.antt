@@ -7,7 +7,7 @@ use Rattle.journal_memory.specs.Causes.{CauseState}
 use Rattle.journal_parts.specs.Durables.{DurableState, IsDurable, disk_of}
 use Rattle.journal_memory.specs.Volatiles.{IsFrontRefusal}
 use Rattle.journal_parts.specs.Pairs.{IsUntied}
-use Rattle.journal_parts.proofs.Comparing.{below, not_below}
+use Rattle.journal_tail.proofs.Comparing.{below, not_below}
 use Rattle.journal_parts.proofs.Enduring.{leaves_disk}
 use Rattle.journal_memory.proofs.Fronts.{trusted-longer}
 use Rattle.journal_parts.proofs.Pairing.{begins_not, leaves_history}

@@ -11,7 +11,7 @@ use Rattle.journal_memory.specs.Causes.{CauseState}
 use Rattle.journal_parts.specs.Durables.{DurableState}
 use Rattle.journal_memory.specs.Volatiles.{VolatileState, IsFrontRefusal}
 use Rattle.journal_parts.specs.Pairs.{IsMarkDue, IsMarkingRefusal}
-use Rattle.journal_parts.proofs.Comparing.{below, not_below}
+use Rattle.journal_tail.proofs.Comparing.{below, not_below}
 use Rattle.journal_parts.proofs.Enduring.{crashes_reads}
 use Rattle.journal_parts.proofs.Pairing.{tied_mark}
 use Rattle.journal_parts.proofs.durable.Durable.mark.Goals.{then-ne-via-then-ne, then-ne-via-else-ne+then-eq}

@@ -12,7 +12,7 @@ use Rattle.journal_memory.specs.Updates.{HaveAllSince}
 use Rattle.journal_parts.specs.Durables.{DurableState, IsDurable}
 use Rattle.journal_memory.specs.Volatiles.{VolatileState, IsFrontRefusal}
 use Rattle.journal_parts.specs.Pairs.{IsRestDue, IsRestRefusal}
-use Rattle.journal_parts.proofs.Comparing.{above, at_most}
+use Rattle.journal_tail.proofs.Comparing.{above, at_most}
 use Rattle.journal_parts.proofs.Enduring.{crashes_reads}
 use Rattle.journal_parts.proofs.Pairing.{marks_all, tied_rest, rest_since}
 use Rattle.journal_parts.proofs.durable.Durable.mark_rest.Goals.{then-awaits_logging-via-then-awaits_logging, then-awaits_logging-via-else-awaits_logging+then-le}

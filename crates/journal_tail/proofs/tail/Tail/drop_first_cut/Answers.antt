@@ -1,4 +1,4 @@
-use Rattle.std.proofs.Common.{◌≡◌, ◌∷◌, ◌++◌, List, ap, subst, ◌∙◌}
+use Rattle.std.proofs.Common.{ℕ, ◌≡◌, ◌≤◌, ◌∷◌, ◌++◌, List, sym, ap, subst, ◌∙◌}
 use Rattle.std.specs.Option.{option_to_list}
 use Rattle.journal_block.specs.declared.update.Update.{Update}
 use Rattle.journal_memlog.specs.Logs.{LogState}
@@ -10,6 +10,7 @@ pub logged-requires-clause-to_cut : goal.logged-requires-clause-to_cut
 logged-requires-clause-to_cut c =
     let first : c.self.inside.cuts.items ≡ c.unwrap-cut.result ∷ c.pop_front.new.self.items =
     c.pop_front.ensures.items ∙ ap (λ o. option_to_list o ++ c.pop_front.new.self.items) c.unwrap-cut.ensures in
+    subst (λ (n : ℕ). n ≤ c.self.inside.memory.cut) (sym c.get.ensures)
     (rises_first c.self.inside.memory.start c.self.inside.memory.cut c.self.inside.cuts.items c.unwrap-cut.result c.pop_front.new.self.items first c.self.invariant.cuts).1
 
 pub returns-clause-known : goal.returns-clause-known

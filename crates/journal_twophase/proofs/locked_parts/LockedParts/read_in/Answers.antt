@@ -1,17 +1,19 @@
-use Rattle.std.proofs.Common.{ap}
+use Rattle.std.proofs.Common.{◌≡◌, ◌++◌, length, take, drop, IfOk, IfSome, sym, subst, rules}
+use Rattle.journal_world.specs.Addresses.{Value}
 use Rattle.journal_object.proofs.MapOfBlocks.{valid_block}
-use Rattle.journal_memory.specs.Volatiles.{VolatileState}
-use Rattle.journal_twophase.proofs.Looking.{finds, agrees_found}
+use Rattle.journal_twophase.specs.Transactions.{ReadsObject}
+use Rattle.journal_twophase.proofs.Holding.{filled_back}
+use Rattle.journal_twophase.proofs.Looking.{reads_object}
 use Rattle.journal_twophase.proofs.locked_parts.LockedParts.read_in.Goals as goal
 
-pub returns-clause-agree : goal.returns-clause-agree
-returns-clause-agree g c =
-    agrees_found g.J.Naming.layout c.read-answer.result c.args.addr _ _ c.read-answer.new.held c.read-answer.ensures.found (ap (λ (v : VolatileState). v.ledger.history) c.read-answer.ensures.same)
-    c.read-answer.ensures.agree
-
-pub returns-clause-found : goal.returns-clause-found
-returns-clause-found g c =
-    finds _ c.args.addr g.J.Naming.layout c.args.transaction.now c.read-answer.result c.read-answer.ensures.found c.read-answer.ensures.may
+pub returns-clause-read : goal.returns-clause-read
+returns-clause-read g c =
+    let bytes : Value = c.read-answer.new.into in
+    let back : take c.args.into.now.len (bytes ++ drop (length bytes) c.args.into.now.items) ≡ bytes =
+    filled_back c.args.into.now.len bytes c.args.into.now.items (search rules) c.args.into.now.ok.0 in
+    subst (λ (v : Value). IfOk c.read-answer.result (λ found. IfSome found (ReadsObject g.J.Naming.layout c.args.transaction.now c.args.addr c.read-answer.new.held v))) (sym back)
+    (reads_object g.J.Naming.layout _ c.read-answer.new.self c.args.transaction.now c.args.addr c.args.fetched.now c.read-answer.new.held bytes c.read-answer.result
+    c.read-answer.ensures.event c.read-answer.ensures.agree)
 
 pub returns-clause-below : goal.returns-clause-below
 returns-clause-below g c = (valid_block g.J.Naming.layout c.args.addr c.requires.valid).1

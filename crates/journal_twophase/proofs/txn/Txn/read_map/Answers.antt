@@ -6,7 +6,7 @@ use Rattle.journal_world.specs.Histories.{is_trusted, latest}
 use Rattle.journal_tail.proofs.Exits.{if_err}
 use Rattle.journal_lockmap.specs.Numbers.{HeldState, slots_of}
 use Rattle.journal_memory.specs.Causes.{CauseState}
-use Rattle.journal_memory.specs.SlotCounts.{AgreeWith, AreUnder}
+use Rattle.journal_memory.specs.SlotCounts.{AreUnder}
 use Rattle.journal_twophase.specs.Transactions.{TxnState, core_of, holds, Learns, IsCheckRefusal}
 use Rattle.journal_twophase.proofs.Holding.{state_of, keeps_read, keeps_lent, lent_back, same_lent, on_err_so}
 use Rattle.journal_twophase.proofs.Looking.{learns, later_on, reads_stay}
@@ -39,10 +39,10 @@ invariant_of-self-2 g c =
     let same : c.read.new.held ≡ c.self.inside.held.items = c.read.ensures.held ∙ c.deref_mut.ensures.value in
     let slot : IsTrue (holds (slots_of c.self.inside.held.items) (slot_of g.J.Naming.layout c.args.addr)) =
     subst (λ (s : TxnState). IsTrue (holds s.held (slot_of g.J.Naming.layout c.args.addr))) (sym c.self.view_is) c.requires.slot in (
-      later_on g.J.Naming.layout c.self.inside.began t c.remember.new.self c.args.addr c.new-value.result c.in_ok-found.found c.self.invariant.0 c.in_ok-found.ensures.found c.remember.ensures.remembered,
+      later_on g.J.Naming.layout c.self.inside.began t c.remember.new.self c.args.addr _ c.new-value.result _ c.in_ok-found.found c.self.invariant.0 c.in_ok-found.ensures.read c.remember.ensures.remembered,
       keeps_lent g.J.Naming.layout c.self.inside.held.len c.read.new.held c.self.inside.held.items c.remember.new.self same c.self.inside.held.ok.0
-          (keeps_read g.J.Naming.layout c.self.inside.held.items t c.remember.new.self c.args.addr c.new-value.result c.in_ok-found.found c.self.invariant.1
-          (subst (AgreeWith g.J.Naming.layout c.in_ok-found.found.seen) same c.in_ok-found.ensures.agree) c.in_ok-found.ensures.found slot c.remember.ensures.remembered),
+          (keeps_read g.J.Naming.layout c.self.inside.held.items t c.remember.new.self c.args.addr c.new-value.result _ c.in_ok-found.found c.self.invariant.1
+          (rw same at c.in_ok-found.ensures.read) slot c.remember.ensures.remembered),
     )
 
 pub returns-clause-learns : goal.returns-clause-learns
@@ -52,11 +52,11 @@ returns-clause-learns g c =
     let back = lent_back c.self.inside.held.len c.read.new.held items (c.read.ensures.held ∙ c.deref_mut.ensures.value) c.self.inside.held.ok.0 in
     rw (← c.self.view_is)
     (subst (λ (l : List HeldState). Learns (state_of c.self.inside.began t items) c.args.addr c.new-value.result (state_of c.self.inside.began c.remember.new.self l)) (sym back)
-    (learns g.J.Naming.layout c.self.inside.began (slots_of items) t c.remember.new.self c.args.addr c.new-value.result _ c.in_ok-found.found
-    c.in_ok-found.ensures.found c.in_ok-found.ensures.value (search rules) c.remember.ensures.remembered))
+    (learns g.J.Naming.layout c.self.inside.began (slots_of items) t c.remember.new.self c.args.addr _ c.new-value.result _ c.in_ok-found.found
+    c.in_ok-found.ensures.read (search rules) c.remember.ensures.remembered))
 
 pub returns-clause-kept : goal.returns-clause-kept
 returns-clause-kept g c =
     subst (λ (s : TxnState). IsTrue (is_trusted c.remember.new.self.seen) → Agrees (latest c.remember.new.self.seen) s.reads) c.self.view_is
-    (reads_stay g.J.Naming.layout c.self.inside.transaction c.remember.new.self c.args.addr c.new-value.result c.in_ok-found.found c.front-before.ensures.begun c.front-before.ensures.agrees
-    c.in_ok-found.ensures.found c.remember.ensures.remembered)
+    (reads_stay g.J.Naming.layout c.self.inside.transaction c.remember.new.self c.args.addr _ c.new-value.result _ c.in_ok-found.found c.front-before.ensures.begun c.front-before.ensures.agrees
+    c.in_ok-found.ensures.read c.remember.ensures.remembered)

@@ -1,4 +1,4 @@
--- What a comparison of two numbers of commits says of them.
+-- What a comparison of two positions, or of two numbers of commits, says of them.
 use Rattle.std.proofs.Common.{◌≡◌, ◌<◌, ◌≤◌, ℕ, true, false, Ordering, Less, Equal, Greater, nat_cmp, is_lt, is_le, refl, sym, arith}
 use Rattle.std.specs.Ordering.{MatchOrdering}
 use Rattle.std.proofs.lemmas.Bool.{true≢false}
