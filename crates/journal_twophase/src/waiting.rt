@@ -122,8 +122,8 @@ impl<'b, D: BlockDisk, R: MapRule, J: Naming> LockedParts<'b, D, R, J> {
         receipt: Receipt<'b, J, R>,
     ) -> Waited<'b, J, R>
         ensures stable { IfOk result (λ done. IsStable done.0.count done.1 session.new) }
-        ensures receipt { IfOk result (λ done. done.0 ≡ receipt) }
-        ensures fault { IfErr result (IsUnsure receipt session.new) }
+        ensures receipt { IfOk result (λ done. done.0 ≡ receipt.entry) }
+        ensures fault { IfErr result (IsUnsure receipt.entry session.new) }
         ensures keeps { IsExact session.old → IsExact session.new }
         ensures session { OnlyExtends session.old session.new }
         ensures known { IsKnown R.statement J.layout session.new.seen }
