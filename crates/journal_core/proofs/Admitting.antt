@@ -100,7 +100,8 @@ pub refused_first : (c now : CoreState) (o : Outset) (s : SessionState) (t : Tra
     → IsCommitRefusal c s t now why
 refused_first c now o s t why judged same it = refused_as c now s t why same (subst (λ (p : Outset). IsRefusedFrom p s t why) judged it)
 
--- why it is refused at another try, where nothing but memory and the device could: the session has only seen more
+-- why it is refused at another try, where nothing but memory and the device could: the session has
+-- only seen more
 module _ (c now : CoreState) (s mid : SessionState) (t : TransactionState) (extends : OnlyExtends s mid) (can : CanCommit (outset c) s t) where
   unknown_not : (cause : CauseState) → IsUnknown c.history mid cause → ⊥
   unknown_not cause it =

@@ -1,5 +1,6 @@
--- A run by hand: a fetch, two writes in one transaction, the group that logs them, a crash, and the next opening. A program that
--- calls the steps of the core has such a run, for each step's contract says that it is its event.
+-- A run by hand: a fetch, two writes in one transaction, the group that logs them, a crash, and the
+-- next opening. A program that calls the steps of the core has such a run, for each step's contract
+-- says that it is its event.
 use Rattle.std.proofs.Common.{◌≡◌, ◌+◌, ◌*◌, ◌%◌, ℕ, Bool, true, IsTrue, inr, ap, sym, subst, List, [], ◌∷◌, Option, Some, None, Ok, refl}
 use mathlib.Core.List.{IsPrefix}
 use Rattle.journal_world.specs.declared.address.Addr.{Addr}

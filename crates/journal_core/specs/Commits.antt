@@ -15,7 +15,8 @@ use Rattle.journal_memory.specs.Outsets.{CanCommit as CanCommitFrom, IsCommitRef
 use Rattle.journal_parts.specs.Cores.{CoreState, ObjectsState, outset}
 use Rattle.journal_core.specs.Steps.{IsStopped, IsDeviceRefusal}
 
--- The disk was only read, and one update of each block that is written was appended to the tail, and no other
+-- The disk was only read, and one update of each block that is written was appended to the tail,
+-- and no other
 pub record AppendsWrites (old new : ObjectsState) (writes : List Pair) : Type 0 where
   pub updates : List Update
   pub named : (b : ℕ) → updates_block updates b ≡ writes_block writes b

@@ -7,7 +7,8 @@ use Rattle.journal_memory.specs.Causes.{CauseState}
 use Rattle.journal_memory.specs.Fences.{IsFenceRefusal as IsRefusedFrom}
 use Rattle.journal_parts.specs.Cores.{CoreState, Crashes, outset}
 
--- The fence was added to the history, and nothing else was done. No session gets the number from then on
+-- The fence was added to the history, and nothing else was done. No session gets the number from
+-- then on
 pub record AddsFence (session : ℕ) (old new : CoreState) : Type 0 where
   pub free : is_fenced session old.history ≡ false
   pub fenced : new ≡ record old { history = old.history ++ fence session ∷ []; next = max old.next (session + 1) }

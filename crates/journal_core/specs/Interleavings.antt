@@ -1,5 +1,5 @@
--- Transactions of many actors, the logger's and the installer's steps, crashes and openings, in any order: lists of events,
--- and what they come to.
+-- Transactions of many actors, the logger's and the installer's steps, crashes and openings, in any
+-- order: lists of events, and what they come to.
 use Rattle.std.specs.Prelude.{ℕ, ◌≡◌, ◌⊎◌, ◌==◌, ◌≤◌, true, false, if◌then◌else◌, Bool, IsTrue, List, [], ◌∷◌, map, All, Option, Some, None, Result, Ok, Err}
 use mathlib.Core.List.{IsPrefix}
 use Rattle.journal_world.specs.declared.address.Addr.{Addr}
@@ -29,11 +29,13 @@ use Rattle.journal_parts.specs.Openings.{Begins}
 use Rattle.journal_core.specs.Outcomes.{Answer, IsLeftBetween, HoldsImage, is_actor}
 use Rattle.journal_core.specs.Outcomes.Answer.{nothing, value, committed, marked, fenced, crashed, reopened}
 
--- An event. The first six are of one actor, and all of these but the first of the transaction that it has open. A slot that
--- it takes is held until the transaction is ended. An actor fetches blocks of these numbers from the disk, and has them from then
--- on, whatever steps come between. Then a session is asked for, a session is fenced by its number, and the core is stopped. A step of the logger is the next of: cut a
--- group, put a log block, a barrier, put `end`, a barrier, a mark; one of the installer the next of: put a home block, a barrier,
--- put `start`, a barrier. A device call of any of them may fail
+-- An event. The first six are of one actor, and all of these but the first of the transaction that
+-- it has open. A slot that it takes is held until the transaction is ended. An actor fetches blocks
+-- of these numbers from the disk, and has them from then on, whatever steps come between. Then a
+-- session is asked for, a session is fenced by its number, and the core is stopped. A step of the
+-- logger is the next of: cut a group, put a log block, a barrier, put `end`, a barrier, a mark; one
+-- of the installer the next of: put a home block, a barrier, put `start`, a barrier. A device call
+-- of any of them may fail
 pub data Event : Type 0 where
   begins : ℕ → Event
   takes : ℕ → ℕ → Event
@@ -51,7 +53,8 @@ pub data Event : Type 0 where
   crashes : List Bytes → Event
   opens : Event
 
--- A mount: its core, the transaction that each actor has open, the actor that holds each slot, and all that each actor has fetched
+-- A mount: its core, the transaction that each actor has open, the actor that holds each slot, and
+-- all that each actor has fetched
 pub record Mount : Type 0 where
   pub core : CoreState
   pub transactions : ℕ → Option TransactionState
@@ -120,8 +123,8 @@ abbrev pub AnswersRead : Shape → CoreState → TransactionState → Addr → R
 AnswersRead layout old t a (Ok found) v new = FindsValue layout old t a v new
 AnswersRead layout old t a (Err why) v new = RefusesRead layout old t a why new
 
--- what the core did for a read that is answered by a refusal, or whose answer is not remembered: it refused the read, or
--- found the value, or was not asked for want of memory to read into
+-- what the core did for a read that is answered by a refusal, or whose answer is not remembered: it
+-- refused the read, or found the value, or was not asked for want of memory to read into
 abbrev pub IsUnread : Shape → CoreState → TransactionState → Addr → CoreState → Type 0
 IsUnread layout old t a new =
     ((why : Refusal CauseState) × RefusesRead layout old t a why new)
@@ -148,7 +151,8 @@ abbrev pub AnswersCommit : CoreState → SessionState → TransactionState → R
 AnswersCommit old session d (Ok place) new after = CommitsTransaction old session d new after
 AnswersCommit old session d (Err why) new after = RefusesCommit old session d why new
 
--- Blocks were read as they are logged, and nothing else was done: they are what the first commits of a front of the history left
+-- Blocks were read as they are logged, and nothing else was done: they are what the first commits
+-- of a front of the history left
 pub record FetchesBlocks (layout : Shape) (old : CoreState) (numbers : List ℕ) (f : FetchedState) (new : CoreState) : Type 0 where
   pub named : map (λ (u : Update). u.block) f.updates ≡ numbers
   pub begins : IsPrefix f.front old.history
@@ -259,7 +263,8 @@ OverwritesUnderSlot old actor p (Some draft) true answer new =
     ⊎ (IsTrue (is_object (layout_of old) p)
     × ((after : TransactionState) × Overwrites draft p.0 p.1 after × (new ≡ up (with_transaction old actor (Some after))))))
 
--- the transaction is committed by some session, as that session's next one, or refused; it is ended either way
+-- the transaction is committed by some session, as that session's next one, or refused; it is ended
+-- either way
 abbrev pub Finishes : Mount → ℕ → Option TransactionState → Answer → Machine → Type 0
 Finishes old actor None answer new = Ignores old answer new
 Finishes old actor (Some draft) nothing new =
@@ -290,7 +295,8 @@ MakesLogStep old (marked n) new =
     (core : CoreState) × LogsStep old.core (Marked n) core × (new ≡ up (with_core old core))
 MakesLogStep old other new = ⊥
 
--- a fence that is added is answered by it. One that stands already, and a refusal, leave the history
+-- a fence that is added is answered by it. One that stands already, and a refusal, leave the
+-- history
 abbrev pub MakesFence : Mount → ℕ → Answer → Machine → Type 0
 MakesFence old session nothing new =
     (result : Result (Unit {0}) (Refusal CauseState)) × ((core : CoreState) × AnswersFence session old.core result core
@@ -340,13 +346,14 @@ Run rule old (event ∷ events) [] new = ⊥
 Run rule old (event ∷ events) (answer ∷ answers) new =
     (mid : Machine) × Happens rule old event answer mid × Run rule mid events answers new
 
--- The history of a mount is its core's. That of a disk that waits is the opening of the map that it opens as by its layout
+-- The history of a mount is its core's. That of a disk that waits is the opening of the map that it
+-- opens as by its layout
 abbrev pub HasHistory : Machine → List Entry → Type 0
 HasHistory (up m) history = m.core.history ≡ history
 HasHistory (down layout image) history = (m : Map) × (m.layout ≡ layout) × OpensAs m image × (history ≡ opening m true ∷ [])
 
--- What an open transaction has read is what the map gives now, and no commit touched a slot under which it read: neither a
--- read nor its commit is refused for what others did
+-- What an open transaction has read is what the map gives now, and no commit touched a slot under
+-- which it read: neither a read nor its commit is refused for what others did
 pub record IsUndisturbed (c : CoreState) (t : TransactionState) : Type 0 where
   pub later : IsPrefix t.seen c.history
   pub unmoved : AreUnmoved (opened c.history).layout c.history t

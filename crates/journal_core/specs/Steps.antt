@@ -60,8 +60,8 @@ pub record HasUnmarked (c : CoreState) : Type 0 where
   pub tail : tail_length c.objects ≡ 0
   pub more : floor c.history < count c.history
 
--- The logger has nothing to do: no group is in flight or unmarked, the tail is empty and all commits are marked, or the
--- tail has no place in the log
+-- The logger has nothing to do: no group is in flight or unmarked, the tail is empty and all
+-- commits are marked, or the tail has no place in the log
 pub record IsLogIdle (c : CoreState) : Type 0 where
   pub steps : log_steps c.objects.wal ≡ 0
   pub marked : c.cut ≤ floor c.history
@@ -89,7 +89,8 @@ pub record IsStopped (old new : CoreState) (cause : CauseState) : Type 0 where
   pub closed : old.closed ≡ true
   pub same : new ≡ old
 
--- J6: it was not stopped, and the device failed before, or the step came so far and the device failed in it
+-- J6: it was not stopped, and the device failed before, or the step came so far and the device
+-- failed in it
 pub record IsDeviceRefusal (reached : Type 0) (old new : CoreState) (cause : CauseState) : Type 0 where
   pub unexplained : IsUnexplained J6 cause
   pub not_closed : old.closed ≡ false
@@ -101,7 +102,8 @@ pub record IsDeviceRefusal (reached : Type 0) (old new : CoreState) (cause : Cau
 abbrev pub IsRoomed : CoreState → CoreState → Type 0
 IsRoomed old new = new ≡ with_wal old (with_room old.objects.wal new.objects.wal.log.room)
 
--- A refused step of the logger or of the installer leaves the maps and the log in memory as they were, but for its room
+-- A refused step of the logger or of the installer leaves the maps and the log in memory as they
+-- were, but for its room
 pub record LeavesLog (old new : CoreState) : Type 0 where
   pub log : new.objects.wal.log ≡ record old.objects.wal.log { room = new.objects.wal.log.room }
   pub maps : IsTrue (disk_of old).honest → KeepsMaps old.objects.wal new.objects.wal
@@ -115,7 +117,8 @@ TriesToLog old new = (new ≡ old) ⊎ TriesDueCall (log_call old.objects.wal) (
 abbrev pub TriesToInstall : CoreState → CoreState → Type 0
 TriesToInstall old new = TriesAhead old.objects.wal new.objects.wal
 
--- why a step of the logger is refused, and what is left: a mark is, the device failed, or memory for a group is refused
+-- why a step of the logger is refused, and what is left: a mark is, the device failed, or memory
+-- for a group is refused
 abbrev pub IsLogRefusal : CoreState → CoreState → Refusal CauseState → Type 0
 IsLogRefusal old new (Closed cause) = IsStopped old new cause
 IsLogRefusal old new (DeviceFailed cause) = IsDeviceRefusal (Unit {0}) old new cause
@@ -153,8 +156,8 @@ IsReadRefusal layout old t addr new (Stale cause) =
     IsRunning old × IsTrue (is_valid layout addr) × IsBehind old.history t cause × (new ≡ old)
 IsReadRefusal layout old t addr new other = ⊥
 
--- A session of a number that no session had before, and that the history has no commit and no fence of. It has seen the whole
--- history
+-- A session of a number that no session had before, and that the history has no commit and no fence
+-- of. It has seen the whole history
 pub record BeginsSession (old : CoreState) (session : SessionState) (new : CoreState) : Type 0 where
   pub is : session ≡ record { number = old.next; mine = old.history; seen = old.history }
   pub fresh : commits_of old.next old.history ≡ []

@@ -305,8 +305,8 @@ pub record IsUndisturbed (history : List Entry) (t : TransactionState) : Type 0 
   pub never_behind : (cause : CauseState) → IsBehind history t cause → ⊥
 
 -- What was fetched, however long ago, is what the first commits of the history left: it goes from a
--- hold of one lock to a later hold of another. No hold is refused because the fetch had seen more of
--- the history
+-- hold of one lock to a later hold of another. No hold is refused because the fetch had seen more
+-- of the history
 pub record StaysFetched (history : List Entry) (f : FetchedState) : Type 0 where
   pub begins : IsPrefix f.front history
   pub made : f.commits ≤ count history

@@ -23,22 +23,26 @@ use journal_world::{MapRule, Refusal};
 use std::sync::Wait;
 
 impl<'b, D: BlockDisk, R: MapRule, J: Naming> Core<'b, D, R, J> {
-    /// Commits the session's next transaction: adds it to the history, which the session has then seen, and
-    /// overwrites the map by its writes, in memory. The receipt says where it stands. All memory and all reads
-    /// from the device come before the history grows; it takes what memory the spares have first.
+    /// Commits the session's next transaction: adds it to the history, which the session has then
+    /// seen, and overwrites the map by its writes, in memory. The receipt says where it stands. All
+    /// memory and all reads from the device come before the history grows; it takes what memory the
+    /// spares have first.
     ///
-    /// What it reads and writes lies under slots that are held, each once. They are verified first: that waits
-    /// for nobody, and shows that no other commit touched one since it was read: nothing is compared. What is held agrees
-    /// with the history then too, and a refusal leaves it as it was.
+    /// What it reads and writes lies under slots that are held, each once. They are verified first:
+    /// that waits for nobody, and shows that no other commit touched one since it was read: nothing
+    /// is compared. What is held agrees with the history then too, and a refusal leaves it as it
+    /// was.
     ///
-    /// The first that applies of these refuses it: J13 `Closed` where the core was stopped, J6 `DeviceFailed` where
-    /// the device failed before, J9 `Stale` where the session or the transaction has seen more of the history than the
-    /// core, or the history is longer, J10 `Stranger` where the history has a commit under the session's number that the
-    /// session did not make, J14 `Fenced` where the session is fenced, J4 `TooLarge` where more than 128 distinct blocks
-    /// are written, J11 `Worn` where the history's length, the session's number or a position of the log would reach
-    /// 2^62, J12 `Full` where the log's tail cannot take the blocks that do not stand in it, then J1 `NoMemory` where
-    /// memory is refused, or J6 where the device fails in this call. The history, the map and the pending writes are
-    /// then as they were.
+    /// The first that applies of these refuses it: J13 `Closed` where the core was stopped, J6
+    /// `DeviceFailed` where the device failed before, J9 `Stale` where the session or the
+    /// transaction has seen more of the history than the core, or the history is longer, J10
+    /// `Stranger` where the history has a commit under the session's number that the session did
+    /// not make, J14 `Fenced` where the session is fenced, J4 `TooLarge` where more than 128
+    /// distinct blocks are written, J11 `Worn` where the history's length, the session's number or
+    /// a position of the log would reach 2^62, J12 `Full` where the log's tail cannot take the
+    /// blocks that do not stand in it, then J1 `NoMemory` where memory is refused, or J6 where the
+    /// device fails in this call. The history, the map and the pending writes are then as they
+    /// were.
     pub fn commit_step<W: Wait>(
         &mut self,
         rt: &W,

@@ -15,15 +15,17 @@ use journal_world::{Layout, MapRule, Refusal, Refused};
 use std::alloc::Global;
 
 impl<'b, D: BlockDisk, R: MapRule, J: Naming> Core<'b, D, R, J> {
-    /// Opens a disk on which nothing is pending: begins the book's history with the map that the disk holds,
-    /// where the rule admits it. What lies in the disk's log is read into memory, and nothing is written. Copies of no more
-    /// than so many blocks that are at home will be kept in memory. The slots of the journal, by whose cell it is named, come
-    /// with it: all are free, and no commit touched any.
+    /// Opens a disk on which nothing is pending: begins the book's history with the map that the
+    /// disk holds, where the rule admits it. What lies in the disk's log is read into memory, and
+    /// nothing is written. Copies of no more than so many blocks that are at home will be kept in
+    /// memory. The slots of the journal, by whose cell it is named, come with it: all are free, and
+    /// no commit touched any.
     ///
-    /// The first that applies of these refuses it: J8 `BadSuper` where the disk has not as many blocks as the layout, J7
-    /// `BadLog` where the disk's log is not well formed, J8 where the rule does not hold of the map, J9 `Stale`
-    /// where the book has a history already. J1 `NoMemory` where memory is refused, and J6 `DeviceFailed` where
-    /// the device fails in this call, come where they are met. A refusal hands the disk back as it was.
+    /// The first that applies of these refuses it: J8 `BadSuper` where the disk has not as many
+    /// blocks as the layout, J7 `BadLog` where the disk's log is not well formed, J8 where the rule
+    /// does not hold of the map, J9 `Stale` where the book has a history already. J1 `NoMemory`
+    /// where memory is refused, and J6 `DeviceFailed` where the device fails in this call, come
+    /// where they are met. A refusal hands the disk back as it was.
     pub fn open_step(
         alloc: Global,
         book: &'b Book<R>,

@@ -16,8 +16,8 @@ use journal_parts::{Durable, InstallCall, InstallFault, LogCall, LogStep};
 use journal_wal::InstallStep;
 use journal_world::{MapRule, Refusal};
 
-/// Does the next thing of the logger: the device call of the group in flight that is due, or where none is in flight
-/// what is due of both parts.
+/// Does the next thing of the logger: the device call of the group in flight that is due, or where
+/// none is in flight what is due of both parts.
 pub(crate) fn log_step<'b, D: BlockDisk, R: MapRule, J: Naming>(
     durable: &mut Durable<'b, D, R, J>,
     volatile: &mut Volatile<'b, R, J>,

@@ -22,16 +22,18 @@ use std::mem;
 use std::sync::Wait;
 
 impl<'b, D: BlockDisk, R: MapRule, J: Naming> Core<'b, D, R, J> {
-    /// Reads what the map after the history gives the address, into bytes that are as many as its object has. What
-    /// it found is for the transaction to remember, once the core is let go. The history stays. It takes no memory,
-    /// and the address's block is read from the device only where it is not in memory.
+    /// Reads what the map after the history gives the address, into bytes that are as many as its
+    /// object has. What it found is for the transaction to remember, once the core is let go. The
+    /// history stays. It takes no memory, and the address's block is read from the device only
+    /// where it is not in memory.
     ///
-    /// What the transaction read before lies under slots that are held. They are verified first: that waits
-    /// for nobody, and shows that no commit touched one since: nothing is compared.
+    /// What the transaction read before lies under slots that are held. They are verified first:
+    /// that waits for nobody, and shows that no commit touched one since: nothing is compared.
     ///
-    /// The first that applies of these refuses it: J13 `Closed` where the core was stopped, J6 `DeviceFailed` where
-    /// the device failed before, J2 `BadAddress` where the address is not valid, J9 `Stale` where the transaction
-    /// has seen more of the history than the core, then J6 where the device fails in this call.
+    /// The first that applies of these refuses it: J13 `Closed` where the core was stopped, J6
+    /// `DeviceFailed` where the device failed before, J2 `BadAddress` where the address is not
+    /// valid, J9 `Stale` where the transaction has seen more of the history than the core, then J6
+    /// where the device fails in this call.
     pub fn read_step<W: Wait>(
         &mut self,
         rt: &W,

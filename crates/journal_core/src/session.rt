@@ -16,8 +16,8 @@ use journal_world::{MapRule, Refusal};
 use std::sync::Wait;
 
 impl<'b, D: BlockDisk, R: MapRule, J: Naming> Core<'b, D, R, J> {
-    /// A session of a number that no session had before and that the history has no commit and no fence of. It has
-    /// seen the whole history. It takes no memory.
+    /// A session of a number that no session had before and that the history has no commit and no
+    /// fence of. It has seen the whole history. It takes no memory.
     ///
     /// Answers J11 `Worn` where the number would reach 2^62.
     pub fn session_step(&mut self) -> Result<Session<'b, J, R>, Refusal<Cause<'b, J, R>>>
@@ -30,12 +30,13 @@ impl<'b, D: BlockDisk, R: MapRule, J: Naming> Core<'b, D, R, J> {
         self.volatile.session()
     }
 
-    /// Whether so many commits are marked as stable. The session has then seen the whole history, and is exact.
+    /// Whether so many commits are marked as stable. The session has then seen the whole history,
+    /// and is exact.
     ///
-    /// The first that applies of these refuses it, and leaves the session as it was: J13 `Closed` where the core was
-    /// stopped and J6 `DeviceFailed` where the device failed before, both only where so many are not marked; J9
-    /// `Stale` where the history is longer than the core's; J10 `Stranger` where it has a commit under the session's
-    /// number that the session did not make.
+    /// The first that applies of these refuses it, and leaves the session as it was: J13 `Closed`
+    /// where the core was stopped and J6 `DeviceFailed` where the device failed before, both only
+    /// where so many are not marked; J9 `Stale` where the history is longer than the core's; J10
+    /// `Stranger` where it has a commit under the session's number that the session did not make.
     pub fn wait_step<W: Wait>(
         &mut self,
         rt: &W,
@@ -54,8 +55,8 @@ impl<'b, D: BlockDisk, R: MapRule, J: Naming> Core<'b, D, R, J> {
         self.volatile.wait_step(rt, session, CommitCount::new(n))
     }
 
-    /// Stops the core: reads, commits and steps, and waits for marks that do not stand, are refused by J13 from then
-    /// on. Nothing else changes.
+    /// Stops the core: reads, commits and steps, and waits for marks that do not stand, are refused
+    /// by J13 from then on. Nothing else changes.
     pub fn stop_step(&mut self)
         ensures stops { Stops self.old self.new }
     {
@@ -64,8 +65,8 @@ impl<'b, D: BlockDisk, R: MapRule, J: Naming> Core<'b, D, R, J> {
 
     /// Shows the session the whole history.
     ///
-    /// Answers J9 `Stale` where the session had seen more of the history than the core, and nothing else. The
-    /// session may then have seen more.
+    /// Answers J9 `Stale` where the session had seen more of the history than the core, and nothing
+    /// else. The session may then have seen more.
     pub fn show_step(&self, session: &mut Session<'b, J, R>) -> Result<(), Refusal<Cause<'b, J, R>>>
         ensures extends { OnlyExtends session.old session.new }
         ensures shown { OnOk result (session.new.seen ≡ self.now.history) }

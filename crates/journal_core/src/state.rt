@@ -57,8 +57,8 @@ impl<'b, D: BlockDisk, R: MapRule, J: Naming> Core<'b, D, R, J> {
         }
     }
 
-    /// Refuses by J13 `Closed` where it was stopped, else by J6 `DeviceFailed` where the device failed before, and
-    /// by nothing else. It is no device call.
+    /// Refuses by J13 `Closed` where it was stopped, else by J6 `DeviceFailed` where the device
+    /// failed before, and by nothing else. It is no device call.
     pub fn check_running(&self) -> Result<(), Refusal<Cause<'b, J, R>>>
         ensures running { OnOk result (IsRunning self.now) }
         ensures refusal { IfErr result (IsEndRefusal self.now) }
@@ -67,8 +67,8 @@ impl<'b, D: BlockDisk, R: MapRule, J: Naming> Core<'b, D, R, J> {
         self.volatile.check_running()
     }
 
-    /// Shows that what is held agrees with the history: as many commits touched each slot as its token says. Nothing
-    /// changes, and it waits for nobody.
+    /// Shows that what is held agrees with the history: as many commits touched each slot as its
+    /// token says. Nothing changes, and it waits for nobody.
     pub(crate) fn verify_tokens<W: Wait>(&mut self, rt: &W, held: &mut [Held<J>])
         ensures same { self.new ≡ self.old }
         ensures held { held.new ≡ held.old }
@@ -77,8 +77,8 @@ impl<'b, D: BlockDisk, R: MapRule, J: Naming> Core<'b, D, R, J> {
         self.volatile.verify_tokens(rt, held);
     }
 
-    /// The whole history. It is sound, its map has the journal's layout, and it is trusted where the
-    /// disk was honest and settled when it was opened.
+    /// The whole history. It is sound, its map has the journal's layout, and it is trusted where
+    /// the disk was honest and settled when it was opened.
     pub fn front(&self) -> Front<'b, J, R>
         ensures history { result ≡ self.now.history }
         ensures size { (opened self.now.history).layout ≡ J.layout }
@@ -88,8 +88,8 @@ impl<'b, D: BlockDisk, R: MapRule, J: Naming> Core<'b, D, R, J> {
         self.volatile.front()
     }
 
-    /// The disk, lent. Where it was honest and settled when it was opened, each image that a crash may leave of it
-    /// opens as the map after a front of the history that has every marked commit.
+    /// The disk, lent. Where it was honest and settled when it was opened, each image that a crash
+    /// may leave of it opens as the map after a front of the history that has every marked commit.
     pub fn disk(&self) -> &D
         ensures disk { D.state result.now ≡ disk_of self.now }
         ensures size { (disk_of self.now).past.size ≡ J.layout.blocks }
@@ -98,8 +98,9 @@ impl<'b, D: BlockDisk, R: MapRule, J: Naming> Core<'b, D, R, J> {
         self.durable.disk()
     }
 
-    /// Gives the disk up, as it is. Where it was honest and settled when it was opened, each image that a crash may
-    /// leave of it opens as the map after a front of the history that has every marked commit.
+    /// Gives the disk up, as it is. Where it was honest and settled when it was opened, each image
+    /// that a crash may leave of it opens as the map after a front of the history that has every
+    /// marked commit.
     pub fn into_disk(self) -> D
         ensures disk { D.state result ≡ disk_of self.entry }
         ensures size { (D.state result).past.size ≡ J.layout.blocks }

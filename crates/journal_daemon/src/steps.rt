@@ -34,8 +34,8 @@ impl Gate for OpenGate {
     fn pass<W: Wait>(&self, _rt: &W, _who: u64, _n: u64) {}
 }
 
-// Makes steps, each after the gate, until one is refused for another reason than memory. Where memory was refused the
-// step is tried again.
+// Makes steps, each after the gate, until one is refused for another reason than memory. Where
+// memory was refused the step is tried again.
 pub(crate) fn run<S: OneStep, G: Gate, W: Wait + Clock>(rt: &W, steps: &S, gate: &G, who: u64) {
     let mut n: u64 = 0;
     for _ in rt.forever() {

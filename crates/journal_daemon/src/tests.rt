@@ -100,7 +100,8 @@ enum RoomEnd {
     Stop,
 }
 
-/// Wants the two to be equal. An assertion is dear to prove wherever it stands, so almost all are made here.
+/// Wants the two to be equal. An assertion is dear to prove wherever it stands, so almost all are
+/// made here.
 fn wants<T: PartialEq + Debug>(rt: &impl Abort, found: &T, wanted: &T) {
     assert_eq!(rt; found, wanted);
 }
@@ -127,7 +128,8 @@ fn try_over<H: Abort + Threads + Wait + Clock + Sync>(
     try_in_book::<Brand, _>(rt, alloc, &book, cell, form, trial);
 }
 
-// It owns the journal for all trials, and takes it apart at its end: both are dear to prove, and are proved once.
+// It owns the journal for all trials, and takes it apart at its end: both are dear to prove, and
+// are proved once.
 fn try_in_book<J: Naming + Send + Sync, H: Abort + Threads + Wait + Clock + Sync>(
     rt: &H,
     alloc: Global,
@@ -237,7 +239,8 @@ fn client<'b, D: BlockDisk, J: Naming, H: Abort + Wait>(
     journal.session(rt).ok().expect(rt, "a session")
 }
 
-/// Commits a transaction that overwrites one address. Answers the refusal's number, and the receipt's count.
+/// Commits a transaction that overwrites one address. Answers the refusal's number, and the
+/// receipt's count.
 fn put<'b, D: BlockDisk, J: Naming, W: Wait>(
     rt: &W,
     alloc: Global,

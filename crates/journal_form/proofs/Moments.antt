@@ -31,7 +31,8 @@ extends_then a b c first second = record {
       ∙ (λ i. record a { events = sym (append_assoc second.since first.since a.events) i });
 }
 
--- what holds of each image at each moment of one call, and of the next, holds at each moment of both
+-- what holds of each image at each moment of one call, and of the next, holds at each moment of
+-- both
 pub leaves_then : (a b c : Past) (Q : List Bytes → Type 0) → LeavesOnly a b Q → LeavesOnly b c Q → LeavesOnly a c Q
 leaves_then a b c Q first second = record {
   extends = extends_then a b c first.extends second.extends;

@@ -9,7 +9,8 @@ use Rattle.journal_circ.specs.StandsFor.{StandsFor}
 use Rattle.journal_circ.specs.Ring.{Ring, log_of, home_of, blocks_to, SameHomeBut}
 use Rattle.journal_circ.specs.declared.layout.TheConstants.{FIRST_HOME}
 
--- Neither cycle of the log is under way, no call failed, and each image stands for the blocks of the log
+-- Neither cycle of the log is under way, no call failed, and each image stands for the blocks of
+-- the log
 pub record Rests (r : Ring) : Type 0 where
   pub freed : r.extent.freed ≡ r.extent.start
   pub coming : r.extent.coming ≡ r.extent.end

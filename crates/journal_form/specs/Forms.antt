@@ -18,7 +18,8 @@ form_by sealed = if sealed then Sealed else Plain
 abbrev pub form_of : Bytes → LogForm
 form_of header = form_by (is_sealed header)
 
--- What each image stood for, each image of each moment stands for: whatever a crash leaves meanwhile opens with the same blocks
+-- What each image stood for, each image of each moment stands for: whatever a crash leaves
+-- meanwhile opens with the same blocks
 abbrev pub HoldsThroughout : Past → Past → Type 0
 HoldsThroughout old new = (blocks : Content) → EveryImage old (StandsFor old.size blocks) → LeavesOnly old new (StandsFor old.size blocks)
 

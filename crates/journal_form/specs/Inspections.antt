@@ -7,7 +7,8 @@ use Rattle.journal_circ.specs.StandsFor.{StandsFor}
 use Rattle.journal_circ.specs.declared.layout.TheConstants.{FIRST_HOME}
 use Rattle.journal_form.specs.declared.inspecting.TheConstants.{FILES_MAGIC}
 
--- Whatever blocks the images stand for, the first home block begins with the format's name exactly where it is told
+-- Whatever blocks the images stand for, the first home block begins with the format's name exactly
+-- where it is told
 abbrev pub TellsFiles : Past → Bool → Type 0
 TellsFiles p has_files = (blocks : Content) → EveryImage p (StandsFor p.size blocks)
     → IsTrue has_files ↔ (take 8 (blocks FIRST_HOME) ≡ FILES_MAGIC)

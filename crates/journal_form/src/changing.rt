@@ -25,12 +25,13 @@ pub struct Changed<D> {
     pub was: LogForm,
 }
 
-/// Gives the log of a disk on which nothing is pending this form. Where it has it, nothing is written. Else all updates of the
-/// log are brought home first. Whatever blocks the disk held, it holds in each image of each moment.
+/// Gives the log of a disk on which nothing is pending this form. Where it has it, nothing is
+/// written. Else all updates of the log are brought home first. Whatever blocks the disk held, it
+/// holds in each image of each moment.
 ///
-/// Answers J1 `NoMemory` where memory is refused, J7 `BadLog` where the log is not well formed, and J6 `DeviceFailed` where the
-/// device fails, and no other refusal. A refusal hands the disk back. Unless it is J6 nothing was written; at J6 the log has
-/// either form.
+/// Answers J1 `NoMemory` where memory is refused, J7 `BadLog` where the log is not well formed, and
+/// J6 `DeviceFailed` where the device fails, and no other refusal. A refusal hands the disk back.
+/// Unless it is J6 nothing was written; at J6 the log has either form.
 pub fn change_form<D: BlockDisk>(
     alloc: Global,
     disk: D,

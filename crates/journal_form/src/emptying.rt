@@ -9,8 +9,9 @@ use journal_circ::{Circ, HomesPut};
 use journal_disk::BlockDisk;
 use journal_world::Refusal;
 
-/// Brings all updates of a log at rest home, in the order of their positions, and frees the positions. To an empty log
-/// nothing is done. What the disk holds stays in each image of each moment.
+/// Brings all updates of a log at rest home, in the order of their positions, and frees the
+/// positions. To an empty log nothing is done. What the disk holds stays in each image of each
+/// moment.
 ///
 /// Answers J6 `DeviceFailed`, and nothing else, where the device failed.
 pub(crate) fn empty<D: BlockDisk>(

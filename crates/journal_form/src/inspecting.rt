@@ -17,7 +17,8 @@ use journal_wal::Wal;
 use journal_world::{Refusal, Refused};
 use std::alloc::Global;
 
-/// What the first home block of a disk of the file service begins with, in each version of its format.
+/// What the first home block of a disk of the file service begins with, in each version of its
+/// format.
 pub const FILES_MAGIC: [u8; 8] = *b"GJNLDSK1";
 
 /// A disk, and what its blocks tell of it.
@@ -27,15 +28,17 @@ pub struct Inspected<D> {
     pub disk: D,
     /// The form of its log.
     pub form: LogForm,
-    /// Whether it is a disk of the file service: its first home block begins with the format's name.
+    /// Whether it is a disk of the file service: its first home block begins with the format's
+    /// name.
     pub has_files: bool,
 }
 
-/// Tells the form of the log of a disk on which nothing is pending, and whether it is a disk of the file service. The first
-/// home block is read with the updates that the log has of it. Nothing is written.
+/// Tells the form of the log of a disk on which nothing is pending, and whether it is a disk of the
+/// file service. The first home block is read with the updates that the log has of it. Nothing is
+/// written.
 ///
-/// Answers J1 `NoMemory` where memory is refused, J7 `BadLog` where the log is not well formed, and J6 `DeviceFailed` where the
-/// device fails, and no other refusal. A refusal hands the disk back.
+/// Answers J1 `NoMemory` where memory is refused, J7 `BadLog` where the log is not well formed, and
+/// J6 `DeviceFailed` where the device fails, and no other refusal. A refusal hands the disk back.
 pub fn inspect<D: BlockDisk>(alloc: Global, disk: D) -> Result<Inspected<D>, Refused<D, ()>>
     requires in_range { MIN_BLOCKS ≤ (D.state disk).past.size }
     requires settled { IsTrue (D.state disk).honest → IsSettled (D.state disk).past }

@@ -306,7 +306,7 @@ fn installer(pair: &mut Pair) -> Run<u64> {
     } = pair;
     let step = log.install_step()?;
     if let InstallStep::Freed(upto) = step {
-        tail.trim(upto);
+        tail.trim(Position::new(upto));
     }
     Ok(number(step != InstallStep::Idle))
 }

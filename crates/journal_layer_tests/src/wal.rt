@@ -241,7 +241,7 @@ fn install(pair: &mut Pair) -> Run<u64> {
     let Pair { tail, wal } = pair;
     let step = wal.install_step()?;
     if let InstallStep::Freed(upto) = step {
-        tail.trim(upto);
+        tail.trim(Position::new(upto));
     }
     Ok(number(step != InstallStep::Idle))
 }

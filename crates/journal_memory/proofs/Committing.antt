@@ -69,7 +69,8 @@ stale_admits history s t (Full cause) stale = absurd stale
 stale_admits history s t (Closed cause) stale = absurd stale
 stale_admits history s t Fenced stale = absurd stale
 
--- who keeps the rule on any map of the layout keeps it on the latest, which a sound history has by the rule
+-- who keeps the rule on any map of the layout keeps it on the latest, which a sound history has by
+-- the rule
 pub keeps_rule : (layout : Shape) (rule : Map → Type 0) (history : List Entry) (t : TransactionState) → (opened history).layout ≡ layout → IsSound rule history
     → ((m : Map) → m.layout ≡ layout → rule m → Agrees m t.reads → rule (overwritten m t.writes)) → KeepsMapRule rule history t
 keeps_rule layout rule history t on_disk sound keeps agrees trusted =

@@ -69,7 +69,8 @@ takes_none_above session runs s = ap (λ (b : Bool). b || is_in_runs runs s) (no
     none true is = absurd (grind (arith, nat_tests))
     none false is = sym is
 
--- a number is one of those from the first to the end just where it is the session, one below it or one above it
+-- a number is one of those from the first to the end just where it is the session, one below it or
+-- one above it
 between : (first session end s : ℕ) → first ≤ session → session < end
     → (nat_le first s && nat_lt s end) ≡ ((s == session) || ((nat_le first s && nat_lt s session) || (nat_lt session s && nat_lt s end)))
 between first session end s low high = by (nat_le first s) (nat_lt s end) (s == session) (nat_lt s session) (nat_lt session s) refl refl refl refl refl

@@ -1,4 +1,5 @@
--- What a fence keeps: what is counted beside the history, what is in memory of it, and what ties the two parts.
+-- What a fence keeps: what is counted beside the history, what is in memory of it, and what ties
+-- the two parts.
 use Rattle.std.proofs.Math.Bool.{or-false}
 use Rattle.std.proofs.lemmas.Bool.{or_right, eq-eqb, ne_eqb, eqb-true, eqb-false}
 use Rattle.std.proofs.Common.{⊎_elim, ◌≡◌, ◌+◌, ◌-◌, ◌==◌, ◌||◌, ◌++◌, max, ℕ, Bool, true, false, cond, IsTrue, List, [], ◌∷◌, length, length-append, replicate, Result, Ok, Err, OnOk, OnErr, refl, sym, ap, subst, ◌∙◌, arith}

@@ -64,7 +64,8 @@ agrees_later layout seen history reads some begins still agrees trusted = λ k d
     was : IsTrue (is_trusted seen)
     was = subst IsTrue (is_trusted-append seen begins.0 some) (subst (λ (h : List Entry). IsTrue (is_trusted h)) (sym begins.1) trusted)
 
--- what was read under slots that are held has not moved, where these agree with the history: nothing is compared
+-- what was read under slots that are held has not moved, where these agree with the history:
+-- nothing is compared
 pub verified_under : (layout : Shape) (history : List Entry) (held : List HeldState) (t : TransactionState) → AgreeWith layout history held → AreUnder layout held t.seen t.reads → AreUnmoved layout history t
 verified_under layout history held t agree under = λ k d lt.
     let here = under k d lt in

@@ -1,4 +1,5 @@
--- What a fence of a session does in memory, and why there is none. No device is asked for any of it.
+-- What a fence of a session does in memory, and why there is none. No device is asked for any of
+-- it.
 use Rattle.std.specs.Prelude.{ℕ, ◌≡◌, ◌⊎◌, ◌≤◌, ◌+◌, ◌^◌, ◌++◌, ◌∷◌, [], max, true, false, List, length}
 use Rattle.journal_world.specs.declared.refusal.Refusal.{Refusal}
 use Rattle.journal_world.specs.declared.refusal.Refusal.TheVariants.{NoMemory, Stale, Worn}
@@ -9,7 +10,8 @@ use Rattle.journal_memory.specs.Causes.{CauseState, IsUnexplained}
 use Rattle.journal_memory.specs.Ledgers.{LedgerState, IsStale}
 use Rattle.journal_memory.specs.Outsets.{Outset, GoesOn, IsEndRefusal}
 
--- The fence was added to the history, and nothing else was done. No session gets the number from then on
+-- The fence was added to the history, and nothing else was done. No session gets the number from
+-- then on
 pub record AddsFence (session : ℕ) (old new : LedgerState) : Type 0 where
   pub free : is_fenced session old.history ≡ false
   pub fenced : new ≡ record old { history = old.history ++ fence session ∷ []; next = max old.next (session + 1) }

@@ -1,4 +1,5 @@
--- What contracts see of the core's ledger, what its type keeps, and why it refuses. No device is asked for any of it.
+-- What contracts see of the core's ledger, what its type keeps, and why it refuses. No device is
+-- asked for any of it.
 use Rattle.std.specs.Prelude.{ℕ, ◌≡◌, ◌<◌, ◌≤◌, ◌+◌, ◌^◌, Bool, true, false, List, [], length}
 use mathlib.Core.List.{IsPrefix}
 use Rattle.journal_world.specs.declared.refusal.Refusal.{Refusal}
@@ -25,8 +26,9 @@ pub record LedgerState : Type 0 where
   -- it was stopped
   pub closed : Bool
 
--- What it keeps: it counts the commits of each session and slot, knows which sessions are fenced and which fronts have only
--- marked commits, and no session of a later number has committed or is fenced
+-- What it keeps: it counts the commits of each session and slot, knows which sessions are fenced
+-- and which fronts have only marked commits, and no session of a later number has committed or is
+-- fenced
 pub record IsLedger (layout : Shape) (fenced : List Run) (sessions slots : List ℕ) (lengths : MarkedLengths) (m : LedgerState) : Type 0 where
   pub counts : KeepsCounts layout fenced sessions slots m.history
   pub given : length sessions ≡ m.next
@@ -51,7 +53,8 @@ pub record HasSeen (history : List Entry) (s : SessionState) (t : TransactionSta
   pub shown : IsPrefix s.seen history
   pub later : IsPrefix t.seen history
 
--- The history has a commit under the session's number that the session did not make, as this cause has it
+-- The history has a commit under the session's number that the session did not make, as this cause
+-- has it
 abbrev pub IsUnknown : List Entry → SessionState → CauseState → Type 0
 IsUnknown history s cause = IsExplained J10 history cause × IsStrange history s
 
@@ -62,7 +65,8 @@ pub record MeetsFence (history : List Entry) (s : SessionState) (t : Transaction
   pub unmoved : AreUnmoved (opened history).layout history t
   pub fenced : is_fenced s.number history ≡ true
 
--- J9 and J14 last: the session has then seen the longer history, or its fence, by which each later commit of it is refused
+-- J9 and J14 last: the session has then seen the longer history, or its fence, by which each later
+-- commit of it is refused
 abbrev pub ShowsLonger : List Entry → SessionState → Refusal CauseState → Type 0
 ShowsLonger history after (Stale cause) = IsLonger history after.seen
 ShowsLonger history after Fenced = is_fenced after.number after.seen ≡ true

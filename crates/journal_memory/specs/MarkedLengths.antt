@@ -12,8 +12,8 @@ pub record Covers (history : List Entry) (n entries : ℕ) : Type 0 where
 abbrev pub with_non_commit : ℕ → ℕ → ℕ
 with_non_commit len entries = if entries == len then len + 1 else entries
 
--- What is kept of the fronts beside the history: the longest whose commits are all marked, and the longest of the commits
--- that there were at the last cut
+-- What is kept of the fronts beside the history: the longest whose commits are all marked, and the
+-- longest of the commits that there were at the last cut
 pub record KeepsMarkedLengths (lengths : MarkedLengths) (history : List Entry) (commits : ℕ) : Type 0 where
   pub marked : Covers history (floor history) lengths.marked
   pub cut : Covers history commits lengths.cut

@@ -1,4 +1,5 @@
--- What reads and commits are judged by before they are done, and why they are refused. No device is asked for any of it.
+-- What reads and commits are judged by before they are done, and why they are refused. No device is
+-- asked for any of it.
 use Rattle.std.specs.Prelude.{ℕ, ◌≡◌, ◌⊎◌, ◌<◌, ◌≤◌, ◌+◌, ◌^◌, Bool, true, false, IsTrue, List, length}
 use mathlib.Core.List.{IsPrefix}
 use Rattle.journal_world.specs.declared.address.Addr.{Addr}

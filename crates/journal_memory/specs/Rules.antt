@@ -4,7 +4,8 @@ use Rattle.journal_world.specs.Maps.{Map, Agrees, overwritten}
 use Rattle.journal_world.specs.Histories.{Entry, is_trusted, latest}
 use Rattle.journal_memory.specs.Transactions.{TransactionState}
 
--- Where the history is trusted, the rule holds of the latest map once the transaction has overwritten it
+-- Where the history is trusted, the rule holds of the latest map once the transaction has
+-- overwritten it
 abbrev pub LeavesMapRule : (Map → Type 0) → List Entry → TransactionState → Type 0
 LeavesMapRule rule history t = IsTrue (is_trusted history) → rule (overwritten (latest history) t.writes)
 

@@ -1,4 +1,5 @@
--- How many commits touched each slot, what the core counts beside its history, and what is held under the slots.
+-- How many commits touched each slot, what the core counts beside its history, and what is held
+-- under the slots.
 use Rattle.std.specs.Prelude.{ℕ, ◌≡◌, ◌<◌, List, length, slice_index, slice_get, Some, All}
 use Rattle.journal_world.specs.Addresses.{slot_of, Shape}
 use Rattle.journal_world.specs.Maps.{Pair}
@@ -12,7 +13,8 @@ pub record AreCounts (layout : Shape) (counts : List ℕ) (history : List Entry)
   pub slots : length counts ≡ layout.slots
   pub touched : (slot : ℕ) → slot < layout.slots → slice_index counts slot ≡ touched layout history slot
 
--- What is kept beside the history: which sessions are fenced, and each session's and each slot's number of commits
+-- What is kept beside the history: which sessions are fenced, and each session's and each slot's
+-- number of commits
 pub record KeepsCounts (layout : Shape) (fenced : List Run) (sessions counts : List ℕ) (history : List Entry) : Type 0 where
   pub fences : AreFences fenced history
   pub per_session : AreSessionCounts sessions history

@@ -5,7 +5,8 @@ use Rattle.journal_world.specs.Addresses.{Value, slot_of, Shape}
 use Rattle.journal_world.specs.Maps.{Map, Pair, value_at, SamePairs, Agrees, is_object, are_objects}
 use Rattle.journal_world.specs.Histories.{Entry, opened, is_trusted, latest, touched}
 
--- What it has read and overwritten, and a history at whose end all that it read is what the map gives
+-- What it has read and overwritten, and a history at whose end all that it read is what the map
+-- gives
 pub record TransactionState : Type 0 where
   pub reads : List Pair
   pub writes : List Pair

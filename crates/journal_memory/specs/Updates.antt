@@ -11,12 +11,14 @@ use Rattle.journal_tail.specs.ObjectTails.{known_object}
 abbrev pub IsSince : List Entry → ℕ → Addr → Type 0
 IsSince history c a = (n : ℕ) → c ≤ n → n ≤ count history → value_at (at history n) a ≡ value_at (latest history) a
 
--- the value is that of the address after all commits; or there is none, and no commit after the first c changed the address's
+-- the value is that of the address after all commits; or there is none, and no commit after the
+-- first c changed the address's
 abbrev pub IsLastSince : List Entry → ℕ → Addr → Option Value → Type 0
 IsLastSince history c a (Some v) = v ≡ value_at (latest history) a
 IsLastSince history c a None = IsSince history c a
 
--- On a disk of a layout: each value that the updates have is the last one, and no other changed after the first c commits
+-- On a disk of a layout: each value that the updates have is the last one, and no other changed
+-- after the first c commits
 pub record HaveAllSince (layout : Shape) (history : List Entry) (c : ℕ) (updates : List Update) : Type 0 where
   pub last : (a : Addr) → IsTrue (is_valid layout a) → IsLastSince history c a (known_object layout updates a)
 

@@ -27,7 +27,8 @@ pub record VolatileState : Type 0 where
   pub ledger : LedgerState
   -- the updates in memory
   pub tail : TailState
-  -- a device call failed, so that reads, commits and steps are refused until the disk is opened again
+  -- a device call failed, so that reads, commits and steps are refused until the disk is opened
+  -- again
   pub faulted : Bool
 
 -- what its reads and commits are judged by
@@ -64,7 +65,8 @@ pub record IsVolatile (layout : Shape) (v : VolatileState) : Type 0 where
   pub small : next_position v.tail.log < 2 ^ 62
   pub cuts : All (IsCutOf v) (cut_points v.tail)
   pub updates : IsTrue (is_trusted v.ledger.history) → HasUpdates layout v
-  -- what it knows of an address, by its updates or by a copy of its block alone, is what the latest map gives it
+  -- what it knows of an address, by its updates or by a copy of its block alone, is what the latest
+  -- map gives it
   pub known : IsTrue (is_trusted v.ledger.history) → AreObjectsOf layout (latest v.ledger.history) (known_blocks v.tail)
 
 -- how many positions of the log have updates up to the last cut, where it starts at this one
@@ -79,7 +81,8 @@ pub record HasNothingToLog (v : VolatileState) (start : ℕ) : Type 0 where
   pub rest : ((tail_of v.tail.log ≡ []) × (count v.ledger.history ≤ floor v.ledger.history))
       ⊎ (LOG_POSITIONS - used_positions v start < length (tail_of v.tail.log))
 
--- Of the fetched blocks those that may be used: all, unless what commits wrote after them was dropped from memory
+-- Of the fetched blocks those that may be used: all, unless what commits wrote after them was
+-- dropped from memory
 abbrev pub usable : VolatileState → FetchedState → List Update
 usable v f = if nat_le v.tail.trimmed f.commits then f.updates else []
 

@@ -18,14 +18,15 @@ IsWaitRefusal o s n (Closed cause) = (floor o.history < n) × IsEndRefusal o (Cl
 IsWaitRefusal o s n (DeviceFailed cause) = (floor o.history < n) × IsEndRefusal o (DeviceFailed cause)
 IsWaitRefusal o s n other = MayWait o n × IsStrayRefusal o.history s other
 
--- A stop or a fault ends the wait: not all commits are marked that the session had seen, and it is shown the whole history
+-- A stop or a fault ends the wait: not all commits are marked that the session had seen, and it is
+-- shown the whole history
 pub record EndsUnmarked (o : Outset) (old new : SessionState) (why : Refusal CauseState) : Type 0 where
   pub unmarked : floor o.history < count old.seen
   pub shown : new.seen ≡ o.history
   pub end : IsEndRefusal o why
 
--- why a session is not told whether all is marked that it has seen: the history is not the session's, and the session stays as
--- it was, or else a stop or a fault
+-- why a session is not told whether all is marked that it has seen: the history is not the
+-- session's, and the session stays as it was, or else a stop or a fault
 abbrev pub IsFlushRefusal : Outset → SessionState → SessionState → Refusal CauseState → Type 0
 IsFlushRefusal o old new (Closed cause) = EndsUnmarked o old new (Closed cause)
 IsFlushRefusal o old new (DeviceFailed cause) = EndsUnmarked o old new (DeviceFailed cause)

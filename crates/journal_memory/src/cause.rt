@@ -7,9 +7,10 @@ use journal_history::{Front, Naming};
 use journal_world::{MapRule, Refusal};
 use std::marker::Model;
 
-/// What the refusals hold that only a step of the core can find. Only a step of the core makes one, for the refusal
-/// of one number, and there is no copy, so that no other call answers such a refusal unless a step gave it, and none
-/// answers another refusal by it. Contracts see the number, and the history that it has, if any.
+/// What the refusals hold that only a step of the core can find. Only a step of the core makes one,
+/// for the refusal of one number, and there is no copy, so that no other call answers such a
+/// refusal unless a step gave it, and none answers another refusal by it. Contracts see the number,
+/// and the history that it has, if any.
 #[derive(Drop)]
 pub struct Cause<'b, J: Naming, R: MapRule> {
     // Which refusal it was made for. Contracts alone ask for it.

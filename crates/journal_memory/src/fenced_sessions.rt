@@ -8,8 +8,9 @@ use std::marker::Model;
 
 /// The numbers of the sessions that are fenced, as runs of numbers that follow one another.
 ///
-/// Sessions get rising numbers, and one that ended is fenced. So nearly all that were ever fenced are one run: there
-/// are as many runs as sessions that are not fenced, and a few, however many sessions there were.
+/// Sessions get rising numbers, and one that ended is fenced. So nearly all that were ever fenced
+/// are one run: there are as many runs as sessions that are not fenced, and a few, however many
+/// sessions there were.
 #[derive(Drop)]
 pub(crate) struct FencedSessions {
     runs: Vec<Run>,
@@ -71,7 +72,8 @@ impl FencedSessions {
         self.runs.reserve(1)
     }
 
-    /// Keeps that the session is fenced, where `reserve` made the place. The runs beside it become one with it.
+    /// Keeps that the session is fenced, where `reserve` made the place. The runs beside it become
+    /// one with it.
     pub(crate) fn insert(&mut self, session: SessionNumber)
         requires place { HasSpareRun self.old }
         requires small { session < 2 ^ 62 }
@@ -82,8 +84,8 @@ impl FencedSessions {
         self.runs.push_reserved(Run { first, end });
     }
 
-    // Takes out the run that ends just below the session, and says where it begins. Where there is none it would begin
-    // at the session.
+    // Takes out the run that ends just below the session, and says where it begins. Where there is
+    // none it would begin at the session.
     fn take_below(&mut self, session: SessionNumber) -> SessionNumber
         ensures first { result ≤ session }
         ensures takes { TakesBelow session result self.old.runs self.new.runs }
@@ -99,8 +101,8 @@ impl FencedSessions {
         session
     }
 
-    // Takes out the run that begins just above the session, and says where it ends. Where there is none it would end
-    // there.
+    // Takes out the run that begins just above the session, and says where it ends. Where there is
+    // none it would end there.
     fn take_above(&mut self, session: SessionNumber) -> SessionNumber
         requires small { session < 2 ^ 62 }
         ensures end { session < result }

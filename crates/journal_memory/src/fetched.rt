@@ -10,8 +10,9 @@ use journal_world::{MapRule, Refusal};
 use std::alloc::Global;
 use std::marker::Model;
 
-/// Blocks as they are logged, with how many commits they have and the history that has these. That stays true for good,
-/// so what was fetched in a hold of one lock is used in a later hold of another, unless what came since went home by then.
+/// Blocks as they are logged, with how many commits they have and the history that has these. That
+/// stays true for good, so what was fetched in a hold of one lock is used in a later hold of
+/// another, unless what came since went home by then.
 #[derive(Drop)]
 pub struct Fetched<'b, J: Naming, R: MapRule> {
     pub(crate) front: Front<'b, J, R>,
@@ -30,7 +31,8 @@ impl<'b, J: Naming, R: MapRule> Model for Fetched<'b, J, R> {
 }
 
 impl<'b, J: Naming, R: MapRule> Fetched<'b, J, R> {
-    /// Of no blocks, with this front, so that what is not in memory is asked for. It takes no memory.
+    /// Of no blocks, with this front, so that what is not in memory is asked for. It takes no
+    /// memory.
     pub fn empty(alloc: Global, front: Front<'b, J, R>) -> Fetched<'b, J, R>
         requires { front ≢ [] }
         ensures { result ≡ record { front = front.entry; commits = 0; updates = [] } }

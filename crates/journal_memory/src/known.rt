@@ -1,8 +1,9 @@
 // Pairs of an address and a value that stand in proofs alone.
 //
-// A field takes memory, and a ghost field is a fact about the other fields. A snapshot has no bytes and is of any value
-// that there was. An offer of a logbook has no bytes either, and asks for any value that a proof can name. So a snapshot
-// of an offer knows that value. The offer is made for this alone: no step of a book runs it.
+// A field takes memory, and a ghost field is a fact about the other fields. A snapshot has no bytes
+// and is of any value that there was. An offer of a logbook has no bytes either, and asks for any
+// value that a proof can name. So a snapshot of an offer knows that value. The offer is made for
+// this alone: no step of a book runs it.
 ghost use Rattle.std.specs.Prelude.{◌≡◌, [], ◌∷◌};
 
 use journal_world::{Addr, Objects, Value};
@@ -10,8 +11,8 @@ use logbook::{Gain, Offer, Plain, Rule, Seen, Start};
 use std::marker::Model;
 use std::snapshot::Snapshot;
 
-/// Pairs that their owner knows in proofs, the last one first. Contracts see them as a list. At run time nothing of it
-/// is there: it has no bytes, and its functions do nothing.
+/// Pairs that their owner knows in proofs, the last one first. Contracts see them as a list. At run
+/// time nothing of it is there: it has no bytes, and its functions do nothing.
 #[derive(Drop)]
 pub(crate) struct KnownPairs {
     asked: Snapshot<Offer<Objects, (), Unruled, NoGain>>,

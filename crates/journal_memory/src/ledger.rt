@@ -21,7 +21,8 @@ use std::alloc::Global;
 use std::marker::Model;
 use std::sync::Wait;
 
-/// What the core knows without its disk: the history, with what is counted beside it, and who may go on.
+/// What the core knows without its disk: the history, with what is counted beside it, and who may
+/// go on.
 ///
 /// It holds no device and no log, so that none of its functions waits for a device call.
 #[derive(Drop)]
@@ -121,8 +122,8 @@ impl<'b, R: MapRule, J: Naming> Ledger<'b, R, J> {
         self.writer.front()
     }
 
-    /// Shows that what is held agrees with the history: as many commits touched each slot as its token says. Nothing
-    /// changes.
+    /// Shows that what is held agrees with the history: as many commits touched each slot as its
+    /// token says. Nothing changes.
     pub(crate) fn verify_tokens<W: Wait>(&mut self, rt: &W, held: &mut [Held<J>])
         ensures same { self.new ≡ self.old }
         ensures held { held.new ≡ held.old }

@@ -24,9 +24,10 @@ use journal_world::{MapRule, Refusal};
 use std::sync::Wait;
 
 impl<'b, R: MapRule, J: Naming> Ledger<'b, R, J> {
-    /// Refuses a commit by what is known of the session and of what the transaction has seen: J9 and J14. The session
-    /// has then seen the history as it is, or the longer one. No commit is under its number that it did not make, as a
-    /// check of its token shows, so that J10 never comes.
+    /// Refuses a commit by what is known of the session and of what the transaction has seen: J9
+    /// and J14. The session has then seen the history as it is, or the longer one. No commit is
+    /// under its number that it did not make, as a check of its token shows, so that J10 never
+    /// comes.
     pub(crate) fn admit<W: Wait>(
         &mut self,
         rt: &W,
@@ -56,7 +57,8 @@ impl<'b, R: MapRule, J: Naming> Ledger<'b, R, J> {
         Ok(())
     }
 
-    // Shows the session all that is known of the history. Refuses by J9 where that is more than the core knows.
+    // Shows the session all that is known of the history. Refuses by J9 where that is more than the
+    // core knows.
     fn catch_up(
         &self,
         session: &mut Session<'b, J, R>,
@@ -136,8 +138,8 @@ impl<'b, R: MapRule, J: Naming> Ledger<'b, R, J> {
         self.lengths.cut = HistoryLength::new(self.writer.len());
     }
 
-    /// Marks that n commits are stable, those at the last cut or all, and tells it. Refuses by J11 and J9, and is then as
-    /// it was.
+    /// Marks that n commits are stable, those at the last cut or all, and tells it. Refuses by J11
+    /// and J9, and is then as it was.
     pub(crate) fn mark(&mut self, n: CommitCount) -> Result<(), Refusal<Cause<'b, J, R>>>
         requires rises { floor self.old.history ≤ n }
         requires made { n ≤ count self.old.history }

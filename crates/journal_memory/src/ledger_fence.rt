@@ -16,8 +16,8 @@ use journal_world::{MapRule, Refusal};
 use std::sync::Wait;
 
 impl<'b, R: MapRule, J: Naming> Ledger<'b, R, J> {
-    /// Fences a session, by an entry of the history, where no fence of it stands. The session that is lent has then
-    /// seen the whole history. Refuses by J9, J11 and J1, and is then as it was.
+    /// Fences a session, by an entry of the history, where no fence of it stands. The session that
+    /// is lent has then seen the whole history. Refuses by J9, J11 and J1, and is then as it was.
     pub(crate) fn fence<W: Wait>(
         &mut self,
         rt: &W,

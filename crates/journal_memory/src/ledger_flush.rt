@@ -10,8 +10,8 @@ use journal_history::{Naming, Session};
 use journal_world::MapRule;
 
 impl<'b, R: MapRule, J: Naming> Ledger<'b, R, J> {
-    /// Whether all commits are marked that the session has seen, which has seen no more of the history. It takes the same
-    /// time however long the history is.
+    /// Whether all commits are marked that the session has seen, which has seen no more of the
+    /// history. It takes the same time however long the history is.
     pub(crate) fn has_marked(&self, session: &Session<'b, J, R>) -> bool
         requires { IsPrefix session.now.seen self.now.history }
         ensures { IsTrue result ↔ (count session.now.seen ≤ floor self.now.history) }
@@ -19,7 +19,8 @@ impl<'b, R: MapRule, J: Naming> Ledger<'b, R, J> {
         HistoryLength::new(session.seen()) <= self.lengths.marked
     }
 
-    /// Shows the session the whole history, which has no commit under its number that it did not make.
+    /// Shows the session the whole history, which has no commit under its number that it did not
+    /// make.
     pub(crate) fn show_whole(&self, session: &mut Session<'b, J, R>)
         requires seen { IsPrefix session.old.seen self.now.history }
         requires own { length (commits_of session.old.number self.now.history) ≡ made session.old }

@@ -1,15 +1,15 @@
 //! What a mounted journal has in memory, for a lock of its own. No function here calls a device.
 //!
-//!   Volatile     the ledger, the blocks that commits wrote and that are not home yet, and copies of
-//!                home blocks
+//!   Volatile     the ledger, the blocks that commits wrote and that are not home yet, and copies
+//!                of home blocks
 //!   Ledger       the history, with the counts of each session and slot, the marks and the fences
 //!   Transaction  what an open transaction has read and overwritten
 //!   Fetched      blocks as they are logged, which the part with the disk reads
 //!
 //! A call of `Volatile` with a clause `event` is a hold of the memory lock alone, and the clause
-//! says what it did (`specs/VolatileHolds.antt`). A wait and a flush change no part, as their clause
-//! `same` says. Calls that ask for the `LogKey` are made in holds of both locks. The part with the
-//! disk keeps the key to itself.
+//! says what it did (`specs/VolatileHolds.antt`). A wait and a flush change no part, as their
+//! clause `same` says. Calls that ask for the `LogKey` are made in holds of both locks. The part
+//! with the disk keeps the key to itself.
 #![tactic(auto)]
 
 mod cause;

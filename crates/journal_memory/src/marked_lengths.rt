@@ -4,9 +4,9 @@ ghost use Rattle.journal_memory.specs.MarkedLengths.{with_non_commit};
 
 use crate::history_length::HistoryLength;
 
-/// The lengths of two fronts of the history: the longest whose commits are all marked, and the longest that has no more
-/// commits than there were at the last cut. A mark is of the commits at the cut or of all, so the next mark finds the
-/// first of them without a look at the history.
+/// The lengths of two fronts of the history: the longest whose commits are all marked, and the
+/// longest that has no more commits than there were at the last cut. A mark is of the commits at
+/// the cut or of all, so the next mark finds the first of them without a look at the history.
 #[derive(Clone, Copy)]
 pub(crate) struct MarkedLengths {
     pub(crate) marked: HistoryLength,
@@ -14,7 +14,8 @@ pub(crate) struct MarkedLengths {
 }
 
 impl MarkedLengths {
-    /// An entry that is no commit was added after `len` entries: a front that had all of them is longer by one.
+    /// An entry that is no commit was added after `len` entries: a front that had all of them is
+    /// longer by one.
     pub(crate) fn add_non_commit(&mut self, len: HistoryLength)
         requires { len < 2 ^ 62 }
         ensures { self.new ≡ record { marked = with_non_commit len self.old.marked; cut = with_non_commit len self.old.cut } }

@@ -5,7 +5,8 @@ use std::marker::Model;
 
 /// Which session: sessions are numbered in the order in which they begin. Contracts see the number.
 ///
-/// How many commits there are, and how long the history is, are numbers too, and are not meant here.
+/// How many commits there are, and how long the history is, are numbers too, and are not meant
+/// here.
 #[derive(Clone, Copy, Debug, PartialEq, Eq, PartialOrd, Ord)]
 pub struct SessionNumber(u64);
 

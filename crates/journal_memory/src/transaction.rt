@@ -13,8 +13,9 @@ use journal_world::{Addr, MapRule, Objects, Value};
 use std::alloc::{AllocError, Global};
 use std::marker::Model;
 
-/// What an open transaction has read and overwritten. Contracts see both, by address, and a history at whose end
-/// all that it read is what the map gives: a transaction sees one map, whether it is committed or not.
+/// What an open transaction has read and overwritten. Contracts see both, by address, and a history
+/// at whose end all that it read is what the map gives: a transaction sees one map, whether it is
+/// committed or not.
 ///
 /// What it read stands in proofs alone: no code looks at it, and nothing of it is copied.
 #[derive(Drop)]
@@ -34,8 +35,8 @@ impl<'b, J: Naming, R: MapRule> Model for Transaction<'b, J, R> {
     ghost invariant = { λ t. IsTransaction J.layout (record { reads = t.reads; writes = t.writes; seen = t.front }) };
 }
 
-/// What a read found, until its transaction remembers it: the address, and the history at whose end its value was
-/// looked up.
+/// What a read found, until its transaction remembers it: the address, and the history at whose end
+/// its value was looked up.
 #[derive(Drop)]
 pub struct ReadResult<'b, J: Naming, R: MapRule> {
     pub(crate) addr: Addr,
@@ -93,7 +94,8 @@ impl<'b, J: Naming, R: MapRule> Transaction<'b, J, R> {
         Spares::for_writes(alloc, &self.writes)
     }
 
-    /// Gives the address this value, in place of one that it gave it before. After an `Err` all is as before.
+    /// Gives the address this value, in place of one that it gave it before. After an `Err` all is
+    /// as before.
     pub fn overwrite(&mut self, addr: Addr, value: Value) -> Result<(), AllocError>
         requires object { IsTrue (is_object J.layout (addr, value)) }
         ensures ok { OnOk result (Overwrites self.old addr value self.new) }

@@ -25,11 +25,13 @@ use journal_world::{Layout, MapRule, Refusal};
 use std::marker::Model;
 use std::sync::Wait;
 
-/// What the core has in memory alone, for a lock of its own: the history, with what is counted beside it, the objects
-/// that commits wrote and that are not at home yet, and copies of blocks that are at home.
+/// What the core has in memory alone, for a lock of its own: the history, with what is counted
+/// beside it, the objects that commits wrote and that are not at home yet, and copies of blocks
+/// that are at home.
 ///
-/// It holds no device, so that none of its functions waits for a device call. A read or a commit that needs a block which
-/// is not here says so. The caller fetches it from the durable part, and makes the call again with what was fetched.
+/// It holds no device, so that none of its functions waits for a device call. A read or a commit
+/// that needs a block which is not here says so. The caller fetches it from the durable part, and
+/// makes the call again with what was fetched.
 #[derive(Drop)]
 pub struct Volatile<'b, R: MapRule, J: Naming> {
     pub(crate) layout: NamedLayout<J>,
@@ -50,7 +52,8 @@ impl<'b, R: MapRule, J: Naming> Model for Volatile<'b, R, J> {
 }
 
 impl<'b, R: MapRule, J: Naming> Volatile<'b, R, J> {
-    /// That of a mount that begins, over a disk whose log ends at a position: no commit was made, and no block is known.
+    /// That of a mount that begins, over a disk whose log ends at a position: no commit was made,
+    /// and no block is known.
     pub fn new(layout: Layout, ledger: Ledger<'b, R, J>, tail: ObjectTail) -> Volatile<'b, R, J>
         requires layout { shape layout ≡ J.layout }
         requires begun { ledger.cut ≡ 0 }
@@ -107,8 +110,8 @@ impl<'b, R: MapRule, J: Naming> Volatile<'b, R, J> {
         let _faulted = self.faulted;
     }
 
-    /// Refuses by J13 `Closed` where it was stopped, else by J6 `DeviceFailed` where the device failed before, and
-    /// by nothing else.
+    /// Refuses by J13 `Closed` where it was stopped, else by J6 `DeviceFailed` where the device
+    /// failed before, and by nothing else.
     pub fn check_running(&self) -> Result<(), Refusal<Cause<'b, J, R>>>
         ensures running { OnOk result (GoesOn (outset_of self.now)) }
         ensures refusal { IfErr result (IsEndRefusal (outset_of self.now)) }
@@ -122,7 +125,8 @@ impl<'b, R: MapRule, J: Naming> Volatile<'b, R, J> {
         Ok(())
     }
 
-    /// The whole history, where another part's front begins it. Refuses by J9 where that is the longer.
+    /// The whole history, where another part's front begins it. Refuses by J9 where that is the
+    /// longer.
     pub fn front_over(
         &self,
         seen: &Front<'b, J, R>,
@@ -153,8 +157,8 @@ impl<'b, R: MapRule, J: Naming> Volatile<'b, R, J> {
         self.ledger.session()
     }
 
-    /// Shows that what is held agrees with the history: as many commits touched each slot as its token says. Nothing
-    /// changes, and it waits for nobody.
+    /// Shows that what is held agrees with the history: as many commits touched each slot as its
+    /// token says. Nothing changes, and it waits for nobody.
     pub fn verify_tokens<W: Wait>(&mut self, rt: &W, held: &mut [Held<J>])
         ensures same { self.new ≡ self.old }
         ensures held { held.new ≡ held.old }

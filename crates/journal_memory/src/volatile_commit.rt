@@ -46,9 +46,9 @@ impl<'b, R: MapRule, J: Naming> Volatile<'b, R, J> {
     /// that is written, but not as a whole, has to be in memory, or fetched and still usable: where
     /// some are not, nothing is committed, and the answer is these.
     ///
-    /// What it reads and writes lies under slots that are held, each once. They are verified first: that
-    /// waits for nobody, and shows that no other commit touched one since it was
-    /// read: nothing is compared. What is held agrees with the history then too.
+    /// What it reads and writes lies under slots that are held, each once. They are verified first:
+    /// that waits for nobody, and shows that no other commit touched one since it was read: nothing
+    /// is compared. What is held agrees with the history then too.
     ///
     /// The first that applies of these refuses it: J13 `Closed` where it was stopped, J6
     /// `DeviceFailed` where the device failed before, J9 `Stale` where the session, the transaction
@@ -150,8 +150,8 @@ impl<'b, R: MapRule, J: Naming> Volatile<'b, R, J> {
         }
     }
 
-    // Refuses a commit by what is known of the session and of what the transaction has seen: J9 and J14. Nothing changes but
-    // what the session has seen.
+    // Refuses a commit by what is known of the session and of what the transaction has seen: J9 and
+    // J14. Nothing changes but what the session has seen.
     fn admit<W: Wait>(
         &mut self,
         rt: &W,
@@ -172,8 +172,8 @@ impl<'b, R: MapRule, J: Naming> Volatile<'b, R, J> {
         self.ledger.admit(rt, session, transaction)
     }
 
-    // Makes the writes ready, with all the memory that they take, or tells which blocks have to be fetched first.
-    // Refuses by J4, J11 and J12, then J1.
+    // Makes the writes ready, with all the memory that they take, or tells which blocks have to be
+    // fetched first. Refuses by J4, J11 and J12, then J1.
     fn prepare(
         &mut self,
         session: &Session<'b, J, R>,

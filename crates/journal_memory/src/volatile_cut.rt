@@ -20,10 +20,11 @@ use journal_tail::{CommitCount, Position};
 use journal_world::{MapRule, Refusal};
 
 impl<'b, R: MapRule, J: Naming> Volatile<'b, R, J> {
-    /// Of a hold of both: cuts. It hands out a copy of all that commits wrote since the last cut, as
-    /// the last of them left it.
+    /// Of a hold of both: cuts. It hands out a copy of all that commits wrote since the last cut,
+    /// as the last of them left it.
     ///
-    /// Answers J1 `NoMemory`, and nothing else, where memory for the copy is refused. All is then as it was.
+    /// Answers J1 `NoMemory`, and nothing else, where memory for the copy is refused. All is then
+    /// as it was.
     pub fn cut(&mut self, _key: &LogKey<J>) -> Result<Vec<Update>, Refusal<Cause<'b, J, R>>>
         ensures group { IfOk result (λ group. group.items ≡ tail_of self.old.tail.log) }
         ensures all { IsTrue (is_trusted self.old.ledger.history) → IfOk result (λ group. HaveAllSince J.layout self.old.ledger.history self.old.ledger.cut group.items) }
@@ -42,7 +43,8 @@ impl<'b, R: MapRule, J: Naming> Volatile<'b, R, J> {
         Ok(group)
     }
 
-    /// Of a hold of memory alone: makes the copy of the home block the one that was used last, where there is one.
+    /// Of a hold of memory alone: makes the copy of the home block the one that was used last,
+    /// where there is one.
     pub fn touch(&mut self, block: u64)
         ensures event { KeepsCopies J.layout self.old self.new }
     {

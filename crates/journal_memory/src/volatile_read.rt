@@ -57,8 +57,8 @@ impl<'b, R: MapRule, J: Naming> Volatile<'b, R, J> {
         self.read_verified(transaction, addr, fetched, into)
     }
 
-    /// Looks and refuses a read as `read` does, by what is known before the value is looked for: J13, J6, J2, and by what
-    /// the transaction has seen J9. Nothing changes.
+    /// Looks and refuses a read as `read` does, by what is known before the value is looked for:
+    /// J13, J6, J2, and by what the transaction has seen J9. Nothing changes.
     pub fn check_read<W: Wait>(
         &mut self,
         rt: &W,
@@ -124,7 +124,8 @@ impl<'b, R: MapRule, J: Naming> Volatile<'b, R, J> {
         self.ledger.check_transaction(transaction)
     }
 
-    // The fetched blocks that may be used. Refuses by J9 where the fetch has seen more of the history.
+    // The fetched blocks that may be used. Refuses by J9 where the fetch has seen more of the
+    // history.
     pub(crate) fn usable<'a>(
         &self,
         fetched: &'a Fetched<'b, J, R>,

@@ -142,8 +142,8 @@ impl<'b, R: MapRule, J: Naming> Volatile<'b, R, J> {
 
     /// A hold of memory alone: shows the session the whole history.
     ///
-    /// Answers J9 `Stale` where the session had seen more of the history, and nothing else. The session may then have seen
-    /// more.
+    /// Answers J9 `Stale` where the session had seen more of the history, and nothing else. The
+    /// session may then have seen more.
     pub fn show_step(&self, session: &mut Session<'b, J, R>) -> Result<(), Refusal<Cause<'b, J, R>>>
         ensures extends { OnlyExtends session.old session.new }
         ensures shown { OnOk result (session.new.seen ≡ self.now.ledger.history) }

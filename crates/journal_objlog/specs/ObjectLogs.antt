@@ -1,4 +1,5 @@
--- What contracts see of an object log: the map now, the two that a crash may leave, and what each call makes of them.
+-- What contracts see of an object log: the map now, the two that a crash may leave, and what each
+-- call makes of them.
 use Rattle.std.specs.Prelude.{ℕ, ◌≡◌, ◌⊎◌, Bool, true, false, IsTrue, List}
 use Rattle.journal_world.specs.declared.refusal.Refusal.{Refusal}
 use Rattle.journal_world.specs.declared.refusal.Refusal.TheVariants.{DeviceFailed}
@@ -33,8 +34,8 @@ end_of w = w.log.logged
 abbrev pub IsCutLogged : WalState → Type 0
 IsCutLogged w = w.log.logged ≡ w.log.cut
 
--- What holds for each layout of a disk of so many blocks. A log has blocks, and knows no layout: what it says of maps it
--- says for each by which its blocks may be read
+-- What holds for each layout of a disk of so many blocks. A log has blocks, and knows no layout:
+-- what it says of maps it says for each by which its blocks may be read
 abbrev pub EachLayout : ℕ → (Shape → Type 0) → Type 0
 EachLayout blocks holds = (layout : Shape) → layout.blocks ≡ blocks → holds layout
 
@@ -50,7 +51,8 @@ map_cut layout w = map_of layout (blocks_cut w)
 abbrev pub map_logged : Shape → WalState → Map
 map_logged layout w = map_of layout (blocks_logged w)
 
--- What a crash may leave opens as the map of the last group whose cycle ended, or as that of the last cut
+-- What a crash may leave opens as the map of the last group whose cycle ended, or as that of the
+-- last cut
 abbrev pub MayOpenAs : Shape → WalState → List Bytes → Type 0
 MayOpenAs layout w image = OpensAs (map_logged layout w) image ⊎ OpensAs (map_cut layout w) image
 
@@ -60,15 +62,15 @@ pub record KeepsMaps (old new : WalState) : Type 0 where
   pub cut : EachLayout (size_of old) (λ layout. SameMap (map_cut layout new) (map_cut layout old))
   pub logged : EachLayout (size_of old) (λ layout. SameMap (map_logged layout new) (map_logged layout old))
 
--- What each call says of the disk: at every moment of it an image opens as one of the two maps that a crash might have
--- left before, and at its end as one of those that it may leave now
+-- What each call says of the disk: at every moment of it an image opens as one of the two maps that
+-- a crash might have left before, and at its end as one of those that it may leave now
 pub record Crashes (old new : WalState) : Type 0 where
   pub keeps : Keeps (disk_of old) (disk_of new)
   pub moments : IsTrue (disk_of old).honest → EachLayout (size_of old) (λ layout. LeavesOnly (disk_of old).past (disk_of new).past (MayOpenAs layout old))
   pub images : IsTrue (disk_of new).honest → EachLayout (size_of new) (λ layout. EveryImage (disk_of new).past (MayOpenAs layout new))
 
--- The disk was read, with or without a fault, and there may be other room in memory: all else is as before, and it is
--- faulted only where it was or the device failed
+-- The disk was read, with or without a fault, and there may be other room in memory: all else is as
+-- before, and it is faulted only where it was or the device failed
 pub record OnlyReads (old new : WalState) : Type 0 where
   pub same : new ≡ record old {
     ring = record old.ring { disk = new.ring.disk; faulted = new.ring.faulted };

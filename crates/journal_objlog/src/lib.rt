@@ -3,8 +3,8 @@
 //! An `ObjectLog` has the log on the disk, which takes what an `ObjectTail` cuts in memory
 //! (`journal_tail`). Contracts see three maps of it: the map now, with all groups that it took, and
 //! the two that a crash may leave. These are the map at the last cut, and the one at the cut of the
-//! last group whose cycle ended. What is said of maps is owed where the disk is honest. `specs/` has
-//! these words.
+//! last group whose cycle ended. What is said of maps is owed where the disk is honest. `specs/`
+//! has these words.
 #![tactic(auto)]
 
 mod group;

@@ -15,8 +15,8 @@ use journal_world::Refused;
 use std::alloc::Global;
 use std::marker::Model;
 
-/// The maps of objects of a disk, over the write-ahead log. It knows blocks and no layout: what it says of maps it
-/// says for each layout by which the disk may be read.
+/// The maps of objects of a disk, over the write-ahead log. It knows blocks and no layout: what it
+/// says of maps it says for each layout by which the disk may be read.
 #[derive(Drop)]
 pub struct ObjectLog<D: BlockDisk> {
     pub(crate) alloc: Global,
@@ -35,12 +35,12 @@ impl<D: BlockDisk> Model for ObjectLog<D> {
 }
 
 impl<D: BlockDisk> ObjectLog<D> {
-    /// Opens the maps of a disk, on which nothing is pending: what lies in its log is read into memory, and
-    /// nothing is written.
+    /// Opens the maps of a disk, on which nothing is pending: what lies in its log is read into
+    /// memory, and nothing is written.
     ///
-    /// Answers J1 `NoMemory` where memory is refused, J6 `DeviceFailed` where the device fails in this call,
-    /// and J7 `BadLog` where the disk's log is not well formed, and no other refusal. A refusal hands the disk
-    /// back, with nothing written.
+    /// Answers J1 `NoMemory` where memory is refused, J6 `DeviceFailed` where the device fails in
+    /// this call, and J7 `BadLog` where the disk's log is not well formed, and no other refusal. A
+    /// refusal hands the disk back, with nothing written.
     pub fn open(alloc: Global, disk: D) -> Result<ObjectLog<D>, Refused<D, ()>>
         requires size { MIN_BLOCKS ≤ (D.state disk).past.size }
         requires settled { IsTrue (D.state disk).honest → IsSettled (D.state disk).past }
@@ -65,7 +65,8 @@ impl<D: BlockDisk> ObjectLog<D> {
         Ok(ObjectLog { alloc, wal })
     }
 
-    /// Where the log on the disk starts and ends, as last synced: positions, of which there are at most 511.
+    /// Where the log on the disk starts and ends, as last synced: positions, of which there are at
+    /// most 511.
     pub fn log_range(&self) -> (u64, u64)
         ensures { result ≡ (self.now.log.start, self.now.log.logged) }
     {

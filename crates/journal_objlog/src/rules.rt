@@ -38,9 +38,9 @@ impl Opening for Brand {
     ghost log = { no_log };
 }
 
-// Reads the map that the log had then. It holds the log, so that whatever reads by it leaves a log that was
-// only read. Of blocks with many objects it keeps the one that it read last, so that a rule that goes through such a
-// block reads it once. A block that is one object is read beside it.
+// Reads the map that the log had then. It holds the log, so that whatever reads by it leaves a log
+// that was only read. Of blocks with many objects it keeps the one that it read last, so that a
+// rule that goes through such a block reads it once. A block that is one object is read beside it.
 struct MapReader<D: BlockDisk, O: Opening> {
     layout: Layout,
     log: ObjectLog<D>,
@@ -108,8 +108,8 @@ impl<D: BlockDisk, O: Opening> ObjectReader for MapReader<D, O> {
     }
 }
 
-// Reads a block into the one that is kept, unless it is that one already. What the block holds after a
-// refusal is not said, so none is kept then.
+// Reads a block into the one that is kept, unless it is that one already. What the block holds
+// after a refusal is not said, so none is kept then.
 fn keep_block<O: Opening, D: BlockDisk>(
     log: &mut ObjectLog<D>,
     kept: &mut Option<u64>,
@@ -135,12 +135,12 @@ fn keep_block<O: Opening, D: BlockDisk>(
 }
 
 impl<D: BlockDisk> ObjectLog<D> {
-    /// Asks the rule whether its statement holds of the map now, by a layout of the disk. The log was only read, and is
-    /// handed back.
+    /// Asks the rule whether its statement holds of the map now, by a layout of the disk. The log
+    /// was only read, and is handed back.
     ///
-    /// Answers J6 `DeviceFailed` where the device failed before or in this call, whatever the rule answered, and
-    /// nowhere else. It is refused otherwise where the rule refuses for want of memory (J1). The maps and what
-    /// lies on the disk are as they were, whatever it answers.
+    /// Answers J6 `DeviceFailed` where the device failed before or in this call, whatever the rule
+    /// answered, and nowhere else. It is refused otherwise where the rule refuses for want of
+    /// memory (J1). The maps and what lies on the disk are as they were, whatever it answers.
     pub fn admitted_by<R: MapRule>(
         self,
         layout: Layout,
@@ -179,7 +179,8 @@ impl<D: BlockDisk> ObjectLog<D> {
         self.wal.read(number, into)
     }
 
-    // The value that a block of the log has at the address. No device is asked. Refuses by J1 alone.
+    // The value that a block of the log has at the address. No device is asked. Refuses by J1
+    // alone.
     fn value_in(&self, layout: &Layout, block: &Block, addr: Addr) -> Result<Value, Refusal<()>>
         requires { IsTrue (is_valid (shape layout.now) addr) }
         ensures value { IsTrue (disk_of self.now).honest → IsBlockOf self.now block.now addr.block

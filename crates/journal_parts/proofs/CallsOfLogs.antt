@@ -119,7 +119,8 @@ reads_room old new same = record {
   stays = λ faulted. subst IsTrue (sym (ap (λ (w : WalState). w.ring.faulted) same)) faulted;
 }
 
--- where it has no tail, the logger's step that does not end a group is none, or the device call that was due
+-- where it has no tail, the logger's step that does not end a group is none, or the device call
+-- that was due
 module _ (old new : WalState) (empty : tail_length old ≡ 0) where
   pub stays_logging : (step : GroupStep) → (step ≡ Logged → ⊥) → LogAnswers old step new → StaysCut old new
   stays_logging LogIdle other answers = stays_same old new answers.1

@@ -200,7 +200,8 @@ module _ (layout : Shape) (d : DurableState) (kept : IsDurable layout d) where
       later : (n : ℕ) → n ≤ count d.front → (m : Map) → SameMap m (at d.front n) → SameMap m (at front n)
       later n le m same = subst (λ (k : Map). SameMap m k) (sym (at-longer d.front front kept.begun longer n le)) same
 
--- What the blocks that are logged make with a group that has all that was written since: the map after all commits
+-- What the blocks that are logged make with a group that has all that was written since: the map
+-- after all commits
 module _ (n : Shape) (w : WalState) (empty : tail_length w ≡ 0) (none : IsCutLogged w) where
   module _ (front : List Entry) (c : ℕ) (same : SameMap (map_logged n w) (at front c)) (made : c ≤ count front) (group : List Update) where
     value_now : (a : Addr) → IsTrue (is_valid n a) → object_or_zeros n (blocks_now w a.block) a ≡ value_at (at front c) a

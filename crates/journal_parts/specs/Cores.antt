@@ -1,4 +1,5 @@
--- What contracts see of the core, the pair of its durable and its volatile part, and what a crash may leave of it.
+-- What contracts see of the core, the pair of its durable and its volatile part, and what a crash
+-- may leave of it.
 use Rattle.std.specs.Prelude.{ℕ, ◌≡◌, ◌≤◌, ◌+◌, Bool, false, IsTrue, List, length}
 use Rattle.journal_world.specs.Addresses.{Shape}
 use Rattle.journal_world.specs.Maps.{Map, SameMap}
@@ -17,7 +18,8 @@ use Rattle.journal_parts.specs.Durables.{DurableState, IsDurable}
 use Rattle.journal_memory.specs.Volatiles.{VolatileState, IsVolatile}
 use Rattle.journal_parts.specs.Pairs.{Tied}
 
--- The map of objects, as it is kept: the log on the disk, and after it the blocks that commits wrote since the last cut
+-- The map of objects, as it is kept: the log on the disk, and after it the blocks that commits
+-- wrote since the last cut
 pub record ObjectsState : Type 0 where
   pub wal : WalState
   pub tail : List Update
@@ -64,7 +66,8 @@ end_of o = log_end o.wal
 abbrev pub next_of : ObjectsState → ℕ
 next_of o = next_position o.wal.log + length o.tail
 
--- The disk was read, with or without a fault, and there may be other room in memory: all else is as before
+-- The disk was read, with or without a fault, and there may be other room in memory: all else is as
+-- before
 pub record OnlyReads (old new : ObjectsState) : Type 0 where
   pub wal : OnlyReadsLog old.wal new.wal
   pub tail : new.tail ≡ old.tail
@@ -98,15 +101,15 @@ pub record Leaves (history : List Entry) (image : List Bytes) : Type 0 where
   pub opens : OpensAs map image
   pub same : SameMap map (at history commits)
 
--- What each step says of crashes: at every moment of it an image opens as the map after a front of the history that there
--- was, and at its end after one of the history that there is
+-- What each step says of crashes: at every moment of it an image opens as the map after a front of
+-- the history that there was, and at its end after one of the history that there is
 pub record Crashes (old new : CoreState) : Type 0 where
   pub keeps : Keeps (disk_of old) (disk_of new)
   pub moments : IsTrue (disk_of old).honest → LeavesOnly (disk_of old).past (disk_of new).past (Leaves old.history)
   pub images : IsTrue (disk_of new).honest → EveryImage (disk_of new).past (Leaves new.history)
 
--- What the pair keeps, on a disk of a layout: what each part keeps by itself, what ties the two, and that both know of a
--- fault
+-- What the pair keeps, on a disk of a layout: what each part keeps by itself, what ties the two,
+-- and that both know of a fault
 pub record IsPair (layout : Shape) (v : VolatileState) (d : DurableState) : Type 0 where
   pub volatile : IsVolatile layout v
   pub durable : IsDurable layout d

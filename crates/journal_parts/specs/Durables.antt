@@ -33,7 +33,8 @@ pub record DurableState : Type 0 where
   pub logged : ℕ
   pub coming : ℕ
 
--- a device call failed, so that each call that needs the device is refused until the disk is opened again
+-- a device call failed, so that each call that needs the device is refused until the disk is opened
+-- again
 abbrev pub is_faulted : DurableState → Bool
 is_faulted d = is_log_faulted d.objects
 

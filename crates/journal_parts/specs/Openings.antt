@@ -56,7 +56,8 @@ pub record Begins (rule : Map → Type 0) (layout : Shape) (disk : DiskState) (n
   pub next : new.next ≡ 0
   pub running : IsRunning new
 
--- Why a disk is not opened by a layout. The number of blocks comes first, then the log, the rule and the book; J1 and J6 come as they are met
+-- Why a disk is not opened by a layout. The number of blocks comes first, then the log, the rule
+-- and the book; J1 and J6 come as they are met
 abbrev pub IsLayoutRefusal : (Map → Type 0) → Shape → DiskState → DiskState → Refusal CauseState → Type 0
 IsLayoutRefusal rule layout old new BadSuper =
     (HasSize layout old → ⊥)
@@ -89,7 +90,8 @@ pub record OnlyReadsDisk (old new : DiskState) : Type 0 where
   pub keeps : Keeps old new
   pub past : IsTrue old.honest → new.past ≡ old.past
 
--- Why a history is not begun: the rule was not asked to its end, it does not hold, or it does and there is a history
+-- Why a history is not begun: the rule was not asked to its end, it does not hold, or it does and
+-- there is a history
 abbrev pub IsBeginRefusal : (Map → Type 0) → Shape → WalState → Result Bool (Refusal Unit) → Refusal CauseState → Type 0
 IsBeginRefusal rule layout objects (Err refusal) why = why ≡ raised_of refusal
 IsBeginRefusal rule layout objects (Ok admitted) BadSuper = IsTrue (log_disk objects).honest → rule (map_now layout objects) → ⊥

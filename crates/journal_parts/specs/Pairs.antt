@@ -18,7 +18,8 @@ use Rattle.journal_memory.specs.Ledgers.{IsMarkRefusal}
 use Rattle.journal_parts.specs.Durables.{DurableState, TakesCut, IsRoomRefusal}
 use Rattle.journal_memory.specs.Volatiles.{VolatileState, IsFrontRefusal}
 
--- What neither part can keep by itself. Each is looked at where a step needs it, and a pair that is tied passes
+-- What neither part can keep by itself. Each is looked at where a step needs it, and a pair that is
+-- tied passes
 pub record Tied (v : VolatileState) (d : DurableState) : Type 0 where
   -- the history goes on where the durable part's front ends
   pub begins : IsPrefix d.front v.ledger.history
@@ -67,7 +68,8 @@ pub record MarksBoth (v : VolatileState) (d : DurableState) (w : VolatileState) 
   pub volatile : w ≡ record v { ledger = record v.ledger { history = v.ledger.history ++ stable d.logged ∷ []; cut = d.logged } }
   pub durable : e ≡ record d { front = v.ledger.history ++ stable d.logged ∷ []; marked = d.logged }
 
--- All commits were marked, in the history and beside the log: those since the last cut wrote nothing
+-- All commits were marked, in the history and beside the log: those since the last cut wrote
+-- nothing
 pub record MarksAll (v : VolatileState) (d : DurableState) (w : VolatileState) (e : DurableState) : Type 0 where
   pub due : IsRestDue v d
   pub volatile : w ≡ record v {
@@ -80,7 +82,8 @@ pub record MarksAll (v : VolatileState) (d : DurableState) (w : VolatileState) (
     coming = count v.ledger.history;
   }
 
--- what was done where no device call was due, by what is answered: the first of the three that was due
+-- what was done where no device call was due, by what is answered: the first of the three that was
+-- due
 abbrev pub DoesWhatIsDue : VolatileState → DurableState → LogStep → VolatileState → DurableState → Type 0
 DoesWhatIsDue v d Idle w e = IsNothingDue v d × (w ≡ v) × (e ≡ d)
 DoesWhatIsDue v d Cut w e = (IsMarkDue v d → ⊥) × CutsBoth v d w e

@@ -15,8 +15,8 @@ use journal_tail::{CommitCount, Position};
 use journal_world::MapRule;
 use std::marker::Model;
 
-/// What the core has on its disk, for a lock of its own: the log, with copies of the logged blocks and of the group in
-/// flight, and how many commits these have of a front of the history.
+/// What the core has on its disk, for a lock of its own: the log, with copies of the logged blocks
+/// and of the group in flight, and how many commits these have of a front of the history.
 ///
 /// It knows nothing of what commits wrote since. A group of that comes from the memory part, whole.
 #[derive(Drop)]
@@ -71,7 +71,8 @@ impl<'b, D: BlockDisk, R: MapRule, J: Naming> Durable<'b, D, R, J> {
         let _marked = self.marked;
     }
 
-    /// Where the log on the disk starts and ends, as last synced: positions, of which there are at most 511.
+    /// Where the log on the disk starts and ends, as last synced: positions, of which there are at
+    /// most 511.
     pub fn log_range(&self) -> (Position, Position)
         ensures { result ≡ (start_of self.now.objects, end_of self.now.objects) }
     {
@@ -79,8 +80,9 @@ impl<'b, D: BlockDisk, R: MapRule, J: Naming> Durable<'b, D, R, J> {
         (Position::new(start), Position::new(end))
     }
 
-    /// The disk, lent. Where it was honest and settled when it was opened, each image that a crash may leave of it
-    /// opens as the map after some of the front's commits: at least those that are marked, at most those that come.
+    /// The disk, lent. Where it was honest and settled when it was opened, each image that a crash
+    /// may leave of it opens as the map after some of the front's commits: at least those that are
+    /// marked, at most those that come.
     pub fn disk(&self) -> &D
         ensures disk { D.state result.now ≡ disk_of self.now }
         ensures size { (disk_of self.now).past.size ≡ J.layout.blocks }
@@ -90,8 +92,8 @@ impl<'b, D: BlockDisk, R: MapRule, J: Naming> Durable<'b, D, R, J> {
         self.objects.disk()
     }
 
-    /// Gives the disk up, as it is. Where it was honest and settled when it was opened, each image that a crash may
-    /// leave of it opens as the map after some of the front's commits.
+    /// Gives the disk up, as it is. Where it was honest and settled when it was opened, each image
+    /// that a crash may leave of it opens as the map after some of the front's commits.
     pub fn into_disk(self) -> D
         ensures disk { D.state result ≡ disk_of self.entry }
         ensures size { (D.state result).past.size ≡ J.layout.blocks }

@@ -20,13 +20,13 @@ use journal_tail::CommitCount;
 use journal_world::{MapRule, Refusal};
 
 impl<'b, D: BlockDisk, R: MapRule, J: Naming> Durable<'b, D, R, J> {
-    /// Makes room for a group of so many blocks, so that `take` takes it, as long as no other call comes between.
-    /// Answers no where a group is in flight, where there are no blocks, and where the log lacks a position for one
-    /// of them.
+    /// Makes room for a group of so many blocks, so that `take` takes it, as long as no other call
+    /// comes between. Answers no where a group is in flight, where there are no blocks, and where
+    /// the log lacks a position for one of them.
     ///
-    /// The first that applies of these refuses it: J6 `DeviceFailed` where the device failed before, J11 `Worn` where
-    /// a position would reach 2^62, J1 `NoMemory` where memory is refused. Refused or not, all is as it was, but may
-    /// have more room in memory.
+    /// The first that applies of these refuses it: J6 `DeviceFailed` where the device failed
+    /// before, J11 `Worn` where a position would reach 2^62, J1 `NoMemory` where memory is refused.
+    /// Refused or not, all is as it was, but may have more room in memory.
     pub(crate) fn reserve(&mut self, blocks: usize) -> Result<bool, Refusal<Cause<'b, J, R>>>
         requires few { blocks ≤ MAX_TAIL }
         ensures fits { IfOk result (λ fits. IsTrue fits ↔ FitsGroup self.old.objects blocks) }
@@ -39,8 +39,8 @@ impl<'b, D: BlockDisk, R: MapRule, J: Naming> Durable<'b, D, R, J> {
         self.key.raise(self.objects.reserve_group(blocks))
     }
 
-    /// Takes a group that was cut from memory, which `reserve` made room for, and the history that has its commits,
-    /// of which there are so many. It takes no memory, and moves the blocks.
+    /// Takes a group that was cut from memory, which `reserve` made room for, and the history that
+    /// has its commits, of which there are so many. It takes no memory, and moves the blocks.
     pub(crate) fn take(&mut self, group: Vec<Update>, front: Front<'b, J, R>, commits: CommitCount)
         requires homes { AreHomes J.layout.blocks group.items }
         requires distinct { HasDistinctBlocks group.items }
@@ -59,8 +59,8 @@ impl<'b, D: BlockDisk, R: MapRule, J: Naming> Durable<'b, D, R, J> {
         self.coming = commits;
     }
 
-    /// Notes that all commits of the history are logged, of which there are so many: those since wrote nothing, and no
-    /// group is in flight.
+    /// Notes that all commits of the history are logged, of which there are so many: those since
+    /// wrote nothing, and no group is in flight.
     pub(crate) fn note_all_logged(&mut self, front: Front<'b, J, R>, commits: CommitCount)
         requires rest { IsCutLogged self.old.objects }
         requires longer { IsPrefix self.old.front front }

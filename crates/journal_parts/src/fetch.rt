@@ -13,8 +13,8 @@ use journal_memory::{Cause, Fetched};
 use journal_world::{MapRule, Refusal};
 
 impl<'b, D: BlockDisk, R: MapRule, J: Naming> Durable<'b, D, R, J> {
-    /// Reads the block that each of these names, as it is logged, into its bytes. It is read from the device only where
-    /// no logged update of it is in memory. It takes no memory.
+    /// Reads the block that each of these names, as it is logged, into its bytes. It is read from
+    /// the device only where no logged update of it is in memory. It takes no memory.
     ///
     /// Answers J6 `DeviceFailed`, and nothing else, where the device failed in this call or before.
     pub(crate) fn fetch_blocks(

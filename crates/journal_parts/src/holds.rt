@@ -24,6 +24,7 @@ use journal_block::Update;
 use journal_disk::BlockDisk;
 use journal_history::{Naming, Session};
 use journal_memory::{Cause, Fetched, Volatile};
+use journal_tail::Position;
 use journal_wal::{GroupStep, InstallStep};
 use journal_world::{MapRule, Refusal};
 
@@ -80,6 +81,7 @@ impl<'b, D: BlockDisk, R: MapRule, J: Naming> Durable<'b, D, R, J> {
             }
             Ok(InstallStep::Freed(upto)) => {
                 self.prove_invariant();
+                let upto = Position::new(upto);
                 Ok(InstallCall::Freed(FreedLog { upto }))
             }
             Err(Refusal::NoMemory) => {
@@ -152,7 +154,7 @@ impl<'b, D: BlockDisk, R: MapRule, J: Naming> Durable<'b, D, R, J> {
         let FreedLog { upto } = freed;
         self.trim_memory(volatile, upto);
         volatile.prove_invariant();
-        InstallStep::Freed(upto)
+        InstallStep::Freed(upto.get())
     }
 
     /// A hold of both: notes in memory that the device failed, and gives the refusal.

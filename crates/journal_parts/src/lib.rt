@@ -1,8 +1,8 @@
 //! The state of a mounted journal, in two parts, each for a lock of its own.
 //!
 //!   Volatile  memory alone (`journal_memory`). No function of it calls the device.
-//!   Durable   the disk: the circular log, the group in flight, and how many commits are marked, how many are
-//!             logged, and how many are with the group in flight (coming).
+//!   Durable   the disk: the circular log, the group in flight, and how many commits are marked,
+//!             how many are logged, and how many are with the group in flight (coming).
 //!
 //! A commit changes Volatile alone. The logger moves it to Durable in three steps: cut (both
 //! parts), log (Durable), mark (both). The installer writes logged blocks home (Durable), and then

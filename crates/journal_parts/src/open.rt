@@ -41,8 +41,8 @@ impl<'a, D: BlockDisk> Opened for MapNow<'a, D> {
 /// Opens a disk on which nothing is pending, as both parts of a mount and its slots. The book's
 /// history begins with the map that the disk holds, where the rule admits it. What lies in the
 /// disk's log is read into memory, and nothing is written. Copies of no more than so many blocks
-/// that are at home will be kept in memory. All slots of the journal, by whose cell it is named, are
-/// free, and no commit touched any.
+/// that are at home will be kept in memory. All slots of the journal, by whose cell it is named,
+/// are free, and no commit touched any.
 ///
 /// The first that applies of these refuses it: J8 `BadSuper` where the disk has not as many blocks
 /// as the layout, J7 `BadLog` where the disk's log is not well formed, J8 where the rule does not

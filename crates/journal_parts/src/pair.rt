@@ -1,4 +1,5 @@
-// Holds of both parts: what each asks of the other is looked at, and nothing is required that ties them.
+// Holds of both parts: what each asks of the other is looked at, and nothing is required that ties
+// them.
 ghost use Rattle.std.specs.Prelude.{◌≡◌, ◌<◌, ◌≤◌, [], false, IsTrue, IfOk, IfErr, OnOk, OnErr, All};
 ghost use Rattle.journal_world.specs.Histories.{is_trusted};
 ghost use Rattle.journal_disk.specs.Images.{EveryImage};
@@ -19,10 +20,12 @@ use journal_tail::Position;
 use journal_world::{MapRule, Refusal};
 
 impl<'b, D: BlockDisk, R: MapRule, J: Naming> Durable<'b, D, R, J> {
-    /// The disk, lent, where all marks of the whole history are its own. Each image that a crash may leave of it opens
-    /// then as the map after a front of the history that has every marked commit.
+    /// The disk, lent, where all marks of the whole history are its own. Each image that a crash
+    /// may leave of it opens then as the map after a front of the history that has every marked
+    /// commit.
     ///
-    /// Answers J9 `Stale` where the history that this part has seen is the longer, or where it lacks a mark.
+    /// Answers J9 `Stale` where the history that this part has seen is the longer, or where it
+    /// lacks a mark.
     pub(crate) fn disk_under(
         &self,
         volatile: &Volatile<'b, R, J>,
@@ -41,12 +44,14 @@ impl<'b, D: BlockDisk, R: MapRule, J: Naming> Durable<'b, D, R, J> {
         Ok(self.objects.disk())
     }
 
-    /// Cuts: what commits wrote since the last cut becomes the group in flight, with the history that has them. Answers
-    /// no where a group is in flight, where nothing was written, and where the log lacks a position for a block.
+    /// Cuts: what commits wrote since the last cut becomes the group in flight, with the history
+    /// that has them. Answers no where a group is in flight, where nothing was written, and where
+    /// the log lacks a position for a block.
     ///
-    /// The first that applies of these refuses it: J9 `Stale` where the history that this part has seen is the longer,
-    /// J6 `DeviceFailed` where the device failed before, J11 `Worn` where a position would reach 2^62, J1 `NoMemory`
-    /// where memory is refused. All is then as it was, but may have more room in memory.
+    /// The first that applies of these refuses it: J9 `Stale` where the history that this part has
+    /// seen is the longer, J6 `DeviceFailed` where the device failed before, J11 `Worn` where a
+    /// position would reach 2^62, J1 `NoMemory` where memory is refused. All is then as it was, but
+    /// may have more room in memory.
     pub(crate) fn cut(
         &mut self,
         volatile: &mut Volatile<'b, R, J>,
@@ -76,12 +81,12 @@ impl<'b, D: BlockDisk, R: MapRule, J: Naming> Durable<'b, D, R, J> {
         Ok(true)
     }
 
-    /// Marks what is logged, in the history and beside the log. Answers no where what was cut is not logged yet, and
-    /// where it is marked.
+    /// Marks what is logged, in the history and beside the log. Answers no where what was cut is
+    /// not logged yet, and where it is marked.
     ///
-    /// Answers J9 `Stale` where the history that this part has seen is the longer, where the history has a greater mark
-    /// than what is logged, or where it is longer, and J11 `Worn` where its length would reach 2^62. Nothing is then
-    /// marked.
+    /// Answers J9 `Stale` where the history that this part has seen is the longer, where the
+    /// history has a greater mark than what is logged, or where it is longer, and J11 `Worn` where
+    /// its length would reach 2^62. Nothing is then marked.
     pub(crate) fn mark(
         &mut self,
         volatile: &mut Volatile<'b, R, J>,
@@ -109,11 +114,11 @@ impl<'b, D: BlockDisk, R: MapRule, J: Naming> Durable<'b, D, R, J> {
         Ok(true)
     }
 
-    /// Marks all commits where nothing awaits logging: those since the last cut wrote nothing. Answers no where
-    /// something does, and where all are marked.
+    /// Marks all commits where nothing awaits logging: those since the last cut wrote nothing.
+    /// Answers no where something does, and where all are marked.
     ///
-    /// Answers J9 `Stale` where the history that this part has seen is the longer, or where it is longer, and J11
-    /// `Worn` where its length would reach 2^62. Nothing is then marked.
+    /// Answers J9 `Stale` where the history that this part has seen is the longer, or where it is
+    /// longer, and J11 `Worn` where its length would reach 2^62. Nothing is then marked.
     pub(crate) fn mark_rest(
         &mut self,
         volatile: &mut Volatile<'b, R, J>,
@@ -139,8 +144,8 @@ impl<'b, D: BlockDisk, R: MapRule, J: Naming> Durable<'b, D, R, J> {
         Ok(true)
     }
 
-    /// Does what is due of both parts where no device call is: marks what is logged; else cuts; else marks commits that
-    /// wrote nothing. It is idle where there is none of these.
+    /// Does what is due of both parts where no device call is: marks what is logged; else cuts;
+    /// else marks commits that wrote nothing. It is idle where there is none of these.
     pub(crate) fn do_due(
         &mut self,
         volatile: &mut Volatile<'b, R, J>,
@@ -175,7 +180,8 @@ impl<'b, D: BlockDisk, R: MapRule, J: Naming> Durable<'b, D, R, J> {
         self.logged < volatile.last_cut() || self.objects.is_logging() || volatile.tail_len() > 0
     }
 
-    /// Drops from memory what is at home: the updates of each cut that ends at the position or before it.
+    /// Drops from memory what is at home: the updates of each cut that ends at the position or
+    /// before it.
     pub(crate) fn trim_memory(&self, volatile: &mut Volatile<'b, R, J>, upto: Position)
         ensures drops { DropsCuts volatile.old.tail upto volatile.new.tail }
         ensures left { All (λ c. upto < c.end) volatile.new.tail.cuts }

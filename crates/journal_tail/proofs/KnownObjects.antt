@@ -1,4 +1,5 @@
--- What memory knows of each address with what was prepared behind: what the writes make of what it knew.
+-- What memory knows of each address with what was prepared behind: what the writes make of what it
+-- knew.
 use Rattle.std.proofs.Common.{◌≡◌, ◌==◌, ◌||◌, ◌&&◌, ℕ, Bool, true, false, cond, ◌-◌, List, [], ◌∷◌, ◌++◌, IsTrue, Option, Some, None, refl, sym, ap, ◌∙◌, append_assoc}
 use Rattle.std.proofs.lemmas.Bool.{eq-eqb, eqb-true, false≢true, and_parts, and_from}
 use Rattle.std.proofs.lemmas.Cmp.{nat_eq_equiv}

@@ -1,4 +1,5 @@
--- A block with one of its objects replaced: that one then is the value, and each other is as it was.
+-- A block with one of its objects replaced: that one then is the value, and each other is as it
+-- was.
 use Rattle.std.proofs.Common.{◌≡◌, ◌≢◌, ⊎_elim, ◌<◌, ◌≤◌, ◌+◌, ◌*◌, ◌/◌, ◌%◌, ◌^◌, ◌==◌, nat_lt, ℕ, zero, suc, Bool, true, false, cond, [], ◌∷◌, ◌++◌, IsTrue, Option, Some, None, length, set, take, drop, slice_index, get_or, refl, sym, ap, subst, ◌∙◌, arith, length-set, length-append, length-drop, append_assoc, w8}
 use Rattle.std.specs.List.{list_all}
 use Rattle.std.proofs.Math.Facts.{Fits-or, Fits-lt-pow, Fits-of_lt}

@@ -1,4 +1,5 @@
--- The updates of the blocks that stand in the tail and those of the others are one of each written block, and have the writes stored.
+-- The updates of the blocks that stand in the tail and those of the others are one of each written
+-- block, and have the writes stored.
 use Rattle.std.proofs.Common.{◌≡◌, ◌<◌, ◌≤◌, ◌-◌, ◌==◌, ◌&&◌, ◌||◌, ℕ, Bool, true, false, cond, List, [], ◌∷◌, ◌++◌, length, IsTrue, refl, sym, ap, ◌∙◌, arith, length-append}
 use Rattle.std.proofs.lemmas.Bool.{eq-eqb, eqb-true, ne_eqb, false≢true, cond-false, and_parts, and_from}
 use Rattle.std.proofs.lemmas.List.{take-append-drop}

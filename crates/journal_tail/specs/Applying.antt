@@ -1,4 +1,5 @@
--- What applying writes makes of a tail: the blocks that stand in it are overwritten there, and the others are appended.
+-- What applying writes makes of a tail: the blocks that stand in it are overwritten there, and the
+-- others are appended.
 use Rattle.std.specs.Prelude.{ℕ, ◌==◌, ◌&&◌, not, if◌then◌else◌, List, [], ◌∷◌, ◌++◌, map}
 use Rattle.journal_world.specs.Addresses.{Shape}
 use Rattle.journal_world.specs.Maps.{Pair}
@@ -9,7 +10,8 @@ use Rattle.journal_memlog.specs.Logs.{LogState, head_of, tail_of}
 use Rattle.journal_object.specs.Objects.{with_object_at}
 use Rattle.journal_tail.specs.Writes.{writes_block}
 
--- On a disk of a layout: what block b holds once the writes that are in it are stored. Of two of one address the first stands
+-- On a disk of a layout: what block b holds once the writes that are in it are stored. Of two of
+-- one address the first stands
 abbrev pub stored_in : Shape → List Pair → ℕ → Bytes → Bytes
 stored_in layout [] b bytes = bytes
 stored_in layout (p ∷ later) b bytes =
@@ -44,6 +46,7 @@ standing_update layout tail writes b = record { block = b; bytes = stored_in lay
 abbrev pub standing_updates : Shape → List Update → List Pair → List Update
 standing_updates layout tail writes = map (standing_update layout tail writes) (standing_blocks tail writes)
 
--- one update of each written block: those of the blocks that stand in the tail, and these of the others
+-- one update of each written block: those of the blocks that stand in the tail, and these of the
+-- others
 abbrev pub all_updates : Shape → LogState → List Pair → List Update → List Update
 all_updates layout log writes fresh = standing_updates layout (tail_of log) writes ++ fresh

@@ -7,7 +7,8 @@ use Rattle.journal_block.specs.Block.{Bytes}
 use Rattle.journal_block.specs.Updates.{Content}
 use Rattle.journal_object.specs.Objects.{object_at, map_of_blocks}
 
--- the object that a block of these bytes has at the address. Where they are not 4096 bytes, as no block's are, it may be no value: then zeros
+-- the object that a block of these bytes has at the address. Where they are not 4096 bytes, as no
+-- block's are, it may be no value: then zeros
 abbrev pub object_or_zeros : Shape → Bytes → Addr → Value
 object_or_zeros layout bytes a =
     if is_value_at (kind_of layout a.block) (object_at layout bytes a) then object_at layout bytes a else zeros_at (kind_of layout a.block)

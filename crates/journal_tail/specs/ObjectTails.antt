@@ -1,4 +1,5 @@
--- What contracts see of an object tail: what memory knows of a block and of an address, from its updates and what was fetched.
+-- What contracts see of an object tail: what memory knows of a block and of an address, from its
+-- updates and what was fetched.
 use Rattle.std.specs.Prelude.{ℕ, ◌≡◌, ◌⊎◌, Bool, true, false, not, ◌&&◌, IsTrue, if◌then◌else◌, List, [], ◌∷◌, ◌++◌, Option, Some, None}
 use Rattle.journal_world.specs.declared.address.Addr.{Addr}
 use Rattle.journal_world.specs.declared.address.Kind.{Kind}
@@ -22,12 +23,13 @@ use Rattle.journal_tail.specs.declared.prepare.Preparation.TheVariants.{Ready, M
 abbrev pub blocks_of : TailState → ℕ
 blocks_of t = t.log.blocks
 
--- All updates of which memory knows: each fetched block as one that came before, then the copies of home blocks, and then
--- those of the tail
+-- All updates of which memory knows: each fetched block as one that came before, then the copies of
+-- home blocks, and then those of the tail
 abbrev pub known_updates : List Update → TailState → List Update
 known_updates fetched t = fetched ++ known_blocks t
 
--- On a disk of a layout: the object that the last update of its block has at the address, or nothing where no update is of it
+-- On a disk of a layout: the object that the last update of its block has at the address, or
+-- nothing where no update is of it
 abbrev pub known_object : Shape → List Update → Addr → Option Value
 known_object layout updates a =
     if updates_block updates a.block then Some (object_or_zeros layout (updated updates a.block []) a) else None
@@ -36,7 +38,8 @@ known_object layout updates a =
 abbrev pub known_at : Shape → List Update → TailState → Addr → Option Value
 known_at layout fetched t a = known_object layout (known_updates fetched t) a
 
--- What overwriting looks at, with these blocks fetched. A block that memory does not know has no bytes
+-- What overwriting looks at, with these blocks fetched. A block that memory does not know has no
+-- bytes
 abbrev pub tail_base : Shape → List Update → TailState → Base
 tail_base layout fetched t = record {
   layout = layout;
@@ -54,7 +57,8 @@ is_one_object other = false
 abbrev pub is_missing : Shape → List Update → ℕ → Bool
 is_missing layout known b = not (is_one_object (kind_of layout b)) && not (updates_block known b)
 
--- the blocks that have to be fetched before the writes can be prepared: each once, in the order of the writes
+-- the blocks that have to be fetched before the writes can be prepared: each once, in the order of
+-- the writes
 abbrev pub missing_blocks : Shape → List Update → List Pair → List ℕ
 missing_blocks layout known [] = []
 missing_blocks layout known (p ∷ later) =
@@ -65,17 +69,20 @@ missing_blocks layout known (p ∷ later) =
 abbrev pub HasBlocks : Shape → List Update → List Pair → Type 0
 HasBlocks layout known writes = (b : ℕ) → writes_block writes b ≡ true → is_missing layout known b ≡ false
 
--- what an address has after the writes: what the first of it writes, or where none is of it, what it had
+-- what an address has after the writes: what the first of it writes, or where none is of it, what
+-- it had
 abbrev pub after_writes : List Pair → Option Value → Addr → Option Value
 after_writes [] before a = before
 after_writes (p ∷ later) before a = if is_same a p.0 then Some p.1 else after_writes later before a
 
--- With what is prepared behind what memory knows, each address has what the writes make of what it had
+-- With what is prepared behind what memory knows, each address has what the writes make of what it
+-- had
 pub record OverwritesKnown (layout : Shape) (known prepared : List Update) (writes : List Pair) : Type 0 where
   pub values : (a : Addr) → IsTrue (is_valid layout a)
       → known_object layout (known ++ prepared) a ≡ after_writes writes (known_object layout known a) a
 
--- one update of each written block, where these are prepared for those that do not stand in the tail
+-- one update of each written block, where these are prepared for those that do not stand in the
+-- tail
 abbrev pub updates_with : Shape → TailState → List Pair → List Update → List Update
 updates_with layout t writes prepared = all_updates layout t.log writes prepared
 
@@ -85,7 +92,8 @@ pub record TakesPrepared (layout : Shape) (t : TailState) (writes : List Pair) (
   pub homes : AreHomes (blocks_of t) (updates_with layout t writes prepared)
   pub room : TakesUpdates t.log (updates_with layout t writes prepared)
 
--- Why writes are not prepared: the first of the refusals that need no memory, or memory alone is refused
+-- Why writes are not prepared: the first of the refusals that need no memory, or memory alone is
+-- refused
 abbrev pub IsTailWriteRefusal : Base → List Pair → Refusal Unit → Type 0
 IsTailWriteRefusal b writes refusal = IsWriteRefusal false b writes refusal ⊎ (CanPrepare b writes × (refusal ≡ NoMemory))
 

@@ -55,14 +55,16 @@ abbrev pub StandsWhole : List Update → List Pair → Type 0
 StandsWhole tail writes =
     (b : ℕ) → writes_block writes b ≡ true → updates_block tail b ≡ true → IsTrue (is_value_of Block (updated tail b []))
 
--- On a disk of this layout: the writes are objects, no more than a commit may have blocks, and all of their blocks stand in the tail
+-- On a disk of this layout: the writes are objects, no more than a commit may have blocks, and all
+-- of their blocks stand in the tail
 pub record AreInTail (layout : Shape) (tail : List Update) (writes : List Pair) : Type 0 where
   pub objects : IsTrue (are_objects layout writes)
   pub few : length writes ≤ MAX_UPDATES
   pub stand : (b : ℕ) → writes_block writes b ≡ true → updates_block tail b ≡ true
   pub whole : StandsWhole tail writes
 
--- In blocks that have the objects of the stored writes, the address's block is the first update, unless all of it is to be overwritten
+-- In blocks that have the objects of the stored writes, the address's block is the first update,
+-- unless all of it is to be overwritten
 pub record IsOpenIn (b : Base) (writes : List Pair) (a : Addr) (updates : List Update) : Type 0 where
   pub content : Content
   pub objects : HasObjects content (overwritten (map_in b) writes)

@@ -13,7 +13,8 @@ use Rattle.journal_tail.specs.declared.tail.CutPoint.{CutPoint}
 pub record TailState : Type 0 where
   -- the updates in memory
   pub log : LogState
-  -- how many commits there were at the last cut whose updates were dropped; all that later commits wrote is in memory
+  -- how many commits there were at the last cut whose updates were dropped; all that later commits
+  -- wrote is in memory
   pub trimmed : ℕ
   -- the later cuts, the oldest first
   pub cuts : List CutPoint

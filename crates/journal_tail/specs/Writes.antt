@@ -10,7 +10,8 @@ use Rattle.journal_block.specs.Updates.{updates_block, with_updates, Content}
 use Rattle.journal_tail.specs.Maps.{map_of}
 use Rattle.journal_tail.specs.declared.limits.TheConstants.{MAX_TAIL, MAX_UPDATES}
 
--- What overwrites look at: the layout, what the blocks hold with all updates, the tail, and the position after it
+-- What overwrites look at: the layout, what the blocks hold with all updates, the tail, and the
+-- position after it
 pub record Base : Type 0 where
   pub layout : Shape
   pub content : Content

@@ -11,7 +11,8 @@ use std::alloc::Global;
 use std::marker::Model;
 use std::num::NonZeroUsize;
 
-/// Copies of blocks, no more than a number. Where there are too many, the one that was used least recently goes.
+/// Copies of blocks, no more than a number. Where there are too many, the one that was used least
+/// recently goes.
 ///
 /// Contracts see them as updates, the least recently used first.
 #[derive(Drop)]
@@ -58,8 +59,8 @@ impl BlockCache {
         let _kept = self.blocks.promote(&block);
     }
 
-    /// Keeps the block as the update has it. Where there are too many copies another goes; where memory is refused all
-    /// stay, and the block is not kept.
+    /// Keeps the block as the update has it. Where there are too many copies another goes; where
+    /// memory is refused all stay, and the block is not kept.
     pub(crate) fn keep(&mut self, update: Update)
         ensures { MakesNoOther (self.old ++ update ∷ []) self.new }
     {
@@ -77,7 +78,8 @@ impl BlockCache {
         }
     }
 
-    /// Where there is a copy of the block, it is from now on as the update has it. It takes no memory, and moves the block.
+    /// Where there is a copy of the block, it is from now on as the update has it. It takes no
+    /// memory, and moves the block.
     pub(crate) fn replace(&mut self, update: Update)
         ensures replaces { updates_block self.old update.block ≡ true → MakeTheSame self.new (self.old ++ update ∷ []) }
         ensures leaves { updates_block self.old update.block ≡ false → self.new ≡ self.old }

@@ -31,7 +31,8 @@ impl ObjectTail {
         self.tail.tail_len()
     }
 
-    /// How many commits there were at the last cut whose updates were dropped. All that later ones wrote is here.
+    /// How many commits there were at the last cut whose updates were dropped. All that later ones
+    /// wrote is here.
     pub fn trimmed(&self) -> CommitCount
         ensures { result ≡ self.now.trimmed }
     {
@@ -47,8 +48,8 @@ impl ObjectTail {
 
     /// Cuts after so many commits: hands out a copy of the whole tail, which begins anew.
     ///
-    /// Answers J1 `NoMemory`, and nothing else, where memory for the copy is refused. The objects are then as they
-    /// were.
+    /// Answers J1 `NoMemory`, and nothing else, where memory for the copy is refused. The objects
+    /// are then as they were.
     pub fn cut(&mut self, commits: CommitCount) -> Result<Vec<Update>, Refusal<()>>
         ensures group { IfOk result (λ group. group.items ≡ tail_of self.old.log) }
         ensures few { IfOk result (λ group. length group.items ≤ MAX_TAIL) }
@@ -69,8 +70,9 @@ impl ObjectTail {
         self.tail.touch(block);
     }
 
-    /// Keeps copies of these blocks, which are at home as these have them but for the updates in memory. Where there are
-    /// too many, those go that were used least recently. One for which memory is refused is not kept.
+    /// Keeps copies of these blocks, which are at home as these have them but for the updates in
+    /// memory. Where there are too many, those go that were used least recently. One for which
+    /// memory is refused is not kept.
     pub fn keep(&mut self, copies: Vec<Update>)
         ensures known { MakesNoOther (self.old.cache ++ copies.items) self.new.cache }
         ensures others { self.new ≡ record self.old { cache = self.new.cache } }
@@ -78,8 +80,8 @@ impl ObjectTail {
         self.tail.keep(copies);
     }
 
-    /// Drops the updates of each cut that ends at the position or before it: they are at home. Copies of their blocks are
-    /// overwritten by them. It takes no memory, and moves the blocks.
+    /// Drops the updates of each cut that ends at the position or before it: they are at home.
+    /// Copies of their blocks are overwritten by them. It takes no memory, and moves the blocks.
     pub fn trim(&mut self, upto: Position)
         ensures drops { DropsCuts self.old upto self.new }
         ensures left { All (λ c. upto < c.end) self.new.cuts }

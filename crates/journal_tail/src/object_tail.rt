@@ -17,12 +17,12 @@ use journal_world::{Addr, Layout, Refusal};
 use std::alloc::Global;
 use std::marker::Model;
 
-/// The objects that lie in memory, for a lock of their own: it knows no disk, and each call ends without waiting
-/// for one.
+/// The objects that lie in memory, for a lock of their own: it knows no disk, and each call ends
+/// without waiting for one.
 ///
-/// It has what was overwritten since a cut that is at home, and copies of blocks that are at home. A call that needs
-/// another block says so. The caller fetches it, and makes the call again with the block beside. What was fetched may be
-/// kept as a copy.
+/// It has what was overwritten since a cut that is at home, and copies of blocks that are at home.
+/// A call that needs another block says so. The caller fetches it, and makes the call again with
+/// the block beside. What was fetched may be kept as a copy.
 ///
 /// It has blocks, and knows no layout: each call that cuts them is told it.
 #[derive(Drop)]
@@ -59,9 +59,9 @@ impl ObjectTail {
         Ok(ObjectTail { alloc, tail })
     }
 
-    /// Reads the object of the address into bytes that are as many as it has: as memory has it, or where memory
-    /// does not know its block, as the fetched blocks have it. Answers no where the block is to be fetched; the
-    /// bytes are then as they were. It takes no memory.
+    /// Reads the object of the address into bytes that are as many as it has: as memory has it, or
+    /// where memory does not know its block, as the fetched blocks have it. Answers no where the
+    /// block is to be fetched; the bytes are then as they were. It takes no memory.
     ///
     /// Answers J2 `BadAddress`, and nothing else, where the address is not valid.
     pub fn read(

@@ -23,7 +23,8 @@ use std::marker::Model;
 /// Overwrites that are ready to be applied, made by [`ObjectTail::prepare`].
 #[derive(Drop)]
 pub struct Prepared {
-    // One for each block that is written and does not stand in the tail, blocks ascending, with its objects stored.
+    // One for each block that is written and does not stand in the tail, blocks ascending, with its
+    // objects stored.
     updates: Vec<Update>,
 }
 
@@ -46,16 +47,17 @@ pub enum Preparation {
 }
 
 impl ObjectTail {
-    /// Makes the overwriting of objects by these values ready for `apply`, with all the memory that it takes; it
-    /// takes what memory the spares have first. Of a block that stands in the tail nothing is copied: `apply`
-    /// overwrites it there. Another block that is written, but not as a whole, has to be in memory or among the
-    /// fetched ones: where some are not, the answer is these.
+    /// Makes the overwriting of objects by these values ready for `apply`, with all the memory that
+    /// it takes; it takes what memory the spares have first. Of a block that stands in the tail
+    /// nothing is copied: `apply` overwrites it there. Another block that is written, but not as a
+    /// whole, has to be in memory or among the fetched ones: where some are not, the answer is
+    /// these.
     ///
-    /// The first that applies of these refuses it: J2 `BadAddress` where an address is not valid, J3 `BadSize` where
-    /// a value is not of its address's kind, J4 `TooLarge` where more than 128 distinct blocks are written, J11
-    /// `Worn` where a position of the log would reach 2^62, J12 `Full` where the tail cannot take the blocks that do
-    /// not stand in it, then J1 `NoMemory` where memory is refused. The objects are as they were, whatever it
-    /// answers.
+    /// The first that applies of these refuses it: J2 `BadAddress` where an address is not valid,
+    /// J3 `BadSize` where a value is not of its address's kind, J4 `TooLarge` where more than 128
+    /// distinct blocks are written, J11 `Worn` where a position of the log would reach 2^62, J12
+    /// `Full` where the tail cannot take the blocks that do not stand in it, then J1 `NoMemory`
+    /// where memory is refused. The objects are as they were, whatever it answers.
     pub fn prepare(
         &mut self,
         layout: &Layout,
@@ -118,10 +120,10 @@ impl ObjectTail {
         Ok(Preparation::Ready(Prepared { updates }))
     }
 
-    /// Overwrites the objects by these writes, which `prepare` made ready by the same layout, where no
-    /// call came between that changes them: in place those whose blocks stand in the tail, and the
-    /// others by appending their blocks. It takes no memory, copies no block, and moves the prepared
-    /// ones.
+    /// Overwrites the objects by these writes, which `prepare` made ready by the same layout, where
+    /// no call came between that changes them: in place those whose blocks stand in the tail, and
+    /// the others by appending their blocks. It takes no memory, copies no block, and moves the
+    /// prepared ones.
     pub fn apply(&mut self, layout: &Layout, prepared: Prepared, writes: &Objects)
         requires { TakesPrepared (shape layout.now) self.old writes.now prepared }
         ensures log { self.new ≡ record self.old { log = appended self.old.log (updates_with (shape layout.now) self.old writes.now prepared) } }
@@ -136,7 +138,8 @@ impl ObjectTail {
         self.tail.append_reserved(prepared.updates);
     }
 
-    // Overwrites those objects whose blocks stand in the tail. Of two values of one address the first would stand.
+    // Overwrites those objects whose blocks stand in the tail. Of two values of one address the
+    // first would stand.
     fn store_standing(&mut self, layout: &Layout, writes: &Objects)
         requires { IsTrue (are_objects (shape layout.now) writes.now) }
         ensures stored { self.new ≡ record self.old { log = stored_log (shape layout.now) writes.now self.old.log } }

@@ -7,8 +7,8 @@ use journal_world::{BLOCK_BYTES, Objects, Refusal};
 use std::alloc::Global;
 use std::marker::Model;
 
-/// Memory for writes to be made ready in, which their writer makes before it takes a lock. What is lacking is made
-/// later.
+/// Memory for writes to be made ready in, which their writer makes before it takes a lock. What is
+/// lacking is made later.
 #[derive(Drop)]
 pub struct Spares {
     blocks: Vec<Block>,
@@ -27,8 +27,8 @@ impl Model for Spares {
 }
 
 impl Spares {
-    /// A block for each whole block that is written, as far as there is memory. A block that is written in part
-    /// mostly stands in the tail, where it is overwritten.
+    /// A block for each whole block that is written, as far as there is memory. A block that is
+    /// written in part mostly stands in the tail, where it is overwritten.
     pub fn for_writes(alloc: Global, writes: &Objects) -> Spares {
         let mut blocks = Vec::new(alloc);
         for (_, value) in writes.iter() {

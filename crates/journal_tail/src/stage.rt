@@ -1,4 +1,5 @@
-// The blocks that are written in memory: which have to be fetched first, and what they hold with the writes stored.
+// The blocks that are written in memory: which have to be fetched first, and what they hold with
+// the writes stored.
 ghost use Rattle.std.specs.Prelude.{◌≡◌, true, length, ◌⊎◌, ◌≤◌, false, IsTrue, OnOk, IfOk, IsOkUnless, List, [], Some};
 ghost use Rattle.journal_world.specs.Files.{shape};
 ghost use Rattle.journal_world.specs.Addresses.{kind_of, is_valid, is_value_of};
@@ -20,7 +21,8 @@ use journal_block::{Block, Update};
 use journal_world::{Addr, Kind, Layout, Objects, Refusal, Value};
 
 impl ObjectTail {
-    /// The blocks that have to be fetched before the writes can be prepared, each once, in the writes' order.
+    /// The blocks that have to be fetched before the writes can be prepared, each once, in the
+    /// writes' order.
     pub(crate) fn missing(
         &self,
         layout: &Layout,
@@ -56,8 +58,9 @@ impl ObjectTail {
         self.get(fetched, block).is_none()
     }
 
-    /// Whether these are objects whose blocks all stand in the tail, so that nothing has to be made ready for them. Of
-    /// more than 128 it answers no: they may lie in more blocks than may be written.
+    /// Whether these are objects whose blocks all stand in the tail, so that nothing has to be made
+    /// ready for them. Of more than 128 it answers no: they may lie in more blocks than may be
+    /// written.
     pub(crate) fn are_in_tail(&self, layout: &Layout, writes: &Objects) -> bool
         ensures sure { IsTrue result → AreInTail (shape layout.now) (tail_of self.now.log) writes.now }
         ensures few { length (tail_of self.now.log) ≤ MAX_TAIL }
@@ -85,8 +88,8 @@ impl ObjectTail {
         self.has_tail_block(addr.block) && is_admitted(layout, addr, value)
     }
 
-    /// One update for each block that is written and does not stand in the tail, blocks ascending, with its objects
-    /// stored.
+    /// One update for each block that is written and does not stand in the tail, blocks ascending,
+    /// with its objects stored.
     pub(crate) fn stage(
         &self,
         layout: &Layout,

@@ -32,11 +32,13 @@ pub struct CutPoint {
     pub commits: CommitCount,
 }
 
-/// The updates in memory, for a lock of their own: it knows no disk, and each call ends without waiting for one.
+/// The updates in memory, for a lock of their own: it knows no disk, and each call ends without
+/// waiting for one.
 ///
-/// A cut hands out a copy of the tail, which the log on the disk takes as its group. The updates stay here until a
-/// trim says that they are at home, so what a commit wrote after the last cut that was trimmed is found here. So are
-/// copies of blocks that were fetched from the disk's part, which a trim overwrites by what it drops.
+/// A cut hands out a copy of the tail, which the log on the disk takes as its group. The updates
+/// stay here until a trim says that they are at home, so what a commit wrote after the last cut
+/// that was trimmed is found here. So are copies of blocks that were fetched from the disk's part,
+/// which a trim overwrites by what it drops.
 #[derive(Drop)]
 pub struct Tail {
     alloc: Global,
@@ -57,8 +59,8 @@ impl Model for Tail {
 }
 
 impl Tail {
-    /// The tail of a disk of so many blocks whose log ends at a position. It has no updates and no copies, of which it
-    /// will have no more than `most`, and no commit was made.
+    /// The tail of a disk of so many blocks whose log ends at a position. It has no updates and no
+    /// copies, of which it will have no more than `most`, and no commit was made.
     ///
     /// Answers J1 `NoMemory`, and nothing else, where memory for an index is refused.
     pub fn new<C>(
@@ -99,14 +101,16 @@ impl Tail {
         self.memory.tail_len()
     }
 
-    /// How many commits there were at the last cut whose updates were dropped. All that later ones wrote is here.
+    /// How many commits there were at the last cut whose updates were dropped. All that later ones
+    /// wrote is here.
     pub fn trimmed(&self) -> CommitCount
         ensures { result ≡ self.now.trimmed }
     {
         self.trimmed
     }
 
-    /// The block, lent, where memory knows it: with all updates where one is of it, and else as its copy has it.
+    /// The block, lent, where memory knows it: with all updates where one is of it, and else as its
+    /// copy has it.
     pub fn get(&self, block: u64) -> Option<&Block>
         ensures found { is_some result ≡ updates_block (known_blocks self.now) block }
         ensures content { IfSome result (λ found.
@@ -126,8 +130,9 @@ impl Tail {
         self.cache.touch(block);
     }
 
-    /// Keeps copies of these blocks, which are at home as these have them but for the updates in memory. Where there are
-    /// too many, those go that were used least recently. One for which memory is refused is not kept.
+    /// Keeps copies of these blocks, which are at home as these have them but for the updates in
+    /// memory. Where there are too many, those go that were used least recently. One for which
+    /// memory is refused is not kept.
     pub fn keep(&mut self, copies: Vec<Update>)
         ensures known { MakesNoOther (self.old.cache ++ copies.items) self.new.cache }
         ensures others { self.new ≡ record self.old { cache = self.new.cache } }
@@ -160,8 +165,8 @@ impl Tail {
         self.memory.place_in_tail(block)
     }
 
-    /// The content of the block at a position of the tail, lent to be overwritten. The tail is then what it is with
-    /// that content appended.
+    /// The content of the block at a position of the tail, lent to be overwritten. The tail is then
+    /// what it is with that content appended.
     pub fn tail_block(&mut self, position: u64) -> &mut Block
         requires from_cut { self.old.log.cut ≤ position }
         requires to_next { position < next_position self.old.log }
@@ -171,9 +176,9 @@ impl Tail {
         self.memory.tail_block(position)
     }
 
-    /// Refuses updates of so many blocks, of which so many are fresh, that is do not stand in the tail: J4
-    /// `TooLarge` where there are more than 128, J11 `Worn` where a position would reach 2^62, J12 `Full` where
-    /// the tail and the fresh ones are more than 255. It takes no memory.
+    /// Refuses updates of so many blocks, of which so many are fresh, that is do not stand in the
+    /// tail: J4 `TooLarge` where there are more than 128, J11 `Worn` where a position would reach
+    /// 2^62, J12 `Full` where the tail and the fresh ones are more than 255. It takes no memory.
     pub fn check_room(&self, blocks: usize, fresh: usize) -> Result<(), Refusal<()>>
         requires { fresh ≤ blocks }
         ensures ok { OnOk result (AdmitsBlocks self.now.log blocks fresh) }
@@ -191,11 +196,11 @@ impl Tail {
         Ok(())
     }
 
-    /// Makes room for so many fresh blocks, where `check_room` admits them. `append_reserved` takes them then, as
-    /// long as no other call comes between.
+    /// Makes room for so many fresh blocks, where `check_room` admits them. `append_reserved` takes
+    /// them then, as long as no other call comes between.
     ///
-    /// Answers J1 `NoMemory`, and nothing else, where memory is refused. Refused or not, the tail is as it was,
-    /// but may have more room where it had too little.
+    /// Answers J1 `NoMemory`, and nothing else, where memory is refused. Refused or not, the tail
+    /// is as it was, but may have more room where it had too little.
     pub fn reserve(&mut self, fresh: usize) -> Result<(), Refusal<()>>
         requires small { next_position self.old.log + fresh < 2 ^ 62 }
         requires tail { length (tail_of self.old.log) + fresh ≤ MAX_TAIL }
@@ -207,8 +212,8 @@ impl Tail {
         self.memory.reserve(fresh)
     }
 
-    /// Appends updates that `reserve` made room for: each in the place of the update of its block in the tail, or
-    /// at the end. It takes no memory, and moves the blocks.
+    /// Appends updates that `reserve` made room for: each in the place of the update of its block
+    /// in the tail, or at the end. It takes no memory, and moves the blocks.
     pub fn append_reserved(&mut self, updates: Vec<Update>)
         requires homes { AreHomes self.old.log.blocks updates.items }
         requires room { TakesUpdates self.old.log updates.items }
@@ -222,7 +227,8 @@ impl Tail {
 
     /// Cuts after so many commits: hands out a copy of the whole tail, which begins anew.
     ///
-    /// Answers J1 `NoMemory`, and nothing else, where memory for the copy is refused. The tail is then as it was.
+    /// Answers J1 `NoMemory`, and nothing else, where memory for the copy is refused. The tail is
+    /// then as it was.
     pub fn cut(&mut self, commits: CommitCount) -> Result<Vec<Update>, Refusal<()>>
         ensures group { IfOk result (λ group. group.items ≡ tail_of self.old.log) }
         ensures few { IfOk result (λ group. length group.items ≤ MAX_TAIL) }
@@ -257,8 +263,9 @@ impl Tail {
         Ok(group)
     }
 
-    /// Drops the updates of each cut that ends at the position or before it: they are at home. Where there is a copy of
-    /// their block, it is overwritten by them. It takes no memory, and moves the blocks.
+    /// Drops the updates of each cut that ends at the position or before it: they are at home.
+    /// Where there is a copy of their block, it is overwritten by them. It takes no memory, and
+    /// moves the blocks.
     pub fn trim(&mut self, upto: Position)
         ensures drops { DropsCuts self.old upto self.new }
         ensures left { All (λ c. upto < c.end) self.new.cuts }
@@ -304,7 +311,8 @@ impl Tail {
     }
 }
 
-// Drops the updates before the position. Where there is a copy of their block, it is overwritten by them.
+// Drops the updates before the position. Where there is a copy of their block, it is overwritten by
+// them.
 fn move_to_cache(memory: &mut MemLog, cache: &mut BlockCache, upto: u64)
     requires from_start { memory.old.start ≤ upto }
     requires to_logged { upto ≤ memory.old.logged }

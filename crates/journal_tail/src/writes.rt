@@ -13,7 +13,8 @@ pub(crate) struct Places {
     pub(crate) fresh: usize,
 }
 
-/// Whether each write's address is valid, and where so, whether each value is of its address's kind.
+/// Whether each write's address is valid, and where so, whether each value is of its address's
+/// kind.
 pub(crate) fn check_writes(layout: &Layout, writes: &Objects) -> (bool, bool)
     ensures valid { result.0 ≡ are_valid (shape layout.now) writes.now }
     ensures objects { IsTrue result.0 → result.1 ≡ are_objects (shape layout.now) writes.now }

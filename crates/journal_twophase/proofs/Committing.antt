@@ -25,7 +25,8 @@ use Rattle.journal_twophase.specs.Waits.{CommitsAndWaits, IsUnsure, IsWaitFault}
 use Rattle.journal_twophase.proofs.Knowing.{some_before, ruled_before, layout_before}
 
 module _ (rule : Map → Type 0) (layout : Shape) where
-  -- what the core's histories before and after its commit, and what is known of the latter, say of the transaction
+  -- what the core's histories before and after its commit, and what is known of the latter, say of
+  -- the transaction
   from_histories : (t : TransactionState) (s new : SessionState) (found history : List Entry) (place : CommitPlace)
       → Commits (next_transaction s t.reads t.writes) s new found history
       → IsReceiptFor (next_transaction s t.reads t.writes) history (length found) place

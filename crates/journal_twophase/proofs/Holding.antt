@@ -1,4 +1,5 @@
--- What an open transaction keeps of the slots that it holds, as it takes one, gives one back, reads and overwrites.
+-- What an open transaction keeps of the slots that it holds, as it takes one, gives one back, reads
+-- and overwrites.
 use Rattle.std.proofs.Common.{◌≡◌, ◌≢◌, ◌<◌, ◌==◌, ◌||◌, ℕ, zero, suc, Bool, true, false, cond, IsTrue, List, [], ◌∷◌, ◌++◌, length, length-append, take, drop, get_or, Option, Some, None, Result, Ok, Err, IfOk, OnErr, slice_get, nat_lt, refl, eq-eqb, sym, ap, subst, ◌∙◌, arith}
 use mathlib.Core.List.{IsPrefix}
 use Rattle.std.specs.Prelude.{slice_index}

@@ -94,7 +94,8 @@ reads_stay layout t after a held v w found some agrees read remembers =
     subst (λ (h : List Entry). IsTrue (is_trusted h) → Agrees (latest h) t.reads) (sym (ap (λ (u : TransactionState). u.seen) remembers.others))
     (agrees_later layout t.seen found.seen t.reads some read.later read.unmoved agrees)
 
--- what is read in memory is read for the transaction, where what is held agrees with the history after the read
+-- what is read in memory is read for the transaction, where what is held agrees with the history
+-- after the read
 pub reads_object : (layout : Shape) (old new : VolatileState) (t : TransactionState) (a : Addr) (f : FetchedState) (held : List HeldState) (bytes : Value)
     (answer : Result (Option ReadResultState) (Refusal CauseState)) → AnswersRead layout old t a f answer bytes new → AgreeWith layout new.ledger.history held
     → IfOk answer (λ found. IfSome found (ReadsObject layout t a held bytes))

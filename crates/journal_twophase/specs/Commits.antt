@@ -18,11 +18,13 @@ use Rattle.journal_tail.specs.declared.limits.TheConstants.{MAX_UPDATES}
 
 -- The transaction was committed as the session's next one, with exactly what it read and overwrote
 pub record IsCommitted (rule : Map → Type 0) (layout : Shape) (began : List Entry) (t : TransactionState) (old new : SessionState) (place : CommitPlace) : Type 0 where
-  -- the history that it found, which goes on from what was seen when the transaction began, and from what it saw last
+  -- the history that it found, which goes on from what was seen when the transaction began, and
+  -- from what it saw last
   pub found : List Entry
   pub after_begin : IsPrefix began found
   pub after_reads : IsPrefix t.seen found
-  -- where the opening was trusted, what it read is what the map gives there, and the mount's rule holds of that map
+  -- where the opening was trusted, what it read is what the map gives there, and the mount's rule
+  -- holds of that map
   pub agrees : IsTrue (is_trusted found) → Agrees (latest found) t.reads
   pub ruled : IsTrue (is_trusted found) → rule (latest found)
   pub on_disk : (latest found).layout ≡ layout
@@ -33,7 +35,8 @@ pub record IsCommitted (rule : Map → Type 0) (layout : Shape) (began : List En
   -- the receipt names its place
   pub receipt : IsReceiptFor (next_transaction old t.reads t.writes) new.seen (length found) place
 
--- The cause shows a history that has a commit under the session's number which the session did not make
+-- The cause shows a history that has a commit under the session's number which the session did not
+-- make
 abbrev pub ShowsStrange : SessionState → CauseState → Type 0
 ShowsStrange s cause = (history : List Entry) × IsExplained J10 history cause × (made s < length (commits_of s.number history))
 

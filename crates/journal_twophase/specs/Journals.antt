@@ -31,7 +31,8 @@ pub record BeginsWith (rule : Map → Type 0) (layout : Shape) (disk : DiskState
 -- What is known of a history that was seen, under the mount's rule, on a disk of this layout
 pub record IsKnown (rule : Map → Type 0) (layout : Shape) (history : List Entry) : Type 0 where
   pub on_disk : (opened history).layout ≡ layout
-  -- where the disk was honest and settled when it was opened, the rule holds of the opened map, and the history is legal
+  -- where the disk was honest and settled when it was opened, the rule holds of the opened map, and
+  -- the history is legal
   pub ruled : IsTrue (is_trusted history) → rule (opened history)
   pub legal : IsTrue (is_trusted history) → IsLegal rule history
   -- and what holds whatever the disk does

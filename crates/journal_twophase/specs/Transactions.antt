@@ -17,7 +17,8 @@ use Rattle.journal_memory.specs.Transactions.{TransactionState, ReadResultState,
 pub record TxnState : Type 0 where
   -- what its session had seen of the history when it began
   pub began : List Entry
-  -- what it has read and overwritten, and a history at whose end all that it read is what the map gives
+  -- what it has read and overwritten, and a history at whose end all that it read is what the map
+  -- gives
   pub reads : List Pair
   pub writes : List Pair
   pub seen : List Entry
@@ -59,7 +60,8 @@ pub record Learns (old : TxnState) (a : Addr) (v : Value) (new : TxnState) : Typ
   pub later : IsPrefix old.seen new.seen
   pub others : new ≡ record old { reads = new.reads; seen = new.seen }
 
--- What a read answers and leaves: the transaction's own overwrite, where there is one, else what the map gives
+-- What a read answers and leaves: the transaction's own overwrite, where there is one, else what
+-- the map gives
 abbrev pub ReadsValue : TxnState → Addr → Value → TxnState → Type 0
 ReadsValue old a v new = MatchOption (value_among old.writes a) (Learns old a v new) (λ own. (v ≡ own) × (new ≡ old))
 
@@ -68,8 +70,9 @@ pub record Overwrites (old : TxnState) (a : Addr) (v : Value) (new : TxnState) :
   pub writes : SamePairs new.writes ((a, v) ∷ old.writes)
   pub others : new ≡ record old { writes = new.writes }
 
--- What an open transaction keeps of the slots that it holds, none of which it holds twice: all that it read lies under them,
--- and no commit touched one since, and all that it overwrote lies under them
+-- What an open transaction keeps of the slots that it holds, none of which it holds twice: all that
+-- it read lies under them, and no commit touched one since, and all that it overwrote lies under
+-- them
 pub record KeepsHeld (layout : Shape) (held : List HeldState) (t : TransactionState) : Type 0 where
   pub reads : AreUnder layout held t.seen t.reads
   pub writes : HoldsSlots layout held t.writes

@@ -14,7 +14,8 @@ use Rattle.journal_twophase.specs.declared.waiting.WaitFault.TheVariants.{Refuse
 use Rattle.journal_twophase.specs.Journals.{IsKnown, IsShown}
 use Rattle.journal_twophase.specs.Commits.{IsCommitted, IsCommitRefusal, ShowsStrange, ShowsFence}
 
--- The note says that at least so many commits are stable, by a mark in the history that the session has seen
+-- The note says that at least so many commits are stable, by a mark in the history that the session
+-- has seen
 pub record IsStable (commits : ℕ) (note : StableCount) (session : SessionState) : Type 0 where
   pub covers : commits ≤ note.count
   pub marked : note.count ≤ floor session.seen
@@ -36,8 +37,8 @@ IsWaitRefusal s (Stale cause) = IsShown J9 cause
 IsWaitRefusal s (Stranger cause) = ShowsStrange s cause
 IsWaitRefusal s other = ⊥
 
--- a stop or a fault ends a flush only where not all commits are marked that the session had seen: it has then seen a history
--- that has no such mark
+-- a stop or a fault ends a flush only where not all commits are marked that the session had seen:
+-- it has then seen a history that has no such mark
 abbrev pub IsEndedUnmarked : SessionState → SessionState → Refusal CauseState → Type 0
 IsEndedUnmarked old new (Closed cause) = floor new.seen < count old.seen
 IsEndedUnmarked old new (DeviceFailed cause) = floor new.seen < count old.seen
@@ -48,7 +49,8 @@ abbrev pub IsUnsure : CommitPlace → SessionState → WaitFault CommitPlace Cau
 IsUnsure place s (Refused why) = ⊥
 IsUnsure place s (Unsure at why) = (at ≡ place) × IsWaitRefusal s why
 
--- Why a commit that waits for its mark has none: the history lacks it, or it stands there and is not known to be stable
+-- Why a commit that waits for its mark has none: the history lacks it, or it stands there and is
+-- not known to be stable
 abbrev pub IsWaitFault : (Map → Type 0) → Shape → List Entry → TransactionState → SessionState → SessionState → WaitFault CommitPlace CauseState → Type 0
 IsWaitFault rule layout began t old new (Refused why) = IsCommitRefusal t old why × OnlyExtends old new × ShowsFence new why
 IsWaitFault rule layout began t old new (Unsure place why) = CommitsAndWaits rule layout began t old new place × IsWaitRefusal new why

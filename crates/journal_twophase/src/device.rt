@@ -56,7 +56,8 @@ impl<'b, D: BlockDisk, R: MapRule, J: Naming> LockedParts<'b, D, R, J> {
         self.log_step(rt)
     }
 
-    // The device call of the group in flight that is due, or where none is in flight what is due of both parts.
+    // The device call of the group in flight that is due, or where none is in flight what is due of
+    // both parts.
     fn log_call<W: Wait>(&self, rt: &W) -> Result<LogStep, JournalRefusal<'b, J, R>>
         ensures { IfErr result IsLogRefusal }
     {
@@ -97,7 +98,8 @@ impl<'b, D: BlockDisk, R: MapRule, J: Naming> LockedParts<'b, D, R, J> {
         answer
     }
 
-    // Wakes those for whom a step of the logger made something, and all where it can be followed by no other.
+    // Wakes those for whom a step of the logger made something, and all where it can be followed by
+    // no other.
     fn wake_after_step<W: Wait>(&self, rt: &W, answer: &Result<LogStep, JournalRefusal<'b, J, R>>) {
         match answer {
             Ok(LogStep::Cut) => self.room.notify_all(),
@@ -144,7 +146,8 @@ impl<'b, D: BlockDisk, R: MapRule, J: Naming> LockedParts<'b, D, R, J> {
         }
     }
 
-    // Does the next thing of the installer where the log is past its threshold, and is idle otherwise.
+    // Does the next thing of the installer where the log is past its threshold, and is idle
+    // otherwise.
     pub(crate) fn install_past_threshold<W: Wait>(
         &self,
         rt: &W,
@@ -236,7 +239,8 @@ impl<'b, D: BlockDisk, R: MapRule, J: Naming> LockedParts<'b, D, R, J> {
         unreachable!()
     }
 
-    // Reads blocks as they are logged. Answers J1, and J6 where the device failed in this call or before.
+    // Reads blocks as they are logged. Answers J1, and J6 where the device failed in this call or
+    // before.
     fn fetch<W: Wait>(
         &self,
         rt: &W,
@@ -252,7 +256,8 @@ impl<'b, D: BlockDisk, R: MapRule, J: Naming> LockedParts<'b, D, R, J> {
         }
     }
 
-    // Notes in memory that a device call failed, in the hold of the disk's lock in which it did, and gives the refusal.
+    // Notes in memory that a device call failed, in the hold of the disk's lock in which it did,
+    // and gives the refusal.
     fn note_fault<W: Wait>(
         &self,
         rt: &W,
@@ -350,7 +355,8 @@ impl<'b, R: MapRule, J: Naming> LockedParts<'b, MemDisk, R, J> {
         self.durable.lock(rt).disk().pending()
     }
 
-    // Shows the session the whole history, and makes an image of the disk by this choice. Answers J1 and J9.
+    // Shows the session the whole history, and makes an image of the disk by this choice. Answers
+    // J1 and J9.
     pub(crate) fn image<W: Wait>(
         &self,
         rt: &W,

@@ -34,8 +34,8 @@ pub const CACHED_BLOCKS: usize = 64;
 /// Of how many blocks that are at home `Journal::open_with_cache` may be told to keep copies.
 pub const MAX_CACHED_BLOCKS: usize = 4096;
 
-/// A journal over a disk, lent the book of its history, which threads share by `&`. Contracts see the
-/// history at its opening.
+/// A journal over a disk, lent the book of its history, which threads share by `&`. Contracts see
+/// the history at its opening.
 #[derive(Drop)]
 pub struct Journal<'b, D: BlockDisk, R: MapRule, J: Naming> {
     pub(crate) layout: Layout,
@@ -57,14 +57,16 @@ impl<'b, D: BlockDisk, R: MapRule, J: Naming> Model for Journal<'b, D, R, J> {
 }
 
 impl<'b, D: BlockDisk, R: MapRule, J: Naming> Journal<'b, D, R, J> {
-    /// Opens a disk on which nothing is pending: begins the book's history with the map that the disk holds,
-    /// where the rule admits it. What lies in the disk's log is read into memory, and nothing is written.
+    /// Opens a disk on which nothing is pending: begins the book's history with the map that the
+    /// disk holds, where the rule admits it. What lies in the disk's log is read into memory, and
+    /// nothing is written.
     ///
-    /// The first that applies of these refuses it: J8 `BadSuper` where the number of blocks is out of range, J7
-    /// `BadLog` where the disk's log is not well formed, J8 where the rule does not hold of the map, J9 `Stale`
-    /// where the book has a history already. J1 `NoMemory` where memory is refused, and J6 `DeviceFailed` where
-    /// the device fails or the rule says so, come where they are met. A refusal hands the disk back, with nothing
-    /// written, and leaves the book as it was; the cell is spent.
+    /// The first that applies of these refuses it: J8 `BadSuper` where the number of blocks is out
+    /// of range, J7 `BadLog` where the disk's log is not well formed, J8 where the rule does not
+    /// hold of the map, J9 `Stale` where the book has a history already. J1 `NoMemory` where memory
+    /// is refused, and J6 `DeviceFailed` where the device fails or the rule says so, come where
+    /// they are met. A refusal hands the disk back, with nothing written, and leaves the book as it
+    /// was; the cell is spent.
     ///
     /// Copies of no more than 64 blocks that are at home are kept in memory.
     pub fn open(
@@ -87,9 +89,10 @@ impl<'b, D: BlockDisk, R: MapRule, J: Naming> Journal<'b, D, R, J> {
         Journal::open_with_cache(alloc, book, cell, disk, rule, CACHED_BLOCKS)
     }
 
-    /// Opens a disk as `open` does, and is refused as it is. Copies of no more than so many blocks that are at home are kept
-    /// in memory, from 1 to 4096, those that were used last: a read or a commit that finds its block there asks the device
-    /// for nothing. What a read or a commit answers does not depend on it.
+    /// Opens a disk as `open` does, and is refused as it is. Copies of no more than so many blocks
+    /// that are at home are kept in memory, from 1 to 4096, those that were used last: a read or a
+    /// commit that finds its block there asks the device for nothing. What a read or a commit
+    /// answers does not depend on it.
     pub fn open_with_cache(
         alloc: Global,
         book: &'b Book<R>,
@@ -123,9 +126,9 @@ impl<'b, D: BlockDisk, R: MapRule, J: Naming> Journal<'b, D, R, J> {
     /// its layout: it has to be opened by the same one each time. Each of its slots takes some 30
     /// bytes of memory, and 160 where there are no more than 1024.
     ///
-    /// The first that applies of these refuses it: J8 `BadSuper` where the disk has not as many blocks as the layout,
-    /// then what refuses `open`. A refusal hands the disk back, with nothing written, and leaves the book as it was; the
-    /// cell is spent.
+    /// The first that applies of these refuses it: J8 `BadSuper` where the disk has not as many
+    /// blocks as the layout, then what refuses `open`. A refusal hands the disk back, with nothing
+    /// written, and leaves the book as it was; the cell is spent.
     pub fn open_layout(
         alloc: Global,
         book: &'b Book<R>,
@@ -158,7 +161,8 @@ impl<'b, D: BlockDisk, R: MapRule, J: Naming> Journal<'b, D, R, J> {
                 disk,
             });
         };
-        // Nothing but the core's opening can be refused from here on, so a refusal leaves the book as it was.
+        // Nothing but the core's opening can be refused from here on, so a refusal leaves the book
+        // as it was.
         let OpenedCore { core, start, slots } = LockedParts::open(
             alloc, book, cell, layout, disk, rule, cached,
         )?;
@@ -170,8 +174,9 @@ impl<'b, D: BlockDisk, R: MapRule, J: Naming> Journal<'b, D, R, J> {
         })
     }
 
-    /// A session of a number that no session had before and that the history has no commit and no fence of. It has
-    /// seen the whole history, which goes on from the journal's opening. It takes no memory.
+    /// A session of a number that no session had before and that the history has no commit and no
+    /// fence of. It has seen the whole history, which goes on from the journal's opening. It takes
+    /// no memory.
     ///
     /// Answers J11 `Worn` where the number would reach 2^62.
     pub fn session<W: Wait>(&self, rt: &W) -> Result<Session<'b, J, R>, JournalRefusal<'b, J, R>>
@@ -224,8 +229,8 @@ impl<'b, D: BlockDisk, R: MapRule, J: Naming> Journal<'b, D, R, J> {
         self.layout.slot_of(addr)
     }
 
-    // Called for its contract: what a session has seen begins with the journal's opening, since both are of one
-    // history, and what is known of it.
+    // Called for its contract: what a session has seen begins with the journal's opening, since
+    // both are of one history, and what is known of it.
     fn prove_begins(&self, session: &Session<'b, J, R>)
         ensures start { IsPrefix self.now.start session.now.seen }
         ensures known { IsKnown R.statement J.layout session.now.seen }
@@ -235,9 +240,9 @@ impl<'b, D: BlockDisk, R: MapRule, J: Naming> Journal<'b, D, R, J> {
         start.see(&session.front());
     }
 
-    /// A transaction that has done nothing yet, after all of the history as it is now, which the session has
-    /// then seen. It must be ended, by `commit`, `try_commit` or `abort`, and a commit is under this session.
-    /// It waits for nobody and takes no memory.
+    /// A transaction that has done nothing yet, after all of the history as it is now, which the
+    /// session has then seen. It must be ended, by `commit`, `try_commit` or `abort`, and a commit
+    /// is under this session. It waits for nobody and takes no memory.
     pub fn begin<'j>(
         &'j self,
         alloc: Global,
@@ -250,8 +255,9 @@ impl<'b, D: BlockDisk, R: MapRule, J: Naming> Journal<'b, D, R, J> {
         Txn::new(self, alloc, session)
     }
 
-    /// Does the next thing of the logger: the device call of the group in flight that is due, else a
-    /// mark, else a cut, with at most one device call that changes the disk. It is idle where there is nothing to log and to mark.
+    /// Does the next thing of the logger: the device call of the group in flight that is due, else
+    /// a mark, else a cut, with at most one device call that changes the disk. It is idle where
+    /// there is nothing to log and to mark.
     ///
     /// Answers J13 `Closed` where the journal was stopped, J6 `DeviceFailed` where the device
     /// failed in this call or before, J9 `Stale` where the history is longer than the core's, J11
@@ -279,10 +285,11 @@ impl<'b, D: BlockDisk, R: MapRule, J: Naming> Journal<'b, D, R, J> {
         Ok(log_moved(self.core.log_step_grouped(rt)?))
     }
 
-    /// Does the next thing of the installer, with at most one device call that changes the disk. It is idle where nothing is logged that is not at home.
+    /// Does the next thing of the installer, with at most one device call that changes the disk. It
+    /// is idle where nothing is logged that is not at home.
     ///
-    /// Answers J13 `Closed` where the journal was stopped, J6 `DeviceFailed` where the device failed in this call or
-    /// before, and J1 `NoMemory` where memory is refused.
+    /// Answers J13 `Closed` where the journal was stopped, J6 `DeviceFailed` where the device
+    /// failed in this call or before, and J1 `NoMemory` where memory is refused.
     pub fn install_step<W: Wait>(&self, rt: &W) -> Result<Step, JournalRefusal<'b, J, R>>
         ensures { IfErr result IsInstallRefusal }
     {
@@ -294,12 +301,13 @@ impl<'b, D: BlockDisk, R: MapRule, J: Naming> Journal<'b, D, R, J> {
         self.core.stat(rt)
     }
 
-    /// Waits until the commit of the receipt is stable: until a mark says that it is on the disk, so that no crash
-    /// loses it. The session has then seen the mark, and is exact.
+    /// Waits until the commit of the receipt is stable: until a mark says that it is on the disk,
+    /// so that no crash loses it. The session has then seen the mark, and is exact.
     ///
-    /// The first that applies of these refuses it: J13 `Closed` where the journal was stopped and J6 `DeviceFailed`
-    /// where the device failed, both only where no mark covers the receipt; J9 `Stale` where the history is longer
-    /// than the core's, J10 `Stranger` where it has a commit under the session's number that the session did not make.
+    /// The first that applies of these refuses it: J13 `Closed` where the journal was stopped and
+    /// J6 `DeviceFailed` where the device failed, both only where no mark covers the receipt; J9
+    /// `Stale` where the history is longer than the core's, J10 `Stranger` where it has a commit
+    /// under the session's number that the session did not make.
     pub fn wait_stable<W: Wait>(
         &self,
         rt: &W,
@@ -314,14 +322,15 @@ impl<'b, D: BlockDisk, R: MapRule, J: Naming> Journal<'b, D, R, J> {
         self.core.wait_stable(rt, session, receipt.count())
     }
 
-    /// Waits until all commits are stable that the session has seen, as `wait_stable` does, and for no others. The
-    /// session has then seen such a mark, and is exact. Where they are marked already it waits for nothing, also after a
-    /// stop or a fault of the device.
+    /// Waits until all commits are stable that the session has seen, as `wait_stable` does, and for
+    /// no others. The session has then seen such a mark, and is exact. Where they are marked
+    /// already it waits for nothing, also after a stop or a fault of the device.
     ///
-    /// The first that applies of these refuses it: J9 `Stale` where the history is longer than the core's, J10 `Stranger`
-    /// where it has a commit under the session's number that the session did not make; J13 `Closed` where the journal was
-    /// stopped and J6 `DeviceFailed` where the device failed, both only where not all of these commits are marked: the
-    /// session has then seen a history in which they are not.
+    /// The first that applies of these refuses it: J9 `Stale` where the history is longer than the
+    /// core's, J10 `Stranger` where it has a commit under the session's number that the session did
+    /// not make; J13 `Closed` where the journal was stopped and J6 `DeviceFailed` where the device
+    /// failed, both only where not all of these commits are marked: the session has then seen a
+    /// history in which they are not.
     pub fn flush<W: Wait>(
         &self,
         rt: &W,
@@ -336,14 +345,15 @@ impl<'b, D: BlockDisk, R: MapRule, J: Naming> Journal<'b, D, R, J> {
         self.core.flush(rt, session)
     }
 
-    /// Stops the journal: reads, commits and steps, and waits for marks that do not stand, are refused by J13 `Closed`
-    /// from then on. Whoever waits is woken.
+    /// Stops the journal: reads, commits and steps, and waits for marks that do not stand, are
+    /// refused by J13 `Closed` from then on. Whoever waits is woken.
     pub fn stop<W: Wait>(&self, rt: &W) {
         self.core.stop(rt);
     }
 
-    /// Does the next thing of the installer as `install_step` does, but only where more than 256 positions of the log
-    /// are used. It is idle otherwise, so that the device's time is the logger's until the log needs room.
+    /// Does the next thing of the installer as `install_step` does, but only where more than 256
+    /// positions of the log are used. It is idle otherwise, so that the device's time is the
+    /// logger's until the log needs room.
     ///
     /// It is refused as `install_step` is.
     pub fn install_past_threshold<W: Wait>(&self, rt: &W) -> Result<Step, JournalRefusal<'b, J, R>>
@@ -352,8 +362,8 @@ impl<'b, D: BlockDisk, R: MapRule, J: Naming> Journal<'b, D, R, J> {
         Ok(install_moved(self.core.install_past_threshold(rt)?))
     }
 
-    /// Waits until `log_step` has something to do or is refused for good: a commit was made, positions of a full log
-    /// became free, the journal was stopped, or the device failed.
+    /// Waits until `log_step` has something to do or is refused for good: a commit was made,
+    /// positions of a full log became free, the journal was stopped, or the device failed.
     pub fn await_log_work<W: Wait>(&self, rt: &W) {
         self.core.await_log_work(rt);
     }
@@ -363,7 +373,8 @@ impl<'b, D: BlockDisk, R: MapRule, J: Naming> Journal<'b, D, R, J> {
         self.core.await_install_work(rt);
     }
 
-    /// Ends the journal, and gives the disk up as it is. For whoever has a session, `close` says more.
+    /// Ends the journal, and gives the disk up as it is. For whoever has a session, `close` says
+    /// more.
     pub fn into_disk(self) -> D {
         let Journal {
             layout: _,
@@ -374,12 +385,12 @@ impl<'b, D: BlockDisk, R: MapRule, J: Naming> Journal<'b, D, R, J> {
         core.into_disk()
     }
 
-    /// Ends the journal, and gives the disk up as it is. The session has then seen the whole history, and each
-    /// image that a crash may leave of the disk opens as the map after a front of it that has every marked
-    /// commit.
+    /// Ends the journal, and gives the disk up as it is. The session has then seen the whole
+    /// history, and each image that a crash may leave of the disk opens as the map after a front of
+    /// it that has every marked commit.
     ///
-    /// Answers J9 `Stale` where the session had seen more of the history than the core, and nothing else. The
-    /// disk is then given up too.
+    /// Answers J9 `Stale` where the session had seen more of the history than the core, and nothing
+    /// else. The disk is then given up too.
     pub fn close(self, session: &mut Session<'b, J, R>) -> Result<D, Refused<D, Cause<'b, J, R>>>
         ensures session { OnlyExtends session.old session.new }
         ensures size { IfOk result (λ disk. (D.state disk).past.size ≡ J.layout.blocks) }
@@ -405,7 +416,8 @@ impl<'b, R: MapRule, J: Naming> Journal<'b, MemDisk, R, J> {
         self.core.inspect(rt, block, into);
     }
 
-    /// Each block that has pending writes and their number, blocks ascending. It takes the disk's lock alone.
+    /// Each block that has pending writes and their number, blocks ascending. It takes the disk's
+    /// lock alone.
     ///
     /// Answers J1 `NoMemory`, and nothing else, where memory for the list is refused.
     pub fn pending<W: Wait>(&self, rt: &W) -> Result<Vec<(u64, u64)>, JournalRefusal<'b, J, R>>
@@ -414,11 +426,12 @@ impl<'b, R: MapRule, J: Naming> Journal<'b, MemDisk, R, J> {
         self.core.pending(rt)
     }
 
-    /// A copy of the disk as a crash would leave it now, by a choice as of `MemDisk::crash`. The session has then seen
-    /// the whole history, and the image opens as the map after a front of it that has every marked commit.
+    /// A copy of the disk as a crash would leave it now, by a choice as of `MemDisk::crash`. The
+    /// session has then seen the whole history, and the image opens as the map after a front of it
+    /// that has every marked commit.
     ///
-    /// Answers J9 `Stale` where the session had seen more of the history than the core, else J1 `NoMemory` where
-    /// memory for the image is refused.
+    /// Answers J9 `Stale` where the session had seen more of the history than the core, else J1
+    /// `NoMemory` where memory for the image is refused.
     pub fn image<W: Wait>(
         &self,
         rt: &W,

@@ -1,8 +1,8 @@
 // The core's two parts, as threads share them: one function for each of their events.
 //
-// The memory lock stands here and in `device.rt` and `waiting.rt`, the disk's in `device.rt` alone, and neither a part nor a guard
-// of it leaves these three. The contracts speak of sessions, transactions and receipts, because no fact of a part stays
-// true after its lock is released.
+// The memory lock stands here and in `device.rt` and `waiting.rt`, the disk's in `device.rt` alone,
+// and neither a part nor a guard of it leaves these three. The contracts speak of sessions,
+// transactions and receipts, because no fact of a part stays true after its lock is released.
 ghost use Rattle.std.specs.Prelude.{◌≡◌, ◌↔◌, ◌<◌, true, false, length, IsTrue, IfOk, IfErr, IsErrAnd, IfSome, OnOk, OnErr, All};
 ghost use Rattle.journal_world.specs.Addresses.{is_valid};
 ghost use Rattle.journal_world.specs.Files.{shape};
@@ -40,11 +40,12 @@ pub type JournalRefusal<'b, J, R> = Refusal<Cause<'b, J, R>>;
 // What stands under the memory lock. Nobody who has it waits for a device.
 #[derive(Drop)]
 pub(crate) struct UnderMemoryLock<'b, R: MapRule, J: Naming> {
-    // Keeps the lock's word and what stands under it on lines of memory of their own: each who tries the lock takes the word's line
-    // from its holder, who writes the others.
+    // Keeps the lock's word and what stands under it on lines of memory of their own: each who
+    // tries the lock takes the word's line from its holder, who writes the others.
     pub(crate) padding: [u64; PADDING_WORDS],
     pub(crate) volatile: Volatile<'b, R, J>,
-    // Where the log on the disk starts. What was in it when it was opened stands in no part of memory, but takes room.
+    // Where the log on the disk starts. What was in it when it was opened stands in no part of
+    // memory, but takes room.
     pub(crate) log_start: Position,
     // The logger sleeps until a commit wakes it, and none did yet.
     pub(crate) logger_sleeps: bool,
@@ -86,8 +87,8 @@ pub(crate) enum LoggerWake {
 }
 
 impl<'b, R: MapRule, J: Naming> UnderMemoryLock<'b, R, J> {
-    // For which wait the logger is to be woken after this answer to a commit. Who asks has to wake it: the next commit does not
-    // wake it for the same sleep again.
+    // For which wait the logger is to be woken after this answer to a commit. Who asks has to wake
+    // it: the next commit does not wake it for the same sleep again.
     pub(crate) fn wake_after<T>(
         &mut self,
         answer: &Result<T, JournalRefusal<'b, J, R>>,
@@ -113,7 +114,8 @@ impl<'b, R: MapRule, J: Naming> UnderMemoryLock<'b, R, J> {
         delays
     }
 
-    // Whether a group may be delayed: there is one, and nobody waits for its mark, or for the room that its cut makes.
+    // Whether a group may be delayed: there is one, and nobody waits for its mark, or for the room
+    // that its cut makes.
     fn may_delay_group(&self) -> bool {
         self.volatile.check_running().is_ok()
             && self.waiters.are_none()
@@ -121,7 +123,8 @@ impl<'b, R: MapRule, J: Naming> UnderMemoryLock<'b, R, J> {
             && self.volatile.floor() < self.volatile.commits()
     }
 
-    // Whether there are so many blocks to be cut that the group is delayed no more. With fewer there is room for any commit.
+    // Whether there are so many blocks to be cut that the group is delayed no more. With fewer
+    // there is room for any commit.
     fn has_full_group(&self) -> bool {
         self.volatile.tail_len() >= GROUP_BLOCKS
     }
@@ -129,9 +132,9 @@ impl<'b, R: MapRule, J: Naming> UnderMemoryLock<'b, R, J> {
 
 /// The core of a journal, a part under each of two locks.
 ///
-/// There is one condition variable for each reason to wait, so that nobody is woken for another's. All are the memory
-/// lock's, so that nobody who waits has the disk's. Each is notified after unlocking, unless the notifying thread is
-/// about to wait itself and still holds the lock.
+/// There is one condition variable for each reason to wait, so that nobody is woken for another's.
+/// All are the memory lock's, so that nobody who waits has the disk's. Each is notified after
+/// unlocking, unless the notifying thread is about to wait itself and still holds the lock.
 #[derive(Drop)]
 pub(crate) struct LockedParts<'b, D: BlockDisk, R: MapRule, J: Naming> {
     pub(crate) alloc: Global,
@@ -150,15 +153,17 @@ pub(crate) struct LockedParts<'b, D: BlockDisk, R: MapRule, J: Naming> {
     pub(crate) marked: Condvar,
     // The logger waits for a commit, or for positions that are free.
     pub(crate) logging: Condvar,
-    // The logger waits until there are as many commits as a mark woke threads, or as many of them sleep again, or delays a group
-    // that nobody waits for.
+    // The logger waits until there are as many commits as a mark woke threads, or as many of them
+    // sleep again, or delays a group that nobody waits for.
     pub(crate) group_full: Condvar,
     // The installer waits for a log past its threshold.
     pub(crate) installing: Condvar,
-    // It was stopped, or the device failed. It is set before the memory lock is let go under which that was noted, so whoever has
-    // learned of it finds it set: a step that finds it unset may be thought of as made before.
+    // It was stopped, or the device failed. It is set before the memory lock is let go under which
+    // that was noted, so whoever has learned of it finds it set: a step that finds it unset may be
+    // thought of as made before.
     pub(crate) ended: Hint,
-    // A group is cut and not marked. The logger waits for nothing then: the group's commits wait for it.
+    // A group is cut and not marked. The logger waits for nothing then: the group's commits wait
+    // for it.
     pub(crate) group_in_flight: Hint,
 }
 
@@ -216,7 +221,8 @@ impl<'b, D: BlockDisk, R: MapRule, J: Naming> LockedParts<'b, D, R, J> {
         Ok(OpenedCore { core, start, slots })
     }
 
-    // The memory lock. A hold of it is shorter than a sleep and a wake, so it is tried for a while before the thread sleeps.
+    // The memory lock. A hold of it is shorter than a sleep and a wake, so it is tried for a while
+    // before the thread sleeps.
     pub(crate) fn lock_memory<W: Wait>(&self, rt: &W) -> MutexGuard<'_, UnderMemoryLock<'b, R, J>> {
         for turn in 0..LOCK_TURNS {
             if let Some(guard) = self.memory.try_lock() {
@@ -242,8 +248,8 @@ impl<'b, D: BlockDisk, R: MapRule, J: Naming> LockedParts<'b, D, R, J> {
         self.memory.lock(rt).volatile.session()
     }
 
-    // Fences a session. Answers J13, J6 of an earlier fault, J9, J11 and J1. Who waits for room is woken: it may wait under
-    // the session that is fenced, and is refused then.
+    // Fences a session. Answers J13, J6 of an earlier fault, J9, J11 and J1. Who waits for room is
+    // woken: it may wait under the session that is fenced, and is refused then.
     pub(crate) fn fence<W: Wait>(
         &self,
         rt: &W,
@@ -270,8 +276,9 @@ impl<'b, D: BlockDisk, R: MapRule, J: Naming> LockedParts<'b, D, R, J> {
         self.memory.lock(rt).volatile.check_running()
     }
 
-    // Answers as `check_running` does, and takes the memory lock only where something may be refused. A step is asked for this
-    // inside the disk's lock, so the hold of the memory lock would be one for each device call.
+    // Answers as `check_running` does, and takes the memory lock only where something may be
+    // refused. A step is asked for this inside the disk's lock, so the hold of the memory lock
+    // would be one for each device call.
     pub(crate) fn check_step<W: Wait>(&self, rt: &W) -> Result<(), JournalRefusal<'b, J, R>>
         ensures { IfErr result IsEndRefusal }
     {
@@ -298,8 +305,9 @@ impl<'b, D: BlockDisk, R: MapRule, J: Naming> LockedParts<'b, D, R, J> {
         memory.volatile.check_read(rt, transaction, held, addr)
     }
 
-    // Reads what the map gives the address, for the transaction to remember. What is held agrees with the history that it
-    // found. It answers J13, J6 of an earlier fault, and J9, then a new J6.
+    // Reads what the map gives the address, for the transaction to remember. What is held agrees
+    // with the history that it found. It answers J13, J6 of an earlier fault, and J9, then a new
+    // J6.
     pub(crate) fn read<W: Wait>(
         &self,
         rt: &W,
@@ -371,8 +379,9 @@ impl<'b, D: BlockDisk, R: MapRule, J: Naming> LockedParts<'b, D, R, J> {
         answer
     }
 
-    // Reads it as `read_in` does, with what was fetched, and keeps that in memory where it is used. Answers none also where the
-    // fetch has seen more of the history than there is, which no fetch from the same core has.
+    // Reads it as `read_in` does, with what was fetched, and keeps that in memory where it is used.
+    // Answers none also where the fetch has seen more of the history than there is, which no fetch
+    // from the same core has.
     pub(crate) fn read_with<W: Wait>(
         &self,
         rt: &W,
@@ -444,8 +453,9 @@ impl<'b, D: BlockDisk, R: MapRule, J: Naming> LockedParts<'b, D, R, J> {
         answer
     }
 
-    // Commits under the memory lock, which is held in the end. Blocks that it needs and memory lacks
-    // are fetched first. One that waits for room is tried again in each hold of the lock after a cut.
+    // Commits under the memory lock, which is held in the end. Blocks that it needs and memory
+    // lacks are fetched first. One that waits for room is tried again in each hold of the lock
+    // after a cut.
     pub(crate) fn commit_under<'s, W: Wait>(
         &'s self,
         rt: &W,
@@ -505,8 +515,8 @@ impl<'b, D: BlockDisk, R: MapRule, J: Naming> LockedParts<'b, D, R, J> {
         }
     }
 
-    // Waits until the logger has something to do, or would be refused. It looks at memory alone: what it does not know of the
-    // log on the disk it is woken for.
+    // Waits until the logger has something to do, or would be refused. It looks at memory alone:
+    // what it does not know of the log on the disk it is woken for.
     pub(crate) fn await_log_work<W: Wait>(&self, rt: &W) {
         let mut memory = self.memory.lock(rt);
         for _ in rt.forever() {
@@ -518,9 +528,10 @@ impl<'b, D: BlockDisk, R: MapRule, J: Naming> LockedParts<'b, D, R, J> {
         }
     }
 
-    // Waits until there are as many commits as the last mark woke threads, or as many wait for the next one, but not for long: one
-    // of them may have nothing to commit. Where nobody waits it delays the group, so that many commits share it. Who is woken too
-    // early cuts or marks too early, which harms nobody.
+    // Waits until there are as many commits as the last mark woke threads, or as many wait for the
+    // next one, but not for long: one of them may have nothing to commit. Where nobody waits it
+    // delays the group, so that many commits share it. Who is woken too early cuts or marks too
+    // early, which harms nobody.
     pub(crate) fn wait_for_group<W: Wait + Clock>(&self, rt: &W) {
         if self.group_in_flight.is_set() {
             return;
@@ -580,8 +591,9 @@ impl<'b, D: BlockDisk, R: MapRule, J: Naming> LockedParts<'b, D, R, J> {
     }
 }
 
-// How long the logger waits at most before it cuts a group for fewer than the last one was for, in microseconds: some barriers
-// of a fast device, or what a client at the other end of a connection takes from a reply to its next call.
+// How long the logger waits at most before it cuts a group for fewer than the last one was for, in
+// microseconds: some barriers of a fast device, or what a client at the other end of a connection
+// takes from a reply to its next call.
 const GROUP_DELAY_MICROS: u64 = 200;
 
 // Two lines of memory: processors fetch them by pairs.
@@ -593,12 +605,13 @@ const LOCK_TURNS: u32 = 40;
 // How long the logger delays a group at most that nobody waits for, in microseconds.
 const UNAWAITED_DELAY_MICROS: u64 = 1000;
 
-// How many blocks end that delay. A tail takes 255 blocks, and a commit has 128 at most, so none waits for room while there are
-// fewer.
+// How many blocks end that delay. A tail takes 255 blocks, and a commit has 128 at most, so none
+// waits for room while there are fewer.
 const GROUP_BLOCKS: u64 = 128;
 
-// The installer waits until so many positions of the log are used. A tail has at most 255 blocks, so it fits then. So many are
-// those of two groups at least, of which one is logged, so that the installer has something to do.
+// The installer waits until so many positions of the log are used. A tail has at most 255 blocks,
+// so it fits then. So many are those of two groups at least, of which one is logged, so that the
+// installer has something to do.
 const INSTALL_THRESHOLD: u64 = 256;
 
 // Whether the log is so full that positions are to be freed.

@@ -19,7 +19,8 @@ use std::marker::Model;
 use std::sync::Wait;
 
 /// An open transaction. Contracts see what its session had seen when it began, what it has read and
-/// overwritten, a history at whose end all that it read is what the map gives, and the slots that it holds.
+/// overwritten, a history at whose end all that it read is what the map gives, and the slots that
+/// it holds.
 ///
 /// It must be ended, by `commit`, `try_commit` or `abort`: it can't be dropped.
 #[must_use]
@@ -67,8 +68,9 @@ impl<'j, 'b, D: BlockDisk, R: MapRule, J: Naming> Txn<'j, 'b, D, R, J> {
         }
     }
 
-    /// The history that it has seen last, which goes on from the one at its beginning. All that it has read is
-    /// what the map gives at the end of it, whether the transaction is committed later or not.
+    /// The history that it has seen last, which goes on from the one at its beginning. All that it
+    /// has read is what the map gives at the end of it, whether the transaction is committed later
+    /// or not.
     pub fn front(&self) -> &Front<'b, J, R>
         ensures seen { result.now ≡ self.now.seen }
         ensures began { IsPrefix self.now.began self.now.seen }
@@ -77,16 +79,18 @@ impl<'j, 'b, D: BlockDisk, R: MapRule, J: Naming> Txn<'j, 'b, D, R, J> {
         self.transaction.front()
     }
 
-    /// The address's value: the transaction's own, where it has overwritten it, else what the map gives, which
-    /// it remembers. It takes the address's slot: it waits for one that is greater than all that it holds, and
-    /// tries a lower one once. All that it has read is what the map gives at the end of one history, which it
-    /// has then seen: also each value that it had read before this one, of the same address too.
+    /// The address's value: the transaction's own, where it has overwritten it, else what the map
+    /// gives, which it remembers. It takes the address's slot: it waits for one that is greater
+    /// than all that it holds, and tries a lower one once. All that it has read is what the map
+    /// gives at the end of one history, which it has then seen: also each value that it had read
+    /// before this one, of the same address too.
     ///
-    /// The first that applies of these refuses it: J13 `Closed` where the journal was stopped, J6 `DeviceFailed` where
-    /// the device failed before, J2 `BadAddress` where the address is not valid, J5 `Busy` where another holds the
-    /// slot and this transaction a greater one, J9 `Stale` where the transaction has seen more of the history than
-    /// the core, then J1 `NoMemory` where memory is refused, or J6 where the device fails in this call. The
-    /// transaction is then as it was, with the slots that it held.
+    /// The first that applies of these refuses it: J13 `Closed` where the journal was stopped, J6
+    /// `DeviceFailed` where the device failed before, J2 `BadAddress` where the address is not
+    /// valid, J5 `Busy` where another holds the slot and this transaction a greater one, J9 `Stale`
+    /// where the transaction has seen more of the history than the core, then J1 `NoMemory` where
+    /// memory is refused, or J6 where the device fails in this call. The transaction is then as it
+    /// was, with the slots that it held.
     pub fn read<W: Wait>(&mut self, rt: &W, addr: Addr) -> Result<Value, JournalRefusal<'b, J, R>>
         ensures reads { IfOk result (λ value. ReadsValue (holding J.layout self.old addr) addr value self.new) }
         ensures object { IfOk result (λ value. IsTrue (is_object J.layout (addr, value))) }
@@ -113,7 +117,8 @@ impl<'j, 'b, D: BlockDisk, R: MapRule, J: Naming> Txn<'j, 'b, D, R, J> {
         answer
     }
 
-    // The refusal of a read that the core was not asked for. That the journal goes on no more comes before it.
+    // The refusal of a read that the core was not asked for. That the journal goes on no more comes
+    // before it.
     fn unless_ended<W: Wait>(
         &self,
         rt: &W,
@@ -128,7 +133,8 @@ impl<'j, 'b, D: BlockDisk, R: MapRule, J: Naming> Txn<'j, 'b, D, R, J> {
         }
     }
 
-    // The refusal of a read for which there is no memory. All that would refuse it otherwise comes before.
+    // The refusal of a read for which there is no memory. All that would refuse it otherwise comes
+    // before.
     fn no_memory<W: Wait>(&mut self, rt: &W, addr: Addr) -> JournalRefusal<'b, J, R>
         requires valid { IsTrue (is_valid J.layout addr) }
         ensures refusal { IsCheckRefusal (core_of self.old) result }
@@ -146,7 +152,8 @@ impl<'j, 'b, D: BlockDisk, R: MapRule, J: Naming> Txn<'j, 'b, D, R, J> {
         }
     }
 
-    // Its own overwrite, else what the map gives, which it remembers. `kind` is that of the address's object.
+    // Its own overwrite, else what the map gives, which it remembers. `kind` is that of the
+    // address's object.
     fn find_value<W: Wait>(
         &mut self,
         rt: &W,
@@ -182,8 +189,8 @@ impl<'j, 'b, D: BlockDisk, R: MapRule, J: Naming> Txn<'j, 'b, D, R, J> {
         Ok(vec![in self.alloc; 0u8; kind.bytes()]?)
     }
 
-    // What the map gives, which it remembers. Only the look-up has a lock of the core: the value's memory is made outside
-    // of it.
+    // What the map gives, which it remembers. Only the look-up has a lock of the core: the value's
+    // memory is made outside of it.
     fn read_map<W: Wait>(
         &mut self,
         rt: &W,
@@ -224,13 +231,13 @@ impl<'j, 'b, D: BlockDisk, R: MapRule, J: Naming> Txn<'j, 'b, D, R, J> {
         self.transaction.own(addr)
     }
 
-    /// Overwrites the address, in this transaction alone until it is committed. It takes the address's slot, as
-    /// `read` does. It does not ask the device, and goes on where that failed.
+    /// Overwrites the address, in this transaction alone until it is committed. It takes the
+    /// address's slot, as `read` does. It does not ask the device, and goes on where that failed.
     ///
-    /// The first that applies of these refuses it: J2 `BadAddress` where the address is not valid, J3 `BadSize`
-    /// where the bytes are no value of its kind, J5 `Busy` where another holds the slot and this transaction a
-    /// greater one, then J1 `NoMemory` where memory is refused. The transaction is then as it was, with the
-    /// slots that it held.
+    /// The first that applies of these refuses it: J2 `BadAddress` where the address is not valid,
+    /// J3 `BadSize` where the bytes are no value of its kind, J5 `Busy` where another holds the
+    /// slot and this transaction a greater one, then J1 `NoMemory` where memory is refused. The
+    /// transaction is then as it was, with the slots that it held.
     pub fn overwrite<W: Wait>(
         &mut self,
         rt: &W,
@@ -311,7 +318,8 @@ impl<'j, 'b, D: BlockDisk, R: MapRule, J: Naming> Txn<'j, 'b, D, R, J> {
         self.held.iter().any(|held| held.slot() > slot)
     }
 
-    // Gives back the slot that a refused call took, where it took one. Nothing that was read or overwritten lies under it.
+    // Gives back the slot that a refused call took, where it took one. Nothing that was read or
+    // overwritten lies under it.
     fn give_back<W: Wait>(&mut self, rt: &W, took: bool)
         requires clear { IsTrue took → (before : List ℕ) (slot : ℕ) → self.old.held ≡ before ++ slot ∷ [] → IsClearOf J.layout slot self.old.reads × IsClearOf J.layout slot self.old.writes }
         ensures { (t : TxnState) (slot : ℕ) → self.old ≡ record t { held = (if took then t.held ++ slot ∷ [] else t.held) } → self.new ≡ t }

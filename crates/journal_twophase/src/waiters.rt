@@ -3,14 +3,15 @@ ghost use Rattle.std.specs.Prelude.{◌≡◌, ◌+◌, ◌-◌, ◌^◌, ◌<�
 
 use journal_tail::CommitCount;
 
-// How many sleep until a mark is made, and how many a mark woke that have not gone on: that have not had the lock again.
+// How many sleep until a mark is made, and how many a mark woke that have not gone on: that have
+// not had the lock again.
 //
-// A thread is counted in before it sleeps, and out once it has the lock again. A spurious wake may be counted out in place
-// of a real one; the totals still balance.
+// A thread is counted in before it sleeps, and out once it has the lock again. A spurious wake may
+// be counted out in place of a real one; the totals still balance.
 //
-// Those whom a mark woke are likely to commit again at once, so that many are awaited until a group is cut: until as many sleep
-// again, or as many commits have come. One of the commits may be of somebody who makes several before he sleeps: then there
-// is enough for a group too.
+// Those whom a mark woke are likely to commit again at once, so that many are awaited until a group
+// is cut: until as many sleep again, or as many commits have come. One of the commits may be of
+// somebody who makes several before he sleeps: then there is enough for a group too.
 #[derive(Default, Drop)]
 pub(crate) struct MarkWaiters {
     asleep: u64,
@@ -32,7 +33,8 @@ impl MarkWaiters {
         self.asleep == self.awaited
     }
 
-    // Counts all that sleep as woken, where a mark was made and there were so many commits, and awaits as many.
+    // Counts all that sleep as woken, where a mark was made and there were so many commits, and
+    // awaits as many.
     pub(crate) fn wake(&mut self, commits: CommitCount)
         ensures asleep { self.new.asleep ≡ 0 }
         ensures awaited { self.new.awaited ≡ self.old.asleep }

@@ -21,8 +21,8 @@ use std::sync::{MutexGuard, Wait};
 pub enum WaitFault<P, C> {
     /// The transaction was refused, and the history lacks it.
     Refused(Refusal<C>),
-    /// It was committed: it stands in the history at this place. But the wait was refused, so it is not known to be
-    /// stable: after a crash it may be there or not.
+    /// It was committed: it stands in the history at this place. But the wait was refused, so it is
+    /// not known to be stable: after a crash it may be there or not.
     Unsure(P, Refusal<C>),
 }
 
@@ -49,7 +49,8 @@ impl<'b, D: BlockDisk, R: MapRule, J: Naming> LockedParts<'b, D, R, J> {
         self.wait_in(rt, memory, session, commits)
     }
 
-    // Waits until all commits are marked that the session has seen, and for no others. Answers J9, J10, J13 and J6.
+    // Waits until all commits are marked that the session has seen, and for no others. Answers J9,
+    // J10, J13 and J6.
     pub(crate) fn flush<W: Wait>(
         &self,
         rt: &W,
@@ -95,8 +96,8 @@ impl<'b, D: BlockDisk, R: MapRule, J: Naming> LockedParts<'b, D, R, J> {
         unreachable!()
     }
 
-    // Sleeps until a mark is made or all are woken. The logger waits for those whom a mark woke: the last waiter that
-    // sleeps again wakes the logger, if no commit already did.
+    // Sleeps until a mark is made or all are woken. The logger waits for those whom a mark woke:
+    // the last waiter that sleeps again wakes the logger, if no commit already did.
     fn sleep<'s, W: Wait>(
         &'s self,
         rt: &W,
@@ -139,15 +140,15 @@ impl<'b, D: BlockDisk, R: MapRule, J: Naming> LockedParts<'b, D, R, J> {
 }
 
 impl<'j, 'b, D: BlockDisk, R: MapRule, J: Naming> Txn<'j, 'b, D, R, J> {
-    /// Commits the transaction as `commit` does, and waits until it is stable: until a mark says that it is on the
-    /// disk, so that no crash loses it. Its slots are given up before it waits. The note covers it; the session has
-    /// seen the mark, and is exact.
+    /// Commits the transaction as `commit` does, and waits until it is stable: until a mark says
+    /// that it is on the disk, so that no crash loses it. Its slots are given up before it waits.
+    /// The note covers it; the session has seen the mark, and is exact.
     ///
-    /// Answers `Refused` where `commit` would refuse it: the history then lacks it. Answers `Unsure` where it stands
-    /// in the history, by the receipt, but the wait is refused: by J13 `Closed` where the journal was stopped, by J6
-    /// `DeviceFailed` where the device failed, by J9 `Stale` where the history is longer than the core's, by J10
-    /// `Stranger` where it has a commit under the session's number that the session did not make. The session is
-    /// exact then too.
+    /// Answers `Refused` where `commit` would refuse it: the history then lacks it. Answers
+    /// `Unsure` where it stands in the history, by the receipt, but the wait is refused: by J13
+    /// `Closed` where the journal was stopped, by J6 `DeviceFailed` where the device failed, by J9
+    /// `Stale` where the history is longer than the core's, by J10 `Stranger` where it has a commit
+    /// under the session's number that the session did not make. The session is exact then too.
     pub fn commit_wait<W: Wait>(self, rt: &W, session: &mut Session<'b, J, R>) -> Waited<'b, J, R>
         requires rule { (m : Map) → m.layout ≡ J.layout → R.statement m → Agrees m self.reads
             → R.statement (overwritten m self.writes) }
@@ -166,8 +167,14 @@ impl<'j, 'b, D: BlockDisk, R: MapRule, J: Naming> Txn<'j, 'b, D, R, J> {
         let mut spares = transaction.spares(alloc);
         let core = &journal.core;
         let when_full = WhenFull::Wait;
-        let (mut memory, answer) =
-            core.commit_under(rt, session, &transaction, &mut held, &mut spares, when_full);
+        let (mut memory, answer) = core.commit_under(
+            rt,
+            session,
+            &transaction,
+            &mut held,
+            &mut spares,
+            when_full,
+        );
         release_all(rt, &journal.slots, held);
         let wake = memory.wake_after(&answer);
         core.wake_after_commit(&answer, wake);
@@ -195,8 +202,8 @@ fn wait_step<'b, R: MapRule, J: Naming, W: Wait>(
     volatile.wait_step(rt, session, CommitCount::new(commits))
 }
 
-// Asks the volatile part whether all commits are marked that the session has seen, and notes it. If not, the session stays as it
-// was, so that it is asked of the same commits again.
+// Asks the volatile part whether all commits are marked that the session has seen, and notes it. If
+// not, the session stays as it was, so that it is asked of the same commits again.
 fn flush_step<'b, R: MapRule, J: Naming, W: Wait>(
     rt: &W,
     volatile: &mut Volatile<'b, R, J>,

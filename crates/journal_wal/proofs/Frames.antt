@@ -40,7 +40,8 @@ keeps_covered old new c log homes order named = record {
         (λ (other : b ≢ c). λ i. updated (part (log i)) b (homes b home lt other i))
         (cases_eq b c)
 
--- What the installer relies on stays: the start, its home blocks, and the updates up to a position that is logged
+-- What the installer relies on stays: the start, its home blocks, and the updates up to a position
+-- that is logged
 pub record KeepsInstalling (ring now : Ring) (log later : LogState) : Type 0 where
   pub size : now.disk.past.size ≡ ring.disk.past.size
   pub honest : now.disk.honest ≡ ring.disk.honest

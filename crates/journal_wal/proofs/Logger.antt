@@ -18,7 +18,8 @@ use Rattle.journal_wal.specs.States.{updates_to, AreTied, IsWal, IsLogging, IsIn
 use Rattle.journal_wal.proofs.Crashes.{images_of, moments_of}
 use Rattle.journal_wal.proofs.Frames.{keeps_homes, KeepsInstalling, installing_stays, tied_by, keeps_installing}
 
--- What a device call leaves of a log that is in step: one that is in step, and nothing else of its images
+-- What a device call leaves of a log that is in step: one that is in step, and nothing else of its
+-- images
 pub record Leaves (old new : WalState) : Type 0 where
   pub sound : IsWal new
   pub crash : Crashes old new
@@ -102,7 +103,8 @@ module _ (ring now : Ring) (log : LogState) (installing : Installing) where
   pub call_end : ring.next ≡ log.cut → log_call (at ring log_end) ≡ Some (write 0 (with_end ring.header ring.next))
   call_end all = ap (λ (n : ℕ). Some (write 0 (with_end ring.header n))) (sym all)
 
-  -- What a device call of the logger keeps of the numbers, where the next position and the coming end now are these
+  -- What a device call of the logger keeps of the numbers, where the next position and the coming
+  -- end now are these
   record Kept (n c : ℕ) : Type 0 where
     next : now.next ≡ n
     coming : now.extent.coming ≡ c

@@ -9,7 +9,8 @@ use Rattle.journal_tail.specs.Homes.{SameBlocks}
 use Rattle.journal_wal.specs.Wal.{WalState, size_of, blocks_now, blocks_cut, blocks_logged, log_steps, barriers_before, tail_length, free_positions}
 use Rattle.journal_tail.specs.declared.limits.TheConstants.{MAX_TAIL}
 
--- There is a place for a group of so many blocks: none is in flight, it has a block, and the log a position for each
+-- There is a place for a group of so many blocks: none is in flight, it has a block, and the log a
+-- position for each
 pub record FitsGroup (w : WalState) (blocks : ℕ) : Type 0 where
   pub rest : log_steps w ≡ 0
   pub some : 0 < blocks
@@ -23,7 +24,8 @@ pub record HasGroupRoom (w : WalState) (blocks : ℕ) : Type 0 where
   pub room : blocks ≤ w.log.room
   pub small : next_position w.log + blocks < 2 ^ 62
 
--- The updates are the group in flight, and no tail is left. What was logged stays, and no device call was made
+-- The updates are the group in flight, and no tail is left. What was logged stays, and no device
+-- call was made
 pub record TakesGroup (old : WalState) (updates : List Update) (new : WalState) : Type 0 where
   pub disk : new.ring ≡ old.ring
   -- their positions are the next ones

@@ -1,4 +1,5 @@
--- What holds of every write-ahead log: of its numbers, of its two cycles, and of each image of an honest disk.
+-- What holds of every write-ahead log: of its numbers, of its two cycles, and of each image of an
+-- honest disk.
 use Rattle.std.specs.Prelude.{ℕ, ◌≡◌, ◌⊎◌, ◌<◌, ◌≤◌, ◌+◌, ◌-◌, ◌^◌, false, IsTrue, List, take, Some, None}
 use Rattle.journal_block.specs.declared.update.Update.{Update}
 use Rattle.journal_block.specs.Updates.{with_updates}

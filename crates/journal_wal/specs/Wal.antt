@@ -1,4 +1,5 @@
--- What contracts see of a write-ahead log: the blocks now, those that a crash may leave, and what the next steps are.
+-- What contracts see of a write-ahead log: the blocks now, those that a crash may leave, and what
+-- the next steps are.
 use Rattle.std.specs.Prelude.{ℕ, zero, suc, Bool, ◌≡◌, ◌⊎◌, ◌<◌, ◌≤◌, ◌+◌, ◌-◌, ◌^◌, true, false, IsTrue, if◌then◌else◌, List, [], ◌∷◌, length, take, slice_index_or, Option, Some, None}
 use Rattle.std.specs.List.{slice_get}
 use Rattle.std.specs.List.Sorted.{IsStrictlySortedBy}
@@ -26,7 +27,8 @@ use Rattle.journal_tail.specs.Homes.{SameBlocks}
 
 -- What the logger does next
 pub data Logging : Type 0 where
-  -- the next log block of the group, if one is left, else of a plain log a barrier, of a sealed one block 0; nothing where no group is in flight
+  -- the next log block of the group, if one is left, else of a plain log a barrier, of a sealed one
+  -- block 0; nothing where no group is in flight
   log_blocks : Logging
   -- all log blocks of a plain log are stable: block 0
   log_end : Logging
@@ -39,7 +41,8 @@ pub data Logging : Type 0 where
 pub data Installing : Type 0 where
   -- nothing is being installed
   install_none : Installing
-  -- the next of the home blocks, each with the position of its last log block below `upto`; where none is left, a barrier
+  -- the next of the home blocks, each with the position of its last log block below `upto`; where
+  -- none is left, a barrier
   install_homes : (upto : ℕ) (plan : List (ℕ × ℕ)) → Installing
   -- all home blocks are stable: block 1
   install_start : (upto : ℕ) → Installing
@@ -98,7 +101,8 @@ free_positions w = LOG_POSITIONS - (w.log.logged - w.log.start)
 abbrev pub barriers_before : Bool → ℕ
 barriers_before sealed = if sealed then 0 else 1
 
--- How many steps the group in flight still takes: one a log block, of a plain log a barrier, block 0, a barrier
+-- How many steps the group in flight still takes: one a log block, of a plain log a barrier, block
+-- 0, a barrier
 abbrev pub log_steps_by : Bool → Logging → ℕ → ℕ → ℕ
 log_steps_by sealed log_blocks zero left = 0
 log_steps_by sealed log_blocks (suc group) left = left + barriers_before sealed + 2
@@ -124,12 +128,13 @@ install_steps w = install_steps_by w.installing
 abbrev pub bytes_at : LogState → ℕ → Bytes
 bytes_at log q = (slice_index_or log.updates (q - log.start) (record { block = 0; bytes = [] })).bytes
 
--- the device call once each log block is put: of a plain log a barrier, of a sealed one block 0 with the group
+-- the device call once each log block is put: of a plain log a barrier, of a sealed one block 0
+-- with the group
 abbrev pub call_after_blocks : Ring → LogState → DiskEvent
 call_after_blocks ring log = if ring.sealed then write 0 (with_group ring.header log.logged (log.cut - log.logged)) else barrier
 
--- The logger's next device call, where a group is in flight: each of its log blocks; of a plain log a barrier, block 0 with the end, a barrier;
--- of a sealed log block 0 with the group, a barrier
+-- The logger's next device call, where a group is in flight: each of its log blocks; of a plain log
+-- a barrier, block 0 with the end, a barrier; of a sealed log block 0 with the group, a barrier
 abbrev pub log_call_by : Logging → ℕ → ℕ → (put after : DiskEvent) → Bytes → Option DiskEvent
 log_call_by log_blocks zero left put after header = None
 log_call_by log_blocks (suc group) zero put after header = Some after
@@ -144,7 +149,8 @@ abbrev pub log_call : WalState → Option DiskEvent
 log_call w = log_call_by w.logging (w.log.cut - w.log.logged) (w.log.cut - w.ring.next)
     (write (log_block w.ring.next) (bytes_put w.ring (bytes_at w.log w.ring.next))) (call_after_blocks w.ring w.log) (with_end w.ring.header w.log.cut)
 
--- The installer's next device call, where it has begun: each home block of its plan, a barrier, block 1 with the start, a barrier
+-- The installer's next device call, where it has begun: each home block of its plan, a barrier,
+-- block 1 with the start, a barrier
 abbrev pub install_call : LogState → Installing → Option DiskEvent
 install_call log install_none = None
 install_call log (install_homes upto []) = Some barrier
@@ -176,14 +182,15 @@ TriesDueCall (Some event) old new = TriesCall event old new
 abbrev pub with_room : WalState → ℕ → WalState
 with_room w room = record w { log = record w.log { room = room } }
 
--- What each call says of the disk: at every moment of it each image is one that a crash might have left before, and at
--- its end one that a crash may leave now
+-- What each call says of the disk: at every moment of it each image is one that a crash might have
+-- left before, and at its end one that a crash may leave now
 pub record Crashes (old new : WalState) : Type 0 where
   pub keeps : Keeps old.ring.disk new.ring.disk
   pub moments : IsTrue old.ring.disk.honest → LeavesOnly old.ring.disk.past new.ring.disk.past (MayStandFor old)
   pub images : IsTrue new.ring.disk.honest → EveryImage new.ring.disk.past (MayStandFor new)
 
--- The disk was read, with or without a fault: all else is as before, and it is faulted only where it was or the device failed
+-- The disk was read, with or without a fault: all else is as before, and it is faulted only where
+-- it was or the device failed
 pub record OnlyReads (old new : WalState) : Type 0 where
   pub same : new ≡ record old { ring = record old.ring { disk = new.ring.disk; faulted = new.ring.faulted } }
   pub keeps : Keeps old.ring.disk new.ring.disk
@@ -242,7 +249,8 @@ logged_updates w = take (w.log.logged - w.log.start) w.log.updates
 abbrev pub planned : List (ℕ × ℕ) → ℕ → Option ℕ
 planned plan b = lookup (is_at (nat_cmp b)) plan
 
--- Of the updates, the first of which is at position `start`, that at position q is the last of block b
+-- Of the updates, the first of which is at position `start`, that at position q is the last of
+-- block b
 pub record IsLast (updates : List Update) (start b q : ℕ) : Type 0 where
   pub above : start ≤ q
   pub below : q < start + length updates
@@ -255,7 +263,8 @@ pub record IsPlanOf (updates : List Update) (start : ℕ) (plan : List (ℕ × �
   pub none : (b : ℕ) → planned plan b ≡ None → updates_block updates b ≡ false
   pub ascending : IsStrictlySortedBy nat_cmp (keys_of plan)
 
--- What the installer has ahead: what it has begun, or where it has begun nothing a plan of all that is logged
+-- What the installer has ahead: what it has begun, or where it has begun nothing a plan of all that
+-- is logged
 pub record IsAhead (w : WalState) (ahead : Installing) : Type 0 where
   pub begins : install_steps w ≡ 0
       → (plan : List (ℕ × ℕ)) × (IsPlanOf (logged_updates w) w.log.start plan × (ahead ≡ install_homes w.log.logged plan))
@@ -292,7 +301,8 @@ pub record IsInstallIdle (w : WalState) : Type 0 where
   pub steps : install_steps w ≡ 0
   pub empty : w.log.start ≡ w.log.logged
 
--- A step of the installer that moved makes the call that it has ahead, changes no block, and leaves the group in flight
+-- A step of the installer that moved makes the call that it has ahead, changes no block, and leaves
+-- the group in flight
 pub record Installs (old new : WalState) : Type 0 where
   pub ahead : Installing
   pub is_ahead : IsAhead old ahead

@@ -11,18 +11,18 @@ use crate::wal::Wal;
 use journal_circ::{Freed, HomesPut};
 use journal_disk::BlockDisk;
 use journal_memlog::MemLog;
-use journal_tail::Position;
 use journal_world::Refusal;
 use std::mem;
 
 impl<D: BlockDisk> Wal<D> {
-    /// Does the next thing of the installer: writes one home block, the last logged one of its address, the
-    /// addresses ascending; makes a barrier; writes block 1; makes a barrier, after which the positions are
-    /// free. For h distinct addresses these are h + 3 steps. It is idle where nothing is logged that is not at
-    /// home.
+    /// Does the next thing of the installer: writes one home block, the last logged one of its
+    /// address, the addresses ascending; makes a barrier; writes block 1; makes a barrier, after
+    /// which the positions are free. For h distinct addresses these are h + 3 steps. It is idle
+    /// where nothing is logged that is not at home.
     ///
-    /// Answers J6 `DeviceFailed` where the device failed in this call or before, and J1 `NoMemory` where memory
-    /// for the list of addresses is refused, at the first of these steps; the log is then as it was.
+    /// Answers J6 `DeviceFailed` where the device failed in this call or before, and J1 `NoMemory`
+    /// where memory for the list of addresses is refused, at the first of these steps; the log is
+    /// then as it was.
     pub fn install_step(&mut self) -> Result<InstallStep, Refusal<()>>
         ensures refusal { IfErr result (IsInstallRefusal self.old self.new) }
         ensures faulted { IsTrue self.old.ring.faulted → IsErr result × (self.new ≡ self.old) }
@@ -103,7 +103,7 @@ impl<D: BlockDisk> Wal<D> {
             }
             Installer::StartPut(state, upto) => {
                 let freed = circ.sync_start(state)?;
-                step = InstallStep::Freed(Position::new(upto));
+                step = InstallStep::Freed(upto);
                 Installer::Resting(free(&mut self.memory, freed, upto))
             }
             Installer::Resting(_) | Installer::Spent => return Err(Refusal::DeviceFailed(())),

@@ -11,9 +11,10 @@ use journal_world::Refusal;
 use std::mem;
 
 impl<D: BlockDisk> Wal<D> {
-    /// Does the next thing of the logger for the group that `take_reserved` took: writes one of its log blocks, of a
-    /// plain log makes a barrier, writes block 0, makes a barrier. For a group of k blocks these are k + 3 steps, and
-    /// k + 2 of a sealed log. It is idle where no group is in flight.
+    /// Does the next thing of the logger for the group that `take_reserved` took: writes one of its
+    /// log blocks, of a plain log makes a barrier, writes block 0, makes a barrier. For a group of
+    /// k blocks these are k + 3 steps, and k + 2 of a sealed log. It is idle where no group is in
+    /// flight.
     ///
     /// Answers J6 `DeviceFailed`, and nothing else, where the device failed in this call or before.
     pub fn log_step(&mut self) -> Result<GroupStep, Refusal<()>>

@@ -13,10 +13,11 @@ use journal_memlog::MemLog;
 use journal_world::Refusal;
 
 impl<D: BlockDisk> Wal<D> {
-    /// Copies the block with the logged updates alone. It is read from the device only where none is of it.
+    /// Copies the block with the logged updates alone. It is read from the device only where none
+    /// is of it.
     ///
-    /// Answers J6 `DeviceFailed` where the device failed now or before; what `into` then holds is not said. The
-    /// log and what lies on the disk are as they were, whatever it answers.
+    /// Answers J6 `DeviceFailed` where the device failed now or before; what `into` then holds is
+    /// not said. The log and what lies on the disk are as they were, whatever it answers.
     pub fn read_logged(&mut self, block: u64, into: &mut Block) -> Result<(), Refusal<()>>
         requires { block < size_of self.old }
         ensures refusal { IfErr result (IsFault self.old.ring.faulted self.old.ring.disk self.new.ring.disk) }

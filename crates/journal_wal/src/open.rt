@@ -21,12 +21,12 @@ use journal_world::{Refusal, Refused};
 use std::alloc::Global;
 
 impl<D: BlockDisk> Wal<D> {
-    /// Opens the log of a disk, on which nothing is pending: reads what lies in it into memory, writes nothing
-    /// and makes no barrier.
+    /// Opens the log of a disk, on which nothing is pending: reads what lies in it into memory,
+    /// writes nothing and makes no barrier.
     ///
-    /// Answers J1 `NoMemory` where memory is refused, J6 `DeviceFailed` where the device fails in this call,
-    /// and J7 `BadLog` where the disk's log is not well formed, and no other refusal. A refusal hands the disk
-    /// back, with nothing written.
+    /// Answers J1 `NoMemory` where memory is refused, J6 `DeviceFailed` where the device fails in
+    /// this call, and J7 `BadLog` where the disk's log is not well formed, and no other refusal. A
+    /// refusal hands the disk back, with nothing written.
     pub fn open(alloc: Global, disk: D) -> Result<Wal<D>, Refused<D, ()>>
         requires in_range { MIN_BLOCKS ≤ (D.state disk).past.size }
         requires settled { IsTrue (D.state disk).honest → IsSettled (D.state disk).past }

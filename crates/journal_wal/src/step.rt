@@ -1,7 +1,5 @@
 // What a step did.
 
-use journal_tail::Position;
-
 /// What a step of the logger did.
 #[derive(Clone, Copy, Debug, PartialEq, Eq)]
 pub enum GroupStep {
@@ -21,5 +19,5 @@ pub enum InstallStep {
     /// A step of an installing was made, and its cycle goes on.
     Put,
     /// The positions before this one are free.
-    Freed(Position),
+    Freed(u64),
 }

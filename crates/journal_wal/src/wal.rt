@@ -13,9 +13,10 @@ use std::marker::Model;
 
 /// A write-ahead log over a disk.
 ///
-/// The updates in memory and the log on the disk are apart. A group is taken in memory alone, where the disk has not
-/// failed. A read looks into memory first, and then at the disk. The logger and the installer write each log block and
-/// each home block from memory, and tell it the end of a cycle.
+/// The updates in memory and the log on the disk are apart. A group is taken in memory alone, where
+/// the disk has not failed. A read looks into memory first, and then at the disk. The logger and
+/// the installer write each log block and each home block from memory, and tell it the end of a
+/// cycle.
 #[derive(Drop)]
 pub struct Wal<D: BlockDisk> {
     pub(crate) alloc: Global,
@@ -52,7 +53,8 @@ impl<D: BlockDisk> Wal<D> {
         self.on_disk.circ.size()
     }
 
-    /// Where the log on the disk starts and ends, as last synced: positions, of which there are at most 511.
+    /// Where the log on the disk starts and ends, as last synced: positions, of which there are at
+    /// most 511.
     pub fn log_range(&self) -> (u64, u64)
         ensures { result ≡ (self.now.log.start, self.now.log.logged) }
     {
@@ -60,7 +62,8 @@ impl<D: BlockDisk> Wal<D> {
         (bounds.start, bounds.logged)
     }
 
-    /// Whether the log on the disk is sealed: a group of k blocks takes k + 2 steps, and k + 3 of a plain log.
+    /// Whether the log on the disk is sealed: a group of k blocks takes k + 2 steps, and k + 3 of a
+    /// plain log.
     pub fn is_sealed(&self) -> bool
         ensures { result ≡ self.now.ring.sealed }
     {
@@ -84,10 +87,11 @@ impl<D: BlockDisk> Wal<D> {
         bounds.logged < bounds.cut
     }
 
-    /// Copies the block with all updates. It is read from the device only where it is not in memory.
+    /// Copies the block with all updates. It is read from the device only where it is not in
+    /// memory.
     ///
-    /// Answers J6 `DeviceFailed` where the device failed now or before; what `into` then holds is not said. The
-    /// log and what lies on the disk are as they were, whatever it answers.
+    /// Answers J6 `DeviceFailed` where the device failed now or before; what `into` then holds is
+    /// not said. The log and what lies on the disk are as they were, whatever it answers.
     pub fn read(&mut self, block: u64, into: &mut Block) -> Result<(), Refusal<()>>
         requires { block < size_of self.old }
         ensures refusal { IfErr result (IsFault self.old.ring.faulted self.old.ring.disk self.new.ring.disk) }

@@ -14,8 +14,8 @@ fn close(gate: &Gate) {
     gate.opened.store(false, Ordering::SeqCst);
 }
 
-/// A commit goes on while a barrier of the logger waits. Both commits are then logged: a cut, a log block, a barrier, block 0,
-/// a barrier and a mark, of each.
+/// A commit goes on while a barrier of the logger waits. Both commits are then logged: a cut, a log
+/// block, a barrier, block 0, a barrier and a mark, of each.
 fn logs_beside<'b, J: Naming + Send + Sync, H: Abort + Threads + Wait + Clock + Sync>(
     rt: &H,
     alloc: Global,

@@ -17,8 +17,8 @@ pub(super) trait Work {
     ) -> Self::Answer;
 }
 
-/// Does the work of two numbers, each in a thread of its own. Almost all threads that share a journal are made here, since what
-/// a thread is made of is dear to prove.
+/// Does the work of two numbers, each in a thread of its own. Almost all threads that share a
+/// journal are made here, since what a thread is made of is dear to prove.
 pub(super) fn in_two<
     T: Work + Sync,
     D: BlockDisk + Send,
@@ -54,7 +54,8 @@ fn in_four<
     [one, two, three, four]
 }
 
-/// Does the work of one number beside the daemon, which passes the gate, and is stopped then. Says whether the daemon ended well.
+/// Does the work of one number beside the daemon, which passes the gate, and is stopped then. Says
+/// whether the daemon ended well.
 pub(super) fn beside<
     T: Work + Sync,
     G: Gate + Sync,
@@ -101,8 +102,8 @@ pub(super) fn four_beside<
     answers
 }
 
-/// A gate that holds each thread until the journal has four commits or the gate is opened, for a million turns at
-/// most.
+/// A gate that holds each thread until the journal has four commits or the gate is opened, for a
+/// million turns at most.
 #[derive(Drop)]
 struct HeldGate<'j, 'b, J: Naming> {
     journal: &'j Open<'b, MemDisk, J>,
@@ -120,8 +121,8 @@ impl<'j, 'b, J: Naming> Gate for HeldGate<'j, 'b, J> {
     }
 }
 
-/// Does the work of four numbers beside the daemon, which may be held at its gate first. The gate is opened and the daemon
-/// stopped then.
+/// Does the work of four numbers beside the daemon, which may be held at its gate first. The gate
+/// is opened and the daemon stopped then.
 fn beside_daemon<T: Work + Sync, J: Naming + Send + Sync, H: Abort + Threads + Wait + Clock + Sync>(
     rt: &H,
     alloc: Global,
@@ -195,8 +196,8 @@ fn commit_one<'b, D: BlockDisk, J: Naming, W: Wait>(
     if added { count } else { 0 }
 }
 
-/// What a thread did: the counts of its receipts, how many commits its session made, and whether it found the counter at
-/// 2000 behind them.
+/// What a thread did: the counts of its receipts, how many commits its session made, and whether it
+/// found the counter at 2000 behind them.
 #[derive(Drop)]
 struct Done {
     counts: Vec<u64>,
@@ -298,8 +299,8 @@ fn made_and_found(done: &[Done]) -> (u64, bool) {
     (made, is_found)
 }
 
-/// Four threads commit 500 times each, and each commit may wait. Their counts are 1 to 2000, each once, and who is the
-/// last finds the counter at 2000.
+/// Four threads commit 500 times each, and each commit may wait. Their counts are 1 to 2000, each
+/// once, and who is the last finds the counter at 2000.
 pub(super) fn count_once<J: Naming + Send + Sync, H: Abort + Threads + Wait + Clock + Sync>(
     rt: &H,
     alloc: Global,
@@ -413,8 +414,9 @@ fn who_waits_holds_no_slot(rt: HostRuntime) {
     try_out(&rt, rt.alloc(), Trial::WaitTogether);
 }
 
-/// How all end that wait for one group, where the device fails at its k-th call. The first call reads the inodes'
-/// block for a commit, and those behind it log one block, make a barrier, write block 0 and make a barrier.
+/// How all end that wait for one group, where the device fails at its k-th call. The first call
+/// reads the inodes' block for a commit, and those behind it log one block, make a barrier, write
+/// block 0 and make a barrier.
 fn ending_at(k: u64) -> Ending {
     match k {
         1 => Ending::Lost,
@@ -423,7 +425,8 @@ fn ending_at(k: u64) -> Ending {
     }
 }
 
-/// The device fails at its k-th call. Each commit that waits has ended, and what was told to be stable is.
+/// The device fails at its k-th call. Each commit that waits has ended, and what was told to be
+/// stable is.
 pub(super) fn end_by_the_fault<J: Naming + Send + Sync, H: Abort + Threads + Wait + Clock + Sync>(
     rt: &H,
     alloc: Global,
@@ -442,7 +445,8 @@ fn a_fault_ends_each_wait(rt: HostRuntime) {
     }
 }
 
-/// Commits and waits, again and again, until a commit does not end well. Answers how that one ended.
+/// Commits and waits, again and again, until a commit does not end well. Answers how that one
+/// ended.
 #[derive(Drop)]
 struct WaitOn;
 
@@ -488,8 +492,8 @@ pub(super) fn all_end_by_the_fault<
     wants_at(rt, k, &(ended, endings), &([true; 4], endings));
 }
 
-/// The log is past its threshold after 257 groups of so many calls each, and the installer's calls come among
-/// those behind.
+/// The log is past its threshold after 257 groups of so many calls each, and the installer's calls
+/// come among those behind.
 fn end_by_any_fault<H: Abort + Threads + Wait + Clock + Sync>(
     rt: &H,
     alloc: Global,
@@ -520,7 +524,8 @@ fn a_fault_at_any_call_over_a_sealed_log_ends_each_thread(rt: HostRuntime) {
     end_by_any_fault(&rt, rt.alloc(), Form::Sealed, 3);
 }
 
-/// A gate that holds nobody, and wants that each thread tells its own number and counts its steps from 0.
+/// A gate that holds nobody, and wants that each thread tells its own number and counts its steps
+/// from 0.
 #[derive(Default, Drop)]
 struct CountingGate {
     logged: AtomicU64,

@@ -55,7 +55,8 @@ enum Deed {
 
 use Deed::{ComesHome, Reads, Writes};
 
-/// How many reads of the device these make, where copies of so many blocks are kept, once all are found to be answered right.
+/// How many reads of the device these make, where copies of so many blocks are kept, once all are
+/// found to be answered right.
 fn reads_made<H: Abort + Wait>(rt: &H, alloc: Global, cached: usize, deeds: &[Deed]) -> Option<u32>
     requires some { 1 ≤ cached }
     requires most { cached ≤ MAX_CACHED_BLOCKS }
@@ -172,8 +173,8 @@ fn the_block_that_was_used_last_stays(rt: HostRuntime) {
 }
 
 /// The commit fetches the block of inode 1, and keeps it. What comes home then overwrites the copy.
-/// Memory has dropped its update by then: once the bit's block takes the copy's place, the device is
-/// read again.
+/// Memory has dropped its update by then: once the bit's block takes the copy's place, the device
+/// is read again.
 #[test]
 fn a_copy_has_what_came_home(rt: HostRuntime) {
     let deeds = [

@@ -12,7 +12,8 @@ use journal_disk::DiskFault;
 use journal_world::{MapRule, ObjectReader};
 use std::sync::atomic::{AtomicBool, AtomicU64, Ordering};
 
-/// The object of each thread, whose bytes all count how often it has added. Two of them lie in one block.
+/// The object of each thread, whose bytes all count how often it has added. Two of them lie in one
+/// block.
 const OBJECTS: [Addr; 4] = [
     Addr { block: 515, off: 0 },
     Addr {
@@ -46,7 +47,8 @@ fn count_in(bytes: &[u8]) -> u64 {
     }
 }
 
-/// How often a thread has begun to commit what it added, and how often its notes say that it is stable.
+/// How often a thread has begun to commit what it added, and how often its notes say that it is
+/// stable.
 #[derive(Default, Drop)]
 struct Account {
     begun: AtomicU64,
@@ -71,8 +73,8 @@ struct Watch {
     wrong: AtomicU64,
 }
 
-/// The rule of every map, which judges the objects of the map that is opened. So an image can be looked at in a device
-/// call, where there is no runtime for a transaction.
+/// The rule of every map, which judges the objects of the map that is opened. So an image can be
+/// looked at in a device call, where there is no runtime for a transaction.
 impl MapRule for Watch {
     ghost statement = { λ m. Unit {0} };
 
@@ -100,8 +102,8 @@ fn numbers_of(bits: u32) -> [u32; 16] {
     numbers
 }
 
-/// Makes it the next choice, of which the first number turns first. Says whether there is one: behind the last stands
-/// the first again.
+/// Makes it the next choice, of which the first number turns first. Says whether there is one:
+/// behind the last stands the first again.
 fn advance(choice: &mut [u32], pending: &[(u64, u64)]) -> bool {
     for (number, (_block, writes)) in choice.iter_mut().zip(pending) {
         if u64::from(*number) < *writes {
@@ -302,7 +304,8 @@ fn refusal_in((ending, number): Ended) -> u64 {
     }
 }
 
-/// Adds for the `turn`-th time, and waits two times of three until that is stable. Answers the refusal's number.
+/// Adds for the `turn`-th time, and waits two times of three until that is stable. Answers the
+/// refusal's number.
 fn adds_once<'b, D: BlockDisk, J: Naming, W: Wait>(
     rt: &W,
     alloc: Global,
@@ -324,7 +327,8 @@ fn adds_once<'b, D: BlockDisk, J: Naming, W: Wait>(
     refused
 }
 
-/// Adds again and again, as far as it goes. Answers the refusal's number, and how many commits the session made.
+/// Adds again and again, as far as it goes. Answers the refusal's number, and how many commits the
+/// session made.
 fn adds<D: BlockDisk, J: Naming, H: Abort + Wait>(
     rt: &H,
     alloc: Global,
@@ -415,7 +419,8 @@ struct Outcome {
     start: u64,
 }
 
-/// Four threads add beside the daemon, once so many positions of the log are taken, and the watch is on.
+/// Four threads add beside the daemon, once so many positions of the log are taken, and the watch
+/// is on.
 fn run_watched<'w, J: Naming + Send + Sync, H: Abort + Threads + Wait + Clock + Sync>(
     rt: &H,
     alloc: Global,
@@ -482,9 +487,9 @@ fn watched<H: Abort + Threads + Wait + Clock + Sync>(
     watched_in::<Brand, _>(rt, alloc, &book, cell, watch, case)
 }
 
-/// At each device call each image that a crash may leave opens, and each thread's object counts in it what the thread
-/// was told to be stable or more, and no more than it has begun to commit. The log is almost full, so that the
-/// installer has to make room beside the logger.
+/// At each device call each image that a crash may leave opens, and each thread's object counts in
+/// it what the thread was told to be stable or more, and no more than it has begun to commit. The
+/// log is almost full, so that the installer has to make room beside the logger.
 fn look_at_each_call<H: Abort + Threads + Wait + Clock + Sync>(rt: &H, alloc: Global, form: Form) {
     let watch = Watch::new(alloc);
     let case = Case {
@@ -513,8 +518,8 @@ fn each_call_over_a_sealed_log_leaves_what_each_thread_was_told(rt: HostRuntime)
     look_at_each_call(&rt, rt.alloc(), Form::Sealed);
 }
 
-/// The device fails at its k-th call while four threads commit. Each ends by J6, and each image has what was told to be
-/// stable.
+/// The device fails at its k-th call while four threads commit. Each ends by J6, and each image has
+/// what was told to be stable.
 fn fail_at<H: Abort + Threads + Wait + Clock + Sync>(rt: &H, alloc: Global, form: Form, k: u64) {
     let watch = Watch::new(alloc);
     let case = Case {

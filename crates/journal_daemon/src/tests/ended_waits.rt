@@ -1,5 +1,6 @@
-// What ends each wait: a stop, a fault of the device, and a mark. What ends the delay of a group that nobody waits for: a stop, a
-// fault, a wait for a mark, a flush, its time, and as many blocks as a group is to have.
+// What ends each wait: a stop, a fault of the device, and a mark. What ends the delay of a group
+// that nobody waits for: a stop, a fault, a wait for a mark, a flush, its time, and as many blocks
+// as a group is to have.
 use super::beside_daemon::{Work, beside, in_two};
 use super::threads::{fills, lets_wait};
 use super::*;
@@ -25,7 +26,8 @@ pub(super) enum Waiting {
 }
 
 impl Waiting {
-    /// The first device call behind those that it makes before it waits: it may read a block that is not in memory.
+    /// The first device call behind those that it makes before it waits: it may read a block that
+    /// is not in memory.
     fn next_call(self) -> u64 {
         match self {
             Waiting::LogWork | Waiting::InstallWork => 1,
@@ -120,7 +122,8 @@ impl EndedWait {
         0
     }
 
-    /// Lets the other wait for a while, and stops the journal, or reads what the device fails at. Answers the refusal's number.
+    /// Lets the other wait for a while, and stops the journal, or reads what the device fails at.
+    /// Answers the refusal's number.
     fn ends<D: BlockDisk, J: Naming, H: Abort + Wait>(
         &self,
         rt: &H,
@@ -223,8 +226,8 @@ fn a_fault_ends_a_wait_for_anything(rt: HostRuntime) {
     end_each_wait(&rt, rt.alloc(), true);
 }
 
-/// Commits of one kind, each of which is to be marked: one is waited for, one is flushed, and of one it is asked again and again
-/// whether it is stable, which takes no lock and wakes nobody.
+/// Commits of one kind, each of which is to be marked: one is waited for, one is flushed, and of
+/// one it is asked again and again whether it is stable, which takes no lock and wakes nobody.
 #[derive(Drop)]
 struct MarkEach {
     writes: bool,
@@ -289,8 +292,8 @@ fn commits_that_nobody_waits_for_are_marked(rt: HostRuntime) {
     try_out(&rt, rt.alloc(), Trial::MarkEach(true));
 }
 
-/// Ten commits of 128 blocks each, of two halves in turn. A tail has no room for both halves, so each but the first may wait for a
-/// cut.
+/// Ten commits of 128 blocks each, of two halves in turn. A tail has no room for both halves, so
+/// each but the first may wait for a cut.
 #[derive(Drop)]
 struct FillGroups;
 

@@ -12,7 +12,8 @@ struct Flags {
     fenced: AtomicBool,
 }
 
-/// Overwrites, waits until the session is fenced, and commits. Then it reads, which a fence does not end.
+/// Overwrites, waits until the session is fenced, and commits. Then it reads, which a fence does
+/// not end.
 fn is_fenced<'b, J: Naming, W: Wait>(
     rt: &W,
     alloc: Global,
@@ -39,7 +40,8 @@ fn fence_number<'b, J: Naming, W: Wait>(
     number_of(journal.fence(rt, session, number))
 }
 
-/// Fences the number twice, of which the second adds nothing, and commits where the other transaction had overwritten.
+/// Fences the number twice, of which the second adds nothing, and commits where the other
+/// transaction had overwritten.
 fn fences<'b, J: Naming, H: Abort + Wait>(
     rt: &H,
     alloc: Global,
@@ -56,7 +58,8 @@ fn fences<'b, J: Naming, H: Abort + Wait>(
     ((begun, first, again), put, session.seen())
 }
 
-/// An open transaction meets the fence of its session at its commit, and gives its slot up to one that is committed.
+/// An open transaction meets the fence of its session at its commit, and gives its slot up to one
+/// that is committed.
 pub(super) fn end_a_session<J: Naming + Send + Sync, H: Abort + Threads + Wait + Clock + Sync>(
     rt: &H,
     alloc: Global,

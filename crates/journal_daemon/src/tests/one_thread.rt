@@ -46,7 +46,8 @@ fn commits<'b, J: Naming, H: Abort + Wait>(
     (count, session.made(), session.seen())
 }
 
-/// Overwrites, and gives that up. Answers how much the session has seen before it begins and then, with nothing read.
+/// Overwrites, and gives that up. Answers how much the session has seen before it begins and then,
+/// with nothing read.
 fn forgets<'b, J: Naming, W: Wait>(
     rt: &W,
     alloc: Global,
@@ -161,7 +162,8 @@ fn stops<'b, J: Naming, H: Abort + Wait>(
     );
 }
 
-/// What calls answer, from the first commit to a fault. A session that commits nothing is told of the mark.
+/// What calls answer, from the first commit to a fault. A session that commits nothing is told of
+/// the mark.
 fn runs<'b, J: Naming, H: Abort + Wait>(rt: &H, alloc: Global, journal: &Open<'b, MemDisk, J>)
     requires { J.layout ≡ files 800 }
 {

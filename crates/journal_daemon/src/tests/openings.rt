@@ -42,7 +42,8 @@ type Ruled = Book<FirstBitIsClear>;
 /// What an opening comes to.
 #[derive(Clone, Copy, Debug, PartialEq, Eq)]
 enum Came {
-    /// It was opened, with so many commits, so much of the history shown to a session, and the log empty or not.
+    /// It was opened, with so many commits, so much of the history shown to a session, and the log
+    /// empty or not.
     Opened {
         commits: u64,
         seen: u64,
@@ -137,8 +138,8 @@ fn refused<J: Naming>(why: JournalRefusal<J, FirstBitIsClear>) -> Came {
     Came::Refused { number, shown }
 }
 
-/// A disk whose first bit is set, one whose log begins past all positions, and one whose device fails, each over the
-/// same book.
+/// A disk whose first bit is set, one whose log begins past all positions, and one whose device
+/// fails, each over the same book.
 fn refused_openings<H: Abort + Wait>(rt: &H, alloc: Global, book: &Ruled) -> [Came; 3] {
     let ruled_out = filled(rt, alloc, BITMAP, 1);
     let bad_log = filled(rt, alloc, 0, u64::MAX);

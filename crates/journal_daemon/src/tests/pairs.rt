@@ -58,8 +58,8 @@ impl<'g> Work for Jobs<'g> {
     }
 }
 
-/// Overwrites, and keeps the transaction open until another one was committed. Answers the refusal's number, whether one was, and
-/// its own count.
+/// Overwrites, and keeps the transaction open until another one was committed. Answers the
+/// refusal's number, whether one was, and its own count.
 fn keeps_open<D: BlockDisk, J: Naming, H: Abort + Wait>(
     rt: &H,
     alloc: Global,
@@ -75,7 +75,8 @@ fn keeps_open<D: BlockDisk, J: Naming, H: Abort + Wait>(
     [wrote, u64::from(was), count, 0]
 }
 
-/// Commits while another transaction is open. Answers whether it was, the refusal's number and the count.
+/// Commits while another transaction is open. Answers whether it was, the refusal's number and the
+/// count.
 fn commits_beside<D: BlockDisk, J: Naming, H: Abort + Wait>(
     rt: &H,
     alloc: Global,
@@ -89,8 +90,8 @@ fn commits_beside<D: BlockDisk, J: Naming, H: Abort + Wait>(
     [u64::from(begun), number, count, 0]
 }
 
-/// Commits, and logs it as far as the first barrier and on to the mark. Answers what was put, how many steps
-/// moved, and whether the commit is stable then.
+/// Commits, and logs it as far as the first barrier and on to the mark. Answers what was put, how
+/// many steps moved, and whether the commit is stable then.
 fn logs_one<D: BlockDisk, J: Naming, H: Abort + Wait>(
     rt: &H,
     alloc: Global,
@@ -115,8 +116,9 @@ fn begins<'b, D: BlockDisk, J: Naming, W: Wait>(
     txn.abort(rt);
 }
 
-/// Observes, asks, meets and begins while a barrier waits, and then lets it go on. Answers whether it waited,
-/// whether the commit was stable then, and how much of the history both sessions have seen.
+/// Observes, asks, meets and begins while a barrier waits, and then lets it go on. Answers whether
+/// it waited, whether the commit was stable then, and how much of the history both sessions have
+/// seen.
 fn looks_on<D: BlockDisk, J: Naming, H: Abort + Wait>(
     rt: &H,
     alloc: Global,
@@ -138,8 +140,8 @@ fn looks_on<D: BlockDisk, J: Naming, H: Abort + Wait>(
     ]
 }
 
-/// Commits to a block that is in memory once a barrier waits, which it then lets go on. Answers whether one waited, and what was
-/// put.
+/// Commits to a block that is in memory once a barrier waits, which it then lets go on. Answers
+/// whether one waited, and what was put.
 fn commits_meanwhile<D: BlockDisk, J: Naming, H: Abort + Wait>(
     rt: &H,
     alloc: Global,

@@ -23,7 +23,8 @@ fn fill_the_log<'b, J: Naming, W: Wait>(
     }
 }
 
-/// Opens the disk, and commits and waits beside the daemon. Answers where the log began and ended, and how the commit ended.
+/// Opens the disk, and commits and waits beside the daemon. Answers where the log began and ended,
+/// and how the commit ended.
 fn makes_room<J: Naming + Send + Sync, H: Abort + Threads + Wait + Clock + Sync>(
     rt: &H,
     alloc: Global,
@@ -43,8 +44,8 @@ fn makes_room<J: Naming + Send + Sync, H: Abort + Threads + Wait + Clock + Sync>
     ((opened.start, opened.end), ending)
 }
 
-/// What was recovered lies in the log alone, and takes its room all the same: the installer frees it, so that a commit is
-/// logged.
+/// What was recovered lies in the log alone, and takes its room all the same: the installer frees
+/// it, so that a commit is logged.
 pub(super) fn recover_a_full_log<J: Naming + Send + Sync, H: Abort + Threads + Wait + Clock + Sync>(
     rt: &H,
     alloc: Global,

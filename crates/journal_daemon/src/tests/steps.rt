@@ -17,7 +17,8 @@ enum Reply {
 
 use Reply::{DeviceFailed, Idle, Moved, NoMemory};
 
-/// Steps that answer these one after another, and J13 behind them. How many were made, and how often it was idle.
+/// Steps that answer these one after another, and J13 behind them. How many were made, and how
+/// often it was idle.
 #[derive(Drop)]
 struct MadeUp {
     replies: [Reply; 5],
@@ -62,8 +63,9 @@ impl Gate for OneGate {
     }
 }
 
-/// Runs steps that answer so until they end. How many were made, how often the thread was idle, how often it passed the
-/// gate, and whether it told the gate another number than its own or another step than the next.
+/// Runs steps that answer so until they end. How many were made, how often the thread was idle, how
+/// often it passed the gate, and whether it told the gate another number than its own or another
+/// step than the next.
 fn ran<W: Wait + Clock>(rt: &W, replies: [Reply; 5]) -> (u64, u64, u64, bool) {
     let steps = MadeUp {
         replies,
@@ -83,7 +85,8 @@ fn ran<W: Wait + Clock>(rt: &W, replies: [Reply; 5]) -> (u64, u64, u64, bool) {
     )
 }
 
-// A step that memory was refused for is made again, an idle one waits, and the first other refusal ends the thread.
+// A step that memory was refused for is made again, an idle one waits, and the first other refusal
+// ends the thread.
 #[test]
 fn a_step_without_memory_is_made_again(rt: HostRuntime) {
     let stopped = ran(&rt, [NoMemory, Moved, Idle, NoMemory, Idle]);

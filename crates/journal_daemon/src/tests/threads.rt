@@ -228,8 +228,9 @@ pub(super) fn lets_wait(asks: &AtomicBool) {
     }
 }
 
-/// Lets the other thread wait for a while, and cuts the tail, which makes room, or makes the device fail, or stops the journal.
-/// Answers the refusal's number of what it did, or of a step behind the stop.
+/// Lets the other thread wait for a while, and cuts the tail, which makes room, or makes the device
+/// fail, or stops the journal. Answers the refusal's number of what it did, or of a step behind the
+/// stop.
 fn ends_the_wait<J: Naming, H: Abort + Wait>(
     rt: &H,
     alloc: Global,
@@ -246,8 +247,8 @@ fn ends_the_wait<J: Naming, H: Abort + Wait>(
     log_number(rt, journal)
 }
 
-/// A commit waits for room, until there is some, the device fails or the journal is stopped. It and the other thread are
-/// refused by one number then.
+/// A commit waits for room, until there is some, the device fails or the journal is stopped. It and
+/// the other thread are refused by one number then.
 pub(super) fn wait_for_room<J: Naming + Send + Sync, H: Abort + Threads + Wait + Clock + Sync>(
     rt: &H,
     alloc: Global,

@@ -141,8 +141,8 @@ fn ends<'b, J: Naming, W: Wait>(rt: &W, journal: &Open<'b, MemDisk, J>, by_fault
     log_number(rt, journal)
 }
 
-/// One session's commit is marked, another's is not, and then the journal ends. The first has all stable that it has seen,
-/// and the second has not.
+/// One session's commit is marked, another's is not, and then the journal ends. The first has all
+/// stable that it has seen, and the second has not.
 pub(super) fn flush_after_the_end<
     J: Naming + Send + Sync,
     H: Abort + Threads + Wait + Clock + Sync,

@@ -4,7 +4,8 @@ use Rattle.journal_world.specs.Maps.{are_objects}
 use Rattle.journal_tail.specs.Writes.{are_valid}
 use Rattle.journal_tail.proofs.writes.check_writes.Given as goal
 
--- all are valid where those that are left are, and all are objects where those are and those before were
+-- all are valid where those that are left are, and all are objects where those are and those before
+-- were
 abbrev pub invariant-loop-addr : goal.invariant-loop-addr
 invariant-loop-addr l =
     (are_valid (shape l.layout) l.writes ≡ are_valid (shape l.layout) l.addr-iterator)

@@ -5,7 +5,8 @@ use Rattle.journal_objlog.specs.ObjectLogs.{OnlyReads, is_faulted}
 use Rattle.journal_memory.specs.Fetches.{IsBlockAfter}
 use Rattle.journal_parts.proofs.durable.Durable.fetch_blocks.Given as goal
 
--- the log was only read, without a fault, and the updates before the place have their blocks as they are logged
+-- the log was only read, without a fault, and the updates before the place have their blocks as
+-- they are logged
 abbrev pub invariant-loop-place : goal.invariant-loop-place
 invariant-loop-place g l =
     (l.self ≡ record l.fn.self { objects = l.self.objects })

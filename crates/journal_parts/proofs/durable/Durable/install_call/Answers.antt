@@ -1,6 +1,7 @@
-use Rattle.std.proofs.Common.{subst, rules}
+use Rattle.std.proofs.Common.{sym, ap, subst, ◌∙◌, rules}
 use Rattle.journal_world.specs.declared.refusal.Refusal.{Refusal}
 use Rattle.journal_wal.specs.declared.step.InstallStep.{InstallStep}
+use Rattle.journal_wal.specs.declared.step.InstallStep.TheVariants.{Freed}
 use Rattle.journal_memory.specs.Causes.{CauseState}
 use Rattle.journal_parts.specs.Durables.{InstallAnswers, IsInstallRefusal}
 use Rattle.journal_parts.proofs.Between.{home_faulted, freed_to}
@@ -24,7 +25,7 @@ returns-in-Ok-Put-clause-event g c = record {
 
 pub returns-in-Ok-Freed-clause-event : goal.returns-in-Ok-Freed-clause-event
 returns-in-Ok-Freed-clause-event g c = record {
-  did = subst (λ (s : InstallStep). InstallAnswers c.args.self.now s c.advance_install.new.self) c.in-Ok-Freed.field-0-is c.in-Ok-Freed.ensures.ok;
+  did = subst (λ (s : InstallStep). InstallAnswers c.args.self.now s c.advance_install.new.self) (c.in-Ok-Freed.field-0-is ∙ ap Freed (sym c.new-upto.ensures)) c.in-Ok-Freed.ensures.ok;
   fine = c.in-Ok-Freed.ensures.fine;
   kept = c.prove_invariant-in-Ok-Freed.ensures;
   crash = c.advance_install.ensures.crash;
@@ -32,8 +33,8 @@ returns-in-Ok-Freed-clause-event g c = record {
 
 pub returns-in-Ok-Freed-clause-home : goal.returns-in-Ok-Freed-clause-home
 returns-in-Ok-Freed-clause-home g c =
-    freed_to c.args.self.now c.advance_install.new.self c.in-Ok-Freed.upto
-    (subst (λ (s : InstallStep). InstallAnswers c.args.self.now s c.advance_install.new.self) c.in-Ok-Freed.field-0-is c.in-Ok-Freed.ensures.ok)
+    freed_to c.args.self.now c.advance_install.new.self c.new-upto.result
+    (subst (λ (s : InstallStep). InstallAnswers c.args.self.now s c.advance_install.new.self) (c.in-Ok-Freed.field-0-is ∙ ap Freed (sym c.new-upto.ensures)) c.in-Ok-Freed.ensures.ok)
 
 pub returns-in-Err-NoMemory-clause-event : goal.returns-in-Err-NoMemory-clause-event
 returns-in-Err-NoMemory-clause-event g c = record {

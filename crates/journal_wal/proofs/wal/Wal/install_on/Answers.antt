@@ -113,7 +113,7 @@ clauses_ok_and_crash g c = elim c.match-replace.branch [
   | in-StartPut+in_ok-freed-in-StartPut w ↦
       let put = start_synced c.self.inside.on_disk.circ w.sync_start.new.self c.self.inside.memory (logging_of c.self.inside.on_disk.logger) w.in-StartPut.upto (in_installing c.self.inside.on_disk.circ c.self.inside.memory (logging_of c.self.inside.on_disk.logger) (installing_of c.self.inside.on_disk.installer) (install_sync w.in-StartPut.upto) (ap installing_of (sym w.in-StartPut.ensures.value)) c.self.invariant) w.sync_start.ensures.crash w.in_ok-freed-in-StartPut.ensures.home w.in_ok-freed-in-StartPut.ensures.ok w.in_ok-freed-in-StartPut.ensures.log (ap (λ (r : Ring). r.extent.freed) w.in_ok-freed-in-StartPut.ensures.ok) in
       subst (λ s. Moved c.match-replace.step c.args.self.now (of_parts s.on_disk.circ s.memory (logging_of s.on_disk.logger) (installing_of c.match-replace.next))) (sym w.self-inside-is)
-      (by_step (w.step-is ∙ ap Freed w.new.ensures) (subst (λ (l : LogState). Moved (Freed w.in-StartPut.upto) c.args.self.now (of_parts w.sync_start.new.self l (logging_of c.self.inside.on_disk.logger) (installing_of c.match-replace.next))) (sym w.free.ensures) (installed_from (Moved (Freed w.in-StartPut.upto)) c.args.self.now c.self.inside.on_disk.circ w.sync_start.new.self c.self.inside.memory (trimmed c.self.inside.memory w.in-StartPut.upto) (logging_of c.self.inside.on_disk.logger) (installing_of c.self.inside.on_disk.installer) (install_sync w.in-StartPut.upto) (installing_of c.match-replace.next) install_none c.self.view_is (ap installing_of (sym w.in-StartPut.ensures.value)) (ap installing_of w.next-is) (put.0, installs_freed c.self.inside.on_disk.circ w.sync_start.new.self c.self.inside.memory (logging_of c.self.inside.on_disk.logger) w.in-StartPut.upto (ap (λ (r : Ring). r.next) w.in_ok-freed-in-StartPut.ensures.ok) (ap (λ (r : Ring). r.sealed) w.in_ok-freed-in-StartPut.ensures.ok) ((in_installing c.self.inside.on_disk.circ c.self.inside.memory (logging_of c.self.inside.on_disk.logger) (installing_of c.self.inside.on_disk.installer) (install_sync w.in-StartPut.upto) (ap installing_of (sym w.in-StartPut.ensures.value)) c.self.invariant)).installing.position w.in_ok-freed-in-StartPut.ensures.step.makes put.1))))
+      (by_step w.step-is (subst (λ (l : LogState). Moved (Freed w.in-StartPut.upto) c.args.self.now (of_parts w.sync_start.new.self l (logging_of c.self.inside.on_disk.logger) (installing_of c.match-replace.next))) (sym w.free.ensures) (installed_from (Moved (Freed w.in-StartPut.upto)) c.args.self.now c.self.inside.on_disk.circ w.sync_start.new.self c.self.inside.memory (trimmed c.self.inside.memory w.in-StartPut.upto) (logging_of c.self.inside.on_disk.logger) (installing_of c.self.inside.on_disk.installer) (install_sync w.in-StartPut.upto) (installing_of c.match-replace.next) install_none c.self.view_is (ap installing_of (sym w.in-StartPut.ensures.value)) (ap installing_of w.next-is) (put.0, installs_freed c.self.inside.on_disk.circ w.sync_start.new.self c.self.inside.memory (logging_of c.self.inside.on_disk.logger) w.in-StartPut.upto (ap (λ (r : Ring). r.next) w.in_ok-freed-in-StartPut.ensures.ok) (ap (λ (r : Ring). r.sealed) w.in_ok-freed-in-StartPut.ensures.ok) ((in_installing c.self.inside.on_disk.circ c.self.inside.memory (logging_of c.self.inside.on_disk.logger) (installing_of c.self.inside.on_disk.installer) (install_sync w.in-StartPut.upto) (ap installing_of (sym w.in-StartPut.ensures.value)) c.self.invariant)).installing.position w.in_ok-freed-in-StartPut.ensures.step.makes put.1))))
 ]
 
 pub invariant_of-self-2 : goal.invariant_of-self-2
