@@ -1,16 +1,24 @@
 -- What a commit is in memory alone.
-use Rattle.std.specs.Prelude.{ℕ, ◌≡◌, ◌+◌, max, List, length}
-use Rattle.journal_world.specs.Maps.{Pair, Transaction}
+use Rattle.std.specs.Prelude.{ℕ, ◌≡◌, ◌≢◌, ◌<◌, ◌+◌, max, List, [], length, IsTrue, Result, All, IfOk, IfErr, OnOk, OnErr}
+use Rattle.journal_world.specs.declared.refusal.Refusal.{Refusal}
+use Rattle.journal_world.specs.Addresses.{Shape}
+use Rattle.journal_world.specs.Maps.{Pair, Transaction, Agrees}
+use Rattle.journal_world.specs.Histories.{is_trusted, latest}
 use Rattle.journal_block.specs.declared.update.Update.{Update}
 use Rattle.journal_block.specs.Updates.{updates_block}
 use Rattle.journal_memlog.specs.Logs.{appended}
 use Rattle.journal_tail.specs.Tails.{TailState}
-use Rattle.journal_tail.specs.ObjectTails.{with_tail_room}
+use Rattle.journal_tail.specs.ObjectTails.{with_tail_room, known_updates, missing_blocks}
 use Rattle.journal_tail.specs.Writes.{writes_block, written_blocks}
-use Rattle.journal_history.specs.Tokens.{SessionState, next_transaction as numbered, Commits}
+use Rattle.journal_history.specs.Tokens.{SessionState, CommitPlace, next_transaction as numbered, Commits, OnlyExtends, IsReceiptFor}
 use Rattle.journal_memory.specs.declared.volatile_commit.CommitStep.{CommitStep}
 use Rattle.journal_memory.specs.declared.volatile_commit.CommitStep.TheVariants.{Done, Missing}
-use Rattle.journal_memory.specs.Volatiles.{VolatileState}
+use Rattle.journal_memory.specs.Causes.{CauseState}
+use Rattle.journal_memory.specs.Fetches.{FetchedState}
+use Rattle.journal_memory.specs.Ledgers.{ShowsLonger}
+use Rattle.journal_memory.specs.Outsets.{CanCommit, IsCommitRefusal}
+use Rattle.journal_memory.specs.Transactions.{TransactionState}
+use Rattle.journal_memory.specs.Volatiles.{VolatileState, outset_of, usable}
 
 -- One update of each block that is written was appended to the tail, and no other
 pub record AppendsWrites (old new : TailState) (writes : List Pair) : Type 0 where
@@ -50,3 +58,21 @@ IfMissing holds (Missing blocks) = holds blocks.items
 -- the volatile part with other room in memory
 abbrev pub with_room : VolatileState → ℕ → VolatileState
 with_room v room = record v { tail = with_tail_room v.tail room }
+
+-- What a commit in memory does, by its answer. Where it was made, it stands in the history at the
+-- receipt's place. Where blocks are missing, these are named, and where it was refused, the reason
+-- is one that holds. In both cases memory is as it was, but for its room, and the session has only
+-- seen more
+pub record DoesCommit (layout : Shape) (old : VolatileState) (session : SessionState) (t : TransactionState) (f : FetchedState) (answer : Result (CommitStep CommitPlace) (Refusal CauseState)) (new : VolatileState) (after : SessionState) : Type 0 where
+  pub committed : IfOk answer (IfDone (λ place. IsCommitted t.reads t.writes session after old new))
+  pub receipt : IfOk answer (IfDone (IsReceiptFor (numbered session t.reads t.writes) new.ledger.history (length old.ledger.history)))
+  pub can : OnOk answer (CanCommit (outset_of old) session t)
+  pub agrees : OnOk answer (IsTrue (is_trusted old.ledger.history) → Agrees (latest old.ledger.history) t.reads)
+  pub missing : IfOk answer (IfMissing (λ blocks. blocks ≡ missing_blocks layout (known_updates (usable old f) old.tail) t.writes))
+  pub below : IfOk answer (IfMissing (λ blocks. All (λ b. b < layout.blocks) blocks))
+  pub some : IfOk answer (IfMissing (λ blocks. blocks ≢ []))
+  pub waits : IfOk answer (IfMissing (λ blocks. (new ≡ with_room old new.tail.log.room) × OnlyExtends session after))
+  pub refusal : IfErr answer (IsCommitRefusal (outset_of old) session t)
+  pub same : OnErr answer (new ≡ with_room old new.tail.log.room)
+  pub extends : OnErr answer (OnlyExtends session after)
+  pub longer : IfErr answer (ShowsLonger old.ledger.history after)

@@ -15,7 +15,7 @@ ghost use Rattle.journal_memory.specs.Transactions.{AreUnmoved};
 ghost use Rattle.journal_memory.specs.Updates.{AreObjectsOf};
 ghost use Rattle.journal_memory.specs.Outsets.{CanPrepare, CanCommit, IsCommitRefusal, IsPreparingRefusal};
 ghost use Rattle.journal_memory.specs.Volatiles.{outset_of, usable};
-ghost use Rattle.journal_memory.specs.VolatileCommits.{IsCommitted, IsAdded, IfDone, IfMissing, with_room};
+ghost use Rattle.journal_memory.specs.VolatileCommits.{DoesCommit, IsAdded, IfDone, IfMissing, with_room};
 ghost use Rattle.journal_memory.specs.VolatileHolds.{AnswersCommit};
 
 use crate::cause::{Cause, raise};
@@ -75,20 +75,8 @@ impl<'b, R: MapRule, J: Naming> Volatile<'b, R, J> {
         ensures agree { AgreeWith J.layout self.new.ledger.history held.new }
         ensures slots { slots_of held.new ≡ slots_of held.old }
         ensures held { OnErr result (held.new ≡ held.old) }
-        ensures committed { IfOk result (IfDone (λ _. IsCommitted transaction.now.reads transaction.now.writes session.old session.new self.old self.new)) }
-        ensures receipt { IfOk result (IfDone (IsReceiptFor (next_transaction session.old transaction.now.reads transaction.now.writes) self.new.ledger.history (length self.old.ledger.history))) }
-        ensures can { OnOk result (CanCommit (outset_of self.old) session.old transaction.now) }
-        ensures agrees { OnOk result (IsTrue (is_trusted self.old.ledger.history) → Agrees (latest self.old.ledger.history) transaction.now.reads) }
-        ensures missing { IfOk result (IfMissing (λ blocks.
-            blocks ≡ missing_blocks J.layout (known_updates (usable self.old fetched.now) self.old.tail) transaction.now.writes)) }
-        ensures below { IfOk result (IfMissing (λ blocks. All (λ b. b < J.layout.blocks) blocks)) }
-        ensures some { IfOk result (IfMissing (λ blocks. blocks ≢ [])) }
-        ensures waits { IfOk result (IfMissing (λ _. (self.new ≡ with_room self.old self.new.tail.log.room) × OnlyExtends session.old session.new)) }
         ensures stays { IfOk result (IfMissing (λ _. held.new ≡ held.old)) }
-        ensures refusal { IfErr result (IsCommitRefusal (outset_of self.old) session.old transaction.now) }
-        ensures same { OnErr result (self.new ≡ with_room self.old self.new.tail.log.room) }
-        ensures session { OnErr result (OnlyExtends session.old session.new) }
-        ensures longer { IfErr result (ShowsLonger self.old.ledger.history session.new) }
+        ensures commit { DoesCommit J.layout self.old session.old transaction.now fetched.now result self.new session.new }
         ensures event { AnswersCommit J.layout self.old session.old transaction.now fetched.now result self.new session.new }
     {
         self.verify_tokens(rt, held);
@@ -116,20 +104,8 @@ impl<'b, R: MapRule, J: Naming> Volatile<'b, R, J> {
         ensures agree { IfOk result (IfDone (λ _. AgreeWith J.layout self.new.ledger.history held.new)) }
         ensures slots { slots_of held.new ≡ slots_of held.old }
         ensures held { OnErr result (held.new ≡ held.old) }
-        ensures committed { IfOk result (IfDone (λ _. IsCommitted transaction.now.reads transaction.now.writes session.old session.new self.old self.new)) }
-        ensures receipt { IfOk result (IfDone (IsReceiptFor (next_transaction session.old transaction.now.reads transaction.now.writes) self.new.ledger.history (length self.old.ledger.history))) }
-        ensures can { OnOk result (CanCommit (outset_of self.old) session.old transaction.now) }
-        ensures agrees { OnOk result (IsTrue (is_trusted self.old.ledger.history) → Agrees (latest self.old.ledger.history) transaction.now.reads) }
-        ensures missing { IfOk result (IfMissing (λ blocks.
-            blocks ≡ missing_blocks J.layout (known_updates (usable self.old fetched.now) self.old.tail) transaction.now.writes)) }
-        ensures below { IfOk result (IfMissing (λ blocks. All (λ b. b < J.layout.blocks) blocks)) }
-        ensures some { IfOk result (IfMissing (λ blocks. blocks ≢ [])) }
-        ensures waits { IfOk result (IfMissing (λ _. (self.new ≡ with_room self.old self.new.tail.log.room) × OnlyExtends session.old session.new)) }
         ensures stays { IfOk result (IfMissing (λ _. held.new ≡ held.old)) }
-        ensures refusal { IfErr result (IsCommitRefusal (outset_of self.old) session.old transaction.now) }
-        ensures same { OnErr result (self.new ≡ with_room self.old self.new.tail.log.room) }
-        ensures session { OnErr result (OnlyExtends session.old session.new) }
-        ensures longer { IfErr result (ShowsLonger self.old.ledger.history session.new) }
+        ensures commit { DoesCommit J.layout self.old session.old transaction.now fetched.now result self.new session.new }
     {
         self.check_running()?;
         self.admit(rt, session, transaction)?;

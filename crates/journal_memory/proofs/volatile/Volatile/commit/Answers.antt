@@ -1,14 +1,8 @@
-use Rattle.std.proofs.Common.{◌≡◌, IsTrue, IfOk, IfErr, OnOk, OnErr, List, length, sym, subst}
-use Rattle.journal_world.specs.Maps.{Agrees}
-use Rattle.journal_world.specs.Histories.{is_trusted, latest}
-use Rattle.journal_tail.specs.ObjectTails.{known_updates, missing_blocks}
-use Rattle.journal_history.specs.Tokens.{next_transaction, OnlyExtends, IsReceiptFor}
+use Rattle.std.proofs.Common.{◌≡◌, IfOk, OnErr, List, sym, subst}
 use Rattle.journal_lockmap.specs.Numbers.{HeldState, AreApart, HoldsSlots}
-use Rattle.journal_memory.specs.Ledgers.{ShowsLonger}
 use Rattle.journal_memory.specs.Transactions.{AreUnmoved}
-use Rattle.journal_memory.specs.Outsets.{CanCommit, IsCommitRefusal}
-use Rattle.journal_memory.specs.Volatiles.{VolatileState, outset_of, usable}
-use Rattle.journal_memory.specs.VolatileCommits.{IsCommitted, IfDone, IfMissing, with_room}
+use Rattle.journal_memory.specs.Volatiles.{VolatileState}
+use Rattle.journal_memory.specs.VolatileCommits.{DoesCommit, IfMissing}
 use Rattle.journal_memory.proofs.Answering.{answers_commit_in}
 use Rattle.journal_memory.proofs.Committing.{keeps_rule}
 use Rattle.journal_memory.proofs.Verifying.{agree_after}
@@ -30,16 +24,10 @@ commit_verified-answer-requires-clause-covered g c = subst (λ (l : List HeldSta
 pub commit_verified-answer-requires-clause-apart : goal.commit_verified-answer-requires-clause-apart
 commit_verified-answer-requires-clause-apart g c = subst AreApart (sym c.verify_tokens.ensures.held) c.requires.apart
 
-pub returns-clause-waits : goal.returns-clause-waits
-returns-clause-waits g c =
-    subst (λ (s : VolatileState). IfOk c.commit_verified-answer.result (IfMissing (λ _.
-    (c.commit_verified-answer.new.self ≡ with_room s c.commit_verified-answer.new.self.tail.log.room) × OnlyExtends c.args.session.now c.commit_verified-answer.new.session)))
-    c.verify_tokens.ensures.same c.commit_verified-answer.ensures.waits
-
-pub returns-clause-same : goal.returns-clause-same
-returns-clause-same g c =
-    subst (λ (s : VolatileState). OnErr c.commit_verified-answer.result (c.commit_verified-answer.new.self ≡ with_room s c.commit_verified-answer.new.self.tail.log.room)) c.verify_tokens.ensures.same
-    c.commit_verified-answer.ensures.same
+pub returns-clause-commit : goal.returns-clause-commit
+returns-clause-commit g c =
+    subst (λ (s : VolatileState). DoesCommit g.J.Naming.layout s c.args.session.now c.args.transaction.now c.args.fetched.now c.commit_verified-answer.result c.commit_verified-answer.new.self
+    c.commit_verified-answer.new.session) c.verify_tokens.ensures.same c.commit_verified-answer.ensures.commit
 
 pub returns-clause-stays : goal.returns-clause-stays
 returns-clause-stays g c =
@@ -51,47 +39,12 @@ returns-clause-held g c =
 
 pub returns-clause-agree : goal.returns-clause-agree
 returns-clause-agree g c =
+    let does = returns-clause-commit g c in
     agree_after g.J.Naming.layout c.commit_verified-answer.result c.args.self.now c.commit_verified-answer.new.self c.args.held.now c.commit_verified-answer.new.held c.args.session.now c.commit_verified-answer.new.session
-    c.verify_tokens.ensures.agree c.commit_verified-answer.ensures.agree (returns-clause-waits g c) (returns-clause-stays g c) (returns-clause-same g c) (returns-clause-held g c)
-
-pub returns-clause-committed : goal.returns-clause-committed
-returns-clause-committed g c =
-    subst (λ (s : VolatileState). IfOk c.commit_verified-answer.result (IfDone (λ _.
-    IsCommitted c.args.transaction.now.reads c.args.transaction.now.writes c.args.session.now c.commit_verified-answer.new.session s c.commit_verified-answer.new.self)))
-    c.verify_tokens.ensures.same c.commit_verified-answer.ensures.committed
-
-pub returns-clause-receipt : goal.returns-clause-receipt
-returns-clause-receipt g c =
-    subst (λ (s : VolatileState). IfOk c.commit_verified-answer.result (IfDone (IsReceiptFor
-    (next_transaction c.args.session.now c.args.transaction.now.reads c.args.transaction.now.writes) c.commit_verified-answer.new.self.ledger.history (length s.ledger.history))))
-    c.verify_tokens.ensures.same c.commit_verified-answer.ensures.receipt
-
-pub returns-clause-can : goal.returns-clause-can
-returns-clause-can g c =
-    subst (λ (s : VolatileState). OnOk c.commit_verified-answer.result (CanCommit (outset_of s) c.args.session.now c.args.transaction.now)) c.verify_tokens.ensures.same c.commit_verified-answer.ensures.can
-
-pub returns-clause-agrees : goal.returns-clause-agrees
-returns-clause-agrees g c =
-    subst (λ (s : VolatileState). OnOk c.commit_verified-answer.result (IsTrue (is_trusted s.ledger.history) → Agrees (latest s.ledger.history) c.args.transaction.now.reads))
-    c.verify_tokens.ensures.same c.commit_verified-answer.ensures.agrees
-
-pub returns-clause-missing : goal.returns-clause-missing
-returns-clause-missing g c =
-    subst (λ (s : VolatileState). IfOk c.commit_verified-answer.result (IfMissing (λ blocks.
-    blocks ≡ missing_blocks g.J.Naming.layout (known_updates (usable s c.args.fetched.now) s.tail) c.args.transaction.now.writes)))
-    c.verify_tokens.ensures.same c.commit_verified-answer.ensures.missing
-
-pub returns-clause-refusal : goal.returns-clause-refusal
-returns-clause-refusal g c =
-    subst (λ (s : VolatileState). IfErr c.commit_verified-answer.result (IsCommitRefusal (outset_of s) c.args.session.now c.args.transaction.now)) c.verify_tokens.ensures.same
-    c.commit_verified-answer.ensures.refusal
-
-pub returns-clause-longer : goal.returns-clause-longer
-returns-clause-longer g c =
-    subst (λ (s : VolatileState). IfErr c.commit_verified-answer.result (ShowsLonger s.ledger.history c.commit_verified-answer.new.session)) c.verify_tokens.ensures.same c.commit_verified-answer.ensures.longer
+    c.verify_tokens.ensures.agree c.commit_verified-answer.ensures.agree does.waits (returns-clause-stays g c) does.same (returns-clause-held g c)
 
 pub returns-clause-event : goal.returns-clause-event
 returns-clause-event g c =
+    let does = returns-clause-commit g c in
     answers_commit_in g.J.Naming.layout c.args.self.now c.commit_verified-answer.new.self c.args.session.now c.commit_verified-answer.new.session c.args.transaction.now c.args.fetched.now
-    c.commit_verified-answer.result c.prove_invariant.ensures (returns-clause-can g c) (returns-clause-committed g c) (returns-clause-agrees g c) (returns-clause-missing g c) (returns-clause-waits g c)
-    (returns-clause-refusal g c) (returns-clause-same g c)
+    c.commit_verified-answer.result c.prove_invariant.ensures does.can does.committed does.agrees does.missing does.waits does.refusal does.same

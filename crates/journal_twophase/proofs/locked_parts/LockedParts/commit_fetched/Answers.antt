@@ -31,7 +31,7 @@ returns-in-Ok-Done-clause-committed g c =
     let step = c.commit-answer in
     let seen = c.seen-seen.ensures in
     let extends : OnlyExtends c.args.session.now before = search rules in
-    let done = committed rule layout t before step.new.session _ step.new.self step.result step.ensures.committed step.ensures.receipt step.ensures.can step.ensures.agrees
+    let done = committed rule layout t before step.new.session _ step.new.self step.result step.ensures.commit.committed step.ensures.commit.receipt step.ensures.commit.can step.ensures.commit.agrees
     (known rule layout step.new.session.seen seen.on_disk seen.sound seen.legal) in
     let it : IsCommitted rule layout t.seen t before step.new.session c.in-Ok-Done.receipt = search (rules, done) in
     committed_later rule layout t.seen t c.args.session.now before step.new.session (Ok c.in-Ok-Done.receipt) extends it

@@ -44,7 +44,7 @@ returns-else-waits-clause-committed g c =
     let after = step.new.session in
     let seen = c.seen-seen.ensures in
     let extends : OnlyExtends first before = search rules in
-    let done = committed rule layout t before after _ step.new.self step.result step.ensures.committed step.ensures.receipt step.ensures.can step.ensures.agrees
+    let done = committed rule layout t before after _ step.new.self step.result step.ensures.commit.committed step.ensures.commit.receipt step.ensures.commit.can step.ensures.commit.agrees
     (known rule layout after.seen seen.on_disk seen.sound seen.legal) in
     elim c.match-step.branch [
       | in-Ok-Done w ↦
@@ -62,7 +62,7 @@ returns-else-waits-clause-committed g c =
 pub returns-else-waits-clause-fenced : goal.returns-else-waits-clause-fenced
 returns-else-waits-clause-fenced g c =
     let step = c.commit-step in
-    let shown : IfErr step.result (ShowsFence step.new.session) = shows_fence _ step.new.session step.result step.ensures.longer in
+    let shown : IfErr step.result (ShowsFence step.new.session) = shows_fence _ step.new.session step.result step.ensures.commit.longer in
     elim c.match-step.branch [
       | in-Ok-Done w ↦ rw w.guard-is tt
       | in-Ok-Missing w ↦ rw (w.guard-is, w.session-is) w.commit_fetched.ensures.fenced
@@ -88,7 +88,7 @@ returns-else-waits-clause-session g c =
       | in-Err w ↦
           rw (w.guard-is, w.session-is)
           (session_later {T = CommitPlace} (Err w.in-Err.why) first before after extends
-          (subst (λ (r : Result (CommitStep CommitPlace) (Refusal CauseState)). OnErr r (OnlyExtends before after)) w.in-Err.is step.ensures.session))
+          (subst (λ (r : Result (CommitStep CommitPlace) (Refusal CauseState)). OnErr r (OnlyExtends before after)) w.in-Err.is step.ensures.commit.extends))
     ]
 
 pub loop-preserved : goal.loop-preserved
@@ -110,7 +110,7 @@ loop-preserved g c =
       | in-Err w ↦
           rw (w.guard-is, w.session-is)
           (session_later {T = CommitPlace} (Err w.in-Err.why) first before after extends
-          (subst (λ (r : Result (CommitStep CommitPlace) (Refusal CauseState)). OnErr r (OnlyExtends before after)) w.in-Err.is step.ensures.session))
+          (subst (λ (r : Result (CommitStep CommitPlace) (Refusal CauseState)). OnErr r (OnlyExtends before after)) w.in-Err.is step.ensures.commit.extends))
     ] in
     let held : OnErr c.match-step.guard.1 (c.match-step.held ≡ c.args.held.now) = elim c.match-step.branch [
       | in-Ok-Done w ↦ rw w.guard-is tt
